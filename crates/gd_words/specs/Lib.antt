@@ -1,0 +1,6 @@
+pub mod Arithmetic
+pub mod PaddedIdent
+pub mod PaddedName
+pub mod PaddedText
+pub mod Spelling
+pub mod formers

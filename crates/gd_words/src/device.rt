@@ -1,0 +1,17 @@
+/// The 8 words of a disc's sector.
+pub type Sector = [i16; 8];
+
+/// What a process does to its disc device in one step.
+#[derive(Clone, Copy, Debug, PartialEq, Eq)]
+pub enum DeviceCall {
+    /// Nothing.
+    Nothing,
+    /// Reads the sector of this number.
+    Read(u8),
+    /// Writes the words under this number of the write.
+    Write {
+        sector: u8,
+        words: Sector,
+        number: u32,
+    },
+}
