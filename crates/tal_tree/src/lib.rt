@@ -1,0 +1,23 @@
+//! The plain data that the readers make and the machines run: programs of the TAL dialect as trees, sites with their
+//! processes and terminals, the acts of processes and what they show, and the faults of program texts and decks.
+//!
+//! Below stands `gd_words`, whose `List` and `Boxed` make every type here a plain value in a contract. The crates above
+//! match on these types in their definitions; no call here does more than let a tree go.
+#![tactic(auto)]
+
+pub mod act;
+pub mod expression;
+pub mod fault;
+pub mod place;
+pub mod program;
+pub mod site;
+pub mod statement;
+
+pub use act::{Act, Shown};
+pub use expression::{Cond, Expr, Op, Rel, Spot, Variable};
+pub use fault::{DeckFault, TalFault};
+pub use gd_words::Ident;
+pub use place::Place;
+pub use program::{FileUse, Item, Procedure, Program, Shape, Target};
+pub use site::{Kind, OpenerSpec, ProcessSpec, Site, TerminalSpec, Who};
+pub use statement::{Statement, What};

@@ -1,0 +1,74 @@
+use crate::expression::{Cond, Expr, Spot, Variable};
+use gd_words::List;
+
+/// A numbered statement: its number from 1 through the whole program, and its line in the text.
+#[cycle(statement)]
+#[derive(Debug, Drop)]
+pub struct Statement {
+    pub number: u16,
+    pub line: u32,
+    pub what: What,
+}
+
+/// What a statement does. The empty statement and BEGIN .. END stand for no statement of their own.
+#[cycle(statement)]
+#[derive(Debug, Drop)]
+pub enum What {
+    Assign {
+        to: Spot,
+        value: Expr,
+    },
+    /// The value of a procedure of the program goes to the target.
+    AssignCall {
+        to: Spot,
+        procedure: u16,
+        arguments: List<Expr>,
+    },
+    If {
+        test: Cond,
+        yes: List<Statement>,
+        no: List<Statement>,
+    },
+    While {
+        test: Cond,
+        body: List<Statement>,
+    },
+    /// The statement's number is that of the first assignment, its test has the next number, and `last` is that of the
+    /// last assignment, which adds 1 to the variable.
+    For {
+        variable: Variable,
+        from: Expr,
+        to: Expr,
+        body: List<Statement>,
+        last: u16,
+    },
+    Call {
+        procedure: u16,
+        arguments: List<Expr>,
+    },
+    Return(Option<Expr>),
+    ReadUpdate {
+        buffer: u16,
+        most: Expr,
+        got: Variable,
+    },
+    Reply {
+        buffer: u16,
+        count: Expr,
+    },
+    WriteRead {
+        file: u8,
+        buffer: u16,
+        send: Expr,
+        room: Expr,
+        got: Variable,
+    },
+    Checkpoint {
+        items: List<u16>,
+        files: List<u8>,
+    },
+    CheckMonitor,
+    /// The file's number, in the order of the OPENs.
+    Open(u8),
+    Stop,
+}
