@@ -88,3 +88,14 @@ impl<T: Drop> List<T> {
         Ok(())
     }
 }
+
+impl<T: Copy> List<T> {
+    /// Puts copies of these items after the last.
+    pub fn extend_from_slice(&mut self, more: &[T]) -> Result<(), NoMemory>
+        ensures ok { OnOk result (self.new ≡ self.old ++ more.now) }
+        ensures err { OnErr result (self.new ≡ self.old) }
+    {
+        self.items.extend_from_slice(more)?;
+        Ok(())
+    }
+}

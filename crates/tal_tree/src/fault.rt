@@ -64,12 +64,22 @@ pub enum DeckFault {
 }
 
 impl From<NoMemory> for TalFault {
+    ghost use Rattle.std.specs.Prelude.{◌≡◌};
+    ghost use Rattle.tal_tree.specs.declared.fault.TalFault.TheVariants as tal;
+
+    ghost from_gives = { λ _ fault. fault ≡ tal.NoMemory };
+
     fn from(_error: NoMemory) -> TalFault {
         TalFault::NoMemory
     }
 }
 
 impl From<NoMemory> for DeckFault {
+    ghost use Rattle.std.specs.Prelude.{◌≡◌};
+    ghost use Rattle.tal_tree.specs.declared.fault.DeckFault.TheVariants as deck;
+
+    ghost from_gives = { λ _ fault. fault ≡ deck.NoMemory };
+
     fn from(_error: NoMemory) -> DeckFault {
         DeckFault::NoMemory
     }
