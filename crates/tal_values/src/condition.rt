@@ -11,7 +11,7 @@ use gd_words::NoMemory;
 use std::alloc::Global;
 use tal_tree::{Cond, Rel};
 
-/// The truth of a condition; none is a trap.
+/// The truth of a condition. None is a trap of a value that is looked at.
 #[cycle(truth)]
 pub fn truth(alloc: Global, memory: Memory<'_>, cond: &Cond) -> Result<Option<bool>, NoMemory>
     ensures { IfOk result (λ truth. truth ≡ truth_of (seen memory.entry) cond.now) }

@@ -10,7 +10,7 @@ use gd_words::{NoMemory, div_trunc, wrap_add, wrap_mul, wrap_neg, wrap_sub};
 use std::alloc::Global;
 use tal_tree::{Expr, Op, Spot};
 
-/// The value of an expression; none is a trap.
+/// The value of an expression. None is a trap: a zero divisor, or an index outside the bounds of its array.
 #[cycle(value)]
 pub fn value(alloc: Global, memory: Memory<'_>, expr: &Expr) -> Result<Option<i16>, NoMemory>
     ensures { IfOk result (λ value. value ≡ value_of (seen memory.entry) expr.now) }
@@ -25,7 +25,7 @@ pub fn value(alloc: Global, memory: Memory<'_>, expr: &Expr) -> Result<Option<i1
     Ok(left)
 }
 
-/// The cell that a spot names; none is a trap.
+/// The cell that a spot names. None is a trap: that of the index, or an index outside the bounds of its array.
 #[cycle(value)]
 pub fn cell(alloc: Global, memory: Memory<'_>, spot: &Spot) -> Result<Option<Cell>, NoMemory>
     ensures { IfOk result (λ cell. cell ≡ cell_of (seen memory.entry) spot.now) }
