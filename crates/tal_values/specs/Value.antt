@@ -74,7 +74,7 @@ abbrev mutual
 abbrev pub spot_value : Memory → Spot → Option ℤ
 spot_value m spot = option_and_then (word_at m) (cell_of m spot)
 
--- whether a relation holds
+-- whether a relation holds of two words
 abbrev pub holds : Rel → ℤ → ℤ → Bool
 holds Equal x y = int_eq x y
 holds Differs x y = not (int_eq x y)
@@ -95,7 +95,7 @@ or_of None second = None
 or_of (Some true) second = Some true
 or_of (Some false) second = second
 
--- the truth of a condition
+-- the truth of a condition; a value is true where it is not 0
 abbrev mutual
   pub truth_of : Memory → Cond → Option Bool
   truth_of m (Truth expr) = option_map (λ x. not (int_eq x (pos 0))) (value_of m expr)
