@@ -2,7 +2,8 @@
 //! processes and terminals, the acts of processes and what they show, and the faults of program texts and decks.
 //!
 //! Below stands `gd_words`, whose `List` and `Boxed` make every type here a plain value in a contract. The crates above
-//! match on these types in their definitions; no call here does more than let a tree go.
+//! match on these types in their definitions, and where such a definition recurs, they take from `specs/Rows.antt` what
+//! it says of one more layer; no call here does more than let a tree go.
 #![tactic(auto)]
 
 pub mod act;
