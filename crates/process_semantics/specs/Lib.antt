@@ -1,0 +1,3 @@
+pub mod Disc
+pub mod Process
+pub mod Program

@@ -1,0 +1,12 @@
+use crate::point::Point;
+use gd_words::Words;
+
+/// The state of a disc process: its point, which is Take, Mark, Device or Answer, the words of the request in hand, those
+/// of its reply once the device has acted, and the number of its last write.
+#[derive(Debug, Drop)]
+pub struct DiscState {
+    pub label: Point,
+    pub request: Option<Words>,
+    pub reply: Option<Words>,
+    pub last_write: u32,
+}
