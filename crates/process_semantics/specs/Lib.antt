@@ -1,3 +1,5 @@
 pub mod Disc
 pub mod Process
 pub mod Program
+pub mod SeenEntries
+pub mod SeenFrames

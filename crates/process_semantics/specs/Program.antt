@@ -41,6 +41,11 @@ pub record ProgramState : Type 0 where
   pub awaits : Bool
   pub ended : Bool
 
+-- a program with the state in which it is
+pub record Execution : Type 0 where
+  pub program : Program
+  pub state : ProgramState
+
 -- Beginning
 
 abbrev pub runs_of : List Statement → List Entry
@@ -143,17 +148,39 @@ point_of program s = if s.ended then Ended else point_at program s (next_of s.fr
 
 -- Changes
 
-abbrev pub replaced : List Entry → List Frame → List Frame
-replaced entries [] = []
-replaced entries (frame ∷ callers) = record frame { rest = entries ++ drop 1 frame.rest } ∷ callers
+abbrev pub without_next : List Frame → List Frame
+without_next [] = []
+without_next (frame ∷ callers) = record frame { rest = drop 1 frame.rest } ∷ callers
 
--- the state after its next entry gave way to others
-abbrev pub goes_on : List Entry → ProgramState → ProgramState
-goes_on entries s = record s { frames = replaced entries s.frames }
+-- the state after its next entry was done
+abbrev pub done : ProgramState → ProgramState
+done s = record s { frames = without_next s.frames }
+
+abbrev pub put_before : List Entry → List Frame → List Frame
+put_before entries [] = []
+put_before entries (frame ∷ callers) = record frame { rest = entries ++ frame.rest } ∷ callers
+
+-- the state with entries that come next
+abbrev pub before : List Entry → ProgramState → ProgramState
+before entries s = record s { frames = put_before entries s.frames }
+
+-- the state after a procedure was entered
+abbrev pub entering : ℕ → List ℤ → Procedure → ProgramState → ProgramState
+entering number arguments procedure s = record s { frames = frame_of number arguments procedure ∷ s.frames }
+
+-- the state after the procedure that runs was left
+abbrev pub left : ProgramState → ProgramState
+left s = record s { frames = drop 1 s.frames }
 
 -- the state after the process ended
 abbrev pub ends : ProgramState → ProgramState
 ends s = record s { frames = []; awaits = false; ended = true }
+
+abbrev pub with_hand : Bool → ProgramState → ProgramState
+with_hand in_hand s = record s { in_hand = in_hand }
+
+abbrev pub with_waiting : Bool → ProgramState → ProgramState
+with_waiting awaits s = record s { awaits = awaits }
 
 abbrev pub local_set : ℕ → ℤ → List Frame → List Frame
 local_set local word [] = []
@@ -187,15 +214,15 @@ values_of memory (e ∷ es) = option_and_then (λ word. option_map (λ words. wo
 abbrev pub assigned : ProgramState → Option Cell → Option ℤ → Option ProgramState
 assigned s to None = None
 assigned s None (Some word) = None
-assigned s (Some to) (Some word) = Some (goes_on [] (with_word to word s))
+assigned s (Some to) (Some word) = Some (done (with_word to word s))
 
 abbrev pub tested : ProgramState → List Entry → List Entry → Option Bool → Option ProgramState
 tested s first second None = None
-tested s first second (Some holds) = Some (goes_on (if holds then first else second) s)
+tested s first second (Some holds) = Some (before (if holds then first else second) (done s))
 
 abbrev pub entered_by : ProgramState → ℕ → List ℤ → Option Procedure → Option ProgramState
 entered_by s number arguments None = None
-entered_by s number arguments (Some procedure) = Some (record s { frames = frame_of number arguments procedure ∷ s.frames })
+entered_by s number arguments (Some procedure) = Some (entering number arguments procedure s)
 
 -- the state after a procedure was entered; the call stays first in its frame
 abbrev pub entered : Program → ProgramState → ℕ → Option (List ℤ) → Option ProgramState
@@ -204,21 +231,21 @@ entered program s number (Some arguments) = entered_by s number arguments (slice
 
 abbrev pub given_in : Program → ℤ → ProgramState → What-F What Statement → Option ProgramState
 given_in program word s (What-F.AssignCall to procedure arguments) = assigned s (cell_of (memory_of program s) to) (Some word)
-given_in program word s _ = Some (goes_on [] s)
+given_in program word s _ = Some (done s)
 
 -- the state after a call got its word back
 abbrev pub given : Program → ℤ → ProgramState → Option Entry → Option ProgramState
 given program word s (Some (Run statement)) = given_in program word s (out-What statement.what)
-given program word s _ = Some (goes_on [] s)
+given program word s _ = Some (done s)
 
-abbrev pub returned_to : Program → ℤ → ProgramState → List Frame → Option ProgramState
-returned_to program word s [] = Some (ends s)
-returned_to program word s (caller ∷ callers) = given program word (record s { frames = caller ∷ callers }) (first_of caller.rest)
+abbrev pub given_to : Program → ℤ → ProgramState → List Frame → Option ProgramState
+given_to program word s [] = Some (ends s)
+given_to program word s (caller ∷ callers) = given program word s (first_of caller.rest)
 
 -- the state after the procedure that runs returned a word: it goes to the target of the call. MAIN's return ends the process
 abbrev pub returned : Program → ProgramState → Option ℤ → Option ProgramState
 returned program s None = None
-returned program s (Some word) = returned_to program word s (drop 1 s.frames)
+returned program s (Some word) = given_to program word (left s) (drop 1 s.frames)
 
 abbrev pub result_of : Memory → Option Expr → Option ℤ
 result_of memory None = Some (pos 0)
@@ -227,7 +254,7 @@ result_of memory (Some e) = value_of memory e
 -- a FOR's variable got a word, and its test comes next
 abbrev pub for_begun : ProgramState → Statement → Variable → Option ℤ → Option ProgramState
 for_begun s statement variable None = None
-for_begun s statement variable (Some word) = Some (goes_on (Test statement ∷ []) (with_word (variable_cell variable) word s))
+for_begun s statement variable (Some word) = Some (before (Test statement ∷ []) (done (with_word (variable_cell variable) word s)))
 
 abbrev pub inner_in : Program → ProgramState → Statement → What-F What Statement → Option ProgramState
 inner_in program s statement (What-F.Assign to value) =
@@ -238,8 +265,8 @@ inner_in program s statement (What-F.While test body) = tested s (runs_of body +
 inner_in program s statement (What-F.For variable from to body last) = for_begun s statement variable (value_of (memory_of program s) from)
 inner_in program s statement (What-F.Call procedure arguments) = entered program s procedure (values_of (memory_of program s) arguments)
 inner_in program s statement (What-F.Return value) = returned program s (result_of (memory_of program s) value)
-inner_in program s statement What-F.CheckMonitor = Some (goes_on [] s)
-inner_in program s statement (What-F.Open file) = Some (goes_on [] s)
+inner_in program s statement What-F.CheckMonitor = Some (done s)
+inner_in program s statement (What-F.Open file) = Some (done s)
 inner_in program s statement What-F.Stop = Some (ends s)
 inner_in program s statement _ = None
 
@@ -255,7 +282,7 @@ tested_in program s statement _ = None
 -- a FOR's variable rose by 1
 abbrev pub counted_up : ProgramState → Cell → Option ℤ → Option ProgramState
 counted_up s variable None = None
-counted_up s variable (Some word) = Some (goes_on [] (with_word variable (wrap (word +ℤ pos 1)) s))
+counted_up s variable (Some word) = Some (done (with_word variable (wrap (word +ℤ pos 1)) s))
 
 abbrev pub counted_in : Program → ProgramState → What-F What Statement → Option ProgramState
 counted_in program s (What-F.For variable from to body last) = counted_up s (variable_cell variable) (variable_of program s variable)
@@ -267,9 +294,13 @@ inner_entry program s (Some (Run statement)) = inner_in program s statement (out
 inner_entry program s (Some (Test statement)) = tested_in program s statement (out-What statement.what)
 inner_entry program s (Some (Last statement)) = counted_in program s (out-What statement.what)
 
--- the step at Inner. A trap ends the process
+-- a trap ends the process
+abbrev pub or_ends : ProgramState → Option ProgramState → ProgramState
+or_ends s next = unwrap_or next (ends s)
+
+-- the step at Inner
 abbrev pub inner : Program → ProgramState → ProgramState
-inner program s = unwrap_or (inner_entry program s (next_of s.frames)) (ends s)
+inner program s = or_ends s (inner_entry program s (next_of s.frames))
 
 -- Steps at the other points
 
@@ -277,13 +308,7 @@ inner program s = unwrap_or (inner_entry program s (next_of s.frames)) (ends s)
 abbrev pub received : ProgramState → ℕ → Variable → List ℤ → Option ℕ → ProgramState
 received s buffer got words None = s
 received s buffer got words (Some room) =
-    goes_on [] (with_word (variable_cell got) (pos (min room (length words))) (with_words buffer (take room words) s))
-
-abbrev pub with_hand : Bool → ProgramState → ProgramState
-with_hand in_hand s = record s { in_hand = in_hand }
-
-abbrev pub with_waiting : Bool → ProgramState → ProgramState
-with_waiting awaits s = record s { awaits = awaits }
+    done (with_word (variable_cell got) (pos (min room (length words))) (with_words buffer (take room words) s))
 
 abbrev pub took_in : Program → ProgramState → List ℤ → What-F What Statement → ProgramState
 took_in program s words (What-F.ReadUpdate buffer most got) = with_hand true (received s buffer got words (count_of program s buffer most))
@@ -342,8 +367,8 @@ answer_of program s = in_next [] (answer_in program s) s.frames
 
 -- the step at Answer: nothing is in hand
 abbrev pub after_answered : ProgramState → ProgramState
-after_answered s = with_hand false (goes_on [] s)
+after_answered s = with_hand false (done s)
 
 -- the step at Mark
 abbrev pub after_mark : ProgramState → ProgramState
-after_mark s = goes_on [] s
+after_mark s = done s
