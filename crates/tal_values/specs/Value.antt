@@ -1,5 +1,5 @@
 -- The value of an expression and the truth of a condition. None is a trap: a zero divisor, or an index out of the bounds of its array.
-use Rattle.std.specs.Prelude.{ℕ, ℤ, pos, negsuc, ◌+ℤ◌, ◌-ℤ◌, ◌*ℤ◌, neg_ℤ, int_lt, int_le, Bool, true, false, not, List, Option, Some, None, slice_get, option_map, option_and_then, if◌then◌else◌}
+use Rattle.std.specs.Prelude.{ℕ, ℤ, pos, ◌+ℤ◌, ◌-ℤ◌, ◌*ℤ◌, neg_ℤ, int_lt, int_le, Bool, true, false, not, ◌&&◌, unsigned_abs, List, Option, Some, None, slice_get, option_map, option_and_then, if◌then◌else◌}
 use Rattle.std.specs.Ordering.{int_eq}
 use Rattle.gd_words.specs.Arithmetic.{wrap, quotient}
 use Rattle.tal_tree.specs.declared.program.Item.{Item}
@@ -21,14 +21,9 @@ pub record Memory : Type 0 where
   pub globals : List (List ℤ)
   pub locals : List ℤ
 
--- a number as a count, none below 0
-abbrev pub count_of : ℤ → Option ℕ
-count_of (pos n) = Some n
-count_of (negsuc n) = None
-
 -- the place of an element in its array's list: how far its index lies above the low bound; none outside the bounds, or where there is no array
 abbrev pub place_in : Shape → ℤ → Option ℕ
-place_in (Array low high) index = if int_le index high then count_of (index -ℤ low) else None
+place_in (Array low high) index = if int_le low index && int_le index high then Some (unsigned_abs (index -ℤ low)) else None
 place_in _ index = None
 
 -- the place of an element of an item
@@ -40,7 +35,7 @@ abbrev pub word_at : Memory → Cell → Option ℤ
 word_at m (cell.Local k) = slice_get m.locals k
 word_at m (cell.Global item offset) = option_and_then (λ words. slice_get words offset) (slice_get m.globals item)
 
--- what two values together give; the trap of either is the trap of both
+-- what two sides together give; the trap of either is the trap of both
 abbrev pub both : {A B : Type 0} → (A → A → Option B) → Option A → Option A → Option B
 both f None second = None
 both f (Some x) None = None

@@ -4,6 +4,14 @@
 //! `truth_of` and `cell_of` of `specs/Value.antt` in its own definitions, and that `value`, `truth` and `cell` give just these.
 #![tactic(auto)]
 
+mod chain;
+pub mod condition;
+pub mod expression;
 pub mod memory;
 
+pub use condition::truth;
+pub use expression::{cell, value};
 pub use memory::{Cell, Memory};
+
+#[cfg(test)]
+mod tests;

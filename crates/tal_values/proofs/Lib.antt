@@ -1,0 +1,3 @@
+pub mod ChainSteps
+pub mod TruthSteps
+pub mod ValueSteps
