@@ -3,3 +3,4 @@ pub mod Process
 pub mod Program
 pub mod SeenEntries
 pub mod SeenFrames
+pub mod SeenProcess

@@ -1,7 +1,7 @@
 ghost use Rattle.std.specs.Prelude.{◌≡◌, ◌≤◌, pos, ◌+ℤ◌, ◌-ℤ◌, ◌∷◌, ◌++◌, [], length, map, drop, slice_get, slice_set, IfOk, OnOk};
 ghost use Rattle.std.specs.Option.{option_map};
 ghost use Rattle.tal_values.specs.Seen.{seen};
-ghost use Rattle.process_semantics.specs.Program.{start, first_frames, zeros, count_up, width, memory_of, next_of, words_of, with_word, with_hand, with_waiting, frame_of, first_of, runs_of, before, entering, left, done, ends};
+ghost use Rattle.process_semantics.specs.Program.{start, first_frames, zeros, count_up, width, memory_of, next_of, words_of, with_word, with_words, with_hand, with_waiting, frame_of, first_of, runs_of, before, entering, left, done, ends};
 ghost use Rattle.process_semantics.specs.SeenEntries.{entry_of};
 ghost use Rattle.process_semantics.specs.SeenFrames.{frames_of};
 
@@ -116,6 +116,17 @@ impl<'a> Execution<'a> {
         }
     }
 
+    /// Puts words over those at the start of a global.
+    pub(crate) fn set_words(&mut self, item: u16, words: &[i16])
+        requires { length words.now ≤ length (words_of self.old.state.globals item) }
+        ensures { self.new ≡ record self.old { state = with_words item words.now self.old.state } }
+    {
+        let item = usize::from(item);
+        if item < self.globals.len() {
+            overwrite(&mut self.globals[item], words);
+        }
+    }
+
     /// Takes the next entry away.
     pub(crate) fn done(&mut self)
         ensures { self.new ≡ record self.old { state = done self.old.state } }
@@ -179,6 +190,25 @@ impl<'a> Execution<'a> {
         self.program
     }
 
+    /// Whether a request is in hand.
+    pub fn in_hand(&self) -> bool
+        ensures { result ≡ self.now.state.in_hand }
+    {
+        self.in_hand
+    }
+
+    pub(crate) fn awaits(&self) -> bool
+        ensures { result ≡ self.now.state.awaits }
+    {
+        self.awaits
+    }
+
+    pub(crate) fn has_ended(&self) -> bool
+        ensures { result ≡ self.now.state.ended }
+    {
+        self.ended
+    }
+
     pub(crate) fn set_in_hand(&mut self, in_hand: bool)
         ensures { self.new ≡ record self.old { state = with_hand in_hand self.old.state } }
     {
@@ -197,6 +227,15 @@ impl<'a> Execution<'a> {
         self.frames = None;
         self.awaits = false;
         self.ended = true;
+    }
+}
+
+fn overwrite<T: Copy>(cells: &mut List<T>, items: &[T])
+    requires { length items.now ≤ length cells.old }
+    ensures { cells.new ≡ items.now ++ drop (length items.now) cells.old }
+{
+    for (k, item) in items.iter().enumerate() {
+        cells.set(k, *item);
     }
 }
 
