@@ -2,6 +2,7 @@
 -- files in the order of the OPENs; then each terminal that names it.
 use Rattle.std.specs.Prelude.{ℕ, ◌+◌, ◌==◌, ◌&&◌, nat_eq, Bool, true, false, if◌then◌else◌, List, [], ◌∷◌, ◌++◌, slice_get, Option, Some, None}
 use Rattle.std.specs.Option.{option_map, option_and_then}
+use Rattle.std.specs.Str.{bytes_eq}
 use Rattle.tal_tree.specs.declared.program.FileUse.{FileUse}
 use Rattle.tal_tree.specs.declared.program.Program.{Program}
 use Rattle.tal_tree.specs.declared.program.Target.{Target}
@@ -17,9 +18,7 @@ use Rattle.tal_tree.specs.declared.site.Who.TheVariants as who
 use Rattle.plain_semantics.specs.declared.slot.Opener.{Opener}
 
 abbrev pub same_name : List ℕ → List ℕ → Bool
-same_name [] [] = true
-same_name (a ∷ one) (b ∷ other) = (a == b) && same_name one other
-same_name _ _ = false
+same_name one other = bytes_eq one other
 
 abbrev pub opens : List ℕ → Target → Bool
 opens name target.Receive = false
@@ -78,15 +77,27 @@ abbrev pub server_of : Site → Target → Option ℕ
 server_of site target.Receive = None
 server_of site (target.Process name) = named_from name 0 site.processes
 
--- the process that a file of a process or a terminal asks
-abbrev pub asked_by : Site → Who → Option ℕ
-asked_by site (who.File process file) =
-    option_and_then (λ used. server_of site used.target) (option_and_then (λ spec. slice_get (files_of spec.what) file) (slice_get site.processes process))
-asked_by site (who.Terminal terminal) = option_map (λ spec. spec.target) (slice_get site.terminals terminal)
+abbrev pub file_of : Option ProcessSpec → ℕ → Option FileUse
+file_of None file = None
+file_of (Some spec) file = slice_get (files_of spec.what) file
 
-abbrev pub opener_at : Site → Who → ℕ → Option Opener
-opener_at site one server = option_map (λ place. record { server = server; place = place }) (place_from one 0 (openers_of site server))
+abbrev pub server_of_file : Site → Option FileUse → Option ℕ
+server_of_file site None = None
+server_of_file site (Some file) = server_of site file.target
+
+-- the process that a file of a process or a terminal asks
+abbrev pub server_by : Site → Who → Option ℕ
+server_by site (who.File process file) = server_of_file site (file_of (slice_get site.processes process) file)
+server_by site (who.Terminal terminal) = option_map (λ spec. spec.target) (slice_get site.terminals terminal)
+
+abbrev pub opener_at : ℕ → Option ℕ → Option Opener
+opener_at server None = None
+opener_at server (Some place) = Some (record { server = server; place = place })
+
+abbrev pub opener_on : Site → Who → Option ℕ → Option Opener
+opener_on site one None = None
+opener_on site one (Some server) = opener_at server (place_from one 0 (openers_of site server))
 
 -- where an opener stands: its server, and its place among the server's openers
 abbrev pub opener_of : Site → Who → Option Opener
-opener_of site one = option_and_then (opener_at site one) (asked_by site one)
+opener_of site one = opener_on site one (server_by site one)

@@ -5,6 +5,8 @@
 //! uses `made`, `IsPossible`, `shown_by` and `IsNoneLeft` of `specs/`, and the laws of this crate's public functions.
 #![tactic(auto)]
 
+pub mod opening;
 pub mod slot;
 
+pub use opening::{files_of, narrow, opener_of, openers};
 pub use slot::{Opener, Slot};
