@@ -1,4 +1,4 @@
-ghost use Rattle.std.specs.Prelude.{◌≡◌, ◌<◌, ◌↔◌, [], ◌∷◌, ◌++◌, length, slice_get, take, IsTrue, IfOk, OnOk, OnErr, OnSome};
+ghost use Rattle.std.specs.Prelude.{◌≡◌, ◌<◌, ◌↔◌, [], ◌∷◌, ◌++◌, length, slice_get, slice_set, take, IsTrue, IfOk, OnOk, OnErr, OnSome};
 ghost use Rattle.std.specs.Option.{option_copied};
 
 use crate::memory::NoMemory;
@@ -86,6 +86,15 @@ impl<T: Drop> List<T> {
     {
         self.items.push(item)?;
         Ok(())
+    }
+
+    /// Puts an item in the place of the one at `k`; past the end nothing changes.
+    pub fn set(&mut self, k: usize, item: T)
+        ensures { self.new ≡ slice_set self.old k item }
+    {
+        if k < self.items.len() {
+            self.items[k] = item;
+        }
     }
 }
 

@@ -1,0 +1,6 @@
+pub mod Disc
+pub mod Process
+pub mod Program
+pub mod SeenEntries
+pub mod SeenFrames
+pub mod SeenProcess

@@ -1,0 +1,13 @@
+-- The entries that a stack shows: its last is the next.
+use Rattle.std.specs.Prelude.{List, map, reverse}
+use Rattle.process_semantics.specs.declared.entry.Entry.{Entry as Borrowed}
+use Rattle.process_semantics.specs.declared.entry.Entry.TheVariants as borrowed
+use Rattle.process_semantics.specs.Program.{Entry, Run, Test, Last}
+
+abbrev pub entry_of : Borrowed → Entry
+entry_of (borrowed.Run statement) = Run statement.now
+entry_of (borrowed.Test statement) = Test statement.now
+entry_of (borrowed.Last statement) = Last statement.now
+
+abbrev pub stack : List Borrowed → List Entry
+stack entries = map entry_of (reverse entries)

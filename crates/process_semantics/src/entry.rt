@@ -1,0 +1,12 @@
+use tal_tree::Statement;
+
+/// What is to be done in a procedure.
+#[derive(Clone, Copy, Debug)]
+pub enum Entry<'a> {
+    /// The statement.
+    Run(&'a Statement),
+    /// The test of a FOR.
+    Test(&'a Statement),
+    /// The last assignment of a FOR.
+    Last(&'a Statement),
+}
