@@ -1,0 +1,84 @@
+use crate::globals::globals;
+use crate::sign::{
+    begin_first, end_first, finish_first, main_first, name_first, proc_first, semicolon_first,
+};
+use crate::statement::{more_statements, statement};
+use crate::stop::Stop;
+use std::alloc::Global;
+use tal_syntax::{Head, Tail, Text};
+use tal_tokens::Token;
+
+/// How many levels a procedure's own statement may open.
+const LEVELS: u8 = 32;
+
+/// `PROC name MAIN ";" BEGIN`
+fn head(tokens: &[Token]) -> Result<(Head, &[Token]), Stop> {
+    let Some((procedure, after)) = proc_first(tokens) else {
+        return Err(Stop::Unexpected(tokens.len()));
+    };
+    let Some((at, name, after)) = name_first(after) else {
+        return Err(Stop::Unexpected(after.len()));
+    };
+    let Some((main, after)) = main_first(after) else {
+        return Err(Stop::Unexpected(after.len()));
+    };
+    let Some((semicolon, after)) = semicolon_first(after) else {
+        return Err(Stop::Unexpected(after.len()));
+    };
+    let Some((begin, rest)) = begin_first(after) else {
+        return Err(Stop::Unexpected(after.len()));
+    };
+    Ok((
+        Head {
+            procedure,
+            at,
+            name,
+            main,
+            semicolon,
+            begin,
+        },
+        rest,
+    ))
+}
+
+/// `END ";"` and the end of the text
+fn tail(tokens: &[Token]) -> Result<Tail, Stop> {
+    let Some((end, after)) = end_first(tokens) else {
+        return Err(Stop::Unexpected(tokens.len()));
+    };
+    let Some((semicolon, after)) = semicolon_first(after) else {
+        return Err(Stop::Unexpected(after.len()));
+    };
+    let Some((finish, rest)) = finish_first(after) else {
+        return Err(Stop::Unexpected(after.len()));
+    };
+    if rest.is_empty() {
+        Ok(Tail {
+            end,
+            semicolon,
+            finish,
+        })
+    } else {
+        Err(Stop::Unexpected(rest.len()))
+    }
+}
+
+/// The syntax of a whole text.
+pub fn build(alloc: Global, tokens: &[Token]) -> Result<Text, Stop> {
+    let (globals, after) = globals(alloc, tokens)?;
+    match head(after) {
+        Ok((head, after)) => {
+            let (first, after) = statement(alloc, LEVELS, after)?;
+            let (more, after) = more_statements(alloc, LEVELS, after)?;
+            let tail = tail(after)?;
+            Ok(Text {
+                globals,
+                head,
+                first,
+                more,
+                tail,
+            })
+        }
+        Err(stop) => Err(stop),
+    }
+}

@@ -1,0 +1,107 @@
+ghost use Rattle.std.specs.Prelude.{◌<◌, length};
+
+use crate::program::program;
+use gd_words::NoMemory;
+use std::alloc::Global;
+use tal_builder::{Stop, build};
+use tal_tokens::{At, Token, TokenList, tokens};
+use tal_tree::{Program, TalFault};
+
+/// Where a token stands.
+fn at_of(token: &Token) -> At {
+    match token {
+        Token::Name(at, _) => *at,
+        Token::Number(at, _) => *at,
+        Token::Process(at, _) => *at,
+        Token::Receive(at) => *at,
+        Token::Text(at) => *at,
+        Token::And(at) => *at,
+        Token::Begin(at) => *at,
+        Token::By(at) => *at,
+        Token::Call(at) => *at,
+        Token::Do(at) => *at,
+        Token::DownTo(at) => *at,
+        Token::Else(at) => *at,
+        Token::End(at) => *at,
+        Token::For(at) => *at,
+        Token::If(at) => *at,
+        Token::Int(at) => *at,
+        Token::Literal(at) => *at,
+        Token::Main(at) => *at,
+        Token::Not(at) => *at,
+        Token::Or(at) => *at,
+        Token::Proc(at) => *at,
+        Token::Return(at) => *at,
+        Token::Then(at) => *at,
+        Token::To(at) => *at,
+        Token::Until(at) => *at,
+        Token::While(at) => *at,
+        Token::Assign(at) => *at,
+        Token::Differs(at) => *at,
+        Token::AtMost(at) => *at,
+        Token::AtLeast(at) => *at,
+        Token::Less(at) => *at,
+        Token::Greater(at) => *at,
+        Token::Equal(at) => *at,
+        Token::Plus(at) => *at,
+        Token::Minus(at) => *at,
+        Token::Star(at) => *at,
+        Token::Slash(at) => *at,
+        Token::Open(at) => *at,
+        Token::Close(at) => *at,
+        Token::OpenIndex(at) => *at,
+        Token::CloseIndex(at) => *at,
+        Token::Comma(at) => *at,
+        Token::Semicolon(at) => *at,
+        Token::Colon(at) => *at,
+        Token::Finish(at) => *at,
+    }
+}
+
+/// The fault of tokens that aren't read, of which so many are left.
+fn fault_of(list: &TokenList, left: usize, deep: bool) -> TalFault {
+    let tokens = list.list.as_slice();
+    match tokens.get(tokens.len().saturating_sub(left)) {
+        Some(token) => {
+            let place = at_of(token).place;
+            if deep {
+                TalFault::Limit(8, place)
+            } else {
+                TalFault::Expected(place)
+            }
+        }
+        None => match list.fault {
+            Some(fault) => fault,
+            None => TalFault::NoMemory,
+        },
+    }
+}
+
+/// The program of a text.
+pub fn read_program(alloc: Global, bytes: &[u8]) -> Result<Program, TalFault>
+    requires { length bytes.now < 4294967295 }
+{
+    let list = tokens(alloc, bytes)?;
+    match build(alloc, list.list.as_slice()) {
+        Ok(syntax) => program(alloc, &syntax),
+        Err(Stop::Unexpected(left)) => Err(fault_of(&list, left, false)),
+        Err(Stop::TooDeep(left)) => Err(fault_of(&list, left, true)),
+        Err(Stop::NoMemory) => Err(TalFault::NoMemory),
+    }
+}
+
+#[cfg(test)]
+mod tests {
+    use super::*;
+    use std::test::Fail;
+
+    const ADDER: &[u8] =
+        b"INT total, got, rcv;\nINT buf[0:0];\nPROC add MAIN;\nBEGIN\n  CALL CHECKMONITOR;\n  CALL OPEN(\"$RECEIVE\", rcv, 1);\n  WHILE 1 DO\n  BEGIN\n    CALL READUPDATE(rcv, buf, 1, got);\n    total := total + buf[0];\n    buf[0] := total;\n    CALL CHECKPOINT(total, got, buf);\n    CALL REPLY(buf, 1);\n  END;\nEND;\n";
+
+    #[test]
+    fn reads_the_adder(rt: HostRuntime) -> Result<(), Fail> {
+        let program = read_program(rt.alloc(), ADDER)?;
+        assert_eq!(rt; program.items.len(), 4);
+        Ok(())
+    }
+}

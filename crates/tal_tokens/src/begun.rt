@@ -1,0 +1,49 @@
+ghost use Rattle.std.specs.Prelude.{◌≡◌, ◌<◌, ◌≤◌, ◌+◌, length};
+
+use crate::cursor::Cursor;
+use crate::number::{decimal, octal};
+use crate::symbol::{is_blank, symbol};
+use crate::text::string;
+use crate::token::Token;
+use crate::word::name;
+use gd_words::ident::is_ident_sign;
+use tal_tree::TalFault;
+
+/// What a text begins with: a sign that separates tokens, a token of so many bytes, or what no token begins with.
+#[derive(Clone, Copy, Debug, PartialEq, Eq)]
+pub enum Begun {
+    Gap,
+    Whole(Token, usize),
+    Broken(TalFault),
+}
+
+impl Begun {
+    ghost use Rattle.tal_tokens.specs.Lexeme.{begun_of, TakesUpTo};
+
+    /// What a text that isn't empty begins with.
+    pub fn of(here: Cursor, text: &[u8]) -> Begun
+        requires some { 0 < length text.now }
+        requires room { here.offset + length text.now < 4294967295 }
+        ensures value { result ≡ begun_of here text.now }
+        ensures within { TakesUpTo (length text.now) result }
+    {
+        match text {
+            [] => Begun::Gap,
+            [first, rest @ ..] => {
+                if is_blank(*first) {
+                    Begun::Gap
+                } else if first.is_ascii_digit() {
+                    decimal(here, text)
+                } else if is_ident_sign(*first) {
+                    name(here, text)
+                } else if *first == b'%' {
+                    octal(here, rest)
+                } else if *first == b'"' {
+                    string(here, rest)
+                } else {
+                    symbol(here, *first, rest)
+                }
+            }
+        }
+    }
+}

@@ -1,0 +1,46 @@
+ghost use Rattle.std.specs.Prelude.{◌≡◌, ◌<◌, length, IfOk};
+ghost use Rattle.tal_tokens.specs.Lexer.{tokens_of};
+
+use crate::begun::Begun;
+use crate::cursor::Cursor;
+use crate::token::Token;
+use gd_words::{List, NoMemory};
+use std::alloc::Global;
+use tal_tree::TalFault;
+
+/// The tokens of a text, `Finish` last, or the tokens before the first byte that belongs to none, and the fault there.
+#[derive(Debug, Drop)]
+pub struct TokenList {
+    pub list: List<Token>,
+    pub fault: Option<TalFault>,
+}
+
+/// The tokens of a text.
+pub fn tokens(alloc: Global, text: &[u8]) -> Result<TokenList, NoMemory>
+    requires { length text.now < 4294967295 }
+    ensures { IfOk result (λ tokens. tokens ≡ tokens_of text.now) }
+{
+    let mut list = List::new(alloc);
+    let mut here = Cursor::start();
+    let mut rest = text;
+    while !rest.is_empty() {
+        let taken = match Begun::of(here, rest) {
+            Begun::Gap => 1,
+            Begun::Whole(token, len) => {
+                list.push(token)?;
+                len
+            }
+            Begun::Broken(fault) => {
+                return Ok(TokenList {
+                    list,
+                    fault: Some(fault),
+                });
+            }
+        };
+        let (front, tail) = rest.split_at(taken);
+        here = here.past(front);
+        rest = tail;
+    }
+    list.push(Token::Finish(here.at(0)))?;
+    Ok(TokenList { list, fault: None })
+}

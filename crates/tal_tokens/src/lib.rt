@@ -1,0 +1,18 @@
+//! The tokens of a program text: names, numbers, strings, keywords and symbols, each with its place.
+//!
+//! Below stand `gd_words` for identifiers and lists and `tal_tree` for places, faults and what a string opens. The reader
+//! of programs above uses the one clause of `tokens`: its answer is `lexed`, the tokens of the text as they are defined.
+#![tactic(auto)]
+
+mod begun;
+mod cursor;
+pub mod lexer;
+mod number;
+mod run;
+mod symbol;
+mod text;
+pub mod token;
+mod word;
+
+pub use lexer::{TokenList, tokens};
+pub use token::{At, Token};
