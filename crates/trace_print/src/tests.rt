@@ -1,6 +1,6 @@
 ghost use Rattle.trace_print.specs.FaultLine.{IsOfDeck};
 
-use crate::{End, write_end, write_fault, write_shown, write_usage};
+use crate::{End, write_end, write_fault, write_report, write_shown, write_usage};
 use gd_io::MemorySink;
 use gd_words::{List, Name, NoMemory, Words};
 use std::alloc::Global;
@@ -52,9 +52,9 @@ fn lines_tell_what_is_shown(rt: HostRuntime) -> Result<(), Fail> {
     };
     let mut sink = empty_sink(alloc)?;
     write_shown(&mut sink, &site, &write)?;
-    write_shown(&mut sink, &site, &silent)?;
-    write_shown(&mut sink, &site, &reply)?;
-    let wanted = b"W $DISC 63: 1 -2 0 32767 -32768 6 7 80\nR $T1 4294967295:\nR $T1 1: 0 -7\n";
+    write_report(&mut sink, &site, &[silent, reply], End::Idle)?;
+    let wanted =
+        b"W $DISC 63: 1 -2 0 32767 -32768 6 7 80\nR $T1 4294967295:\nR $T1 1: 0 -7\nEND idle\n";
     assert_eq!(rt; sink.bytes(), wanted.as_slice());
     Ok(())
 }
