@@ -1,5 +1,5 @@
 -- Texts written one after the other.
-use Rattle.std.specs.Prelude.{◌≡◌, ℕ, ◌+◌, ◌<◌, ◌≤◌, List, [], ◌++◌, Option, Some, None, Result, Ok, Err, ⊤, IsOk, OnErr, length, take, refl}
+use Rattle.std.specs.Prelude.{ℕ, ◌+◌, ◌≤◌, List, [], ◌++◌, Option, Some, None, Result, Ok, Err, ⊤, IsOk, IsErr, OnErr, length, take, refl}
 use Rattle.std.proofs.Common.{sym, ap, ◌∙◌, subst, arith, inl, inr, append-nil, append_assoc, length-append}
 use Rattle.std.proofs.lemmas.List.{take-append-le}
 use Rattle.std.proofs.Math.Nat.{eq-or-lt_of_le}
@@ -82,6 +82,25 @@ puts_part held faults sure old new first second fault h =
       still = λ n s. h.still (length second + n) (sure_first n s);
       never = λ n s. absurd (err_not_ok (h.never (length second + n) (sure_first n s)).0);
     }
+  where
+    err_not_ok : IsOk {T = ⊤} {E = WriteFault} (Err fault) → ⊥
+    err_not_ok e = cc
+
+-- a text that is not written whole stays so where its fault is passed on
+pub puts_passed_on : {K : Type 0} (held : K → Option (List ℕ)) (faults : K → ℕ) (sure : K → ℕ → Type 0) (old new : K)
+    (text : List ℕ) (fault : WriteFault) (result : Result ⊤ WriteFault)
+    → IsErr result → Puts held faults sure old new text (Err fault) → Puts held faults sure old new text result
+puts_passed_on held faults sure old new text fault (Ok done) e h = absurd (ok_not_err done e)
+  where
+    ok_not_err : (done : ⊤) → IsErr {T = ⊤} {E = WriteFault} (Ok done) → ⊥
+    ok_not_err done e = cc
+puts_passed_on held faults sure old new text fault (Err other) e h = record {
+  bytes = h.bytes;
+  later = h.later;
+  cause = h.cause;
+  still = h.still;
+  never = λ n s. absurd (err_not_ok (h.never n s).0);
+}
   where
     err_not_ok : IsOk {T = ⊤} {E = WriteFault} (Err fault) → ⊥
     err_not_ok e = cc

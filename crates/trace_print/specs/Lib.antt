@@ -1,0 +1,5 @@
+pub mod EndLine
+pub mod FaultLine
+pub mod NumbersText
+pub mod ShownLine
+pub mod TalNumbers
