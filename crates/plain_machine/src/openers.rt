@@ -19,7 +19,12 @@ pub(crate) fn openers_of(alloc: Global, site: &Site, process: usize) -> Result<V
     Ok(openers)
 }
 
-fn put_files(openers: &mut Vec<Who>, name: &Name, process: usize, files: &[FileUse]) -> Result<(), NoMemory> {
+fn put_files(
+    openers: &mut Vec<Who>,
+    name: &Name,
+    process: usize,
+    files: &[FileUse],
+) -> Result<(), NoMemory> {
     for (number, file) in files.iter().enumerate() {
         if opens(name, &file.target) {
             let process = narrow(process)?;
@@ -58,14 +63,25 @@ pub(crate) fn narrow(number: usize) -> Result<u8, NoMemory> {
 }
 
 /// Where a terminal stands among the openers of its process.
-pub(crate) fn terminal_opener(alloc: Global, site: &Site, number: usize, terminal: &TerminalSpec) -> Result<Option<Opener>, NoMemory> {
+pub(crate) fn terminal_opener(
+    alloc: Global,
+    site: &Site,
+    number: usize,
+    terminal: &TerminalSpec,
+) -> Result<Option<Opener>, NoMemory> {
     let server = usize::from(terminal.target);
     let who = Who::Terminal(narrow(number)?);
     placed(alloc, site, server, who)
 }
 
 /// Where a file of a process stands among the openers of the process that it opens.
-pub(crate) fn file_opener(alloc: Global, site: &Site, process: usize, number: usize, file: &FileUse) -> Result<Option<Opener>, NoMemory> {
+pub(crate) fn file_opener(
+    alloc: Global,
+    site: &Site,
+    process: usize,
+    number: usize,
+    file: &FileUse,
+) -> Result<Option<Opener>, NoMemory> {
     match &file.target {
         Target::Receive => Ok(None),
         Target::Process(name) => match server_of(site.processes.as_slice(), name) {

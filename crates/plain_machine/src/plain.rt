@@ -66,7 +66,11 @@ impl<'a> Plain<'a> {
     pub(crate) fn made(&mut self, alloc: Global, act: Act) -> Result<Made, NoMemory> {
         match act {
             Act::Step(process) => self.step(alloc, usize::from(process)),
-            Act::Take { process, opener } => self.take(alloc, usize::from(process), usize::from(opener)),
+            Act::Take { process, opener } => self.take(
+                alloc,
+                usize::from(process),
+                usize::from(opener),
+            ),
             Act::Enter(terminal) => self.enter(usize::from(terminal)),
             Act::Print(terminal) => Ok(self.print(terminal)),
         }
@@ -129,7 +133,13 @@ impl<'a> Plain<'a> {
         one.hand = None;
         match hand {
             None => {}
-            Some(place) => self.set_slot(Some(Opener { server: number, place }), Slot::Answered(words)),
+            Some(place) => self.set_slot(
+                Some(Opener {
+                    server: number,
+                    place,
+                }),
+                Slot::Answered(words),
+            ),
         }
         Ok(Made::Quiet)
     }
@@ -144,9 +154,17 @@ impl<'a> Plain<'a> {
         let found = found_by(&one.sectors, &call);
         one.process.device(&found)?;
         match call {
-            DeviceCall::Write { sector, words, number: _ } => {
+            DeviceCall::Write {
+                sector,
+                words,
+                number: _,
+            } => {
                 write(&mut one.sectors, sector, words);
-                Ok(Made::Shows(Shown::Write { process, sector, words }))
+                Ok(Made::Shows(Shown::Write {
+                    process,
+                    sector,
+                    words,
+                }))
             }
             _ => Ok(Made::Quiet),
         }
@@ -215,7 +233,11 @@ impl<'a> Plain<'a> {
             Some(words) => {
                 let number = self.terminals[number].entered;
                 self.set_slot(opener, Slot::Empty);
-                Made::Shows(Shown::Reply { terminal, number, words })
+                Made::Shows(Shown::Reply {
+                    terminal,
+                    number,
+                    words,
+                })
             }
         }
     }
@@ -261,7 +283,8 @@ impl<'a> Plain<'a> {
         match self.terminals.get(number) {
             None => false,
             Some(terminal) => {
-                self.is_empty(terminal.opener) && (terminal.entered as usize) < terminal.requests.len()
+                self.is_empty(terminal.opener)
+                    && (terminal.entered as usize) < terminal.requests.len()
             }
         }
     }
@@ -336,7 +359,12 @@ fn wide(place: usize) -> Result<u16, NoMemory> {
     }
 }
 
-fn start_process<'a>(alloc: Global, site: &Site, number: usize, spec: &'a ProcessSpec) -> Result<PlainProcess<'a>, NoMemory> {
+fn start_process<'a>(
+    alloc: Global,
+    site: &Site,
+    number: usize,
+    spec: &'a ProcessSpec,
+) -> Result<PlainProcess<'a>, NoMemory> {
     let process = Process::start(alloc, &spec.what)?;
     let openers = openers_of(alloc, site, number)?;
     let mut slots = Vec::new(alloc);
@@ -358,7 +386,12 @@ fn start_process<'a>(alloc: Global, site: &Site, number: usize, spec: &'a Proces
     })
 }
 
-fn start_terminal<'a>(alloc: Global, site: &Site, number: usize, spec: &'a TerminalSpec) -> Result<PlainTerminal<'a>, NoMemory> {
+fn start_terminal<'a>(
+    alloc: Global,
+    site: &Site,
+    number: usize,
+    spec: &'a TerminalSpec,
+) -> Result<PlainTerminal<'a>, NoMemory> {
     let opener = terminal_opener(alloc, site, number, spec)?;
     Ok(PlainTerminal {
         requests: spec.requests.as_slice(),

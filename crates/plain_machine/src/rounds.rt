@@ -50,7 +50,12 @@ fn play_round(alloc: Global, plain: &mut Plain<'_>, played: &mut Played) -> Resu
 }
 
 /// Makes an act and keeps it with what it shows, where it is possible.
-fn play(alloc: Global, plain: &mut Plain<'_>, played: &mut Played, act: Act) -> Result<(), NoMemory> {
+fn play(
+    alloc: Global,
+    plain: &mut Plain<'_>,
+    played: &mut Played,
+    act: Act,
+) -> Result<(), NoMemory> {
     match plain.made(alloc, act)? {
         Made::Impossible => {}
         Made::Quiet => played.acts.push(act)?,

@@ -1,5 +1,5 @@
 -- The line of what a run shows.
-use Rattle.std.specs.Prelude.{ℕ, ◌<◌, List, [], ◌∷◌, ◌++◌, length, flat_map, slice_get, codes}
+use Rattle.std.specs.Prelude.{ℕ, List, [], ◌∷◌, ◌++◌, flat_map, slice_get, codes}
 use Rattle.std.specs.Option.{option_map, unwrap_or}
 use Rattle.std.specs.Fmt.{decimal}
 use Rattle.tal_tree.specs.declared.act.Shown.{Shown}
@@ -7,11 +7,7 @@ use Rattle.tal_tree.specs.declared.act.Shown.TheVariants.{Write, Reply}
 use Rattle.tal_tree.specs.declared.site.Site.{Site}
 use Rattle.trace_print.specs.NumbersText.{words_text}
 
--- the process or the terminal that shows something is in the site
-abbrev pub IsIn : Site → Shown → Type 0
-IsIn site (Write process sector words) = process < length site.processes
-IsIn site (Reply terminal number words) = terminal < length site.terminals
-
+-- the name of a process, of a terminal; nothing where it isn't there
 abbrev pub process_name : Site → ℕ → List ℕ
 process_name site process = unwrap_or (option_map (λ spec. spec.name) (slice_get site.processes process)) []
 

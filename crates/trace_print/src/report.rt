@@ -1,8 +1,7 @@
 ghost use Rattle.std.specs.Prelude.{◌++◌};
-ghost use Rattle.std.specs.List.{All};
 ghost use Rattle.gd_io.specs.Puts.{Puts};
 ghost use Rattle.trace_print.specs.EndLine.{end_line};
-ghost use Rattle.trace_print.specs.ShownLine.{IsIn, shown_lines};
+ghost use Rattle.trace_print.specs.ShownLine.{shown_lines};
 
 use crate::closing::{End, write_end};
 use crate::shown::write_shown;
@@ -16,7 +15,6 @@ pub fn write_report<K: Sink>(
     shown: &[Shown],
     end: End,
 ) -> Result<(), WriteFault>
-    requires { All (IsIn site.now) shown.now }
     ensures { Puts K.held K.faults K.sure sink.old sink.new (shown_lines site.now shown.now ++ end_line end) result }
 {
     write_all_shown(sink, site, shown)?;
@@ -30,7 +28,6 @@ pub fn write_all_shown<K: Sink>(
     site: &Site,
     shown: &[Shown],
 ) -> Result<(), WriteFault>
-    requires { All (IsIn site.now) shown.now }
     ensures { Puts K.held K.faults K.sure sink.old sink.new (shown_lines site.now shown.now) result }
 {
     for one in shown {

@@ -2,16 +2,14 @@ ghost use Rattle.std.specs.Prelude.{◌≡◌, ◌≤◌, [], ◌∷◌, ◌++�
 ghost use Rattle.std.specs.Fmt.{decimal};
 ghost use Rattle.gd_io.specs.Puts.{Puts};
 ghost use Rattle.trace_print.specs.NumbersText.{words_text};
-ghost use Rattle.trace_print.specs.ShownLine.{IsIn, shown_line};
+ghost use Rattle.trace_print.specs.ShownLine.{process_name, shown_line, terminal_name};
 
 use crate::line::Line;
 use gd_io::{Sink, WriteFault, put_all};
-use gd_words::Name;
 use tal_tree::{Shown, Site};
 
-/// Writes the line of what a process or a terminal of the site shows. It takes no memory.
+/// Writes the line of what a process or a terminal of the site shows; the name of one that isn't there is empty. It takes no memory.
 pub fn write_shown<K: Sink>(sink: &mut K, site: &Site, shown: &Shown) -> Result<(), WriteFault>
-    requires { IsIn site.now shown.now }
     ensures { Puts K.held K.faults K.sure sink.old sink.new (shown_line site.now shown.now) result }
 {
     let line = shown_text(site, shown);
@@ -20,7 +18,6 @@ pub fn write_shown<K: Sink>(sink: &mut K, site: &Site, shown: &Shown) -> Result<
 }
 
 fn shown_text(site: &Site, shown: &Shown) -> Line
-    requires { IsIn site.now shown.now }
     ensures { result ≡ shown_line site.now shown.now }
 {
     match shown {
@@ -28,30 +25,55 @@ fn shown_text(site: &Site, shown: &Shown) -> Line
             process,
             sector,
             words,
-        } => match site.processes.get(usize::from(*process)) {
-            Some(spec) => told(b"W ", &spec.name, u32::from(*sector), words),
-            None => unreachable!(),
-        },
+        } => told(
+            b"W ",
+            process_name(site, *process),
+            u32::from(*sector),
+            words,
+        ),
         Shown::Reply {
             terminal,
             number,
             words,
-        } => match site.terminals.get(usize::from(*terminal)) {
-            Some(spec) => told(b"R ", &spec.name, *number, words.as_slice()),
-            None => unreachable!(),
-        },
+        } => told(
+            b"R ",
+            terminal_name(site, *terminal),
+            *number,
+            words.as_slice(),
+        ),
+    }
+}
+
+fn process_name(site: &Site, process: u8) -> &[u8]
+    ensures value { result.now ≡ process_name site.now process }
+    ensures short { length result.now ≤ 6 }
+{
+    match site.processes.get(usize::from(process)) {
+        Some(spec) => spec.name.text(),
+        None => &[],
+    }
+}
+
+fn terminal_name(site: &Site, terminal: u8) -> &[u8]
+    ensures value { result.now ≡ terminal_name site.now terminal }
+    ensures short { length result.now ≤ 6 }
+{
+    match site.terminals.get(usize::from(terminal)) {
+        Some(spec) => spec.name.text(),
+        None => &[],
     }
 }
 
 /// A letter with a space, a name, a number and words.
-fn told(letter: &[u8], name: &Name, number: u32, words: &[i16]) -> Line
+fn told(letter: &[u8], name: &[u8], number: u32, words: &[i16]) -> Line
     requires letter { length letter.now ≤ 2 }
+    requires short { length name.now ≤ 6 }
     requires few { length words.now ≤ 16 }
     ensures { result ≡ letter.now ++ name.now ++ codes " " ++ decimal number ++ codes ":" ++ words_text words.now ++ 10 ∷ [] }
 {
     let mut line = Line::new();
     line.push(letter);
-    line.push(name.text());
+    line.push(name);
     line.push(b" ");
     line.number(i64::from(number));
     line.push(b":");

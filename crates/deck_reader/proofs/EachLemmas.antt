@@ -1,0 +1,58 @@
+-- Lists whose elements belong together, one after another.
+use Rattle.std.proofs.Common.{◌≡◌, ℕ, ◌+◌, ◌<◌, zero, suc, List, [], ◌∷◌, ◌++◌, length, take, get_or, refl, sym, ap, ◌∙◌, arith, subst, add-one, append_assoc, append-nil}
+use Rattle.std.proofs.Math.Seq.{take-suc}
+use Rattle.deck_reader.specs.Decks.{EachWith}
+
+pub each_more : {X Y : Type 0} (R : X → Y → Type 0) (xs : List X) (ys : List Y) (x : X) (y : Y) → EachWith R xs ys → R x y → EachWith R (xs ++ x ∷ []) (ys ++ y ∷ [])
+each_more R [] [] x y each one = (one, tt)
+each_more R (a ∷ xs) (b ∷ ys) x y each one = (each.0, each_more R xs ys x y each.1 one)
+each_more R [] (b ∷ ys) x y each one = absurd each
+each_more R (a ∷ xs) [] x y each one = absurd each
+
+-- each x has its y
+pub each_at : {X Y : Type 0} (R : X → Y → Type 0) (xs : List X) (ys : List Y) (k : ℕ) (d : X) → EachWith R xs ys → k < length xs → (y : Y) × R (get_or xs k d) y
+each_at R [] ys k d each within = absurd (omega arith)
+each_at R (x ∷ xs) [] k d each within = absurd each
+each_at R (x ∷ xs) (y ∷ ys) zero d each within = (y, each.0)
+each_at R (x ∷ xs) (y ∷ ys) (suc k) d each within = each_at R xs ys k d each.1 (omega arith)
+
+-- one more of a list's elements with its own
+pub each_next : {X Y : Type 0} (R : X → Y → Type 0) (xs : List X) (ys : List Y) (k : ℕ) (d : X) (y : Y) → k < length xs → EachWith R (take k xs) ys → R (get_or xs k d) y
+    → EachWith R (take (k + 1) xs) (ys ++ y ∷ [])
+each_next R xs ys k d y within each one =
+    let P : List _ → Type 0 = λ front. EachWith R front (ys ++ y ∷ []) in
+    subst P (sym (ap (λ n. take n xs) (add-one k) ∙ take-suc xs k d within)) (each_more R (take k xs) ys (get_or xs k d) y each one)
+
+-- an x in the middle has its y
+pub each_within : {X Y : Type 0} (R : X → Y → Type 0) (front : List X) (x : X) (back : List X) (ys : List Y) → EachWith R (front ++ x ∷ back) ys → (y : Y) × R x y
+each_within R [] x back [] each = absurd each
+each_within R [] x back (y ∷ ys) each = (y, each.0)
+each_within R (a ∷ front) x back [] each = absurd each
+each_within R (a ∷ front) x back (b ∷ ys) each = each_within R front x back ys each.1
+
+-- of all xs some are done, each with its y, and these are left
+pub record IsDoneTo {X Y : Type 0} (R : X → Y → Type 0) (all rest : List X) (ys : List Y) : Type 0 where
+  pub front : List X
+  pub whole : all ≡ front ++ rest
+  pub each : EachWith R front ys
+
+pub none_done : {X Y : Type 0} (R : X → Y → Type 0) (all rest : List X) → rest ≡ all → IsDoneTo R all rest []
+none_done R all rest e = record { front = []; whole = sym e; each = tt }
+
+pub one_done : {X Y : Type 0} (R : X → Y → Type 0) (all rest later : List X) (x : X) (ys : List Y) (y : Y) → IsDoneTo R all rest ys → rest ≡ x ∷ later → R x y → IsDoneTo R all later (ys ++ y ∷ [])
+one_done R all rest later x ys y before e one = record {
+  front = before.front ++ x ∷ [];
+  whole = before.whole ∙ ap (λ xs. before.front ++ xs) e ∙ sym (append_assoc before.front (x ∷ []) later);
+  each = each_more R before.front ys x y before.each one;
+}
+
+pub all_done : {X Y : Type 0} (R : X → Y → Type 0) (all rest : List X) (ys : List Y) → IsDoneTo R all rest ys → rest ≡ [] → EachWith R all ys
+all_done R all rest ys before e =
+    let P : List _ → Type 0 = λ xs. EachWith R xs ys in
+    subst P (sym (before.whole ∙ ap (λ xs. before.front ++ xs) e ∙ append-nil before.front)) before.each
+
+pub never_done : {X Y : Type 0} (R : X → Y → Type 0) (all rest later : List X) (x : X) (ys zs : List Y) → IsDoneTo R all rest ys → rest ≡ x ∷ later → ((y : Y) → R x y → ⊥) → EachWith R all zs → ⊥
+never_done R all rest later x ys zs before e refused each =
+    let P : List _ → Type 0 = λ xs. EachWith R xs zs in
+    let found = each_within R before.front x later zs (subst P (before.whole ∙ ap (λ xs. before.front ++ xs) e) each) in
+    refused found.0 found.1

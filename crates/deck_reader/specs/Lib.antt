@@ -1,0 +1,6 @@
+pub mod Cuts
+pub mod Decks
+pub mod Lines
+pub mod Numbers
+pub mod Outlined
+pub mod SayingOf

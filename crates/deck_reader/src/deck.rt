@@ -1,0 +1,171 @@
+ghost use Rattle.std.specs.Prelude.{◌≡◌, ◌<◌, ◌≤◌, ◌↔◌, ℕ, length, IfOk, IfErr, IsTrue, MatchOption, Some, option_map};
+ghost use Rattle.deck_reader.specs.Lines.{lines_of};
+ghost use Rattle.deck_reader.specs.Outlined.{outline_of};
+ghost use Rattle.deck_reader.specs.Decks.{Decks, IsDeckOf, AreProcessesOf, AreTerminalsOf, IsPlaceOf, IsProcessOf, IsTerminalOf, IsFaultOfToday, IsRefusal};
+
+use crate::lines::next_line;
+use crate::outline::{Outline, PairLines, Stage, TerminalLines, next_stage};
+use gd_words::{List, Name, NoMemory};
+use schedule::Line;
+use std::alloc::Global;
+use tal_reader::read_program;
+use tal_tree::{DeckFault, Kind, ProcessSpec, Site, TalFault, TerminalSpec};
+
+/// A deck has at most this many bytes.
+const MOST_BYTES: usize = 1_048_576;
+
+/// A system and the schedule of its run.
+#[derive(Debug, Drop)]
+pub struct Deck {
+    pub site: Site,
+    pub lines: List<Line>,
+}
+
+/// Reads a deck.
+pub fn read_deck(alloc: Global, bytes: &[u8]) -> Result<Deck, DeckFault>
+    ensures ok { IfOk result (λ deck. Decks bytes.now deck) }
+    ensures too_long { (result ≡ Err DeckFault.TooLong) ↔ (1048576 < length bytes.now) }
+    ensures today { IfErr result IsFaultOfToday }
+{
+    if bytes.len() > MOST_BYTES {
+        return Err(DeckFault::TooLong);
+    }
+    match outline_of(alloc, bytes) {
+        Err(NoMemory) => Err(DeckFault::NoMemory),
+        Ok(None) => Err(DeckFault::NotYet),
+        Ok(Some(outline)) => deck_of(alloc, outline),
+    }
+}
+
+/// What the lines say together; none where they aren't those of a deck.
+fn outline_of(alloc: Global, bytes: &[u8]) -> Result<Option<Outline>, NoMemory>
+    ensures { IfOk result (λ outline. outline ≡ outline_of (lines_of bytes.now)) }
+{
+    let mut stage = Stage::Opening;
+    let mut text = bytes;
+    while let Some((line, rest)) = next_line(text) {
+        match next_stage(alloc, stage, line)? {
+            None => return Ok(None),
+            Some(next) => stage = next,
+        }
+        text = rest;
+    }
+    match stage {
+        Stage::Ended(outline) => Ok(Some(outline)),
+        _ => Ok(None),
+    }
+}
+
+/// The deck of an outline: programs are read and names looked up.
+fn deck_of(alloc: Global, outline: Outline) -> Result<Deck, DeckFault>
+    ensures ok { IfOk result (λ deck. IsDeckOf outline deck) }
+    ensures err { IfErr result IsRefusal }
+{
+    let Outline {
+        processors,
+        pairs,
+        terminals,
+        lines,
+    } = outline;
+    let processes = processes_of(alloc, pairs.as_slice())?;
+    let terminals = terminals_of(alloc, pairs.as_slice(), terminals)?;
+    let site = Site {
+        processors,
+        processes,
+        terminals,
+    };
+    Ok(Deck { site, lines })
+}
+
+fn processes_of(alloc: Global, pairs: &[PairLines]) -> Result<List<ProcessSpec>, DeckFault>
+    ensures ok { IfOk result (λ processes. AreProcessesOf pairs.now processes) }
+    ensures err { IfErr result IsRefusal }
+{
+    let mut processes = List::new(alloc);
+    for pair in pairs {
+        let process = process_of(alloc, pair)?;
+        processes.push(process)?;
+    }
+    Ok(processes)
+}
+
+/// The process of a pair's lines.
+fn process_of(alloc: Global, pair: &PairLines) -> Result<ProcessSpec, DeckFault>
+    ensures ok { IfOk result (λ process. IsProcessOf pair.now process) }
+    ensures err { IfErr result IsRefusal }
+{
+    let text = pair.text.as_slice();
+    if text.len() > MOST_BYTES {
+        return Err(DeckFault::NotYet);
+    }
+    match read_program(alloc, text) {
+        Ok(program) => Ok(ProcessSpec {
+            name: pair.name,
+            primary: pair.primary,
+            backup: pair.backup,
+            what: Kind::Pair(program),
+        }),
+        Err(TalFault::NoMemory) => Err(DeckFault::NoMemory),
+        Err(_) => Err(DeckFault::NotYet),
+    }
+}
+
+fn terminals_of(
+    alloc: Global,
+    pairs: &[PairLines],
+    terminals: List<TerminalLines>,
+) -> Result<List<TerminalSpec>, DeckFault>
+    ensures ok { IfOk result (λ specs. AreTerminalsOf pairs.now terminals specs) }
+    ensures err { IfErr result IsRefusal }
+{
+    let mut specs = List::new(alloc);
+    for lines in terminals.into_vec() {
+        match terminal_of(pairs, lines) {
+            Err(fault) => return Err(fault),
+            Ok(terminal) => specs.push(terminal)?,
+        }
+    }
+    Ok(specs)
+}
+
+/// The terminal of a terminal's lines.
+fn terminal_of(pairs: &[PairLines], lines: TerminalLines) -> Result<TerminalSpec, DeckFault>
+    ensures ok { IfOk result (λ terminal. IsTerminalOf pairs.now lines terminal) }
+    ensures err { IfErr result IsRefusal }
+{
+    let TerminalLines {
+        name,
+        target,
+        requests,
+    } = lines;
+    match place_of(pairs, &target) {
+        Some(target) => Ok(TerminalSpec {
+            name,
+            target,
+            requests,
+        }),
+        None => Err(DeckFault::NotYet),
+    }
+}
+
+/// The place of the pair of this name.
+fn place_of(pairs: &[PairLines], name: &Name) -> Option<u8>
+    ensures { MatchOption result ((place : ℕ) → IsPlaceOf pairs.now name.now place → ⊥) (λ place. IsPlaceOf pairs.now name.now place) }
+{
+    for place in 0..16u8 {
+        if is_named(pairs.get(usize::from(place)), name) {
+            return Some(place);
+        }
+    }
+    None
+}
+
+/// Whether the pair, if there is one, has the name.
+fn is_named(pair: Option<&PairLines>, name: &Name) -> bool
+    ensures { IsTrue result ↔ (option_map (λ pair. pair.now.name) pair.entry ≡ Some name.now) }
+{
+    match pair {
+        None => false,
+        Some(pair) => pair.name.text() == name.text(),
+    }
+}

@@ -1,0 +1,171 @@
+ghost use Rattle.std.specs.Prelude.{◌≡◌, ◌≤◌, length};
+ghost use Rattle.deck_reader.specs.Lines.{words_of};
+ghost use Rattle.deck_reader.specs.SayingOf.{keyword_of, processors_said, pair_said, terminal_said, send_said, schedule_said, drain_said, end_said, said_by, saying_of, request_of};
+
+use crate::lines::{is_blank, is_printable, next_word, one_word, three_words, two_words};
+use crate::numbers::{number_of, word_of};
+use gd_words::{Name, Words};
+
+/// The word with which a line begins.
+#[derive(Clone, Copy, Debug, PartialEq, Eq)]
+pub enum Keyword {
+    Processors,
+    Pair,
+    Terminal,
+    Send,
+    Schedule,
+    Drain,
+    End,
+}
+
+/// What a line outside a program says, with its numbers as they are written.
+#[derive(Debug, Drop)]
+pub enum Saying {
+    /// An empty line.
+    Nothing,
+    Processors(u32),
+    Pair {
+        name: Name,
+        primary: u32,
+        backup: u32,
+    },
+    Terminal {
+        name: Name,
+        target: Name,
+    },
+    /// One request of the terminal before.
+    Send(Words),
+    Schedule,
+    Drain(u32),
+    End,
+}
+
+/// What a line outside a program says; none where it is of no form.
+pub fn saying_of(line: &[u8]) -> Option<Saying>
+    ensures { result ≡ saying_of line.now }
+{
+    if is_printable(line) {
+        said_by(line)
+    } else {
+        None
+    }
+}
+
+fn said_by(line: &[u8]) -> Option<Saying>
+    ensures { result ≡ said_by (words_of line.now) }
+{
+    let Some((word, parts)) = next_word(line) else {
+        return Some(Saying::Nothing);
+    };
+    match keyword_of(word)? {
+        Keyword::Processors => processors(parts),
+        Keyword::Pair => pair(parts),
+        Keyword::Terminal => terminal(parts),
+        Keyword::Send => send(parts),
+        Keyword::Schedule => schedule(parts),
+        Keyword::Drain => drain(parts),
+        Keyword::End => end(parts),
+    }
+}
+
+fn keyword_of(word: &[u8]) -> Option<Keyword>
+    ensures { result ≡ keyword_of word.now }
+{
+    if word == b"processors".as_slice() {
+        Some(Keyword::Processors)
+    } else if word == b"pair".as_slice() {
+        Some(Keyword::Pair)
+    } else if word == b"terminal".as_slice() {
+        Some(Keyword::Terminal)
+    } else if word == b"send".as_slice() {
+        Some(Keyword::Send)
+    } else if word == b"schedule".as_slice() {
+        Some(Keyword::Schedule)
+    } else if word == b"drain".as_slice() {
+        Some(Keyword::Drain)
+    } else if word == b"END".as_slice() {
+        Some(Keyword::End)
+    } else {
+        None
+    }
+}
+
+fn processors(parts: &[u8]) -> Option<Saying>
+    ensures { result ≡ processors_said (words_of parts.now) }
+{
+    let word = one_word(parts)?;
+    let count = number_of(word)?;
+    Some(Saying::Processors(count))
+}
+
+fn pair(parts: &[u8]) -> Option<Saying>
+    ensures { result ≡ pair_said (words_of parts.now) }
+{
+    let (name, primary, backup) = three_words(parts)?;
+    let name = Name::read(name)?;
+    let primary = number_of(primary)?;
+    let backup = number_of(backup)?;
+    Some(Saying::Pair {
+        name,
+        primary,
+        backup,
+    })
+}
+
+fn terminal(parts: &[u8]) -> Option<Saying>
+    ensures { result ≡ terminal_said (words_of parts.now) }
+{
+    let (name, target) = two_words(parts)?;
+    let name = Name::read(name)?;
+    let target = Name::read(target)?;
+    Some(Saying::Terminal { name, target })
+}
+
+fn send(parts: &[u8]) -> Option<Saying>
+    ensures { result ≡ send_said (words_of parts.now) }
+{
+    let words = request_of(parts)?;
+    Some(Saying::Send(words))
+}
+
+/// The words of a request: none where one is malformed or more than 16 are there.
+fn request_of(parts: &[u8]) -> Option<Words>
+    ensures { result ≡ request_of (words_of parts.now) }
+{
+    let mut words = Words::new();
+    let mut rest = parts;
+    while let Some((word, more)) = next_word(rest) {
+        let value = word_of(word)?;
+        words.push(value).ok()?;
+        rest = more;
+    }
+    Some(words)
+}
+
+fn schedule(parts: &[u8]) -> Option<Saying>
+    ensures { result ≡ schedule_said (words_of parts.now) }
+{
+    if is_blank(parts) {
+        Some(Saying::Schedule)
+    } else {
+        None
+    }
+}
+
+fn drain(parts: &[u8]) -> Option<Saying>
+    ensures { result ≡ drain_said (words_of parts.now) }
+{
+    let word = one_word(parts)?;
+    let rounds = number_of(word)?;
+    Some(Saying::Drain(rounds))
+}
+
+fn end(parts: &[u8]) -> Option<Saying>
+    ensures { result ≡ end_said (words_of parts.now) }
+{
+    if is_blank(parts) {
+        Some(Saying::End)
+    } else {
+        None
+    }
+}

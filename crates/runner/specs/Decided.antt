@@ -1,0 +1,62 @@
+-- What a command decides before it writes anything.
+use Rattle.std.specs.Prelude.{◌≡◌, ◌<◌, ℕ, Bool, true, false, List, [], ◌∷◌, length, Option, Some, None}
+use Rattle.schedule.specs.declared.line.Line.{Line}
+use Rattle.schedule.specs.declared.line.Line.TheVariants.{Drain}
+use Rattle.tal_tree.specs.declared.fault.DeckFault.{DeckFault}
+use Rattle.tal_tree.specs.declared.fault.DeckFault.TheVariants.{TooLong, NotYet}
+use Rattle.gd_io.specs.Faults.{HasRisen}
+use Rattle.deck_reader.specs.Decks.{Decks}
+use Rattle.deck_reader.specs.declared.deck.Deck.{Deck}
+use Rattle.runner.specs.Words.{asks_run}
+use Rattle.runner.specs.declared.due.Due.{Due}
+use Rattle.runner.specs.declared.due.Due.TheVariants as due
+use Rattle.runner.specs.declared.due.Report.{Report}
+
+-- the rounds that the one event line asks for
+abbrev pub rounds_of : List Line → ℕ
+rounds_of (Drain rounds ∷ []) = rounds
+rounds_of _ = 0
+
+-- the run of a deck
+pub record IsRunOf (deck : Deck) (report : Report) : Type 0 where
+  pub site : report.site ≡ deck.site
+
+-- what is due of a deck
+abbrev pub IsDueOfDeck : Deck → Due → Type 0
+IsDueOfDeck deck (due.Report report) = IsRunOf deck report
+IsDueOfDeck deck due.NoMemory = Unit {0}
+IsDueOfDeck deck _ = ⊥
+
+-- too many bytes, or no deck of today's form
+abbrev pub IsRefusalOf : List ℕ → DeckFault → Type 0
+IsRefusalOf bytes TooLong = 1048576 < length bytes
+IsRefusalOf bytes NotYet = Unit {0}
+IsRefusalOf bytes _ = ⊥
+
+-- what is due of bytes
+abbrev pub IsDueOfBytes : List ℕ → Due → Type 0
+IsDueOfBytes bytes (due.Refused fault) = IsRefusalOf bytes fault
+IsDueOfBytes bytes (due.Report report) = (deck : Deck) × Decks bytes deck × IsRunOf deck report
+IsDueOfBytes bytes due.NoMemory = Unit {0}
+IsDueOfBytes bytes _ = ⊥
+
+-- the bytes are those that a source had left, where it told them
+abbrev pub IsTold : Option (List ℕ) → List ℕ → Type 0
+IsTold None bytes = Unit {0}
+IsTold (Some left) bytes = left ≡ bytes
+
+-- what is due of a source, whose count of faults stood and stands so
+abbrev pub IsDueOfSource : Option (List ℕ) → ℕ → ℕ → Due → Type 0
+IsDueOfSource left before now due.ReadFault = HasRisen before now
+IsDueOfSource left before now due.NoMemory = Unit {0}
+IsDueOfSource left before now due.Usage = ⊥
+IsDueOfSource left before now (due.Refused fault) = (bytes : List ℕ) × IsTold left bytes × IsRefusalOf bytes fault
+IsDueOfSource left before now (due.Report report) = (bytes : List ℕ) × IsTold left bytes × (deck : Deck) × Decks bytes deck × IsRunOf deck report
+
+abbrev pub IsDueOn : Bool → Option (List ℕ) → ℕ → ℕ → Due → Type 0
+IsDueOn true left before now decided = IsDueOfSource left before now decided
+IsDueOn false left before now decided = (decided ≡ due.Usage) × (now ≡ before)
+
+-- what is due: Usage where the words are no command, and else what is due of the source
+abbrev pub IsDue : List (List ℕ) → Option (List ℕ) → ℕ → ℕ → Due → Type 0
+IsDue words left before now decided = IsDueOn (asks_run words) left before now decided

@@ -1,0 +1,4 @@
+pub mod Decided
+pub mod Numbers
+pub mod Words
+pub mod Written

@@ -1,0 +1,54 @@
+-- What a command writes.
+use Rattle.std.specs.Prelude.{◌≡◌, ◌≢◌, ℕ, Bool, List, [], ◌++◌, Option, Some, None, Result, Ok, Err, ⊤, if◌then◌else◌}
+use Rattle.gd_io.specs.Puts.{Puts}
+use Rattle.gd_io.specs.declared.writing.WriteFault.{WriteFault}
+use Rattle.trace_print.specs.EndLine.{end_line, usage_line}
+use Rattle.trace_print.specs.FaultLine.{fault_line, IsOfDeck}
+use Rattle.trace_print.specs.ShownLine.{shown_lines}
+use Rattle.trace_print.specs.declared.closing.End.TheVariants as end
+use Rattle.runner.specs.declared.due.Due.{Due}
+use Rattle.runner.specs.declared.due.Due.TheVariants as due
+use Rattle.runner.specs.declared.due.Report.{Report}
+use Rattle.runner.specs.declared.outcome.Outcome.{Outcome}
+use Rattle.runner.specs.declared.outcome.RunEnd.{RunEnd}
+use Rattle.runner.specs.declared.outcome.Status.{Status}
+use Rattle.runner.specs.declared.outcome.Status.TheVariants as status
+
+-- the report of a run: what it shows, and how it ended
+abbrev pub report_text : Report → List ℕ
+report_text report = shown_lines report.site report.run.shown ++ end_line (if report.idle then end.Idle else end.Cut)
+
+-- the text that is due; nothing where reading failed or memory ran out
+abbrev pub text_of : Due → List ℕ
+text_of due.Usage = usage_line
+text_of due.ReadFault = []
+text_of due.NoMemory = []
+text_of (due.Refused fault) = fault_line fault
+text_of (due.Report report) = report_text report
+
+abbrev pub status_of : Due → Status
+status_of due.Usage = status.Usage
+status_of due.ReadFault = status.ReadFault
+status_of due.NoMemory = status.NoMemory
+status_of (due.Refused fault) = status.DeckRefused fault
+status_of (due.Report report) = if report.idle then status.Done else status.Cut
+
+abbrev pub run_of : Due → Option RunEnd
+run_of (due.Report report) = Some report.run
+run_of _ = None
+
+-- the outcome, by whether the text went out whole
+abbrev pub outcome_of : Due → Result ⊤ WriteFault → Outcome
+outcome_of decided (Ok done) = record { status = status_of decided; run = run_of decided }
+outcome_of decided (Err fault) = record { status = status.WriteFault; run = run_of decided }
+
+-- a fault that has a line
+abbrev pub CanBeWritten : Due → Type 0
+CanBeWritten (due.Refused fault) = IsOfDeck fault
+CanBeWritten _ = Unit {0}
+
+-- the text that is due goes out, whole or at a write fault a part of it, and the outcome is by that
+pub record IsWritten {K : Type 0} (held : K → Option (List ℕ)) (faults : K → ℕ) (sure : K → ℕ → Type 0) (old new : K) (decided : Due) (outcome : Outcome) : Type 0 where
+  pub result : Result ⊤ WriteFault
+  pub puts : Puts held faults sure old new (text_of decided) result
+  pub is : outcome ≡ outcome_of decided result
