@@ -12,3 +12,6 @@ mod words;
 
 pub use entry::command;
 pub use outcome::{Outcome, RunEnd, Status};
+
+#[cfg(test)]
+mod tests;
