@@ -52,7 +52,11 @@ pub fn narrow(number: usize) -> Result<u8, NoMemory>
     }
 }
 
-fn put_processes(all: &mut List<OpenerSpec>, name: &Name, processes: &[ProcessSpec]) -> Result<(), NoMemory>
+fn put_processes(
+    all: &mut List<OpenerSpec>,
+    name: &Name,
+    processes: &[ProcessSpec],
+) -> Result<(), NoMemory>
     ensures { OnOk result (all.new ≡ all.old ++ processes_from name.now 0 processes.now) }
 {
     for (number, process) in processes.iter().enumerate() {
@@ -61,7 +65,12 @@ fn put_processes(all: &mut List<OpenerSpec>, name: &Name, processes: &[ProcessSp
     Ok(())
 }
 
-fn put_files(all: &mut List<OpenerSpec>, name: &Name, process: usize, files: &[FileUse]) -> Result<(), NoMemory>
+fn put_files(
+    all: &mut List<OpenerSpec>,
+    name: &Name,
+    process: usize,
+    files: &[FileUse],
+) -> Result<(), NoMemory>
     ensures { OnOk result (all.new ≡ all.old ++ files_from name.now process 0 files.now) }
 {
     for (number, file) in files.iter().enumerate() {
@@ -70,7 +79,13 @@ fn put_files(all: &mut List<OpenerSpec>, name: &Name, process: usize, files: &[F
     Ok(())
 }
 
-fn put_file(all: &mut List<OpenerSpec>, name: &Name, process: usize, number: usize, file: &FileUse) -> Result<(), NoMemory>
+fn put_file(
+    all: &mut List<OpenerSpec>,
+    name: &Name,
+    process: usize,
+    number: usize,
+    file: &FileUse,
+) -> Result<(), NoMemory>
     ensures { OnOk result (all.new ≡ all.old ++ file_opener name.now process number file.now) }
 {
     if opens(name, &file.target) {
@@ -86,7 +101,11 @@ fn put_file(all: &mut List<OpenerSpec>, name: &Name, process: usize, number: usi
     Ok(())
 }
 
-fn put_terminals(all: &mut List<OpenerSpec>, process: usize, terminals: &[TerminalSpec]) -> Result<(), NoMemory>
+fn put_terminals(
+    all: &mut List<OpenerSpec>,
+    process: usize,
+    terminals: &[TerminalSpec],
+) -> Result<(), NoMemory>
     ensures { OnOk result (all.new ≡ all.old ++ terminals_from process 0 terminals.now) }
 {
     for (number, terminal) in terminals.iter().enumerate() {
@@ -192,7 +211,10 @@ fn is_terminal(terminal: u8, who: Who) -> bool
     ensures { result ≡ same_who (Who.Terminal terminal) who }
 {
     match who {
-        Who::File { process: _, file: _ } => false,
+        Who::File {
+            process: _,
+            file: _,
+        } => false,
         Who::Terminal(other) => terminal == other,
     }
 }

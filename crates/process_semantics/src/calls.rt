@@ -49,14 +49,24 @@ impl<'a> Execution<'a> {
         ensures { IfOk result (λ point. point ≡ point_in self.now.program self.now.state (out-What statement.now.what)) }
     {
         match &statement.what {
-            What::ReadUpdate { buffer, most, got: _ } => {
+            What::ReadUpdate {
+                buffer,
+                most,
+                got: _,
+            } => {
                 if self.in_hand() {
                     return Ok(Point::Inner);
                 }
                 let most = self.count(alloc, *buffer, most)?;
                 Ok(where_good(Point::Take, most))
             }
-            What::WriteRead { file: _, buffer, send, room, got: _ } => {
+            What::WriteRead {
+                file: _,
+                buffer,
+                send,
+                room,
+                got: _,
+            } => {
                 if self.awaits() {
                     return Ok(Point::Await);
                 }
@@ -86,7 +96,12 @@ impl<'a> Execution<'a> {
         Ok(())
     }
 
-    fn took_in(&mut self, alloc: Global, statement: &Statement, words: &Words) -> Result<(), NoMemory>
+    fn took_in(
+        &mut self,
+        alloc: Global,
+        statement: &Statement,
+        words: &Words,
+    ) -> Result<(), NoMemory>
         ensures { OnOk result (self.new ≡ record self.old { state = took_in self.old.program self.old.state words.now (out-What statement.now.what) }) }
     {
         if let What::ReadUpdate { buffer, most, got } = &statement.what {
@@ -126,7 +141,13 @@ impl<'a> Execution<'a> {
         ensures words { IfOk result (λ asked. asked.words ≡ asked_in self.now.program self.now.state (out-What statement.now.what)) }
     {
         match &statement.what {
-            What::WriteRead { file, buffer, send, room: _, got: _ } => {
+            What::WriteRead {
+                file,
+                buffer,
+                send,
+                room: _,
+                got: _,
+            } => {
                 let words = self.first_words(alloc, *buffer, send)?;
                 let file = *file;
                 Ok(Asked { file, words })
@@ -145,10 +166,22 @@ impl<'a> Execution<'a> {
         Ok(())
     }
 
-    fn got_in(&mut self, alloc: Global, statement: &Statement, words: &Words) -> Result<(), NoMemory>
+    fn got_in(
+        &mut self,
+        alloc: Global,
+        statement: &Statement,
+        words: &Words,
+    ) -> Result<(), NoMemory>
         ensures { OnOk result (self.new ≡ record self.old { state = got_in self.old.program self.old.state words.now (out-What statement.now.what) }) }
     {
-        if let What::WriteRead { file: _, buffer, send: _, room, got } = &statement.what {
+        if let What::WriteRead {
+            file: _,
+            buffer,
+            send: _,
+            room,
+            got,
+        } = &statement.what
+        {
             let room = self.count(alloc, *buffer, room)?;
             self.receive(*buffer, *got, words, room);
             self.set_awaits(false);
@@ -227,7 +260,13 @@ fn file_in(statement: &Statement) -> u8
     ensures { result ≡ file_in (out-What statement.now.what) }
 {
     match &statement.what {
-        What::WriteRead { file, buffer: _, send: _, room: _, got: _ } => *file,
+        What::WriteRead {
+            file,
+            buffer: _,
+            send: _,
+            room: _,
+            got: _,
+        } => *file,
         _ => 0,
     }
 }

@@ -35,14 +35,14 @@ impl<'a> Model for Execution<'a> {
     ghost coded = { Prim.hlevel (codes, statement.the_row.coded) };
 
     ghost view = { λ execution. record {
-        program = execution.program.now;
-        state = record {
-            globals = execution.globals.items;
-            frames = frames_of execution.frames;
-            in_hand = execution.in_hand;
-            awaits = execution.awaits;
-            ended = execution.ended;
-        };
+      program = execution.program.now;
+      state = record {
+        globals = execution.globals.items;
+        frames = frames_of execution.frames;
+        in_hand = execution.in_hand;
+        awaits = execution.awaits;
+        ended = execution.ended;
+      };
     } };
 }
 
@@ -157,7 +157,13 @@ impl<'a> Execution<'a> {
     }
 
     /// Enters a procedure.
-    pub(crate) fn enter(&mut self, alloc: Global, number: u16, arguments: List<i16>, procedure: &'a Procedure) -> Result<(), NoMemory>
+    pub(crate) fn enter(
+        &mut self,
+        alloc: Global,
+        number: u16,
+        arguments: List<i16>,
+        procedure: &'a Procedure,
+    ) -> Result<(), NoMemory>
         ensures { OnOk result (self.new ≡ record self.old { state = entering number arguments procedure.now self.old.state }) }
     {
         let entered = Frame::new(alloc, number, arguments, procedure)?;
@@ -239,7 +245,11 @@ fn overwrite<T: Copy>(cells: &mut List<T>, items: &[T])
     }
 }
 
-fn called<'a>(alloc: Global, frames: Option<Frames<'a>>, running: Frame<'a>) -> Result<Frames<'a>, NoMemory>
+fn called<'a>(
+    alloc: Global,
+    frames: Option<Frames<'a>>,
+    running: Frame<'a>,
+) -> Result<Frames<'a>, NoMemory>
     ensures { IfOk result (λ all. frames_of (Some all) ≡ running.entry ∷ frames_of frames.entry) }
 {
     match frames {
@@ -247,7 +257,12 @@ fn called<'a>(alloc: Global, frames: Option<Frames<'a>>, running: Frame<'a>) -> 
             let callers = Vec::new(alloc);
             Ok(Frames { running, callers })
         }
-        Some(Frames { running: caller, mut callers }) => {
+        Some(
+            Frames {
+                running: caller,
+                mut callers,
+            },
+        ) => {
             callers.push(caller)?;
             Ok(Frames { running, callers })
         }
@@ -259,7 +274,12 @@ fn caller_of(frames: Option<Frames<'_>>) -> Option<Frames<'_>>
 {
     match frames {
         None => None,
-        Some(Frames { running: _, mut callers }) => match callers.pop() {
+        Some(
+            Frames {
+                running: _,
+                mut callers,
+            },
+        ) => match callers.pop() {
             None => None,
             Some(running) => Some(Frames { running, callers }),
         },

@@ -32,7 +32,12 @@ impl<'a> Model for Frame<'a> {
 
 impl<'a> Frame<'a> {
     /// The frame of a procedure that is entered with these arguments.
-    pub fn new(alloc: Global, number: u16, arguments: List<i16>, procedure: &'a Procedure) -> Result<Frame<'a>, NoMemory>
+    pub fn new(
+        alloc: Global,
+        number: u16,
+        arguments: List<i16>,
+        procedure: &'a Procedure,
+    ) -> Result<Frame<'a>, NoMemory>
         ensures { IfOk result (λ frame. frame ≡ frame_of number arguments procedure.now) }
     {
         let locals = with_zeros(arguments, procedure.locals.len())?;

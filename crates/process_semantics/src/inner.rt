@@ -32,18 +32,44 @@ impl<'a> Execution<'a> {
     {
         match &statement.what {
             What::Assign { to, value } => self.assign(alloc, to, value)?,
-            What::AssignCall { to: _, procedure, arguments } => self.call(alloc, *procedure, arguments.as_slice())?,
+            What::AssignCall {
+                to: _,
+                procedure,
+                arguments,
+            } => self.call(alloc, *procedure, arguments.as_slice())?,
             What::If { test, yes, no } => self.choose(alloc, test, yes.as_slice(), no.as_slice())?,
             What::While { test, body } => self.go_round(alloc, statement, test, body.as_slice())?,
-            What::For { variable, from, to: _, body: _, last: _ } => self.begin_for(alloc, statement, *variable, from)?,
-            What::Call { procedure, arguments } => self.call(alloc, *procedure, arguments.as_slice())?,
+            What::For {
+                variable,
+                from,
+                to: _,
+                body: _,
+                last: _,
+            } => self.begin_for(alloc, statement, *variable, from)?,
+            What::Call {
+                procedure,
+                arguments,
+            } => self.call(alloc, *procedure, arguments.as_slice())?,
             What::Return(value) => self.return_value(alloc, value)?,
             What::CheckMonitor => self.done(),
             What::Open(_) => self.done(),
             What::Stop => self.end(),
-            What::ReadUpdate { buffer: _, most: _, got: _ } => self.end(),
-            What::Reply { buffer: _, count: _ } => self.end(),
-            What::WriteRead { file: _, buffer: _, send: _, room: _, got: _ } => self.end(),
+            What::ReadUpdate {
+                buffer: _,
+                most: _,
+                got: _,
+            } => self.end(),
+            What::Reply {
+                buffer: _,
+                count: _,
+            } => self.end(),
+            What::WriteRead {
+                file: _,
+                buffer: _,
+                send: _,
+                room: _,
+                got: _,
+            } => self.end(),
             What::Checkpoint { items: _, files: _ } => self.end(),
         }
         Ok(())
@@ -86,7 +112,13 @@ impl<'a> Execution<'a> {
         Ok(())
     }
 
-    fn choose(&mut self, alloc: Global, test: &Cond, yes: &'a [Statement], no: &'a [Statement]) -> Result<(), NoMemory>
+    fn choose(
+        &mut self,
+        alloc: Global,
+        test: &Cond,
+        yes: &'a [Statement],
+        no: &'a [Statement],
+    ) -> Result<(), NoMemory>
         ensures { OnOk result (self.new ≡ record self.old { state = or_ends self.old.state (tested self.old.state (runs_of yes.now) (runs_of no.now) (truth_of (memory_of self.old.program self.old.state) test.now)) }) }
     {
         match truth(alloc, self.memory(), test)? {
@@ -103,7 +135,13 @@ impl<'a> Execution<'a> {
         Ok(())
     }
 
-    fn go_round(&mut self, alloc: Global, statement: &'a Statement, test: &Cond, body: &'a [Statement]) -> Result<(), NoMemory>
+    fn go_round(
+        &mut self,
+        alloc: Global,
+        statement: &'a Statement,
+        test: &Cond,
+        body: &'a [Statement],
+    ) -> Result<(), NoMemory>
         ensures { OnOk result (self.new ≡ record self.old { state = or_ends self.old.state (tested self.old.state (runs_of body.now ++ Run statement.now ∷ []) [] (truth_of (memory_of self.old.program self.old.state) test.now)) }) }
     {
         match truth(alloc, self.memory(), test)? {
@@ -118,7 +156,13 @@ impl<'a> Execution<'a> {
         Ok(())
     }
 
-    fn begin_for(&mut self, alloc: Global, statement: &'a Statement, variable: Variable, from: &Expr) -> Result<(), NoMemory>
+    fn begin_for(
+        &mut self,
+        alloc: Global,
+        statement: &'a Statement,
+        variable: Variable,
+        from: &Expr,
+    ) -> Result<(), NoMemory>
         ensures { OnOk result (self.new ≡ record self.old { state = or_ends self.old.state (for_begun self.old.state statement.now variable (value_of (memory_of self.old.program self.old.state) from.now)) }) }
     {
         match value(alloc, self.memory(), from)? {
@@ -136,7 +180,13 @@ impl<'a> Execution<'a> {
         ensures { OnOk result (self.new ≡ record self.old { state = or_ends self.old.state (tested_in self.old.program self.old.state statement.now (out-What statement.now.what)) }) }
     {
         match &statement.what {
-            What::For { variable, from: _, to, body, last: _ } => {
+            What::For {
+                variable,
+                from: _,
+                to,
+                body,
+                last: _,
+            } => {
                 let variable = self.memory().word(variable_cell(*variable));
                 let limit = value(alloc, self.memory(), to)?;
                 self.go_on(statement, body.as_slice(), at_most(variable, limit))?;
@@ -146,7 +196,12 @@ impl<'a> Execution<'a> {
         Ok(())
     }
 
-    fn go_on(&mut self, statement: &'a Statement, body: &'a [Statement], holds: Option<bool>) -> Result<(), NoMemory>
+    fn go_on(
+        &mut self,
+        statement: &'a Statement,
+        body: &'a [Statement],
+        holds: Option<bool>,
+    ) -> Result<(), NoMemory>
         ensures { OnOk result (self.new ≡ record self.old { state = or_ends self.old.state (tested self.old.state (runs_of body.now ++ Last statement.now ∷ Test statement.now ∷ []) [] holds) }) }
     {
         match holds {
@@ -166,7 +221,13 @@ impl<'a> Execution<'a> {
         ensures { self.new ≡ record self.old { state = or_ends self.old.state (counted_in self.old.program self.old.state (out-What statement.now.what)) } }
     {
         match &statement.what {
-            What::For { variable, from: _, to: _, body: _, last: _ } => {
+            What::For {
+                variable,
+                from: _,
+                to: _,
+                body: _,
+                last: _,
+            } => {
                 let variable = variable_cell(*variable);
                 match self.memory().word(variable) {
                     None => self.end(),
@@ -221,7 +282,11 @@ impl<'a> Execution<'a> {
         ensures { OnOk result (self.new ≡ record self.old { state = or_ends self.old.state (given_in self.old.program word self.old.state (out-What statement.now.what)) }) }
     {
         match &statement.what {
-            What::AssignCall { to, procedure: _, arguments: _ } => {
+            What::AssignCall {
+                to,
+                procedure: _,
+                arguments: _,
+            } => {
                 let cell = cell(alloc, self.memory(), to)?;
                 self.store(cell, Some(word));
             }
@@ -249,7 +314,11 @@ fn at_most(variable: Option<i16>, limit: Option<i16>) -> Option<bool>
     Some(variable <= limit)
 }
 
-fn values(alloc: Global, memory: Memory<'_>, arguments: &[Expr]) -> Result<Option<List<i16>>, NoMemory>
+fn values(
+    alloc: Global,
+    memory: Memory<'_>,
+    arguments: &[Expr],
+) -> Result<Option<List<i16>>, NoMemory>
     ensures { IfOk result (λ words. words ≡ values_of (seen memory.entry) arguments.now) }
 {
     let mut words = List::new(alloc);

@@ -51,7 +51,10 @@ impl<'a> Process<'a> {
     {
         match self {
             Process::Runs(execution) => execution.inner(alloc)?,
-            Process::Serves { sectors: _, state: _ } => {}
+            Process::Serves {
+                sectors: _,
+                state: _,
+            } => {}
         }
         Ok(())
     }
@@ -75,7 +78,10 @@ impl<'a> Process<'a> {
     {
         match self {
             Process::Runs(execution) => execution.asked(alloc),
-            Process::Serves { sectors: _, state: _ } => Ok(Asked::nothing()),
+            Process::Serves {
+                sectors: _,
+                state: _,
+            } => Ok(Asked::nothing()),
         }
     }
 
@@ -85,7 +91,10 @@ impl<'a> Process<'a> {
     {
         match self {
             Process::Runs(execution) => execution.asked_file(),
-            Process::Serves { sectors: _, state: _ } => 0,
+            Process::Serves {
+                sectors: _,
+                state: _,
+            } => 0,
         }
     }
 
@@ -95,7 +104,10 @@ impl<'a> Process<'a> {
     {
         match self {
             Process::Runs(execution) => execution.got(alloc, words)?,
-            Process::Serves { sectors: _, state: _ } => {}
+            Process::Serves {
+                sectors: _,
+                state: _,
+            } => {}
         }
         Ok(())
     }
