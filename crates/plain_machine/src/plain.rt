@@ -1,263 +1,287 @@
-use crate::openers::{file_opener, files_of, narrow, openers_of, terminal_opener};
-use gd_words::{DeviceCall, NoMemory, Sector, Words};
-use plain_semantics::{Opener, Slot};
-use process_semantics::{Point, Process};
+ghost use Rattle.std.specs.Prelude.{◌≡◌, ◌+◌, IfOk, OnOk, IfSome, Some, is_some, length, map, slice_get, slice_set};
+ghost use Rattle.std.specs.Option.{option_copied};
+ghost use Rattle.process_semantics.specs.Process as process;
+ghost use Rattle.tal_tree.specs.declared.site.Who.TheVariants as who;
+ghost use Rattle.plain_semantics.specs.Openers.{opener_of};
+ghost use Rattle.plain_semantics.specs.Machine.{processes_at_first, plain_start, slot_of, with_slot, with_state, own_opener, answer_made, answered_by, device_made, shown_by_device, step_at, step_made, take_slot, take_at, take_made, enter_request, enter_made, entered_at, next_request, print_made, made};
+ghost use Rattle.plain_machine.specs.Outcomes.{Settles, shown_in};
+ghost use Rattle.plain_machine.specs.Rounds.{enter_of, next_move, print_of};
+ghost use Rattle.plain_machine.specs.Stillness.{has_waiting, is_answered, none_of, is_still};
+
+use crate::outcome::Outcome;
+use crate::process::{PlainProcess, first_waiting};
+use crate::wires::Wires;
+use gd_words::{DeviceCall, NoMemory, Words};
+use plain_semantics::{Opener, Slot, narrow};
+use process_semantics::Point;
 use std::alloc::Global;
-use tal_tree::{Act, Kind, ProcessSpec, Shown, Site, TerminalSpec};
+use std::marker::Model;
+use tal_tree::{Act, ProcessSpec, Shown, Site, TerminalSpec};
 
-/// What became of an act.
+/// The machine of single unfailing processes: its processes, and for each terminal how many requests it has entered.
 #[derive(Debug, Drop)]
-pub(crate) enum Made {
-    /// It isn't possible, and nothing changed.
-    Impossible,
-    /// It was made and shows nothing.
-    Quiet,
-    /// It was made and shows this.
-    Shows(Shown),
-}
-
-/// A process of the machine: the place of the opener whose request is in hand, a slot for each of its openers, the
-/// sectors of a disc, and where each of its files stands among the openers of the process that it opens.
-#[derive(Debug, Drop)]
-pub(crate) struct PlainProcess<'a> {
-    process: Process<'a>,
-    hand: Option<usize>,
-    slots: Vec<Slot>,
-    sectors: Vec<Sector>,
-    files: Vec<Option<Opener>>,
-}
-
-/// A terminal of the machine: its requests, where it stands among the openers of its process, and how many requests it
-/// has entered.
-#[derive(Debug, Drop)]
-pub(crate) struct PlainTerminal<'a> {
-    requests: &'a [Words],
-    opener: Option<Opener>,
-    entered: u32,
-}
-
-/// The machine of single unfailing processes.
-#[derive(Debug, Drop)]
-pub(crate) struct Plain<'a> {
+pub struct Plain<'a> {
     processes: Vec<PlainProcess<'a>>,
-    terminals: Vec<PlainTerminal<'a>>,
+    entered: Vec<u32>,
+}
+
+impl<'a> Model for Plain<'a> {
+    ghost use Rattle.std.specs.Coded.{codes};
+    ghost use Rattle.tal_tree.specs.contracts.statement.Statement as statement;
+    ghost use Rattle.plain_semantics.specs.Machine as machine;
+
+    ghost Value = { machine.Plain };
+
+    ghost coded = { Prim.hlevel (codes, statement.the_row.coded) };
+
+    ghost view = { λ plain. record { processes = plain.processes.items; entered = plain.entered.items } };
 }
 
 impl<'a> Plain<'a> {
     /// The machine at its beginning.
-    pub(crate) fn start(alloc: Global, site: &'a Site) -> Result<Plain<'a>, NoMemory> {
-        let mut processes = Vec::new(alloc);
-        for (number, spec) in site.processes.as_slice().iter().enumerate() {
-            let process = start_process(alloc, site, number, spec)?;
-            processes.push(process)?;
-        }
-        let mut terminals = Vec::new(alloc);
-        for (number, spec) in site.terminals.as_slice().iter().enumerate() {
-            let terminal = start_terminal(alloc, site, number, spec)?;
-            terminals.push(terminal)?;
-        }
-        Ok(Plain {
-            processes,
-            terminals,
-        })
+    pub(crate) fn start(alloc: Global, site: &'a Site) -> Result<Plain<'a>, NoMemory>
+        ensures { IfOk result (λ plain. plain ≡ plain_start site.now) }
+    {
+        let processes = first_processes(alloc, site, site.processes.as_slice())?;
+        let entered = none_entered(alloc, site.terminals.as_slice())?;
+        Ok(Plain { processes, entered })
     }
 
     /// Makes an act, where it is possible.
-    pub(crate) fn made(&mut self, alloc: Global, act: Act) -> Result<Made, NoMemory> {
+    pub(crate) fn made(
+        &mut self,
+        alloc: Global,
+        wires: &Wires<'_>,
+        act: Act,
+    ) -> Result<Outcome, NoMemory>
+        ensures { IfOk result (λ outcome. Settles (made wires.now self.old act) self.old outcome self.new) }
+    {
         match act {
-            Act::Step(process) => self.step(alloc, usize::from(process)),
+            Act::Step(process) => self.step(alloc, wires, usize::from(process)),
             Act::Take { process, opener } => self.take(
                 alloc,
                 usize::from(process),
                 usize::from(opener),
             ),
-            Act::Enter(terminal) => self.enter(usize::from(terminal)),
-            Act::Print(terminal) => Ok(self.print(terminal)),
+            Act::Enter(terminal) => self.enter(wires, usize::from(terminal)),
+            Act::Print(terminal) => Ok(self.print(wires, terminal)),
         }
     }
 
-    fn step(&mut self, alloc: Global, number: usize) -> Result<Made, NoMemory> {
-        if number >= self.processes.len() {
-            return Ok(Made::Impossible);
-        }
-        match self.processes[number].process.point(alloc)? {
-            Point::Inner => {
-                self.processes[number].process.inner(alloc)?;
-                Ok(Made::Quiet)
+    fn step(&mut self, alloc: Global, wires: &Wires<'_>, number: usize) -> Result<Outcome, NoMemory>
+        ensures { IfOk result (λ outcome. Settles (step_made wires.now number self.old (slice_get self.old.processes number)) self.old outcome self.new) }
+    {
+        match self.processes.as_slice().get(number) {
+            None => Ok(Outcome::Impossible),
+            Some(one) => {
+                let point = one.point(alloc)?;
+                self.step_at(alloc, wires, number, point)
             }
-            Point::Ask => self.ask(alloc, number),
-            Point::Await => self.get(alloc, number),
-            Point::Answer => self.answer(alloc, number),
+        }
+    }
+
+    fn step_at(
+        &mut self,
+        alloc: Global,
+        wires: &Wires<'_>,
+        number: usize,
+        point: Point,
+    ) -> Result<Outcome, NoMemory>
+        ensures { IfOk result (λ outcome. IfSome (slice_get self.old.processes number) (λ one. Settles (step_at wires.now number one self.old point) self.old outcome self.new)) }
+    {
+        match point {
+            Point::Inner => {
+                self.inner(alloc, number)?;
+                Ok(Outcome::Quiet)
+            }
+            Point::Ask => {
+                self.ask(alloc, wires, number)?;
+                Ok(Outcome::Quiet)
+            }
+            Point::Await => self.get(alloc, wires, number),
+            Point::Answer => {
+                self.answer(alloc, number)?;
+                Ok(Outcome::Quiet)
+            }
             Point::Mark => {
-                self.processes[number].process.marked();
-                Ok(Made::Quiet)
+                self.mark(number);
+                Ok(Outcome::Quiet)
             }
             Point::Device => self.device(number),
-            Point::Take => Ok(Made::Impossible),
-            Point::Ended => Ok(Made::Impossible),
+            Point::Take => Ok(Outcome::Impossible),
+            Point::Ended => Ok(Outcome::Impossible),
         }
     }
 
-    fn ask(&mut self, alloc: Global, number: usize) -> Result<Made, NoMemory> {
-        if number >= self.processes.len() {
-            return Ok(Made::Impossible);
+    fn inner(&mut self, alloc: Global, number: usize) -> Result<(), NoMemory>
+        ensures { OnOk result (IfSome (slice_get self.old.processes number) (λ one. self.new ≡ with_state number one (process.after_inner one.state) self.old)) }
+    {
+        if number < self.processes.len() {
+            self.processes[number].inner(alloc)?;
         }
-        let opener = self.own_opener(number);
-        let asked = self.processes[number].process.asked(alloc)?;
-        self.set_slot(opener, Slot::Waiting(asked.words));
-        Ok(Made::Quiet)
+        Ok(())
     }
 
-    fn get(&mut self, alloc: Global, number: usize) -> Result<Made, NoMemory> {
-        if number >= self.processes.len() {
-            return Ok(Made::Impossible);
+    fn mark(&mut self, number: usize)
+        ensures { IfSome (slice_get self.old.processes number) (λ one. self.new ≡ with_state number one (process.after_mark one.state) self.old) }
+    {
+        if number < self.processes.len() {
+            self.processes[number].marked();
         }
-        let opener = self.own_opener(number);
-        match self.reply_in(opener) {
-            None => Ok(Made::Impossible),
-            Some(words) => {
-                self.processes[number].process.got(alloc, &words)?;
+    }
+
+    fn ask(&mut self, alloc: Global, wires: &Wires<'_>, number: usize) -> Result<(), NoMemory>
+        ensures { OnOk result (IfSome (slice_get self.old.processes number) (λ one. self.new ≡ with_slot (own_opener wires.now number one) (Slot.Waiting (process.asked_words one.state)) (with_state number one (process.after_asked one.state) self.old))) }
+    {
+        if number < self.processes.len() {
+            let opener = wires.file(number, self.processes[number].asked_file());
+            let words = self.processes[number].asked(alloc)?;
+            self.set_slot(opener, Slot::Waiting(words));
+        }
+        Ok(())
+    }
+
+    fn get(&mut self, alloc: Global, wires: &Wires<'_>, number: usize) -> Result<Outcome, NoMemory>
+        ensures { IfOk result (λ outcome. IfSome (slice_get self.old.processes number) (λ one. Settles (step_at wires.now number one self.old Point.Await) self.old outcome self.new)) }
+    {
+        if number >= self.processes.len() {
+            return Ok(Outcome::Impossible);
+        }
+        let opener = wires.file(number, self.processes[number].asked_file());
+        match self.slot_of(opener) {
+            Some(Slot::Answered(words)) => {
+                let words = words.copy();
+                self.processes[number].got(alloc, &words)?;
                 self.set_slot(opener, Slot::Empty);
-                Ok(Made::Quiet)
+                Ok(Outcome::Quiet)
             }
+            _ => Ok(Outcome::Impossible),
         }
     }
 
-    fn answer(&mut self, alloc: Global, number: usize) -> Result<Made, NoMemory> {
-        if number >= self.processes.len() {
-            return Ok(Made::Impossible);
+    fn answer(&mut self, alloc: Global, number: usize) -> Result<(), NoMemory>
+        ensures { OnOk result (IfSome (slice_get self.old.processes number) (λ one. self.new ≡ answer_made number one self.old)) }
+    {
+        if number < self.processes.len() {
+            let opener = answered_by(number, self.processes[number].hand());
+            let words = self.processes[number].answered(alloc)?;
+            self.set_slot(opener, Slot::Answered(words));
         }
-        let one = &mut self.processes[number];
-        let words = one.process.answered(alloc)?;
-        let hand = one.hand;
-        one.hand = None;
-        match hand {
-            None => {}
-            Some(place) => self.set_slot(
-                Some(Opener {
-                    server: number,
-                    place,
-                }),
-                Slot::Answered(words),
-            ),
-        }
-        Ok(Made::Quiet)
+        Ok(())
     }
 
-    fn device(&mut self, number: usize) -> Result<Made, NoMemory> {
+    fn device(&mut self, number: usize) -> Result<Outcome, NoMemory>
+        ensures { IfOk result (λ outcome. IfSome (slice_get self.old.processes number) (λ one. Settles (Some (device_made number one self.old (process.call_of one.state))) self.old outcome self.new)) }
+    {
         if number >= self.processes.len() {
-            return Ok(Made::Impossible);
+            return Ok(Outcome::Impossible);
         }
         let process = narrow(number)?;
-        let one = &mut self.processes[number];
-        let call = one.process.call()?;
-        let found = found_by(&one.sectors, &call);
-        one.process.device(&found)?;
-        match call {
-            DeviceCall::Write {
-                sector,
-                words,
-                number: _,
-            } => {
-                write(&mut one.sectors, sector, words);
-                Ok(Made::Shows(Shown::Write {
-                    process,
-                    sector,
-                    words,
-                }))
-            }
-            _ => Ok(Made::Quiet),
+        let call = self.processes[number].device()?;
+        Ok(shown_by(process, call))
+    }
+
+    fn take(&mut self, alloc: Global, number: usize, place: usize) -> Result<Outcome, NoMemory>
+        ensures { IfOk result (λ outcome. Settles (take_made number place self.old (slice_get self.old.processes number)) self.old outcome self.new) }
+    {
+        match self.processes.as_slice().get(number) {
+            None => Ok(Outcome::Impossible),
+            Some(one) => match one.point(alloc)? {
+                Point::Take => self.take_slot(alloc, number, place),
+                _ => Ok(Outcome::Impossible),
+            },
         }
     }
 
-    fn take(&mut self, alloc: Global, number: usize, place: usize) -> Result<Made, NoMemory> {
+    fn take_slot(&mut self, alloc: Global, number: usize, place: usize) -> Result<Outcome, NoMemory>
+        ensures { IfOk result (λ outcome. IfSome (slice_get self.old.processes number) (λ one. Settles (take_slot number place one self.old (slice_get one.slots place)) self.old outcome self.new)) }
+    {
         if number >= self.processes.len() {
-            return Ok(Made::Impossible);
+            return Ok(Outcome::Impossible);
         }
-        match self.processes[number].process.point(alloc)? {
-            Point::Take => self.take_slot(alloc, number, place),
-            _ => Ok(Made::Impossible),
-        }
-    }
-
-    fn take_slot(&mut self, alloc: Global, number: usize, place: usize) -> Result<Made, NoMemory> {
-        if number >= self.processes.len() {
-            return Ok(Made::Impossible);
-        }
-        let one = &mut self.processes[number];
-        if place >= one.slots.len() {
-            return Ok(Made::Impossible);
-        }
-        match &one.slots[place] {
-            Slot::Waiting(words) => {
-                one.process.took(alloc, words)?;
-                one.hand = Some(place);
-                one.slots[place] = Slot::Taken;
-                Ok(Made::Quiet)
-            }
-            _ => Ok(Made::Impossible),
-        }
-    }
-
-    fn enter(&mut self, number: usize) -> Result<Made, NoMemory> {
-        if number >= self.terminals.len() {
-            return Ok(Made::Impossible);
-        }
-        let opener = self.terminals[number].opener;
-        if !self.is_empty(opener) {
-            return Ok(Made::Impossible);
-        }
-        let terminal = &mut self.terminals[number];
-        match terminal.requests.get(terminal.entered as usize) {
-            None => Ok(Made::Impossible),
-            Some(words) => {
-                if terminal.entered == u32::MAX {
-                    return Err(NoMemory);
-                }
-                terminal.entered += 1;
+        match self.processes[number].slots().get(place) {
+            Some(Slot::Waiting(words)) => {
                 let words = words.copy();
+                self.processes[number].took(alloc, place, &words)?;
+                Ok(Outcome::Quiet)
+            }
+            _ => Ok(Outcome::Impossible),
+        }
+    }
+
+    fn enter(&mut self, wires: &Wires<'_>, number: usize) -> Result<Outcome, NoMemory>
+        ensures { IfOk result (λ outcome. Settles (enter_made wires.now number (opener_of wires.now (who.Terminal number)) self.old (slot_of self.old (opener_of wires.now (who.Terminal number)))) self.old outcome self.new) }
+    {
+        let opener = wires.terminal(number);
+        match self.slot_of(opener) {
+            Some(Slot::Empty) => self.enter_next(wires.site(), number, opener),
+            _ => Ok(Outcome::Impossible),
+        }
+    }
+
+    fn enter_next(
+        &mut self,
+        site: &Site,
+        number: usize,
+        opener: Option<Opener>,
+    ) -> Result<Outcome, NoMemory>
+        ensures { IfOk result (λ outcome. Settles (enter_request number opener self.old (next_request site.now number (entered_at self.old number))) self.old outcome self.new) }
+    {
+        let entered = self.entered_at(number);
+        match next_request(site, number, entered) {
+            None => Ok(Outcome::Impossible),
+            Some(words) => {
+                let words = words.copy();
+                self.count_entered(number, entered)?;
                 self.set_slot(opener, Slot::Waiting(words));
-                Ok(Made::Quiet)
+                Ok(Outcome::Quiet)
             }
         }
     }
 
-    fn print(&mut self, terminal: u8) -> Made {
-        let number = usize::from(terminal);
-        if number >= self.terminals.len() {
-            return Made::Impossible;
+    fn count_entered(&mut self, number: usize, entered: u32) -> Result<(), NoMemory>
+        ensures { OnOk result (self.new ≡ record self.old { entered = slice_set self.old.entered number (entered + 1) }) }
+    {
+        match entered.checked_add(1) {
+            None => Err(NoMemory),
+            Some(entered) => {
+                if number < self.entered.len() {
+                    self.entered[number] = entered;
+                }
+                Ok(())
+            }
         }
-        let opener = self.terminals[number].opener;
-        match self.reply_in(opener) {
-            None => Made::Impossible,
-            Some(words) => {
-                let number = self.terminals[number].entered;
+    }
+
+    fn print(&mut self, wires: &Wires<'_>, terminal: u8) -> Outcome
+        ensures { Settles (print_made terminal (opener_of wires.now (who.Terminal terminal)) self.old (slot_of self.old (opener_of wires.now (who.Terminal terminal)))) self.old result self.new }
+    {
+        let opener = wires.terminal(usize::from(terminal));
+        let number = self.entered_at(usize::from(terminal));
+        match self.slot_of(opener) {
+            Some(Slot::Answered(words)) => {
+                let words = words.copy();
                 self.set_slot(opener, Slot::Empty);
-                Made::Shows(Shown::Reply {
+                Outcome::Shows(Shown::Reply {
                     terminal,
                     number,
                     words,
                 })
             }
+            _ => Outcome::Impossible,
         }
     }
 
-    pub(crate) fn process_count(&self) -> usize {
-        self.processes.len()
-    }
-
-    pub(crate) fn terminal_count(&self) -> usize {
-        self.terminals.len()
-    }
-
-    /// The Take or Step that a process may make next: at Take it takes the waiting opener of the lowest place.
-    pub(crate) fn next_act(&self, alloc: Global, number: usize) -> Result<Act, NoMemory> {
+    /// The Take or Step that a process may make next.
+    pub(crate) fn next_move(&self, alloc: Global, number: usize) -> Result<Act, NoMemory>
+        ensures { IfOk result (λ act. act ≡ next_move self.now number) }
+    {
         let process = narrow(number)?;
-        match self.processes.get(number) {
+        match self.processes.as_slice().get(number) {
             None => Ok(Act::Step(process)),
-            Some(one) => match one.process.point(alloc)? {
+            Some(one) => match one.point(alloc)? {
                 Point::Take => {
-                    let opener = wide(first_waiting(&one.slots))?;
+                    let opener = wide(first_waiting(one.slots()))?;
                     Ok(Act::Take { process, opener })
                 }
                 _ => Ok(Act::Step(process)),
@@ -265,164 +289,220 @@ impl<'a> Plain<'a> {
         }
     }
 
-    /// Whether a process can make a Take or Step.
-    pub(crate) fn can_move(&self, alloc: Global, number: usize) -> Result<bool, NoMemory> {
-        match self.processes.get(number) {
+    /// Whether no act is possible.
+    pub(crate) fn is_still(&self, alloc: Global, wires: &Wires<'_>) -> Result<bool, NoMemory>
+        ensures { IfOk result (λ still. still ≡ is_still wires.now self.now) }
+    {
+        if !self.has_no_enter(wires) || !self.has_no_print(wires) {
+            return Ok(false);
+        }
+        self.has_no_move(alloc, wires)
+    }
+
+    fn has_no_enter(&self, wires: &Wires<'_>) -> bool
+        ensures { result ≡ none_of wires.now self.now enter_of 0 (length wires.now.terminals) }
+    {
+        for terminal in 0..wires.site().terminals.len() {
+            if self.can_enter(wires, terminal) {
+                return false;
+            }
+        }
+        true
+    }
+
+    fn has_no_print(&self, wires: &Wires<'_>) -> bool
+        ensures { result ≡ none_of wires.now self.now print_of 0 (length wires.now.terminals) }
+    {
+        for terminal in 0..wires.site().terminals.len() {
+            if self.can_print(wires, terminal) {
+                return false;
+            }
+        }
+        true
+    }
+
+    fn has_no_move(&self, alloc: Global, wires: &Wires<'_>) -> Result<bool, NoMemory>
+        ensures { IfOk result (λ none. none ≡ none_of wires.now self.now next_move 0 (length self.now.processes)) }
+    {
+        for number in 0..self.process_count() {
+            if self.can_move(alloc, wires, number)? {
+                return Ok(false);
+            }
+        }
+        Ok(true)
+    }
+
+    fn process_count(&self) -> usize
+        ensures { result ≡ length self.now.processes }
+    {
+        self.processes.len()
+    }
+
+    fn can_enter(&self, wires: &Wires<'_>, number: usize) -> bool
+        ensures { result ≡ is_some (made wires.now self.now (enter_of self.now number)) }
+    {
+        match self.slot_of(wires.terminal(number)) {
+            Some(Slot::Empty) => next_request(
+                wires.site(),
+                number,
+                self.entered_at(number),
+            ).is_some(),
+            _ => false,
+        }
+    }
+
+    fn can_print(&self, wires: &Wires<'_>, number: usize) -> bool
+        ensures { result ≡ is_some (made wires.now self.now (print_of self.now number)) }
+    {
+        match self.slot_of(wires.terminal(number)) {
+            Some(Slot::Answered(_)) => true,
+            _ => false,
+        }
+    }
+
+    fn can_move(&self, alloc: Global, wires: &Wires<'_>, number: usize) -> Result<bool, NoMemory>
+        ensures { IfOk result (λ can. can ≡ is_some (made wires.now self.now (next_move self.now number))) }
+    {
+        match self.processes.as_slice().get(number) {
             None => Ok(false),
-            Some(one) => match one.process.point(alloc)? {
-                Point::Take => Ok(first_waiting(&one.slots) < one.slots.len()),
-                Point::Await => Ok(self.has_reply(self.own_opener(number))),
+            Some(one) => match one.point(alloc)? {
+                Point::Take => Ok(self.can_take(wires, number, one)),
+                Point::Await => Ok(self.has_reply(wires.file(number, one.asked_file()))),
                 Point::Ended => Ok(false),
-                _ => Ok(true),
+                Point::Inner => Ok(true),
+                Point::Ask => Ok(true),
+                Point::Answer => Ok(true),
+                Point::Mark => Ok(true),
+                Point::Device => Ok(true),
             },
         }
     }
 
-    /// Whether a terminal can enter a request.
-    pub(crate) fn can_enter(&self, number: usize) -> bool {
-        match self.terminals.get(number) {
-            None => false,
-            Some(terminal) => {
-                self.is_empty(terminal.opener)
-                    && (terminal.entered as usize) < terminal.requests.len()
-            }
+    fn can_take(&self, _wires: &Wires<'_>, number: usize, one: &PlainProcess<'_>) -> bool
+        requires there { slice_get self.now.processes number ≡ Some one.now }
+        requires stands { process.point one.now.state ≡ Point.Take }
+        ensures { result ≡ is_some (made _wires.now self.now (next_move self.now number)) }
+    {
+        has_waiting(one.slots())
+    }
+
+    fn entered_at(&self, number: usize) -> u32
+        ensures { result ≡ entered_at self.now number }
+    {
+        match self.entered.as_slice().get(number) {
+            None => 0,
+            Some(entered) => *entered,
         }
     }
 
-    /// Whether a terminal can print a reply.
-    pub(crate) fn can_print(&self, number: usize) -> bool {
-        match self.terminals.get(number) {
-            None => false,
-            Some(terminal) => self.has_reply(terminal.opener),
-        }
-    }
-
-    /// Where a process stands among the openers of the process that it asks.
-    fn own_opener(&self, number: usize) -> Option<Opener> {
-        let one = self.processes.get(number)?;
-        let file = usize::from(one.process.asked_file());
-        match one.files.get(file) {
+    fn slot_of(&self, opener: Option<Opener>) -> Option<&Slot>
+        ensures { option_copied result ≡ slot_of self.now opener }
+    {
+        match opener {
             None => None,
-            Some(opener) => *opener,
+            Some(Opener { server, place }) => match self.processes.as_slice().get(server) {
+                None => None,
+                Some(server) => server.slots().get(place),
+            },
         }
     }
 
-    fn slot_of(&self, opener: Option<Opener>) -> Option<&Slot> {
-        let opener = opener?;
-        let server = self.processes.get(opener.server)?;
-        server.slots.get(opener.place)
-    }
-
-    fn is_empty(&self, opener: Option<Opener>) -> bool {
-        matches!(self.slot_of(opener), Some(Slot::Empty))
-    }
-
-    /// The words of the reply in a slot.
-    fn reply_in(&self, opener: Option<Opener>) -> Option<Words> {
+    fn has_reply(&self, opener: Option<Opener>) -> bool
+        ensures { result ≡ is_answered (slot_of self.now opener) }
+    {
         match self.slot_of(opener) {
-            Some(Slot::Answered(words)) => Some(words.copy()),
-            _ => None,
+            Some(Slot::Answered(_)) => true,
+            _ => false,
         }
     }
 
-    fn has_reply(&self, opener: Option<Opener>) -> bool {
-        matches!(self.slot_of(opener), Some(Slot::Answered(_)))
-    }
-
-    fn set_slot(&mut self, opener: Option<Opener>, slot: Slot) {
-        if let Some(opener) = opener {
-            if opener.server < self.processes.len() {
-                let server = &mut self.processes[opener.server];
-                if opener.place < server.slots.len() {
-                    server.slots[opener.place] = slot;
-                }
+    fn set_slot(&mut self, opener: Option<Opener>, slot: Slot)
+        ensures { self.new ≡ with_slot opener slot self.old }
+    {
+        if let Some(Opener { server, place }) = opener {
+            if server < self.processes.len() {
+                self.processes[server].set_slot(place, slot);
             }
         }
     }
 }
 
-/// The place of the first slot in which a request waits, or how many slots there are.
-fn first_waiting(slots: &Vec<Slot>) -> usize {
-    for (place, slot) in slots.iter().enumerate() {
+/// Whether a request waits in a slot.
+fn has_waiting(slots: &[Slot]) -> bool
+    ensures { result ≡ has_waiting slots.now }
+{
+    for slot in slots {
         if let Slot::Waiting(_) = slot {
-            return place;
+            return true;
         }
     }
-    slots.len()
+    false
+}
+
+fn answered_by(server: usize, hand: Option<usize>) -> Option<Opener>
+    ensures { result ≡ answered_by server hand }
+{
+    let place = hand?;
+    Some(Opener { server, place })
+}
+
+fn shown_by(process: u8, call: DeviceCall) -> Outcome
+    ensures { shown_in result ≡ Some (shown_by_device process call) }
+{
+    match call {
+        DeviceCall::Write {
+            sector,
+            words,
+            number: _,
+        } => Outcome::Shows(Shown::Write {
+            process,
+            sector,
+            words,
+        }),
+        _ => Outcome::Quiet,
+    }
+}
+
+fn next_request<'a>(site: &'a Site, number: usize, entered: u32) -> Option<&'a Words>
+    ensures { option_copied result ≡ next_request site.now number entered }
+{
+    match site.terminals.get(number) {
+        None => None,
+        Some(terminal) => terminal.requests.get(entered as usize),
+    }
 }
 
 /// An opener's place as it stands in an act. One that doesn't fit counts as want of memory.
-fn wide(place: usize) -> Result<u16, NoMemory> {
+fn wide(place: usize) -> Result<u16, NoMemory>
+    ensures { IfOk result (λ wide. wide ≡ place) }
+{
     match u16::try_from(place) {
         Ok(place) => Ok(place),
         Err(_) => Err(NoMemory),
     }
 }
 
-fn start_process<'a>(
+fn first_processes<'a>(
     alloc: Global,
     site: &Site,
-    number: usize,
-    spec: &'a ProcessSpec,
-) -> Result<PlainProcess<'a>, NoMemory> {
-    let process = Process::start(alloc, &spec.what)?;
-    let openers = openers_of(alloc, site, number)?;
-    let mut slots = Vec::new(alloc);
-    for _ in 0..openers.len() {
-        slots.push(Slot::Empty)?;
-    }
-    let sectors = zero_sectors(alloc, &spec.what)?;
-    let mut files = Vec::new(alloc);
-    for (file, used) in files_of(&spec.what).iter().enumerate() {
-        let opener = file_opener(alloc, site, number, file, used)?;
-        files.push(opener)?;
-    }
-    Ok(PlainProcess {
-        process,
-        hand: None,
-        slots,
-        sectors,
-        files,
-    })
-}
-
-fn start_terminal<'a>(
-    alloc: Global,
-    site: &Site,
-    number: usize,
-    spec: &'a TerminalSpec,
-) -> Result<PlainTerminal<'a>, NoMemory> {
-    let opener = terminal_opener(alloc, site, number, spec)?;
-    Ok(PlainTerminal {
-        requests: spec.requests.as_slice(),
-        opener,
-        entered: 0,
-    })
-}
-
-fn zero_sectors(alloc: Global, kind: &Kind) -> Result<Vec<Sector>, NoMemory> {
+    specs: &'a [ProcessSpec],
+) -> Result<Vec<PlainProcess<'a>>, NoMemory>
+    ensures { IfOk result (λ all. all.items ≡ processes_at_first site.now 0 specs.now) }
+{
     let mut all = Vec::new(alloc);
-    if let Kind::Disc { sectors } = kind {
-        for _ in 0..*sectors {
-            all.push([0; 8])?;
-        }
+    for (number, spec) in specs.iter().enumerate() {
+        let one = PlainProcess::start(alloc, site, number, spec)?;
+        all.push(one)?;
     }
     Ok(all)
 }
 
-fn found_by(sectors: &Vec<Sector>, call: &DeviceCall) -> Sector {
-    match call {
-        DeviceCall::Read(sector) => match sectors.get(usize::from(*sector)) {
-            None => [0; 8],
-            Some(words) => *words,
-        },
-        _ => [0; 8],
+fn none_entered(alloc: Global, terminals: &[TerminalSpec]) -> Result<Vec<u32>, NoMemory>
+    ensures { IfOk result (λ all. all.items ≡ map (λ terminal. 0) terminals.now) }
+{
+    let mut all = Vec::new(alloc);
+    for _terminal in terminals {
+        all.push(0)?;
     }
-}
-
-fn write(sectors: &mut Vec<Sector>, sector: u8, words: Sector) {
-    let sector = usize::from(sector);
-    if sector < sectors.len() {
-        sectors[sector] = words;
-    }
+    Ok(all)
 }

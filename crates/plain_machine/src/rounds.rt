@@ -1,5 +1,9 @@
-use crate::openers::narrow;
-use crate::plain::{Made, Plain};
+ghost use Rattle.std.specs.Prelude.{◌≡◌, ◌↔◌, IfOk, IsTrue};
+ghost use Rattle.plain_semantics.specs.Machine.{IsPossible, IsNoneLeft, shown_by};
+ghost use Rattle.plain_machine.specs.Rounds.{run_of};
+
+use crate::ran::Ran;
+use crate::wires::Wires;
 use gd_words::{List, NoMemory};
 use std::alloc::Global;
 use tal_tree::{Act, Shown, Site};
@@ -12,72 +16,39 @@ pub struct Played {
     pub idle: bool,
 }
 
-/// Plays rounds on a machine of single unfailing processes of its own. A round is, in this order, Enter of each terminal,
-/// one Take or Step of each process, and Print of each terminal, each where it is possible; a Take takes the waiting
-/// opener of the lowest place.
-pub fn play_rounds(alloc: Global, site: &Site, rounds: u32) -> Result<Played, NoMemory> {
-    let mut plain = Plain::start(alloc, site)?;
-    let mut played = Played {
-        acts: List::new(alloc),
-        shown: List::new(alloc),
-        idle: false,
-    };
-    for _ in 0..rounds {
-        let before = played.acts.len();
-        play_round(alloc, &mut plain, &mut played)?;
-        if played.acts.len() == before {
-            break;
-        }
-    }
-    played.idle = is_still(alloc, &plain)?;
-    Ok(played)
+/// Plays so many rounds on a machine of single unfailing processes of its own. A round is, in this order, Enter of each
+/// terminal, one Take or Step of each process, and Print of each terminal, each where it is possible; a Take takes the
+/// waiting opener of the lowest place. Once no act is possible, further rounds make none. A place in the deck or among
+/// openers that an act can't hold, and a count of writes or requests past 32 bits, count as want of memory.
+pub fn play_rounds(alloc: Global, site: &Site, rounds: u32) -> Result<Played, NoMemory>
+    ensures acts { IfOk result (λ played. played.acts ≡ (run_of site.now rounds).acts) }
+    ensures possible { IfOk result (λ played. IsPossible site.now played.acts) }
+    ensures shown { IfOk result (λ played. played.shown ≡ shown_by site.now played.acts) }
+    ensures idle { IfOk result (λ played. IsTrue played.idle ↔ IsNoneLeft site.now played.acts) }
+{
+    let wires = Wires::new(alloc, site)?;
+    let ran = ran_of(alloc, site, &wires, rounds)?;
+    let idle = ran.is_still(alloc, &wires)?;
+    let (acts, shown) = ran.into_lists();
+    Ok(Played { acts, shown, idle })
 }
 
-fn play_round(alloc: Global, plain: &mut Plain<'_>, played: &mut Played) -> Result<(), NoMemory> {
-    for terminal in 0..plain.terminal_count() {
-        let act = Act::Enter(narrow(terminal)?);
-        play(alloc, plain, played, act)?;
-    }
-    for process in 0..plain.process_count() {
-        let act = plain.next_act(alloc, process)?;
-        play(alloc, plain, played, act)?;
-    }
-    for terminal in 0..plain.terminal_count() {
-        let act = Act::Print(narrow(terminal)?);
-        play(alloc, plain, played, act)?;
-    }
-    Ok(())
-}
-
-/// Makes an act and keeps it with what it shows, where it is possible.
-fn play(
+fn ran_of<'a>(
     alloc: Global,
-    plain: &mut Plain<'_>,
-    played: &mut Played,
-    act: Act,
-) -> Result<(), NoMemory> {
-    match plain.made(alloc, act)? {
-        Made::Impossible => {}
-        Made::Quiet => played.acts.push(act)?,
-        Made::Shows(shown) => {
-            played.acts.push(act)?;
-            played.shown.push(shown)?;
+    site: &'a Site,
+    wires: &Wires<'_>,
+    count: u32,
+) -> Result<Ran<'a>, NoMemory>
+    requires { wires.now ≡ site.now }
+    ensures { IfOk result (λ ran. ran ≡ run_of site.now count) }
+{
+    let mut ran = Ran::start(alloc, site)?;
+    for _ in 0..count {
+        let before = ran.len();
+        ran.play(alloc, wires)?;
+        if ran.len() == before {
+            return Ok(ran);
         }
     }
-    Ok(())
-}
-
-/// Whether no act is possible.
-fn is_still(alloc: Global, plain: &Plain<'_>) -> Result<bool, NoMemory> {
-    for terminal in 0..plain.terminal_count() {
-        if plain.can_enter(terminal) || plain.can_print(terminal) {
-            return Ok(false);
-        }
-    }
-    for process in 0..plain.process_count() {
-        if plain.can_move(alloc, process)? {
-            return Ok(false);
-        }
-    }
-    Ok(true)
+    Ok(ran)
 }

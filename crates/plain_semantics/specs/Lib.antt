@@ -1,2 +1,3 @@
+pub mod Concerns
 pub mod Machine
 pub mod Openers

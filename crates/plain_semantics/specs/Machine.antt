@@ -198,6 +198,10 @@ abbrev pub made_all : Site → Plain → List Act → Option Made
 made_all site plain [] = Some (quiet plain)
 made_all site plain (act ∷ acts) = option_and_then (λ first. option_map (made_before first.shown) (made_all site first.plain acts)) (made site plain act)
 
+-- acts that go on after others, which came to m
+abbrev pub made_after : Site → List Act → Made → Option Made
+made_after site acts m = option_map (made_before m.shown) (made_all site m.plain acts)
+
 -- the acts are possible: each in the state that the acts before it leave
 abbrev pub IsPossible : Site → List Act → Type 0
 IsPossible site acts = IsSome (made_all site (plain_start site) acts)

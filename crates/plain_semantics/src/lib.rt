@@ -5,8 +5,10 @@
 //! uses `made`, `IsPossible`, `shown_by` and `IsNoneLeft` of `specs/`, and the laws of this crate's public functions.
 #![tactic(auto)]
 
+pub mod laws;
 pub mod opening;
 pub mod slot;
 
+pub use laws::{acts_follow_acts, front_is_possible, impossible_stays, shown_begins_with_front};
 pub use opening::{files_of, narrow, opener_of, openers};
 pub use slot::{Opener, Slot};

@@ -1,4 +1,5 @@
 pub mod Disc
+pub mod Image
 pub mod Process
 pub mod Program
 pub mod SeenEntries

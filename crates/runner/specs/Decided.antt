@@ -1,5 +1,5 @@
 -- What a command decides before it writes anything.
-use Rattle.std.specs.Prelude.{◌≡◌, ◌<◌, ℕ, Bool, true, false, List, [], ◌∷◌, length, Option, Some, None}
+use Rattle.std.specs.Prelude.{◌≡◌, ◌<◌, ◌↔◌, ℕ, IsTrue, Bool, true, false, List, [], ◌∷◌, length, Option, Some, None}
 use Rattle.schedule.specs.declared.line.Line.{Line}
 use Rattle.schedule.specs.declared.line.Line.TheVariants.{Drain}
 use Rattle.tal_tree.specs.declared.fault.DeckFault.{DeckFault}
@@ -7,6 +7,8 @@ use Rattle.tal_tree.specs.declared.fault.DeckFault.TheVariants.{TooLong, NotYet}
 use Rattle.gd_io.specs.Faults.{HasRisen}
 use Rattle.deck_reader.specs.Decks.{Decks}
 use Rattle.deck_reader.specs.declared.deck.Deck.{Deck}
+use Rattle.plain_semantics.specs.Machine.{IsPossible, IsNoneLeft, shown_by}
+use Rattle.plain_machine.specs.Rounds.{run_of}
 use Rattle.runner.specs.Words.{asks_run}
 use Rattle.runner.specs.declared.due.Due.{Due}
 use Rattle.runner.specs.declared.due.Due.TheVariants as due
@@ -17,9 +19,14 @@ abbrev pub rounds_of : List Line → ℕ
 rounds_of (Drain rounds ∷ []) = rounds
 rounds_of _ = 0
 
--- the run of a deck
+-- the run of a deck: its acts are those that the rounds give; they are possible on the machine of single unfailing
+-- processes, what the run shows is what they show there, and it is idle exactly where no act is possible after them
 pub record IsRunOf (deck : Deck) (report : Report) : Type 0 where
   pub site : report.site ≡ deck.site
+  pub acts : report.run.acts ≡ (run_of deck.site (rounds_of deck.lines)).acts
+  pub possible : IsPossible deck.site report.run.acts
+  pub shown : report.run.shown ≡ shown_by deck.site report.run.acts
+  pub idle : IsTrue report.idle ↔ IsNoneLeft deck.site report.run.acts
 
 -- what is due of a deck
 abbrev pub IsDueOfDeck : Deck → Due → Type 0

@@ -1,0 +1,6 @@
+pub mod AllStill
+pub mod Lookups
+pub mod Still
+pub mod Sweeps
+pub mod Told
+pub mod Waiting

@@ -1,0 +1,10 @@
+use Rattle.std.proofs.Common.{◌≡◌, ◌+◌, ◌-◌, ◌<◌, ◌∙◌, ap, sym, length, arith}
+use Rattle.plain_machine.specs.Rounds.{enter_of}
+use Rattle.plain_machine.proofs.Sweeps.{none_of-after}
+use Rattle.plain_machine.proofs.plain.Plain.has_no_enter.Goals as goal
+
+pub loop-terminal-preserved : goal.loop-terminal-preserved
+loop-terminal-preserved c =
+    let count : c.len-terminal-end.result ≡ length c.args.wires.now.terminals = c.len-terminal-end.ensures ∙ ap (λ site. length site.terminals) c.site.ensures in
+    let within : c.loop-terminal.terminal < length c.args.wires.now.terminals = omega arith in
+    c.loop-terminal.invariant ∙ none_of-after c.args.wires.now c.args.self.now enter_of c.loop-terminal.terminal (length c.args.wires.now.terminals) within (sym c.if-can_enter.ensures)

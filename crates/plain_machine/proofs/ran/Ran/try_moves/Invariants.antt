@@ -1,0 +1,6 @@
+use Rattle.std.proofs.Common.{◌≡◌, ◌-◌, length}
+use Rattle.plain_machine.specs.Rounds.{swept, enter_of, next_move, print_of}
+use Rattle.plain_machine.proofs.ran.Ran.try_moves.Given as goal
+
+abbrev pub invariant-loop-process : goal.invariant-loop-process
+invariant-loop-process l = swept l.wires next_move 0 (length l.wires.processes) l.initial.self ≡ swept l.wires next_move l.process (length l.wires.processes - l.process) l.self

@@ -1,0 +1,4 @@
+pub mod Outcomes
+pub mod Rounds
+pub mod Stillness
+pub mod Wiring

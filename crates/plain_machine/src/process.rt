@@ -1,0 +1,243 @@
+ghost use Rattle.std.specs.Prelude.{◌≡◌, IfOk, OnOk, map, replicate, slice_set};
+ghost use Rattle.plain_semantics.specs.Openers.{openers_of};
+ghost use Rattle.process_semantics.specs.Program.{zeros};
+ghost use Rattle.process_semantics.specs.Process.{point, after_inner, after_took, asked_file, asked_words, after_asked, after_got, answer_of, after_answered, after_mark, call_of, after_device};
+ghost use Rattle.plain_semantics.specs.Machine.{process_at_first, sectors_at_first, found_by, written_by};
+ghost use Rattle.plain_machine.specs.Rounds.{waiting_from};
+
+use gd_words::{DeviceCall, NoMemory, Sector, Words};
+use plain_semantics::{Slot, openers};
+use process_semantics::{Asked, Point, Process};
+use std::alloc::Global;
+use std::marker::Model;
+use tal_tree::{Kind, OpenerSpec, ProcessSpec, Site};
+
+/// A process of the machine: its state, the place of the opener whose request is in hand, a slot for each of its openers,
+/// and the sectors of a disc.
+#[derive(Debug, Drop)]
+pub struct PlainProcess<'a> {
+    process: Process<'a>,
+    hand: Option<usize>,
+    slots: Vec<Slot>,
+    sectors: Vec<Sector>,
+}
+
+impl<'a> Model for PlainProcess<'a> {
+    ghost use Rattle.std.specs.Coded.{codes};
+    ghost use Rattle.tal_tree.specs.contracts.statement.Statement as statement;
+    ghost use Rattle.process_semantics.specs.SeenProcess.{process_of};
+    ghost use Rattle.plain_semantics.specs.Machine as machine;
+
+    ghost Value = { machine.PlainProcess };
+
+    ghost coded = { Prim.hlevel (codes, statement.the_row.coded) };
+
+    ghost view = { λ one. record {
+      state = process_of one.process;
+      hand = one.hand;
+      slots = one.slots.items;
+      sectors = one.sectors.items;
+    } };
+}
+
+impl<'a> PlainProcess<'a> {
+    /// A process at its beginning.
+    pub(crate) fn start(
+        alloc: Global,
+        site: &Site,
+        number: usize,
+        spec: &'a ProcessSpec,
+    ) -> Result<PlainProcess<'a>, NoMemory>
+        ensures { IfOk result (λ one. one ≡ process_at_first site.now number spec.now) }
+    {
+        let process = Process::start(alloc, &spec.what)?;
+        let slots = empty_slots(alloc, site, number)?;
+        let sectors = zero_sectors(alloc, &spec.what)?;
+        Ok(PlainProcess {
+            process,
+            hand: None,
+            slots,
+            sectors,
+        })
+    }
+
+    pub(crate) fn point(&self, alloc: Global) -> Result<Point, NoMemory>
+        ensures { IfOk result (λ stands. stands ≡ point self.now.state) }
+    {
+        self.process.point(alloc)
+    }
+
+    pub(crate) fn inner(&mut self, alloc: Global) -> Result<(), NoMemory>
+        ensures { OnOk result (self.new ≡ record self.old { state = after_inner self.old.state }) }
+    {
+        self.process.inner(alloc)?;
+        Ok(())
+    }
+
+    pub(crate) fn marked(&mut self)
+        ensures { self.new ≡ record self.old { state = after_mark self.old.state } }
+    {
+        self.process.marked();
+    }
+
+    /// The number of the file on which it stands.
+    pub(crate) fn asked_file(&self) -> u8
+        ensures { result ≡ asked_file self.now.state }
+    {
+        self.process.asked_file()
+    }
+
+    pub(crate) fn asked(&mut self, alloc: Global) -> Result<Words, NoMemory>
+        ensures words { IfOk result (λ words. words ≡ asked_words self.old.state) }
+        ensures state { OnOk result (self.new ≡ record self.old { state = after_asked self.old.state }) }
+    {
+        let Asked { file: _, words } = self.process.asked(alloc)?;
+        Ok(words)
+    }
+
+    pub(crate) fn got(&mut self, alloc: Global, words: &Words) -> Result<(), NoMemory>
+        ensures { OnOk result (self.new ≡ record self.old { state = after_got self.old.state words.now }) }
+    {
+        self.process.got(alloc, words)?;
+        Ok(())
+    }
+
+    /// The place of the opener whose request is in hand.
+    pub(crate) fn hand(&self) -> Option<usize>
+        ensures { result ≡ self.now.hand }
+    {
+        self.hand
+    }
+
+    pub(crate) fn answered(&mut self, alloc: Global) -> Result<Words, NoMemory>
+        ensures words { IfOk result (λ words. words ≡ answer_of self.old.state) }
+        ensures state { OnOk result (self.new ≡ record self.old { state = after_answered self.old.state; hand = None }) }
+    {
+        let words = self.process.answered(alloc)?;
+        self.hand = None;
+        Ok(words)
+    }
+
+    /// Acts on the disc device, and tells what it did.
+    pub(crate) fn device(&mut self) -> Result<DeviceCall, NoMemory>
+        ensures call { IfOk result (λ call. call ≡ call_of self.old.state) }
+        ensures state { OnOk result (self.new ≡ record self.old { state = after_device self.old.state (found_by self.old.sectors (call_of self.old.state)); sectors = written_by self.old.sectors (call_of self.old.state) }) }
+    {
+        let call = self.process.call()?;
+        let found = found_by(&self.sectors, &call);
+        self.process.device(&found)?;
+        write(&mut self.sectors, &call);
+        Ok(call)
+    }
+
+    /// Takes the request with these words, which waits in the slot of this place.
+    pub(crate) fn took(
+        &mut self,
+        alloc: Global,
+        place: usize,
+        words: &Words,
+    ) -> Result<(), NoMemory>
+        ensures { OnOk result (self.new ≡ record self.old { state = after_took self.old.state words.now; hand = Some place; slots = slice_set self.old.slots place Slot.Taken }) }
+    {
+        self.process.took(alloc, words)?;
+        self.hand = Some(place);
+        set(&mut self.slots, place, Slot::Taken);
+        Ok(())
+    }
+
+    pub(crate) fn slots(&self) -> &[Slot]
+        ensures { result.now ≡ self.now.slots }
+    {
+        self.slots.as_slice()
+    }
+
+    pub(crate) fn set_slot(&mut self, place: usize, slot: Slot)
+        ensures { self.new ≡ record self.old { slots = slice_set self.old.slots place slot } }
+    {
+        set(&mut self.slots, place, slot);
+    }
+}
+
+fn set(slots: &mut Vec<Slot>, place: usize, slot: Slot)
+    ensures { slots.new.items ≡ slice_set slots.old.items place slot }
+{
+    if place < slots.len() {
+        slots[place] = slot;
+    }
+}
+
+fn empty_slots(alloc: Global, site: &Site, number: usize) -> Result<Vec<Slot>, NoMemory>
+    ensures { IfOk result (λ slots. slots.items ≡ map (λ opener. Slot.Empty) (openers_of site.now number)) }
+{
+    let openers = openers(alloc, site, number)?;
+    empties(alloc, openers.as_slice())
+}
+
+fn empties(alloc: Global, openers: &[OpenerSpec]) -> Result<Vec<Slot>, NoMemory>
+    ensures { IfOk result (λ slots. slots.items ≡ map (λ opener. Slot.Empty) openers.now) }
+{
+    let mut slots = Vec::new(alloc);
+    for _ in 0..openers.len() {
+        slots.push(Slot::Empty)?;
+    }
+    Ok(slots)
+}
+
+fn zero_sectors(alloc: Global, kind: &Kind) -> Result<Vec<Sector>, NoMemory>
+    ensures { IfOk result (λ sectors. sectors.items ≡ sectors_at_first kind.now) }
+{
+    match kind {
+        Kind::Disc { sectors } => zeros(alloc, *sectors),
+        Kind::Pair(_) => Ok(Vec::new(alloc)),
+    }
+}
+
+fn zeros(alloc: Global, sectors: u8) -> Result<Vec<Sector>, NoMemory>
+    ensures { IfOk result (λ all. all.items ≡ replicate sectors (zeros 8)) }
+{
+    let mut all = Vec::new(alloc);
+    for _ in 0..sectors {
+        all.push([0; 8])?;
+    }
+    Ok(all)
+}
+
+fn found_by(sectors: &Vec<Sector>, call: &DeviceCall) -> Sector
+    ensures { result ≡ found_by sectors.now.items call.now }
+{
+    match call {
+        DeviceCall::Read(sector) => match sectors.as_slice().get(usize::from(*sector)) {
+            None => [0; 8],
+            Some(words) => *words,
+        },
+        _ => [0; 8],
+    }
+}
+
+fn write(sectors: &mut Vec<Sector>, call: &DeviceCall)
+    ensures { sectors.new.items ≡ written_by sectors.old.items call.now }
+{
+    if let DeviceCall::Write {
+        sector,
+        words,
+        number: _,
+    } = call
+    {
+        let sector = usize::from(*sector);
+        if sector < sectors.len() {
+            sectors[sector] = *words;
+        }
+    }
+}
+
+/// The place of the first slot in which a request waits, or how many slots there are.
+pub(crate) fn first_waiting(slots: &[Slot]) -> usize
+    ensures { result ≡ waiting_from 0 slots.now }
+{
+    for (place, slot) in slots.iter().enumerate() {
+        if let Slot::Waiting(_) = slot {
+            return place;
+        }
+    }
+    slots.len()
+}

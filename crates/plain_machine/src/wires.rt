@@ -1,0 +1,70 @@
+ghost use Rattle.std.specs.Prelude.{◌≡◌, IfOk};
+ghost use Rattle.std.specs.Option.{option_flatten};
+ghost use Rattle.tal_tree.specs.declared.site.Who.TheVariants as who;
+ghost use Rattle.plain_semantics.specs.Openers.{opener_of};
+
+use crate::tables::{file_rows, found_file, found_terminal, terminal_row};
+use gd_words::{List, NoMemory};
+use plain_semantics::Opener;
+use std::alloc::Global;
+use std::marker::Model;
+use tal_tree::Site;
+
+/// A site, with tables of where its files and terminals stand among the openers of the processes that they ask.
+#[derive(Debug, Drop)]
+pub struct Wires<'a> {
+    site: &'a Site,
+    files: List<List<Option<Opener>>>,
+    terminals: List<Option<Opener>>,
+}
+
+impl<'a> Model for Wires<'a> {
+    ghost use Rattle.std.specs.Prelude.{◌≡◌};
+    ghost use Rattle.std.specs.Coded.{codes};
+    ghost use Rattle.tal_tree.specs.contracts.statement.Statement as statement;
+    ghost use Rattle.tal_tree.specs.declared.site.Site.{Site as Wired};
+    ghost use Rattle.plain_machine.specs.Wiring.{file_rows, terminal_row};
+
+    ghost Value = { Wired };
+
+    ghost coded = { Prim.hlevel (codes, statement.the_row.coded) };
+
+    ghost view = { λ wires. wires.site.now };
+
+    ghost invariant = { λ wires. (wires.files ≡ file_rows wires.site.now 0 wires.site.now.processes) × (wires.terminals ≡ terminal_row wires.site.now 0 wires.site.now.terminals) };
+}
+
+impl<'a> Wires<'a> {
+    /// The tables of a site.
+    pub(crate) fn new(alloc: Global, site: &'a Site) -> Result<Wires<'a>, NoMemory>
+        ensures { IfOk result (λ wires. wires ≡ site.now) }
+    {
+        let files = file_rows(alloc, site, site.processes.as_slice())?;
+        let terminals = terminal_row(alloc, site, site.terminals.as_slice())?;
+        Ok(Wires {
+            site,
+            files,
+            terminals,
+        })
+    }
+
+    pub(crate) fn site(&self) -> &'a Site
+        ensures { result.now ≡ self.now }
+    {
+        self.site
+    }
+
+    /// Where a file of a process stands.
+    pub(crate) fn file(&self, process: usize, file: u8) -> Option<Opener>
+        ensures { result ≡ opener_of self.now (who.File process file) }
+    {
+        found_file(&self.files, process, file)
+    }
+
+    /// Where a terminal stands.
+    pub(crate) fn terminal(&self, terminal: usize) -> Option<Opener>
+        ensures { result ≡ opener_of self.now (who.Terminal terminal) }
+    {
+        found_terminal(&self.terminals, terminal)
+    }
+}
