@@ -1,6 +1,8 @@
-ghost use Rattle.std.specs.Prelude.{◌≡◌};
+ghost use Rattle.std.specs.Prelude.{◌≡◌, List};
+ghost use Rattle.tal_builder.specs.Built.{IsSyntax, Built};
 ghost use Rattle.tal_builder.specs.Outcome.{Tells};
 ghost use Rattle.tal_builder.specs.Parse.{head_at, tail_at, text_at};
+ghost use Rattle.tal_syntax.specs.Grammar as g;
 ghost use Rattle.tal_syntax.specs.Seen.{seen_head, seen_tail, seen_text};
 
 use crate::globals::globals;
@@ -73,7 +75,7 @@ fn tail(tokens: &[Token]) -> Result<Tail, Stop>
 }
 
 /// The syntax of a whole text.
-pub fn build(alloc: Global, tokens: &[Token]) -> Result<Text, Stop>
+fn whole(alloc: Global, tokens: &[Token]) -> Result<Text, Stop>
     ensures { Tells seen_text result (text_at tokens.now) }
 {
     let (globals, after) = globals(alloc, tokens)?;
@@ -93,3 +95,15 @@ pub fn build(alloc: Global, tokens: &[Token]) -> Result<Text, Stop>
         Err(stop) => Err(stop),
     }
 }
+
+/// The syntax of the tokens of a whole text.
+pub fn build(alloc: Global, tokens: &[Token]) -> Result<Text, Stop>
+    ensures { Built tokens.now result }
+{
+    whole(alloc, tokens)
+}
+
+/// The law of the grammar: tokens have at most one syntax.
+pub fn tokens_have_one_syntax()
+    ensures { (ks : List Token) (t u : g.Text) → IsSyntax ks t → IsSyntax ks u → t ≡ u }
+{}
