@@ -1,3 +1,6 @@
+ghost use Rattle.std.specs.Prelude.{◌≡◌};
+ghost use Rattle.tal_tree.specs.declared.fault.TalFault.TheVariants as variants;
+
 use crate::place::Place;
 use gd_words::NoMemory;
 use thiserror::Error;
@@ -64,6 +67,8 @@ pub enum DeckFault {
 }
 
 impl From<NoMemory> for TalFault {
+    ghost from_gives = { λ e r. r ≡ variants.NoMemory };
+
     fn from(_error: NoMemory) -> TalFault {
         TalFault::NoMemory
     }

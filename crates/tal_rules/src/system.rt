@@ -1,4 +1,7 @@
-/// The names of the system's own calls.
+ghost use Rattle.std.specs.Prelude.{◌≡◌};
+ghost use Rattle.tal_rules.specs.System.{same, system_of};
+
+/// The system's own calls.
 #[derive(Clone, Copy, Debug, PartialEq, Eq)]
 pub enum System {
     CheckMonitor,
@@ -10,12 +13,17 @@ pub enum System {
     WriteRead,
 }
 
-fn is(word: &[u8], text: &[u8]) -> bool {
-    word == text
+/// Whether two names are the same.
+pub fn is(name: &[u8], other: &[u8]) -> bool
+    ensures { result ≡ same name.now other.now }
+{
+    name == other
 }
 
 /// The system's call that has the name.
-pub fn system_of(name: &[u8]) -> Option<System> {
+pub fn system_of(name: &[u8]) -> Option<System>
+    ensures { result ≡ system_of name.now }
+{
     if is(name, b"CHECKMONITOR") {
         Some(System::CheckMonitor)
     } else if is(name, b"CHECKPOINT") {
