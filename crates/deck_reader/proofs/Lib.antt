@@ -2,4 +2,5 @@ pub mod CutLemmas
 pub mod EachLemmas
 pub mod LineLemmas
 pub mod NumberLemmas
+pub mod RefusedLemmas
 pub mod RequestLemmas

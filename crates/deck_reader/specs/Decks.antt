@@ -2,10 +2,13 @@
 use Rattle.std.specs.Prelude.{◌≡◌, ◌<◌, ◌≤◌, ℕ, List, [], ◌∷◌, length, Option, Some, option_map, slice_get}
 use Rattle.tal_tree.specs.declared.fault.DeckFault.{DeckFault}
 use Rattle.tal_tree.specs.declared.fault.DeckFault.TheVariants as fault
+use Rattle.tal_tree.specs.declared.fault.TalFault.{TalFault}
+use Rattle.tal_tree.specs.declared.fault.TalFault.TheVariants as tal
 use Rattle.tal_tree.specs.declared.program.Program.{Program}
 use Rattle.tal_tree.specs.declared.site.ProcessSpec.{ProcessSpec}
 use Rattle.tal_tree.specs.declared.site.TerminalSpec.{TerminalSpec}
 use Rattle.tal_tree.specs.declared.site.Kind.TheVariants as kind
+use Rattle.tal_reader.specs.Reads.{Reads}
 use Rattle.deck_reader.specs.Lines.{lines_of}
 use Rattle.deck_reader.specs.Outlined.{outline_of}
 use Rattle.deck_reader.specs.declared.deck.Deck.{Deck}
@@ -20,13 +23,13 @@ EachWith R (x ∷ xs) (y ∷ ys) = R x y × EachWith R xs ys
 EachWith R [] (y ∷ ys) = ⊥
 EachWith R (x ∷ xs) [] = ⊥
 
--- the process of a pair's lines runs a program that was read from its text; a text is no longer than a deck may be
+-- the process of a pair's lines runs the program that its text reads as; a text is no longer than a deck may be
 pub record IsProcessOf (pair : PairLines) (process : ProcessSpec) : Type 0 where
   pub short : length pair.text ≤ 1048576
   pub name : process.name ≡ pair.name
   pub primary : process.primary ≡ pair.primary
   pub backup : process.backup ≡ pair.backup
-  pub program : (program : Program) × (process.what ≡ kind.Pair program)
+  pub program : (program : Program) × (process.what ≡ kind.Pair program) × Reads pair.text program
 
 abbrev pub AreProcessesOf : List PairLines → List ProcessSpec → Type 0
 AreProcessesOf pairs processes = EachWith IsProcessOf pairs processes
@@ -64,8 +67,13 @@ IsFaultOfToday fault.NotYet = Unit {0}
 IsFaultOfToday fault.NoMemory = Unit {0}
 IsFaultOfToday _ = ⊥
 
--- no deck of today's form, or no memory
-abbrev pub IsRefusal : DeckFault → Type 0
-IsRefusal fault.NotYet = Unit {0}
-IsRefusal fault.NoMemory = Unit {0}
-IsRefusal _ = ⊥
+-- why nothing is given that has the property: memory ran out, or there is none today
+abbrev pub IsRefusedBy : {X : Type 0} → (X → Type 0) → DeckFault → Type 0
+IsRefusedBy {X} P fault.NotYet = (x : X) → P x → ⊥
+IsRefusedBy P fault.NoMemory = Unit {0}
+IsRefusedBy P _ = ⊥
+
+-- the deck's fault for a program's
+abbrev pub refusal_of : TalFault → DeckFault
+refusal_of tal.NoMemory = fault.NoMemory
+refusal_of _ = fault.NotYet

@@ -1,7 +1,8 @@
 ghost use Rattle.std.specs.Prelude.{◌≡◌, ◌<◌, ◌≤◌, ◌↔◌, ℕ, length, IfOk, IfErr, IsTrue, MatchOption, Some, option_map};
 ghost use Rattle.deck_reader.specs.Lines.{lines_of};
 ghost use Rattle.deck_reader.specs.Outlined.{outline_of};
-ghost use Rattle.deck_reader.specs.Decks.{Decks, IsDeckOf, AreProcessesOf, AreTerminalsOf, IsPlaceOf, IsProcessOf, IsTerminalOf, IsFaultOfToday, IsRefusal};
+ghost use Rattle.deck_reader.specs.Decks.{Decks, IsDeckOf, AreProcessesOf, AreTerminalsOf, IsPlaceOf, IsProcessOf, IsTerminalOf, IsFaultOfToday, IsRefusedBy, refusal_of};
+ghost use Rattle.deck_reader.specs.declared.deck.Deck.{Deck};
 
 use crate::lines::next_line;
 use crate::outline::{Outline, PairLines, Stage, TerminalLines, next_stage};
@@ -25,6 +26,7 @@ pub struct Deck {
 pub fn read_deck(alloc: Global, bytes: &[u8]) -> Result<Deck, DeckFault>
     ensures ok { IfOk result (λ deck. Decks bytes.now deck) }
     ensures too_long { (result ≡ Err DeckFault.TooLong) ↔ (1048576 < length bytes.now) }
+    ensures not_yet { result ≡ Err DeckFault.NotYet → (deck : Deck) → Decks bytes.now deck → ⊥ }
     ensures today { IfErr result IsFaultOfToday }
 {
     if bytes.len() > MOST_BYTES {
@@ -59,7 +61,7 @@ fn outline_of(alloc: Global, bytes: &[u8]) -> Result<Option<Outline>, NoMemory>
 /// The deck of an outline: programs are read and names looked up.
 fn deck_of(alloc: Global, outline: Outline) -> Result<Deck, DeckFault>
     ensures ok { IfOk result (λ deck. IsDeckOf outline deck) }
-    ensures err { IfErr result IsRefusal }
+    ensures err { IfErr result (λ fault. IsRefusedBy (λ deck. IsDeckOf outline deck) fault) }
 {
     let Outline {
         processors,
@@ -79,12 +81,14 @@ fn deck_of(alloc: Global, outline: Outline) -> Result<Deck, DeckFault>
 
 fn processes_of(alloc: Global, pairs: &[PairLines]) -> Result<List<ProcessSpec>, DeckFault>
     ensures ok { IfOk result (λ processes. AreProcessesOf pairs.now processes) }
-    ensures err { IfErr result IsRefusal }
+    ensures err { IfErr result (λ fault. IsRefusedBy (λ processes. AreProcessesOf pairs.now processes) fault) }
 {
     let mut processes = List::new(alloc);
     for pair in pairs {
-        let process = process_of(alloc, pair)?;
-        processes.push(process)?;
+        match process_of(alloc, pair) {
+            Err(fault) => return Err(fault),
+            Ok(process) => processes.push(process)?,
+        }
     }
     Ok(processes)
 }
@@ -92,7 +96,7 @@ fn processes_of(alloc: Global, pairs: &[PairLines]) -> Result<List<ProcessSpec>,
 /// The process of a pair's lines.
 fn process_of(alloc: Global, pair: &PairLines) -> Result<ProcessSpec, DeckFault>
     ensures ok { IfOk result (λ process. IsProcessOf pair.now process) }
-    ensures err { IfErr result IsRefusal }
+    ensures err { IfErr result (λ fault. IsRefusedBy (λ process. IsProcessOf pair.now process) fault) }
 {
     let text = pair.text.as_slice();
     if text.len() > MOST_BYTES {
@@ -105,8 +109,17 @@ fn process_of(alloc: Global, pair: &PairLines) -> Result<ProcessSpec, DeckFault>
             backup: pair.backup,
             what: Kind::Pair(program),
         }),
-        Err(TalFault::NoMemory) => Err(DeckFault::NoMemory),
-        Err(_) => Err(DeckFault::NotYet),
+        Err(fault) => Err(refusal_of(fault)),
+    }
+}
+
+/// The deck's fault for a program's. Today a program's own fault isn't told.
+fn refusal_of(fault: TalFault) -> DeckFault
+    ensures { result ≡ refusal_of fault }
+{
+    match fault {
+        TalFault::NoMemory => DeckFault::NoMemory,
+        _ => DeckFault::NotYet,
     }
 }
 
@@ -116,7 +129,7 @@ fn terminals_of(
     terminals: List<TerminalLines>,
 ) -> Result<List<TerminalSpec>, DeckFault>
     ensures ok { IfOk result (λ specs. AreTerminalsOf pairs.now terminals specs) }
-    ensures err { IfErr result IsRefusal }
+    ensures err { IfErr result (λ fault. IsRefusedBy (λ specs. AreTerminalsOf pairs.now terminals specs) fault) }
 {
     let mut specs = List::new(alloc);
     for lines in terminals.into_vec() {
@@ -131,7 +144,7 @@ fn terminals_of(
 /// The terminal of a terminal's lines.
 fn terminal_of(pairs: &[PairLines], lines: TerminalLines) -> Result<TerminalSpec, DeckFault>
     ensures ok { IfOk result (λ terminal. IsTerminalOf pairs.now lines terminal) }
-    ensures err { IfErr result IsRefusal }
+    ensures err { IfErr result (λ fault. IsRefusedBy (λ terminal. IsTerminalOf pairs.now lines terminal) fault) }
 {
     let TerminalLines {
         name,

@@ -34,10 +34,10 @@ IsDueOfDeck deck (due.Report report) = IsRunOf deck report
 IsDueOfDeck deck due.NoMemory = Unit {0}
 IsDueOfDeck deck _ = ⊥
 
--- too many bytes, or no deck of today's form
+-- too many bytes, or bytes that aren't too many and spell no deck
 abbrev pub IsRefusalOf : List ℕ → DeckFault → Type 0
 IsRefusalOf bytes TooLong = 1048576 < length bytes
-IsRefusalOf bytes NotYet = Unit {0}
+IsRefusalOf bytes NotYet = (1048576 < length bytes → ⊥) × ((deck : Deck) → Decks bytes deck → ⊥)
 IsRefusalOf bytes _ = ⊥
 
 -- what is due of bytes

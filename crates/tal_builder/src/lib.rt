@@ -7,6 +7,7 @@
 mod expression;
 mod globals;
 mod sign;
+mod simple;
 mod statement;
 pub mod stop;
 pub mod text;

@@ -1,18 +1,27 @@
+ghost use Rattle.std.specs.Prelude.{◌≡◌, List};
+ghost use Rattle.tal_builder.specs.Built.{IsSyntax, Built};
+ghost use Rattle.tal_builder.specs.Outcome.{Tells};
+ghost use Rattle.tal_builder.specs.Parse.{head_at, tail_at, text_at};
+ghost use Rattle.tal_syntax.specs.Grammar as g;
+ghost use Rattle.tal_syntax.specs.Seen.{seen_head, seen_tail, seen_text};
+
 use crate::globals::globals;
 use crate::sign::{
     begin_first, end_first, finish_first, main_first, name_first, proc_first, semicolon_first,
 };
-use crate::statement::{more_statements, statement};
+use crate::statement::{row, statement};
 use crate::stop::Stop;
 use std::alloc::Global;
 use tal_syntax::{Head, Tail, Text};
 use tal_tokens::Token;
 
-/// How many levels a procedure's own statement may open.
-const LEVELS: u8 = 32;
+/// How many levels a text may open, those of the procedure's own statements counted.
+const LEVELS: u8 = 33;
 
 /// `PROC name MAIN ";" BEGIN`
-fn head(tokens: &[Token]) -> Result<(Head, &[Token]), Stop> {
+fn head(tokens: &[Token]) -> Result<(Head, &[Token]), Stop>
+    ensures { Tells (λ r. (seen_head r.0, r.1.now)) result (head_at tokens.now) }
+{
     let Some((procedure, after)) = proc_first(tokens) else {
         return Err(Stop::Unexpected(tokens.len()));
     };
@@ -42,7 +51,9 @@ fn head(tokens: &[Token]) -> Result<(Head, &[Token]), Stop> {
 }
 
 /// `END ";"` and the end of the text
-fn tail(tokens: &[Token]) -> Result<Tail, Stop> {
+fn tail(tokens: &[Token]) -> Result<Tail, Stop>
+    ensures { Tells seen_tail result (tail_at tokens.now) }
+{
     let Some((end, after)) = end_first(tokens) else {
         return Err(Stop::Unexpected(tokens.len()));
     };
@@ -64,12 +75,14 @@ fn tail(tokens: &[Token]) -> Result<Tail, Stop> {
 }
 
 /// The syntax of a whole text.
-pub fn build(alloc: Global, tokens: &[Token]) -> Result<Text, Stop> {
+fn whole(alloc: Global, tokens: &[Token]) -> Result<Text, Stop>
+    ensures { Tells seen_text result (text_at tokens.now) }
+{
     let (globals, after) = globals(alloc, tokens)?;
     match head(after) {
         Ok((head, after)) => {
             let (first, after) = statement(alloc, LEVELS, after)?;
-            let (more, after) = more_statements(alloc, LEVELS, after)?;
+            let (more, after) = row(alloc, LEVELS, after)?;
             let tail = tail(after)?;
             Ok(Text {
                 globals,
@@ -82,3 +95,15 @@ pub fn build(alloc: Global, tokens: &[Token]) -> Result<Text, Stop> {
         Err(stop) => Err(stop),
     }
 }
+
+/// The syntax of the tokens of a whole text.
+pub fn build(alloc: Global, tokens: &[Token]) -> Result<Text, Stop>
+    ensures { Built tokens.now result }
+{
+    whole(alloc, tokens)
+}
+
+/// The law of the grammar: tokens have at most one syntax.
+pub fn tokens_have_one_syntax()
+    ensures { (ks : List Token) (t u : g.Text) → IsSyntax ks t → IsSyntax ks u → t ≡ u }
+{}

@@ -1,11 +1,12 @@
-ghost use Rattle.std.specs.Prelude.{◌<◌, length};
+ghost use Rattle.std.specs.Prelude.{◌≡◌, ◌<◌, ℕ, List, length};
+ghost use Rattle.tal_reader.specs.Reads.{Reads, IsRead};
+ghost use Rattle.tal_tree.specs.declared.program.Program.{Program as Tree};
 
-use crate::program::program;
-use gd_words::NoMemory;
 use std::alloc::Global;
 use tal_builder::{Stop, build};
+use tal_rules::tree;
 use tal_tokens::{At, Token, TokenList, tokens};
-use tal_tree::{Program, TalFault};
+use tal_tree::{Place, Program, TalFault};
 
 /// Where a token stands.
 fn at_of(token: &Token) -> At {
@@ -58,37 +59,49 @@ fn at_of(token: &Token) -> At {
     }
 }
 
-/// The fault of tokens that aren't read, of which so many are left.
+/// Where the token stands after which so many are left, itself counted; none where they end by a fault before it.
+fn place_of(tokens: &[Token], left: usize) -> Option<Place> {
+    let token = tokens.get(tokens.len().saturating_sub(left))?;
+    Some(at_of(token).place)
+}
+
+/// The fault of tokens that no text has, where so many are left.
 fn fault_of(list: &TokenList, left: usize, deep: bool) -> TalFault {
-    let tokens = list.list.as_slice();
-    match tokens.get(tokens.len().saturating_sub(left)) {
-        Some(token) => {
-            let place = at_of(token).place;
+    match place_of(list.list.as_slice(), left) {
+        Some(place) => {
             if deep {
                 TalFault::Limit(8, place)
             } else {
                 TalFault::Expected(place)
             }
         }
-        None => match list.fault {
-            Some(fault) => fault,
-            None => TalFault::NoMemory,
-        },
+        None => list
+            .fault
+            .unwrap_or(TalFault::Expected(Place { line: 1, column: 1 })),
     }
 }
 
 /// The program of a text.
-pub fn read_program(alloc: Global, bytes: &[u8]) -> Result<Program, TalFault>
-    requires { length bytes.now < 4294967295 }
+pub fn read_program(alloc: Global, text: &[u8]) -> Result<Program, TalFault>
+    requires { length text.now < 4294967295 }
+    ensures { IsRead text.now result }
 {
-    let list = tokens(alloc, bytes)?;
+    let list = tokens(alloc, text)?;
     match build(alloc, list.list.as_slice()) {
-        Ok(syntax) => program(alloc, &syntax),
+        Ok(syntax) => match list.fault {
+            Some(fault) => Err(fault),
+            None => tree(alloc, &syntax),
+        },
         Err(Stop::Unexpected(left)) => Err(fault_of(&list, left, false)),
         Err(Stop::TooDeep(left)) => Err(fault_of(&list, left, true)),
         Err(Stop::NoMemory) => Err(TalFault::NoMemory),
     }
 }
+
+/// The law of reading: a text reads as at most one program.
+pub fn a_text_reads_as_one_program()
+    ensures { (text : List ℕ) (p q : Tree) → Reads text p → Reads text q → p ≡ q }
+{}
 
 #[cfg(test)]
 mod tests {

@@ -9,5 +9,5 @@ pub mod syntax;
 
 pub use syntax::{
     Argument, Arguments, Bounds, Call, Constant, Expr, Factor, Globals, Head, Index, Item, Next,
-    NextArgument, NextItem, Spot, Statement, Tail, Term, Text,
+    NextArgument, NextItem, Sign, Spot, Statement, Tail, Term, Text,
 };

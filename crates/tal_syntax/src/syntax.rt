@@ -61,11 +61,18 @@ pub enum Factor {
     Spot(Spot),
 }
 
-/// `( "+" | "-" ) factor`
+/// `"+" | "-"`
+#[derive(Clone, Copy)]
+pub enum Sign {
+    Plus(At),
+    Minus(At),
+}
+
+/// `sign factor`
 #[derive(Drop)]
-pub enum Term {
-    Plus(At, Factor),
-    Minus(At, Factor),
+pub struct Term {
+    pub sign: Sign,
+    pub factor: Factor,
 }
 
 /// `factor { ( "+" | "-" ) factor }`

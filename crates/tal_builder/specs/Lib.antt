@@ -1,0 +1,4 @@
+pub mod Built
+pub mod First
+pub mod Outcome
+pub mod Parse
