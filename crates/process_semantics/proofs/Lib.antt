@@ -1,2 +1,3 @@
+pub mod ImageExample
 pub mod Overwriting
 pub mod Stacks

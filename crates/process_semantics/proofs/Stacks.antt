@@ -1,9 +1,8 @@
 -- A stack of entries, whose last is the next.
-use Rattle.std.proofs.Common.{◌≡◌, List, [], ◌∷◌, ◌++◌, map, reverse, refl, ap, ◌∙◌, sym, append_assoc}
+use Rattle.std.proofs.Common.{◌≡◌, List, [], ◌∷◌, ◌++◌, map, ap, ◌∙◌, append_assoc}
 use Rattle.std.proofs.lemmas.List.{reverse-append, map-append}
 use Rattle.tal_tree.specs.declared.statement.Statement.{Statement}
 use Rattle.process_semantics.specs.declared.entry.Entry.{Entry as Borrowed}
-use Rattle.process_semantics.specs.declared.entry.Entry.TheVariants as borrowed
 use Rattle.process_semantics.specs.Program.{Entry, Run, runs_of}
 use Rattle.process_semantics.specs.SeenEntries.{entry_of, stack}
 

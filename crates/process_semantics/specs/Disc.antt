@@ -28,6 +28,7 @@ call_at number kind words (Some sector) =
     else if int_eq kind (pos 2) && nat_le 1 (length words) && nat_le (length words) 8 then Write sector (filled words) number
     else Nothing
 
+-- what the words of a request ask of the device, under the number that a write would have
 abbrev pub call_of : ℕ → ℕ → List ℤ → DeviceCall
 call_of sectors number [] = Nothing
 call_of sectors number (kind ∷ []) = Nothing
@@ -43,18 +44,22 @@ reply_of Nothing found = pos 1 ∷ []
 reply_of (Read sector) found = pos 0 ∷ found
 reply_of (Write sector words number) found = pos 0 ∷ []
 
+-- the number of the last write after an act on the device
 abbrev pub last_write_after : ℕ → DeviceCall → ℕ
 last_write_after last (Write sector words number) = number
 last_write_after last _ = last
 
 -- The steps of a disc
 
+-- the step at Take: the request is in hand
 abbrev pub disc_took : DiscState → List ℤ → DiscState
 disc_took s words = record s { label = Mark; request = Some words }
 
+-- the step at Mark
 abbrev pub disc_marked : DiscState → DiscState
 disc_marked s = record s { label = Device }
 
+-- the step at Device: the reply is ready, and a write has used its number
 abbrev pub disc_done : ℕ → DiscState → List ℤ → DiscState
 disc_done sectors s found = record s {
   label = Answer;
@@ -62,8 +67,10 @@ disc_done sectors s found = record s {
   last_write = last_write_after s.last_write (disc_call sectors s);
 }
 
+-- the words that are answered at Answer
 abbrev pub disc_answer : DiscState → List ℤ
 disc_answer s = unwrap_or s.reply []
 
+-- the step at Answer: nothing is in hand
 abbrev pub disc_answered : DiscState → DiscState
 disc_answered s = record s { label = Take; request = None; reply = None }

@@ -1,5 +1,5 @@
 -- The words of an image, by which a process that watches gets the state of one that acts, and the state that such words restore.
-use Rattle.std.specs.Prelude.{ℕ, zero, suc, ◌+◌, ◌-◌, ◌*◌, ◌/◌, ◌%◌, ◌==◌, ℤ, pos, negsuc, Bool, true, false, not, ◌&&◌, ◌||◌, if◌then◌else◌, nat_le, List, [], ◌∷◌, ◌++◌, length, map, reverse, take, drop, slice_get, slice_set, Option, Some, None, is_none}
+use Rattle.std.specs.Prelude.{ℕ, zero, suc, ◌+◌, ◌-◌, ◌*◌, ◌/◌, ◌%◌, ◌==◌, ℤ, pos, negsuc, Bool, true, false, not, ◌&&◌, ◌||◌, if◌then◌else◌, nat_le, List, [], ◌∷◌, ◌++◌, length, reverse, take, drop, slice_get, slice_set, Option, Some, None}
 use Rattle.std.specs.Option.{option_map, option_and_then}
 use Rattle.std.specs.List.{flat_map}
 use Rattle.gd_words.specs.Arithmetic.{wrap}
@@ -13,7 +13,7 @@ use Rattle.tal_tree.specs.declared.statement.What.{What, What-F, out-What, If', 
 use Rattle.process_semantics.specs.declared.point.Point.{Point}
 use Rattle.process_semantics.specs.declared.point.Point.TheVariants.{Take, Answer, Mark, Device}
 use Rattle.process_semantics.specs.declared.disc.DiscState.{DiscState}
-use Rattle.process_semantics.specs.Program.{Entry, Run, Test, Last, Frame, ProgramState, runs_of, width, words_of, first_of, next_of, in_next}
+use Rattle.process_semantics.specs.Program.{Entry, Run, Test, Last, Frame, ProgramState, runs_of, width, words_of, in_next}
 use Rattle.process_semantics.specs.Process.{ProcessState, Runs, Serves, point, after_mark}
 
 -- Numbers as words
@@ -28,6 +28,7 @@ counted words = pos (length words) ∷ words
 
 -- The words of a program's state
 
+-- the number of a FOR's last assignment
 abbrev pub last_of : What-F What Statement → ℕ
 last_of (What-F.For variable from to body last) = last
 last_of _ = 0
@@ -47,6 +48,7 @@ next_number (entry ∷ rest) = number_of entry
 abbrev pub frame_words : Frame → List ℤ
 frame_words frame = pos frame.procedure ∷ pos (next_number frame.rest) ∷ frame.locals
 
+-- an item: its number and its words
 abbrev pub item_words : ProgramState → ℕ → List ℤ
 item_words s item = pos item ∷ words_of s.globals item
 
@@ -57,6 +59,7 @@ program_words items s =
 
 -- The words of a disc's state
 
+-- words that may be lacking, which count as none
 abbrev pub counted_if : Option (List ℤ) → List ℤ
 counted_if None = pos 0 ∷ []
 counted_if (Some words) = counted words
@@ -67,6 +70,7 @@ disc_words s = counted_if s.request ++ long s.last_write ++ counted_if s.reply
 
 -- Images
 
+-- the state that an image is of, at this point
 abbrev pub imaged_at : ProcessState → Point → ProcessState
 imaged_at s Mark = after_mark s
 imaged_at s _ = s
@@ -75,6 +79,7 @@ imaged_at s _ = s
 abbrev pub imaged : ProcessState → ProcessState
 imaged s = imaged_at s (point s)
 
+-- the words of a state, with the items of a list
 abbrev pub state_words : List ℕ → ProcessState → List ℤ
 state_words items (Runs code s) = program_words items s
 state_words items (Serves sectors s) = disc_words s
@@ -83,10 +88,12 @@ state_words items (Serves sectors s) = disc_words s
 abbrev pub image_of : List ℕ → ProcessState → List ℤ
 image_of items s = state_words items (imaged s)
 
+-- the items that a CHECKPOINT names
 abbrev pub listed_items_in : What-F What Statement → List ℕ
 listed_items_in (What-F.Checkpoint items files) = items
 listed_items_in _ = []
 
+-- the files that a CHECKPOINT names
 abbrev pub listed_files_in : What-F What Statement → List ℕ
 listed_files_in (What-F.Checkpoint items files) = files
 listed_files_in _ = []
@@ -96,12 +103,14 @@ abbrev pub listed_items : ProcessState → List ℕ
 listed_items (Runs code s) = in_next [] listed_items_in s.frames
 listed_items (Serves sectors s) = []
 
+-- the files that a process at Mark names
 abbrev pub listed_files : ProcessState → List ℕ
 listed_files (Runs code s) = in_next [] listed_files_in s.frames
 listed_files (Serves sectors s) = []
 
 -- What remains from each number on
 
+-- the statements of a list as entries
 abbrev pub runs_row : {n : _} → Row_of-Statement n → List Entry
 runs_row end_of-Statement = []
 runs_row (more_of-Statement number line what rest) = Run (record { number = number; line = line; what = what }) ∷ runs_row rest
@@ -139,6 +148,7 @@ rest_from body number = if number == 0 then Some [] else rest_among number (rest
 
 -- Restoring. Each part takes its words from the front and leaves the others
 
+-- what words begin with, and the words after it
 abbrev pub Taken : Type 0 → Type 0
 Taken A = Option (A × List ℤ)
 
@@ -151,10 +161,12 @@ count_in _ = None
 abbrev pub words_in : ℕ → List ℤ → Taken (List ℤ)
 words_in n words = if nat_le n (length words) then Some (take n words, drop n words) else None
 
+-- a frame, where what remains and the locals are there
 abbrev pub frame_with : ℕ → Option (List Entry) → Taken (List ℤ) → Taken Frame
 frame_with procedure (Some rest) (Some (locals, left)) = Some (record { procedure = procedure; locals = locals; rest = rest }, left)
 frame_with procedure _ _ = None
 
+-- a frame of this procedure
 abbrev pub frame_of_words : ℕ → Option Procedure → Taken ℕ → Taken Frame
 frame_of_words number (Some procedure) (Some (next, left)) =
     frame_with number (rest_from procedure.body next) (words_in (length procedure.locals) left)
@@ -170,6 +182,7 @@ frames_in program zero words = Some ([], words)
 frames_in program (suc n) words =
     option_and_then (λ (frame, left). option_map (λ (frames, rest). (frame ∷ frames, rest)) (frames_in program n left)) (frame_in program words)
 
+-- the procedure that a statement calls
 abbrev pub called_in : What-F What Statement → Option ℕ
 called_in (What-F.Call procedure arguments) = Some procedure
 called_in (What-F.AssignCall to procedure arguments) = Some procedure
@@ -180,6 +193,7 @@ abbrev pub called_by : List Entry → Option ℕ
 called_by (Run statement ∷ rest) = called_in (out-What statement.what)
 called_by _ = None
 
+-- whether this procedure is the one that was called
 abbrev pub is_called : Option ℕ → ℕ → Bool
 is_called None procedure = false
 is_called (Some called) procedure = called == procedure
@@ -189,10 +203,12 @@ abbrev pub are_called : Option ℕ → List Frame → Bool
 are_called called [] = true
 are_called called (frame ∷ frames) = is_called called frame.procedure && are_called (called_by frame.rest) frames
 
+-- whether a global may be listed: a file has no words
 abbrev pub has_words : Shape → Bool
 has_words (shape.File file) = false
 has_words _ = true
 
+-- whether a list of items names one
 abbrev pub names : ℕ → List ℕ → Bool
 names item [] = false
 names item (named ∷ rest) = (item == named) || names item rest
@@ -216,10 +232,12 @@ abbrev pub whole : {A : Type 0} → Taken A → Option A
 whole (Some (found, [])) = Some found
 whole _ = None
 
+-- whether a list has no items
 abbrev pub is_empty : {A : Type 0} → List A → Bool
 is_empty [] = true
 is_empty (item ∷ items) = false
 
+-- the state of these frames, from MAIN up, and globals
 abbrev pub with_globals : Bool → List Frame → List (List ℤ) → ProgramState
 with_globals in_hand frames globals = record {
   globals = globals;
@@ -248,6 +266,7 @@ abbrev pub half_of : ℤ → ℕ
 half_of (pos n) = n
 half_of (negsuc n) = 65535 - n
 
+-- a number of 32 bits
 abbrev pub long_in : List ℤ → Taken ℕ
 long_in (high ∷ low ∷ words) = Some (half_of high * 65536 + half_of low, words)
 long_in _ = None
@@ -256,6 +275,7 @@ long_in _ = None
 abbrev pub counted_in : List ℤ → Taken (List ℤ)
 counted_in words = option_and_then (λ (n, left). if nat_le n 16 then words_in n left else None) (count_in words)
 
+-- the disc with this request, number and reply: with nothing in hand it is at Take, without a reply at Device, and else at Answer
 abbrev pub disc_with : Bool → List ℤ → ℕ → List ℤ → Option DiscState
 disc_with false [] number [] = Some (record { label = Take; request = None; reply = None; last_write = number })
 disc_with true request number [] = Some (record { label = Device; request = Some request; reply = None; last_write = number })

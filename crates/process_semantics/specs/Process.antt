@@ -20,6 +20,7 @@ abbrev pub start_of : Kind → ProcessState
 start_of (kind.Disc sectors) = Serves sectors disc.disc_start
 start_of (kind.Pair code) = Runs code (program.start code)
 
+-- where a process stands: what its next step is
 abbrev pub point : ProcessState → Point
 point (Runs code s) = program.point_of code s
 point (Serves sectors s) = s.label
@@ -44,6 +45,7 @@ abbrev pub asked_file : ProcessState → ℕ
 asked_file (Runs code s) = program.asked_file s
 asked_file (Serves sectors s) = 0
 
+-- the words that are asked at Ask
 abbrev pub asked_words : ProcessState → List ℤ
 asked_words (Runs code s) = program.asked_words code s
 asked_words (Serves sectors s) = []

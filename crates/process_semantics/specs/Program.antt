@@ -1,18 +1,16 @@
 -- Programs of the TAL dialect: their state and their step. One step is an assignment, one test, entering a procedure, its RETURN or its end, or one
 -- system call.
-use Rattle.std.specs.Prelude.{ℕ, ◌-◌, ℤ, pos, negsuc, ◌+ℤ◌, ◌-ℤ◌, int_le, Bool, true, false, ◌&&◌, if◌then◌else◌, nat_le, min, List, [], ◌∷◌, ◌++◌, length, map, take, drop, replicate, slice_get, slice_set, Option, Some, None}
+use Rattle.std.specs.Prelude.{ℕ, ◌-◌, ℤ, pos, negsuc, ◌+ℤ◌, ◌-ℤ◌, Bool, true, false, ◌&&◌, if◌then◌else◌, nat_le, min, List, [], ◌∷◌, ◌++◌, length, map, take, drop, replicate, slice_get, slice_set, Option, Some, None}
 use Rattle.std.specs.Option.{option_map, option_and_then, unwrap_or}
 use Rattle.gd_words.specs.Arithmetic.{wrap}
 use Rattle.tal_tree.specs.declared.program.Program.{Program}
 use Rattle.tal_tree.specs.declared.program.Procedure.{Procedure}
-use Rattle.tal_tree.specs.declared.program.Item.{Item}
 use Rattle.tal_tree.specs.declared.program.Shape.{Shape}
 use Rattle.tal_tree.specs.declared.program.Shape.TheVariants as shape
 use Rattle.tal_tree.specs.declared.statement.Statement.{Statement}
 use Rattle.tal_tree.specs.declared.statement.What.{What, What-F, out-What}
 use Rattle.tal_tree.specs.declared.expression.Expr.{Expr}
 use Rattle.tal_tree.specs.declared.expression.Rel.TheVariants.{AtMost}
-use Rattle.tal_tree.specs.declared.expression.Spot.{Spot}
 use Rattle.tal_tree.specs.declared.expression.Variable.{Variable}
 use Rattle.tal_tree.specs.declared.expression.Variable.TheVariants.{Local, Simple}
 use Rattle.tal_values.specs.declared.memory.Cell.{Cell}
@@ -48,9 +46,11 @@ pub record Execution : Type 0 where
 
 -- Beginning
 
+-- the statements of a list as entries
 abbrev pub runs_of : List Statement → List Entry
 runs_of statements = map Run statements
 
+-- a number as a count, 0 below 0
 abbrev pub count_up : ℤ → ℕ
 count_up (pos n) = n
 count_up (negsuc n) = 0
@@ -61,6 +61,7 @@ width shape.Simple = 1
 width (shape.Array low high) = count_up ((high -ℤ low) +ℤ pos 1)
 width (shape.File file) = 1
 
+-- so many words, all 0
 abbrev pub zeros : ℕ → List ℤ
 zeros n = replicate n (pos 0)
 
@@ -72,6 +73,7 @@ frame_of number arguments procedure = record {
   rest = runs_of procedure.body;
 }
 
+-- MAIN's frame alone
 abbrev pub first_frames : ℕ → Option Procedure → List Frame
 first_frames number None = []
 first_frames number (Some procedure) = frame_of number [] procedure ∷ []
@@ -88,14 +90,17 @@ start program = record {
 
 -- What a state has
 
+-- the locals of the procedure that runs
 abbrev pub locals_of : List Frame → List ℤ
 locals_of [] = []
 locals_of (frame ∷ callers) = frame.locals
 
+-- what remains of the procedure that runs
 abbrev pub rest_of : List Frame → List Entry
 rest_of [] = []
 rest_of (frame ∷ callers) = frame.rest
 
+-- the first of what remains
 abbrev pub first_of : List Entry → Option Entry
 first_of [] = None
 first_of (entry ∷ rest) = Some entry
@@ -112,6 +117,7 @@ memory_of program s = record { items = program.items; globals = s.globals; local
 abbrev pub words_of : List (List ℤ) → ℕ → List ℤ
 words_of globals item = unwrap_or (slice_get globals item) []
 
+-- a count of words of an array, from its value
 abbrev pub good_count : List ℤ → ℤ → Option ℕ
 good_count words (pos n) = if nat_le n (length words) && nat_le n 16 then Some n else None
 good_count words (negsuc n) = None
@@ -122,14 +128,17 @@ count_of program s buffer count = option_and_then (good_count (words_of s.global
 
 -- The point, which tells what the next step is
 
+-- the point of a call with this count; one that traps is at Inner
 abbrev pub where_good : Point → Option ℕ → Point
 where_good point None = Inner
 where_good point (Some n) = point
 
+-- the point of a call with two counts
 abbrev pub where_both_good : Point → Option ℕ → Option ℕ → Point
 where_both_good point None n = Inner
 where_both_good point (Some m) n = where_good point n
 
+-- the point of a statement that comes next
 abbrev pub point_in : Program → ProgramState → What-F What Statement → Point
 point_in program s (What-F.ReadUpdate buffer most got) = if s.in_hand then Inner else where_good Take (count_of program s buffer most)
 point_in program s (What-F.WriteRead file buffer send room got) =
@@ -138,6 +147,7 @@ point_in program s (What-F.Reply buffer count) = if s.in_hand then where_good An
 point_in program s (What-F.Checkpoint items files) = Mark
 point_in program s _ = Inner
 
+-- the point of the entry that comes next
 abbrev pub point_at : Program → ProgramState → Option Entry → Point
 point_at program s (Some (Run statement)) = point_in program s (out-What statement.what)
 point_at program s _ = Inner
@@ -148,6 +158,7 @@ point_of program s = if s.ended then Ended else point_at program s (next_of s.fr
 
 -- Changes
 
+-- the frames without the next entry
 abbrev pub without_next : List Frame → List Frame
 without_next [] = []
 without_next (frame ∷ callers) = record frame { rest = drop 1 frame.rest } ∷ callers
@@ -156,6 +167,7 @@ without_next (frame ∷ callers) = record frame { rest = drop 1 frame.rest } ∷
 abbrev pub done : ProgramState → ProgramState
 done s = record s { frames = without_next s.frames }
 
+-- the frames with entries that come next
 abbrev pub put_before : List Entry → List Frame → List Frame
 put_before entries [] = []
 put_before entries (frame ∷ callers) = record frame { rest = entries ++ frame.rest } ∷ callers
@@ -176,12 +188,15 @@ left s = record s { frames = drop 1 s.frames }
 abbrev pub ends : ProgramState → ProgramState
 ends s = record s { frames = []; awaits = false; ended = true }
 
+-- the state with a request in hand or none
 abbrev pub with_hand : Bool → ProgramState → ProgramState
 with_hand in_hand s = record s { in_hand = in_hand }
 
+-- the state that awaits a reply or none
 abbrev pub with_waiting : Bool → ProgramState → ProgramState
 with_waiting awaits s = record s { awaits = awaits }
 
+-- the frames with a word in a local of the procedure that runs
 abbrev pub local_set : ℕ → ℤ → List Frame → List Frame
 local_set local word [] = []
 local_set local word (frame ∷ callers) = record frame { locals = slice_set frame.locals local word } ∷ callers
@@ -206,6 +221,7 @@ variable_of program s variable = word_at (memory_of program s) (variable_cell va
 
 -- Inner steps; none is a trap
 
+-- the values of arguments, from left to right; none where one traps
 abbrev pub values_of : Memory → List Expr → Option (List ℤ)
 values_of memory [] = Some []
 values_of memory (e ∷ es) = option_and_then (λ word. option_map (λ words. word ∷ words) (values_of memory es)) (value_of memory e)
@@ -216,10 +232,12 @@ assigned s to None = None
 assigned s None (Some word) = None
 assigned s (Some to) (Some word) = Some (done (with_word to word s))
 
+-- the state after a test: one list of entries comes next where it is true, the other where it is false
 abbrev pub tested : ProgramState → List Entry → List Entry → Option Bool → Option ProgramState
 tested s first second None = None
 tested s first second (Some holds) = Some (before (if holds then first else second) (done s))
 
+-- the state after this procedure was entered, where it is there
 abbrev pub entered_by : ProgramState → ℕ → List ℤ → Option Procedure → Option ProgramState
 entered_by s number arguments None = None
 entered_by s number arguments (Some procedure) = Some (entering number arguments procedure s)
@@ -229,6 +247,7 @@ abbrev pub entered : Program → ProgramState → ℕ → Option (List ℤ) → 
 entered program s number None = None
 entered program s number (Some arguments) = entered_by s number arguments (slice_get program.procedures number)
 
+-- the state after the call in this statement got its word back: only an assignment keeps it
 abbrev pub given_in : Program → ℤ → ProgramState → What-F What Statement → Option ProgramState
 given_in program word s (What-F.AssignCall to procedure arguments) = assigned s (cell_of (memory_of program s) to) (Some word)
 given_in program word s _ = Some (done s)
@@ -238,6 +257,7 @@ abbrev pub given : Program → ℤ → ProgramState → Option Entry → Option 
 given program word s (Some (Run statement)) = given_in program word s (out-What statement.what)
 given program word s _ = Some (done s)
 
+-- the state after the caller got a word back; where there is none, the process ends
 abbrev pub given_to : Program → ℤ → ProgramState → List Frame → Option ProgramState
 given_to program word s [] = Some (ends s)
 given_to program word s (caller ∷ callers) = given program word s (first_of caller.rest)
@@ -247,6 +267,7 @@ abbrev pub returned : Program → ProgramState → Option ℤ → Option Program
 returned program s None = None
 returned program s (Some word) = given_to program word (left s) (drop 1 s.frames)
 
+-- the word that RETURN gives, 0 where it has no expression
 abbrev pub result_of : Memory → Option Expr → Option ℤ
 result_of memory None = Some (pos 0)
 result_of memory (Some e) = value_of memory e
@@ -256,6 +277,7 @@ abbrev pub for_begun : ProgramState → Statement → Variable → Option ℤ �
 for_begun s statement variable None = None
 for_begun s statement variable (Some word) = Some (before (Test statement ∷ []) (done (with_word (variable_cell variable) word s)))
 
+-- the step of a statement
 abbrev pub inner_in : Program → ProgramState → Statement → What-F What Statement → Option ProgramState
 inner_in program s statement (What-F.Assign to value) =
     assigned s (cell_of (memory_of program s) to) (value_of (memory_of program s) value)
@@ -274,6 +296,7 @@ inner_in program s statement _ = None
 abbrev pub goes_round : Option ℤ → Option ℤ → Option Bool
 goes_round variable limit = both (λ i last. Some (holds AtMost i last)) variable limit
 
+-- the step of a FOR's test
 abbrev pub tested_in : Program → ProgramState → Statement → What-F What Statement → Option ProgramState
 tested_in program s statement (What-F.For variable from to body last) =
     tested s (runs_of body ++ Last statement ∷ Test statement ∷ []) [] (goes_round (variable_of program s variable) (value_of (memory_of program s) to))
@@ -284,10 +307,12 @@ abbrev pub counted_up : ProgramState → Cell → Option ℤ → Option ProgramS
 counted_up s variable None = None
 counted_up s variable (Some word) = Some (done (with_word variable (wrap (word +ℤ pos 1)) s))
 
+-- the step of a FOR's last assignment
 abbrev pub counted_in : Program → ProgramState → What-F What Statement → Option ProgramState
 counted_in program s (What-F.For variable from to body last) = counted_up s (variable_cell variable) (variable_of program s variable)
 counted_in program s _ = None
 
+-- the step of the next entry; a procedure's end returns 0
 abbrev pub inner_entry : Program → ProgramState → Option Entry → Option ProgramState
 inner_entry program s None = returned program s (Some (pos 0))
 inner_entry program s (Some (Run statement)) = inner_in program s statement (out-What statement.what)
@@ -310,30 +335,37 @@ received s buffer got words None = s
 received s buffer got words (Some room) =
     done (with_word (variable_cell got) (pos (min room (length words))) (with_words buffer (take room words) s))
 
+-- READUPDATE gets the words of a request, which is in hand from now on
 abbrev pub took_in : Program → ProgramState → List ℤ → What-F What Statement → ProgramState
 took_in program s words (What-F.ReadUpdate buffer most got) = with_hand true (received s buffer got words (count_of program s buffer most))
 took_in program s words _ = s
 
+-- WRITEREAD gets the words of a reply, which is awaited no more
 abbrev pub got_in : Program → ProgramState → List ℤ → What-F What Statement → ProgramState
 got_in program s words (What-F.WriteRead file buffer send room got) = with_waiting false (received s buffer got words (count_of program s buffer room))
 got_in program s words _ = s
 
+-- as many words as a count names
 abbrev pub first_words : List ℤ → Option ℕ → List ℤ
 first_words words None = []
 first_words words (Some n) = take n words
 
+-- the number of the file that WRITEREAD asks
 abbrev pub file_in : What-F What Statement → ℕ
 file_in (What-F.WriteRead file buffer send room got) = file
 file_in _ = 0
 
+-- the words that WRITEREAD asks
 abbrev pub asked_in : Program → ProgramState → What-F What Statement → List ℤ
 asked_in program s (What-F.WriteRead file buffer send room got) = first_words (words_of s.globals buffer) (count_of program s buffer send)
 asked_in program s _ = []
 
+-- the words that REPLY answers
 abbrev pub answer_in : Program → ProgramState → What-F What Statement → List ℤ
 answer_in program s (What-F.Reply buffer count) = first_words (words_of s.globals buffer) (count_of program s buffer count)
 answer_in program s _ = []
 
+-- what a function gives of an entry's statement
 abbrev pub in_entry : {A : Type 0} → A → (What-F What Statement → A) → Option Entry → A
 in_entry none_there f (Some (Run statement)) = f (out-What statement.what)
 in_entry none_there f _ = none_there
@@ -350,6 +382,7 @@ after_took program s words = in_next s (took_in program s words) s.frames
 abbrev pub asked_file : ProgramState → ℕ
 asked_file s = in_next 0 file_in s.frames
 
+-- the words that are asked at Ask
 abbrev pub asked_words : Program → ProgramState → List ℤ
 asked_words program s = in_next [] (asked_in program s) s.frames
 

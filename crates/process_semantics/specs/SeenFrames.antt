@@ -3,6 +3,7 @@ use Rattle.std.specs.Prelude.{List, [], ◌∷◌, reverse, Option, Some, None}
 use Rattle.process_semantics.specs.declared.frame.Frames.{Frames}
 use Rattle.process_semantics.specs.Program.{Frame}
 
+-- the frames, the one that runs first
 abbrev pub frames_of : Option Frames → List Frame
 frames_of None = []
 frames_of (Some frames) = frames.running ∷ reverse frames.callers.items
