@@ -1,7 +1,6 @@
 -- An act that concerns other processes changes nothing that another act reads.
-use Rattle.std.proofs.Common.{◌≡◌, ◌⊎◌, inl, inr, ℕ, zero, suc, List, [], ◌∷◌, Option, Some, None, slice_get, slice_set, refl, ap, sym, ◌∙◌}
-use Rattle.std.specs.Option.{option_map, option_and_then, unwrap_or}
-use Rattle.gd_words.specs.declared.device.DeviceCall.{DeviceCall}
+use Rattle.std.proofs.Common.{◌≡◌, inl, inr, ℕ, zero, suc, List, [], ◌∷◌, Option, Some, None, slice_get, slice_set, refl, ap, sym, ◌∙◌}
+use Rattle.std.specs.Option.{option_and_then, unwrap_or}
 use Rattle.tal_tree.specs.declared.act.Act.{Act}
 use Rattle.tal_tree.specs.declared.act.Act.TheVariants.{Step, Take, Enter, Print}
 use Rattle.tal_tree.specs.declared.site.Site.{Site}
@@ -13,7 +12,7 @@ use Rattle.plain_semantics.specs.declared.slot.Opener.{Opener}
 use Rattle.plain_semantics.specs.declared.slot.Slot.{Slot}
 use Rattle.plain_semantics.specs.declared.slot.Slot.TheVariants.{Empty, Waiting, Taken, Answered}
 use Rattle.plain_semantics.specs.Openers.{opener_of}
-use Rattle.plain_semantics.specs.Machine.{Plain, PlainProcess, Made, with_process, with_slot, slot_put, slot_at, slot_of, own_opener, got_made, answered_by, answer_made, device_made, step_at, step_made, take_slot, take_at, take_made, entered_at, next_request, enter_request, enter_made, print_made, made}
+use Rattle.plain_semantics.specs.Machine.{Plain, PlainProcess, Made, with_process, with_slot, slot_put, slot_of, own_opener, got_made, answered_by, step_at, step_made, take_slot, take_at, take_made, entered_at, next_request, enter_request, enter_made, print_made, made}
 use Rattle.plain_semantics.specs.Concerns.{IsIn, server_in, asked_at, asked_by, concerned, terminals_in, AreApart}
 
 set-other : {A : Type 0} (xs : List A) (i j : ℕ) (x : A) → (j ≡ i → ⊥) → slice_get (slice_set xs i x) j ≡ slice_get xs j

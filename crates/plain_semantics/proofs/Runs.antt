@@ -4,7 +4,7 @@ use Rattle.std.specs.Option.{option_map, option_and_then, unwrap_or}
 use Rattle.tal_tree.specs.declared.act.Act.{Act}
 use Rattle.tal_tree.specs.declared.act.Shown.{Shown}
 use Rattle.tal_tree.specs.declared.site.Site.{Site}
-use Rattle.plain_semantics.specs.Machine.{Plain, Made, quiet, made, made_before, made_all, made_after, IsPossible, shown_by, plain_start}
+use Rattle.plain_semantics.specs.Machine.{Plain, Made, made, made_before, made_all, made_after, IsPossible, shown_by, plain_start}
 
 before-nothing : (m : Option Made) → option_map (made_before []) m ≡ m
 before-nothing None = refl

@@ -11,19 +11,23 @@ use Rattle.plain_semantics.specs.declared.slot.Opener.{Opener}
 use Rattle.plain_semantics.specs.Openers.{opener_of}
 use Rattle.plain_semantics.specs.Machine.{Plain, PlainProcess, own_opener}
 
+-- a number is in a list
 abbrev pub IsIn : ℕ → List ℕ → Type 0
 IsIn n [] = ⊥
 IsIn n (m ∷ rest) = (n ≡ m) ⊎ IsIn n rest
 
+-- an opener's server, if there is an opener
 abbrev pub server_in : Option Opener → List ℕ
 server_in None = []
 server_in (Some opener) = opener.server ∷ []
 
+-- the process that one at Ask or Await asks
 abbrev pub asked_at : Site → ℕ → PlainProcess → Point → List ℕ
 asked_at site number one point.Ask = server_in (own_opener site number one)
 asked_at site number one point.Await = server_in (own_opener site number one)
 asked_at site number one _ = []
 
+-- the process that a process asks where it stands
 abbrev pub asked_by : Site → ℕ → Option PlainProcess → List ℕ
 asked_by site number None = []
 asked_by site number (Some one) = asked_at site number one (process.point one.state)
@@ -35,6 +39,7 @@ concerned site plain (Take number place) = number ∷ []
 concerned site plain (Enter terminal) = server_in (opener_of site (who.Terminal terminal))
 concerned site plain (Print terminal) = server_in (opener_of site (who.Terminal terminal))
 
+-- the terminal that an act is of
 abbrev pub terminals_in : Act → List ℕ
 terminals_in (Enter terminal) = terminal ∷ []
 terminals_in (Print terminal) = terminal ∷ []

@@ -1,5 +1,5 @@
 -- The machine of single unfailing processes: its state, which acts are possible in it, what they change and what they show.
-use Rattle.std.specs.Prelude.{ℕ, ◌+◌, ℤ, pos, ◌≡◌, List, [], ◌∷◌, ◌++◌, map, replicate, slice_get, slice_set, Option, Some, None}
+use Rattle.std.specs.Prelude.{ℕ, ◌+◌, ℤ, ◌≡◌, List, [], ◌∷◌, ◌++◌, map, replicate, slice_get, slice_set, Option, Some, None}
 use Rattle.std.specs.Option.{option_map, option_and_then, unwrap_or, IsSome}
 use Rattle.gd_words.specs.declared.device.DeviceCall.{DeviceCall}
 use Rattle.gd_words.specs.declared.device.DeviceCall.TheVariants as call
@@ -9,7 +9,6 @@ use Rattle.tal_tree.specs.declared.act.Shown.{Shown}
 use Rattle.tal_tree.specs.declared.act.Shown.TheVariants.{Write, Reply}
 use Rattle.tal_tree.specs.declared.site.Site.{Site}
 use Rattle.tal_tree.specs.declared.site.ProcessSpec.{ProcessSpec}
-use Rattle.tal_tree.specs.declared.site.TerminalSpec.{TerminalSpec}
 use Rattle.tal_tree.specs.declared.site.Kind.{Kind}
 use Rattle.tal_tree.specs.declared.site.Kind.TheVariants as kind
 use Rattle.tal_tree.specs.declared.site.Who.TheVariants as who
@@ -34,10 +33,12 @@ pub record Plain : Type 0 where
   pub processes : List PlainProcess
   pub entered : List ℕ
 
+-- a disc's sectors, all zero
 abbrev pub sectors_at_first : Kind → List (List ℤ)
 sectors_at_first (kind.Disc sectors) = replicate sectors (zeros 8)
 sectors_at_first (kind.Pair program) = []
 
+-- a process at its beginning, with an empty slot for each opener
 abbrev pub process_at_first : Site → ℕ → ProcessSpec → PlainProcess
 process_at_first site number spec = record {
   state = process.start_of spec.what;
@@ -46,6 +47,7 @@ process_at_first site number spec = record {
   sectors = sectors_at_first spec.what;
 }
 
+-- processes at their beginning, from a place in the deck on
 abbrev pub processes_at_first : Site → ℕ → List ProcessSpec → List PlainProcess
 processes_at_first site number [] = []
 processes_at_first site number (spec ∷ specs) = process_at_first site number spec ∷ processes_at_first site (number + 1) specs
@@ -56,15 +58,19 @@ plain_start site = record { processes = processes_at_first site 0 site.processes
 
 -- Slots
 
+-- the slot of an opener
 abbrev pub slot_at : Plain → Opener → Option Slot
 slot_at plain opener = option_and_then (λ server. slice_get server.slots opener.place) (slice_get plain.processes opener.server)
 
+-- the slot of an opener, if there is an opener
 abbrev pub slot_of : Plain → Option Opener → Option Slot
 slot_of plain opener = option_and_then (slot_at plain) opener
 
+-- the machine with a process changed
 abbrev pub with_process : ℕ → PlainProcess → Plain → Plain
 with_process number changed plain = record plain { processes = slice_set plain.processes number changed }
 
+-- the machine with a slot of this server changed
 abbrev pub slot_put : Opener → Slot → Plain → Option PlainProcess → Plain
 slot_put opener slot plain None = plain
 slot_put opener slot plain (Some server) = with_process opener.server (record server { slots = slice_set server.slots opener.place slot }) plain
@@ -74,6 +80,7 @@ abbrev pub with_slot : Option Opener → Slot → Plain → Plain
 with_slot None slot plain = plain
 with_slot (Some opener) slot plain = slot_put opener slot plain (slice_get plain.processes opener.server)
 
+-- the machine with the state of a process changed
 abbrev pub with_state : ℕ → PlainProcess → process.ProcessState → Plain → Plain
 with_state number old state plain = with_process number (record old { state = state }) plain
 
@@ -84,6 +91,7 @@ pub record Made : Type 0 where
   pub plain : Plain
   pub shown : List Shown
 
+-- an act that shows nothing
 abbrev pub quiet : Plain → Made
 quiet plain = record { plain = plain; shown = [] }
 
@@ -97,6 +105,7 @@ got_made number one opener plain (Some (Answered words)) =
     Some (quiet (with_slot opener Empty (with_state number one (process.after_got one.state words) plain)))
 got_made number one opener plain _ = None
 
+-- the opener of this process whose request is in hand
 abbrev pub answered_by : ℕ → Option ℕ → Option Opener
 answered_by number hand = option_map (λ place. record { server = number; place = place }) hand
 
@@ -111,10 +120,12 @@ abbrev pub found_by : List (List ℤ) → DeviceCall → List ℤ
 found_by sectors (call.Read sector) = unwrap_or (slice_get sectors sector) (zeros 8)
 found_by sectors _ = zeros 8
 
+-- the sectors after an act on the device
 abbrev pub written_by : List (List ℤ) → DeviceCall → List (List ℤ)
 written_by sectors (call.Write sector words number) = slice_set sectors sector words
 written_by sectors _ = sectors
 
+-- what an act on the device shows: a write
 abbrev pub shown_by_device : ℕ → DeviceCall → List Shown
 shown_by_device number (call.Write sector words written) = Write number sector words ∷ []
 shown_by_device number _ = []
@@ -127,6 +138,7 @@ device_made number one plain asked = record {
   shown = shown_by_device number asked;
 }
 
+-- the step of a process at this point
 abbrev pub step_at : Site → ℕ → PlainProcess → Plain → Point → Option Made
 step_at site number one plain point.Inner = Some (quiet (with_state number one (process.after_inner one.state) plain))
 step_at site number one plain point.Ask =
@@ -144,12 +156,14 @@ abbrev pub step_made : Site → ℕ → Plain → Option PlainProcess → Option
 step_made site number plain None = None
 step_made site number plain (Some one) = step_at site number one plain (process.point one.state)
 
+-- Take from this slot
 abbrev pub take_slot : ℕ → ℕ → PlainProcess → Plain → Option Slot → Option Made
 take_slot number place one plain (Some (Waiting words)) =
     Some (quiet (with_process number
     (record one { state = process.after_took one.state words; hand = Some place; slots = slice_set one.slots place Taken }) plain))
 take_slot number place one plain _ = None
 
+-- Take of a process at this point
 abbrev pub take_at : ℕ → ℕ → PlainProcess → Plain → Point → Option Made
 take_at number place one plain point.Take = take_slot number place one plain (slice_get one.slots place)
 take_at number place one plain _ = None
@@ -159,12 +173,15 @@ abbrev pub take_made : ℕ → ℕ → Plain → Option PlainProcess → Option 
 take_made number place plain None = None
 take_made number place plain (Some one) = take_at number place one plain (process.point one.state)
 
+-- how many requests a terminal has entered
 abbrev pub entered_at : Plain → ℕ → ℕ
 entered_at plain terminal = unwrap_or (slice_get plain.entered terminal) 0
 
+-- the request of a terminal after so many
 abbrev pub next_request : Site → ℕ → ℕ → Option (List ℤ)
 next_request site terminal entered = option_and_then (λ spec. slice_get spec.requests entered) (slice_get site.terminals terminal)
 
+-- Enter of this request
 abbrev pub enter_request : ℕ → Option Opener → Plain → Option (List ℤ) → Option Made
 enter_request terminal opener plain None = None
 enter_request terminal opener plain (Some words) =
@@ -190,6 +207,7 @@ made site plain (Print terminal) = print_made terminal (opener_of site (who.Term
 
 -- Lists of acts
 
+-- an act after others that showed these
 abbrev pub made_before : List Shown → Made → Made
 made_before shown m = record m { shown = shown ++ m.shown }
 
@@ -210,6 +228,7 @@ IsPossible site acts = IsSome (made_all site (plain_start site) acts)
 abbrev pub shown_by : Site → List Act → List Shown
 shown_by site acts = unwrap_or (option_map (λ m. m.shown) (made_all site (plain_start site) acts)) []
 
+-- no act is possible
 abbrev pub IsStill : Site → Plain → Type 0
 IsStill site plain = (act : Act) → made site plain act ≡ None
 
