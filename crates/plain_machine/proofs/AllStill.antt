@@ -13,7 +13,7 @@ use Rattle.plain_semantics.specs.declared.slot.Opener.{Opener}
 use Rattle.plain_semantics.specs.declared.slot.Slot.{Slot}
 use Rattle.plain_semantics.specs.declared.slot.Slot.TheVariants.{Empty, Waiting, Taken, Answered}
 use Rattle.plain_semantics.specs.Openers.{opener_on, opener_of}
-use Rattle.plain_semantics.specs.Machine.{Plain, PlainProcess, Made, made, step_made, step_at, take_made, take_at, take_slot, enter_made, print_made, slot_of, IsStill}
+use Rattle.plain_semantics.specs.Machine.{Plain, PlainProcess, made, step_made, step_at, take_made, take_at, take_slot, enter_made, print_made, slot_of, IsStill}
 use Rattle.plain_machine.specs.Rounds.{enter_of, next_move, print_of, move_of, move_at, waiting_from}
 use Rattle.plain_machine.specs.Stillness.{has_waiting, none_of, is_still}
 use Rattle.plain_machine.proofs.Waiting.{took-first}

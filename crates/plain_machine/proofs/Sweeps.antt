@@ -1,8 +1,8 @@
 -- Sweeps of acts, one step at a time.
-use Rattle.std.proofs.Common.{◌≡◌, ℕ, suc, ◌+◌, ◌-◌, ◌<◌, Bool, true, false, not, ◌&&◌, Option, Some, None, is_some, is_none, refl, ap, sym, ◌∙◌, arith}
+use Rattle.std.proofs.Common.{◌≡◌, ℕ, suc, ◌+◌, ◌-◌, ◌<◌, true, false, not, ◌&&◌, is_some, is_none, ap, ◌∙◌, arith}
 use Rattle.tal_tree.specs.declared.act.Act.{Act}
 use Rattle.tal_tree.specs.declared.site.Site.{Site}
-use Rattle.plain_semantics.specs.Machine.{Plain, Made, made}
+use Rattle.plain_semantics.specs.Machine.{Plain, made}
 use Rattle.plain_machine.specs.Rounds.{Ran, tried, swept, round, rounds_on}
 use Rattle.plain_machine.specs.Stillness.{none_of}
 

@@ -12,6 +12,7 @@ shown_in Impossible = None
 shown_in Quiet = Some []
 shown_in (Shows shown) = Some (shown ∷ [])
 
+-- the machine after an act that was tried
 abbrev pub plain_after : Plain → Option Made → Plain
 plain_after old None = old
 plain_after old (Some m) = m.plain

@@ -7,6 +7,8 @@ use tal_tree::{
     Spot, Statement, Target, TerminalSpec, Variable, What,
 };
 
+mod bank;
+
 const TOTAL: u16 = 0;
 
 const GOT: u16 = 1;
@@ -158,6 +160,71 @@ fn replies(alloc: Global, played: &Played) -> Result<Vec<(u32, Option<i16>)>, Fa
         }
     }
     Ok(all)
+}
+
+/// The words of a request.
+fn request(words: &[i16]) -> Words {
+    let mut request = Words::new();
+    for word in words {
+        let _full = request.push(*word);
+    }
+    request
+}
+
+/// A disc of one sector, and a terminal that writes, reads, and asks what isn't there.
+fn disc_site(alloc: Global) -> Result<Site, Fail> {
+    let name = Name::read(b"$DATA").ok_or("no name")?;
+    let what = Kind::Disc { sectors: 1 };
+    let mut processes = List::new(alloc);
+    processes.push(ProcessSpec {
+        name,
+        primary: 0,
+        backup: 1,
+        what,
+    })?;
+    let name = Name::read(b"$T1").ok_or("no name")?;
+    let mut requests = List::new(alloc);
+    requests.push(request(&[2, 0, 9]))?;
+    requests.push(request(&[1, 0]))?;
+    requests.push(request(&[1, 5]))?;
+    requests.push(request(&[3]))?;
+    requests.push(request(&[]))?;
+    let mut terminals = List::new(alloc);
+    terminals.push(TerminalSpec {
+        name,
+        target: 0,
+        requests,
+    })?;
+    Ok(Site {
+        processors: 2,
+        processes,
+        terminals,
+    })
+}
+
+#[test]
+fn a_disc_writes_reads_and_refuses(rt: HostRuntime) -> Result<(), Fail> {
+    let alloc = rt.alloc();
+    let site = disc_site(alloc)?;
+    let played = play_rounds(alloc, &site, 4_000)?;
+    assert!(rt; played.idle);
+    let mut told = Vec::new(alloc);
+    for shown in played.shown.as_slice() {
+        match shown {
+            Shown::Write { words, .. } => told.push((0, 8, Some(words[0])))?,
+            Shown::Reply { number, words, .. } => told.push((*number, words.len(), words.get(1)))?,
+        }
+    }
+    let want = [
+        (0, 8, Some(9)),
+        (1, 1, None),
+        (2, 9, Some(9)),
+        (3, 1, None),
+        (4, 1, None),
+        (5, 1, None),
+    ];
+    assert_eq!(rt; told.as_slice(), want.as_slice());
+    Ok(())
 }
 
 #[test]

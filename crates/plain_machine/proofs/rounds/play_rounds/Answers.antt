@@ -1,5 +1,4 @@
-use Rattle.std.proofs.Common.{◌≡◌, ◌∙◌, ap, sym}
-use Rattle.plain_machine.specs.Rounds.{run_of}
+use Rattle.std.proofs.Common.{◌∙◌, ap}
 use Rattle.plain_machine.specs.Stillness.{is_still}
 use Rattle.plain_machine.proofs.Told.{run-possible, run-shown, run-idle}
 use Rattle.plain_machine.proofs.rounds.play_rounds.Goals as goal

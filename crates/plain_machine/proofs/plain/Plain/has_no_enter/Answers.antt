@@ -1,4 +1,4 @@
-use Rattle.std.proofs.Common.{◌≡◌, ◌+◌, ◌-◌, ◌<◌, ◌∙◌, ap, sym, length, arith}
+use Rattle.std.proofs.Common.{◌≡◌, ◌<◌, ◌∙◌, ap, sym, length, arith}
 use Rattle.plain_machine.specs.Rounds.{enter_of}
 use Rattle.plain_machine.proofs.Sweeps.{none_of-after}
 use Rattle.plain_machine.proofs.plain.Plain.has_no_enter.Goals as goal

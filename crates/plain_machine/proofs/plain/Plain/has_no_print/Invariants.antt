@@ -1,5 +1,5 @@
 use Rattle.std.proofs.Common.{◌≡◌, ◌-◌, length}
-use Rattle.plain_machine.specs.Rounds.{enter_of, next_move, print_of}
+use Rattle.plain_machine.specs.Rounds.{print_of}
 use Rattle.plain_machine.specs.Stillness.{none_of}
 use Rattle.plain_machine.proofs.plain.Plain.has_no_print.Given as goal
 

@@ -1,5 +1,5 @@
 use Rattle.std.proofs.Common.{◌≡◌, ◌-◌, length}
-use Rattle.plain_machine.specs.Rounds.{swept, enter_of, next_move, print_of}
+use Rattle.plain_machine.specs.Rounds.{swept, next_move}
 use Rattle.plain_machine.proofs.ran.Ran.try_moves.Given as goal
 
 abbrev pub invariant-loop-process : goal.invariant-loop-process

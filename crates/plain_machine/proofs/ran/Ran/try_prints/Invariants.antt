@@ -1,5 +1,5 @@
 use Rattle.std.proofs.Common.{◌≡◌, ◌-◌, length}
-use Rattle.plain_machine.specs.Rounds.{swept, enter_of, next_move, print_of}
+use Rattle.plain_machine.specs.Rounds.{swept, print_of}
 use Rattle.plain_machine.proofs.ran.Ran.try_prints.Given as goal
 
 abbrev pub invariant-loop-terminal : goal.invariant-loop-terminal

@@ -1,4 +1,4 @@
-use Rattle.std.proofs.Common.{◌∙◌, ap, sym, slice_get}
+use Rattle.std.proofs.Common.{◌∙◌, ap, slice_get}
 use Rattle.std.specs.Option.{option_flatten}
 use Rattle.tal_tree.specs.declared.site.Who.TheVariants as who
 use Rattle.plain_semantics.specs.Openers.{opener_of}
