@@ -1,13 +1,13 @@
 -- A part of the grammar is found in its tokens, where no more of them go on to be of it.
-use Rattle.std.proofs.Common.{◌≡◌, ℕ, ◌+◌, ◌≤◌, max, true, false, cond, zero, suc, List, [], ◌∷◌, length, Some, None, refl, ap, ◌∙◌, arith}
-use Rattle.std.specs.Prelude.{Option, ℤ, option_map}
+use Rattle.std.proofs.Common.{◌≡◌, ℕ, ◌≤◌, false, cond, zero, suc, List, ◌∷◌, length, Some, None, refl, ap, ◌∙◌, arith}
+use Rattle.std.specs.Prelude.{option_map}
 use Rattle.std.specs.Option.{option_and_then}
 use Rattle.tal_tokens.specs.declared.token.At.{At}
 use Rattle.tal_tokens.specs.declared.token.Token.{Token}
 use Rattle.tal_tokens.specs.declared.token.Token.TheVariants.{Name, Begin, While, Call, Semicolon, End, Do, Assign, Colon, CloseIndex, Close}
 use Rattle.tal_syntax.specs.Grammar as g
 use Rattle.tal_builder.specs.First.{int_of, semicolon_of, comma_of, open_of, open_index_of, sign_of, is_begun}
-use Rattle.tal_builder.specs.Parse.{Found, rest_by, rest_after, constant_at, bounds_after, bounds_at, item_at, items_at, line_at, line_stands, lines_at, index_after, index_at, spot_at, factor_at, terms_at, expr_at, argument_at, further_at, arguments_after, arguments_at, call_at, assign_at, row_by, statement_by, statement_at, row_at, head_at, tail_at, text_at}
+use Rattle.tal_builder.specs.Parse.{Found, rest_by, rest_after, bounds_after, bounds_at, item_at, line_at, line_stands, index_after, index_at, spot_at, factor_at, terms_at, expr_at, argument_at, arguments_after, arguments_at, statement_by, statement_at, text_at}
 use Rattle.tal_builder.proofs.Steps.{block-found, while-found, line-found, listed-found, assign-found, text-found}
 
 -- tokens grow by those of a part

@@ -1,13 +1,13 @@
 -- What is found is a part of the grammar with the tokens in which it is found, within its room.
-use Rattle.std.proofs.Common.{◌≡◌, ℕ, ◌+◌, ◌≤◌, max, Bool, true, false, cond, zero, suc, List, [], ◌∷◌, length, Some, None, refl, ap, ◌∙◌, arith}
+use Rattle.std.proofs.Common.{◌≡◌, ℕ, ◌≤◌, Bool, true, false, cond, zero, suc, List, [], ◌∷◌, length, Some, None, refl, arith}
 use Rattle.std.specs.Prelude.{Option, ℤ, option_map}
 use Rattle.tal_tokens.specs.declared.token.At.{At}
 use Rattle.tal_tokens.specs.declared.token.Token.{Token}
 use Rattle.tal_tokens.specs.declared.token.Token.TheVariants.{Name, Number, Plus, Receive, Process, Text, While, Call, Int, Proc, Main, Begin, End, Do, Semicolon, Comma, Colon, Assign, Minus, Open, Close, OpenIndex, CloseIndex, Finish}
 use Rattle.tal_syntax.specs.Grammar as g
 use Rattle.tal_builder.specs.First.{int_of, proc_of, main_of, begin_of, end_of, do_of, semicolon_of, comma_of, colon_of, assign_of, minus_of, open_of, close_of, open_index_of, close_index_of, finish_of, name_of, number_of, sign_of, is_begun}
-use Rattle.tal_builder.specs.Parse.{Found, constant_after, constant_at, bounds_after, bounds_at, item_at, items_at, line_at, line_stands, lines_at, index_in, index_after, index_at, spot_at, factor_after, factor_at, terms_at, expr_at, argument_at, further_at, listed_at, listed_in, arguments_after, arguments_at, call_at, assign_at, row_by, block_by, while_by, statement_by, statement_at, row_at, head_at, ended, tail_at, text_at}
-use Rattle.tal_builder.proofs.Told.{Told, Chain, and_then, mapped, chain, told_of}
+use Rattle.tal_builder.specs.Parse.{Found, constant_after, constant_at, bounds_after, bounds_at, item_at, items_at, line_at, line_stands, lines_at, index_in, index_after, index_at, spot_at, factor_after, factor_at, terms_at, expr_at, argument_at, further_at, listed_in, arguments_after, arguments_at, call_at, assign_at, row_by, block_by, while_by, statement_by, statement_at, row_at, head_at, ended, tail_at, text_at}
+use Rattle.tal_builder.proofs.Told.{Told, and_then, mapped, chain}
 
 -- the token with which tokens begin
 int_is : (ks : List Token) → Told (int_of ks) (λ r. Int r.0 ∷ r.1 ≡ ks)

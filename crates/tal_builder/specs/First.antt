@@ -1,5 +1,5 @@
 -- The token with which tokens begin.
-use Rattle.std.specs.Prelude.{ℤ, ℕ, Bool, true, false, List, [], ◌∷◌, Option, Some, None}
+use Rattle.std.specs.Prelude.{ℤ, ℕ, Bool, true, false, List, ◌∷◌, Option, Some, None}
 use Rattle.tal_tokens.specs.declared.token.At.{At}
 use Rattle.tal_tokens.specs.declared.token.Token.{Token}
 use Rattle.tal_tokens.specs.declared.token.Token.TheVariants.{Name, Number, Plus, Int, Proc, Main, Begin, End, While, Do, Call, Semicolon, Comma, Colon, Assign, Minus, Open, Close, OpenIndex, CloseIndex, Finish}

@@ -1,6 +1,6 @@
 -- The parts of the grammar with which tokens begin, with the tokens after them: as far as the tokens go on to be of the part.
 -- Where a part may open levels, `n` of them are left.
-use Rattle.std.specs.Prelude.{ℕ, zero, suc, ℤ, Bool, true, false, List, [], ◌∷◌, length, Option, Some, None, option_map, if◌then◌else◌}
+use Rattle.std.specs.Prelude.{ℕ, zero, suc, ℤ, List, [], ◌∷◌, length, Option, Some, None, option_map, if◌then◌else◌}
 use Rattle.std.specs.Option.{option_and_then}
 use Rattle.tal_tokens.specs.declared.token.At.{At}
 use Rattle.tal_tokens.specs.declared.token.Token.{Token}

@@ -1,4 +1,4 @@
-ghost use Rattle.std.specs.Prelude.{◌≡◌, List};
+ghost use Rattle.std.specs.Prelude.{◌≡◌, ◌<◌, List, length};
 ghost use Rattle.tal_builder.specs.Built.{IsSyntax, Built};
 ghost use Rattle.tal_builder.specs.Outcome.{Tells};
 ghost use Rattle.tal_builder.specs.Parse.{head_at, tail_at, text_at};
@@ -107,3 +107,48 @@ pub fn build(alloc: Global, tokens: &[Token]) -> Result<Text, Stop>
 pub fn tokens_have_one_syntax()
     ensures { (ks : List Token) (t u : g.Text) → IsSyntax ks t → IsSyntax ks u → t ≡ u }
 {}
+
+#[cfg(test)]
+mod tests {
+    use super::*;
+    use std::test::Fail;
+    use tal_tokens::tokens;
+
+    /// Why the text's tokens have no syntax, or none where they have one.
+    fn stop_of(alloc: Global, text: &[u8]) -> Result<Option<Stop>, gd_words::NoMemory>
+        requires { length text.now < 4294967295 }
+    {
+        let list = tokens(alloc, text)?;
+        match build(alloc, list.list.as_slice()) {
+            Ok(_) => Ok(None),
+            Err(stop) => Ok(Some(stop)),
+        }
+    }
+
+    #[test]
+    fn builds_what_the_grammar_has(rt: HostRuntime) -> Result<(), Fail> {
+        let cases: [(&[u8], Option<Stop>); 8] = [
+            (
+                b"INT a, b[-1:%2]; INT c; PROC p MAIN; BEGIN ; a := 1 - b[2] + c; ; WHILE a DO CALL f(a, \"x\") END;",
+                None,
+            ),
+            (b"PROC p MAIN; BEGIN END;", None),
+            (b"PROC p MAIN; BEGIN END", Some(Stop::Unexpected(1))),
+            (b"PROC p; BEGIN END;", Some(Stop::Unexpected(5))),
+            (
+                b"INT a[1]; PROC p MAIN; BEGIN END;",
+                Some(Stop::Unexpected(10)),
+            ),
+            (b"PROC p MAIN; BEGIN a := END;", Some(Stop::Unexpected(3))),
+            (
+                b"PROC p MAIN; BEGIN CALL f() END;",
+                Some(Stop::Unexpected(4)),
+            ),
+            (b"PROC p MAIN; BEGIN END; a", Some(Stop::Unexpected(2))),
+        ];
+        for (text, wanted) in cases {
+            assert_eq!(rt; stop_of(rt.alloc(), text)?, wanted);
+        }
+        Ok(())
+    }
+}

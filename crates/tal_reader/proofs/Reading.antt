@@ -1,11 +1,10 @@
 -- What a text reads as, from what is known of its tokens and their syntax.
 use Rattle.std.proofs.Common.{◌≡◌, ℕ, List, Some, None, Ok, Err, refl, sym, ap, ◌∙◌}
-use Rattle.std.specs.Prelude.{Option, Result}
+use Rattle.std.specs.Prelude.{Result}
 use Rattle.tal_syntax.specs.Grammar as g
 use Rattle.tal_tokens.specs.declared.lexer.TokenList.{TokenList}
 use Rattle.tal_tokens.specs.Lexer.{tokens_of}
 use Rattle.tal_tree.specs.declared.fault.TalFault.{TalFault}
-use Rattle.tal_tree.specs.declared.fault.TalFault.TheVariants as fault
 use Rattle.tal_tree.specs.declared.program.Program.{Program}
 use Rattle.tal_builder.specs.Built.{IsSyntax}
 use Rattle.tal_builder.proofs.Exact.{one_syntax}

@@ -1,5 +1,5 @@
 -- A fault that is handed on.
-use Rattle.std.proofs.Common.{◌≡◌, Some, None, Ok, Err, ◌∙◌}
+use Rattle.std.proofs.Common.{◌≡◌, None, Ok, Err, ◌∙◌}
 use Rattle.std.specs.Prelude.{Option, Result}
 use Rattle.std.specs.Result.{IsErr, IsErrAnd}
 use Rattle.tal_tree.specs.declared.fault.TalFault.{TalFault}

@@ -1,5 +1,5 @@
 -- What a statement stands for from what its parts stand for.
-use Rattle.std.proofs.Common.{◌≡◌, ℕ, ◌+◌, List, Some, None, true, refl}
+use Rattle.std.proofs.Common.{◌≡◌, ◌+◌, List, Some, None, true, refl}
 use Rattle.tal_tokens.specs.declared.token.At.{At}
 use Rattle.tal_syntax.specs.Grammar as g
 use Rattle.tal_tree.specs.declared.program.Item.{Item}

@@ -13,7 +13,7 @@ use Rattle.tal_tree.specs.declared.statement.What.{What}
 use Rattle.tal_tree.specs.declared.statement.What.TheVariants as what
 use Rattle.tal_rules.specs.declared.body.Body.{Body}
 use Rattle.tal_rules.specs.declared.system.System.{System}
-use Rattle.tal_rules.specs.declared.system.System.TheVariants.{CheckMonitor, Checkpoint, Open, ReadUpdate, Reply, Stop, WriteRead}
+use Rattle.tal_rules.specs.declared.system.System.TheVariants.{CheckMonitor, Checkpoint, Open, ReadUpdate, Reply}
 use Rattle.tal_rules.specs.System.{system_of}
 use Rattle.tal_rules.specs.Meaning.{spot_of}
 use Rattle.tal_rules.specs.Value.{expr_of}

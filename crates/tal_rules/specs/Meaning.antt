@@ -1,5 +1,5 @@
 -- What names stand for in a body.
-use Rattle.std.specs.Prelude.{ℕ, ◌==◌, Bool, true, false, List, slice_get, Option, Some, None, option_map, if◌then◌else◌}
+use Rattle.std.specs.Prelude.{ℕ, ◌==◌, Bool, List, slice_get, Option, Some, None, option_map, if◌then◌else◌}
 use Rattle.std.specs.List.{list_any}
 use Rattle.std.specs.Option.{option_and_then}
 use Rattle.tal_syntax.specs.Grammar as g
@@ -7,7 +7,6 @@ use Rattle.tal_tree.specs.declared.program.Item.{Item}
 use Rattle.tal_tree.specs.declared.program.FileUse.{FileUse}
 use Rattle.tal_tree.specs.declared.program.Shape.{Shape}
 use Rattle.tal_tree.specs.declared.program.Shape.TheVariants as shape
-use Rattle.tal_tree.specs.declared.expression.Expr.{Expr}
 use Rattle.tal_tree.specs.declared.expression.Expr.TheVariants as expr
 use Rattle.tal_tree.specs.declared.expression.Spot.{Spot}
 use Rattle.tal_tree.specs.declared.expression.Spot.TheVariants as spot

@@ -1,5 +1,5 @@
 -- The values of expressions and arguments.
-use Rattle.std.specs.Prelude.{ℕ, ℤ, pos, Bool, true, false, List, Option, Some, None, option_map, ◌==◌}
+use Rattle.std.specs.Prelude.{ℕ, Bool, false, List, Option, Some, None, option_map, ◌==◌}
 use Rattle.std.specs.Option.{option_and_then}
 use Rattle.std.specs.Int.{cast_unsigned, w16}
 use Rattle.tal_syntax.specs.Grammar as g

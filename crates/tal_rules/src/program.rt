@@ -127,3 +127,76 @@ pub fn tree(alloc: Global, text: &Text) -> Result<Program, TalFault>
     let declared = declared_by(alloc, text.globals.as_slice())?;
     main_of(alloc, declared.items.as_slice(), text)
 }
+
+#[cfg(test)]
+mod tests {
+    use super::*;
+    use std::test::Fail;
+    use tal_syntax::{Arguments, Call, Head, Tail};
+    use tal_tokens::At;
+
+    fn at(line: u32) -> At {
+        At {
+            place: Place { line, column: 1 },
+            start: 0,
+            end: 0,
+        }
+    }
+
+    /// A text whose procedure calls a procedure of the system without a list, on line 3.
+    fn calling(alloc: Global, name: Ident) -> Text {
+        let call = Call {
+            call: at(3),
+            at: at(3),
+            name,
+            arguments: Arguments::None,
+        };
+        Text {
+            globals: List::new(alloc),
+            head: Head {
+                procedure: at(1),
+                at: at(1),
+                name,
+                main: at(1),
+                semicolon: at(1),
+                begin: at(2),
+            },
+            first: Statement::Call(call),
+            more: List::new(alloc),
+            tail: Tail {
+                end: at(4),
+                semicolon: at(4),
+                finish: at(5),
+            },
+        }
+    }
+
+    #[test]
+    fn judges_a_call(rt: HostRuntime) -> Result<(), Fail> {
+        let monitor = Ident::read(b"CHECKMONITOR").ok_or("a name")?;
+        let stop = Ident::read(b"STOP").ok_or("a name")?;
+        let name = Ident::read(b"P").ok_or("a name")?;
+        let mut text = calling(rt.alloc(), monitor);
+        text.head.name = name;
+        let program = tree(rt.alloc(), &text)?;
+        assert_eq!(rt; program.procedures.len(), 1);
+        assert_eq!(rt; program.items.len(), 0);
+        let place = at(1).place;
+        for (called, fault) in [
+            (stop, TalFault::Prologue(place)),
+            (name, TalFault::Unknown(at(3).place)),
+        ] {
+            let mut text = calling(rt.alloc(), called);
+            text.head.name = name;
+            assert!(rt; is_refused(tree(rt.alloc(), &text), fault));
+        }
+        Ok(())
+    }
+
+    fn is_refused(answer: Result<Program, TalFault>, fault: TalFault) -> bool {
+        match answer {
+            Ok(_) => false,
+            Err(found) => found == fault || found == TalFault::NoMemory,
+        }
+    }
+}

@@ -1,9 +1,9 @@
 -- What the view says of the statements that hold others.
-use Rattle.std.proofs.Common.{◌≡◌, List, [], ◌∷◌, refl, ap, ◌∙◌}
+use Rattle.std.proofs.Common.{◌≡◌, List, [], ◌∷◌, refl, ap}
 use denote.Hole.Carrier.{hidden}
 use Rattle.tal_tokens.specs.declared.token.At.{At}
 use Rattle.tal_syntax.specs.Grammar as g
-use Rattle.tal_syntax.specs.Seen.{seen_statement, seen_boxed, seen_nexts, seen_row, seen_expr}
+use Rattle.tal_syntax.specs.Seen.{seen_statement, seen_nexts, seen_row, seen_expr}
 use Rattle.tal_syntax.specs.declared.syntax.Expr.{Expr}
 use Rattle.tal_syntax.specs.declared.syntax.Next.{Next}
 use Rattle.tal_syntax.specs.declared.syntax.Statement.{Statement}

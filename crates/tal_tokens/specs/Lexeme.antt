@@ -1,12 +1,11 @@
 -- What a text begins with: the longest piece that is a token, or the fault that stands there.
-use Rattle.std.specs.Prelude.{ℕ, ◌+◌, ◌≤◌, ◌-◌, ◌*◌, ◌==◌, ◌&&◌, ◌||◌, not, nat_le, nat_lt, nat_eq, Bool, true, false, ℤ, pos, List, [], ◌∷◌, length, take, drop, slice_index, Option, Some, None, unwrap_or, map, codes, if◌then◌else◌}
+use Rattle.std.specs.Prelude.{ℕ, ◌+◌, ◌≤◌, ◌-◌, ◌*◌, ◌==◌, ◌&&◌, ◌||◌, not, nat_le, nat_eq, Bool, pos, List, [], ◌∷◌, length, take, slice_index, Option, Some, None, unwrap_or, map, codes, if◌then◌else◌}
 use Rattle.std.specs.List.{position}
 use Rattle.std.specs.Option.{option_or}
 use Rattle.std.specs.Char.{is_ascii_digit, to_ascii_lowercase}
 use Rattle.std.specs.Cmp.Lexicographic.{pointwise}
 use Rattle.gd_words.specs.Arithmetic.{wrap}
 use Rattle.gd_words.specs.Spelling.{is_ident_sign, ident_of, name_of}
-use Rattle.tal_tree.specs.declared.fault.TalFault.{TalFault}
 use Rattle.tal_tree.specs.declared.fault.TalFault.TheVariants as fault
 use Rattle.tal_tokens.specs.declared.cursor.Cursor.{Cursor}
 use Rattle.tal_tokens.specs.declared.token.At.{At}

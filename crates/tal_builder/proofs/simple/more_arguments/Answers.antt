@@ -1,4 +1,4 @@
-use Rattle.std.proofs.Common.{◌≡◌, ◌-◌, ◌+◌, suc, length, Some, None, refl, sym, ap, ◌∙◌, arith}
+use Rattle.std.proofs.Common.{◌≡◌, ◌-◌, ◌+◌, suc, length, Some, None, refl, sym, ◌∙◌, arith}
 use Rattle.tal_syntax.specs.Grammar.{no_further, more_further}
 use Rattle.tal_syntax.specs.Seen.{link_further, seen_argument}
 use Rattle.tal_builder.specs.First.{comma_of}

@@ -1,11 +1,11 @@
-use Rattle.std.proofs.Common.{◌≡◌, ◌-◌, ◌+◌, suc, length, Some, None, refl, sym, ap, ◌∙◌, arith, subst}
+use Rattle.std.proofs.Common.{◌≡◌, ◌-◌, ◌+◌, suc, length, Some, refl, sym, ap, ◌∙◌, arith, subst}
 use Rattle.tal_syntax.specs.Grammar as g
 use Rattle.tal_syntax.specs.Grammar.{no_row, more_row}
 use Rattle.tal_syntax.specs.Seen.{link_row, seen_statement, seen_row, seen_expr}
 use Rattle.tal_syntax.proofs.SeenSteps.{seen-block, seen-while}
-use Rattle.tal_builder.specs.First.{semicolon_of, end_of, do_of}
+use Rattle.tal_builder.specs.First.{semicolon_of}
 use Rattle.tal_builder.specs.Outcome.{Tells}
-use Rattle.tal_builder.specs.Parse.{statement_at, row_by, block_by, while_by, expr_at}
+use Rattle.tal_builder.specs.Parse.{statement_at}
 use Rattle.tal_builder.proofs.Turns.{turns}
 use Rattle.tal_builder.proofs.Steps.{block-found, while-found}
 use Rattle.tal_builder.proofs.statement.+statement.Goals as goal

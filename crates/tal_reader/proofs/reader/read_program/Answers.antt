@@ -1,4 +1,3 @@
-use Rattle.std.proofs.Common.{◌≡◌}
 use Rattle.tal_syntax.specs.Seen.{seen_text}
 use Rattle.tal_builder.specs.Built.{IsSyntax}
 use Rattle.tal_reader.proofs.Reading.{judged}

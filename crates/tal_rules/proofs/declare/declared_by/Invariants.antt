@@ -1,6 +1,6 @@
 use Rattle.std.proofs.Common.{◌≡◌, ◌≤◌, length, drop}
-use Rattle.tal_syntax.specs.Seen.{seen_items, seen_lines}
-use Rattle.tal_rules.specs.Declare.{declare_items, declare_lines, declared_by}
+use Rattle.tal_syntax.specs.Seen.{seen_lines}
+use Rattle.tal_rules.specs.Declare.{declare_lines, declared_by}
 use Rattle.tal_rules.proofs.declare.declared_by.Given as goal
 
 -- the items that are left are declared after those so far

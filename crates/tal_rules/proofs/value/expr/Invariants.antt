@@ -1,6 +1,6 @@
 use Rattle.std.proofs.Common.{◌≡◌, drop}
-use Rattle.tal_syntax.specs.Seen.{seen_terms, seen_expr}
-use Rattle.tal_rules.specs.Value.{terms_of, expr_of}
+use Rattle.tal_syntax.specs.Seen.{seen_terms}
+use Rattle.tal_rules.specs.Value.{terms_of}
 use Rattle.tal_rules.proofs.value.expr.Given as goal
 
 -- the terms that are left go on from the value so far

@@ -1,4 +1,4 @@
-use Rattle.std.proofs.Common.{◌≡◌, ◌≤◌, length, sym, arith}
+use Rattle.std.proofs.Common.{◌≤◌, length, sym}
 use Rattle.tal_syntax.specs.Seen.{seen_factor}
 use Rattle.tal_rules.proofs.Counts.{chain-one}
 use Rattle.tal_rules.proofs.value.is_number_one.Goals as goal

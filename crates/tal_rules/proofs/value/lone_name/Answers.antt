@@ -1,4 +1,4 @@
-use Rattle.std.proofs.Common.{◌≡◌, ◌≤◌, length, sym, arith}
+use Rattle.std.proofs.Common.{◌≤◌, length, sym}
 use Rattle.tal_syntax.specs.Seen.{seen_factor}
 use Rattle.tal_rules.proofs.Counts.{chain-lone}
 use Rattle.tal_rules.proofs.value.lone_name.Goals as goal

@@ -1,10 +1,8 @@
 use Rattle.std.proofs.lemmas.Bool.Decides.{nat_tests}
-use Rattle.std.proofs.Common.{◌≡◌, ◌<◌, ◌≤◌, ◌+◌, ◌++◌, ◌∷◌, [], ℕ, length, take, drop, refl, sym, ◌∙◌, arith}
+use Rattle.std.proofs.Common.{◌≡◌, ◌<◌, ◌≤◌, ◌++◌, ◌∷◌, [], length, sym, ◌∙◌, arith}
 use Rattle.tal_tokens.specs.declared.begun.Begun.TheVariants.{Gap, Whole}
-use Rattle.tal_tokens.specs.Cursor.{passed}
 use Rattle.tal_tokens.specs.Lexeme.{begun_of}
-use Rattle.tal_tokens.specs.Lexer.{lexed, tokens_of}
-use Rattle.tal_tokens.proofs.Lexed.{onto, after_gap, after_token}
+use Rattle.tal_tokens.proofs.Lexed.{after_gap, after_token}
 use Rattle.tal_tokens.proofs.lexer.tokens.Goals as goal
 use Rattle.tal_tokens.proofs.lexer.tokens.Goals.{in-Gap, in-Whole+in_ok-push-in-Whole}
 

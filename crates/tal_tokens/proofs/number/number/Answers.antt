@@ -1,4 +1,4 @@
-use Rattle.std.proofs.Common.{arith, ◌≡◌, ◌<◌, ◌≤◌, ◌+◌, ◌-◌, ◌*◌, ℕ, get_or, ap, sym}
+use Rattle.std.proofs.Common.{arith, ◌≡◌, ◌<◌, ◌+◌, ◌-◌, ◌*◌, get_or}
 use Rattle.tal_tokens.proofs.Values.{exceeded}
 use Rattle.tal_tokens.proofs.number.number.Goals as goal
 
