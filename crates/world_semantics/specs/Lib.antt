@@ -1,0 +1,9 @@
+pub mod Core
+pub mod Follows
+pub mod Kept
+pub mod Messages
+pub mod Own
+pub mod Passes
+pub mod Receive
+pub mod Rules
+pub mod World
