@@ -1,7 +1,7 @@
 -- The kept acts: how the act that a copy does enters them. A copy that does anew what its process did already adds nothing. A take, and the acts after it, are
 -- held back until the next checkpoint is applied or passed, since they are lost where the copy is lost before.
-use Rattle.std.specs.Prelude.{◌≡◌, ◌≤◌, ◌<◌, ℕ, ◌+◌, ◌==◌, Bool, true, false, List, [], ◌∷◌, ◌++◌, reverse}
-use Rattle.std.specs.List.{count_by, flat_map}
+use Rattle.std.specs.Prelude.{if◌then◌else◌, ◌≡◌, ◌≤◌, ◌<◌, ℕ, ◌+◌, ◌==◌, Bool, true, false, List, [], ◌∷◌, ◌++◌, reverse}
+use Rattle.std.specs.List.{flat_map}
 use Rattle.tal_tree.specs.declared.act.Act.{Act}
 use Rattle.tal_tree.specs.declared.act.Act.TheVariants.{Step, Take, Enter, Print}
 use Rattle.world_semantics.specs.World.{Copy, Pair, World}
@@ -15,7 +15,8 @@ is_own number (Print terminal) = false
 
 -- how many acts of a list are a process's own. Base, position and the kept length of a process count these in the kept acts
 abbrev pub own_acts : ℕ → List Act → ℕ
-own_acts number acts = count_by (is_own number) acts
+own_acts number [] = 0
+own_acts number (act ∷ acts) = (if is_own number act then 1 else 0) + own_acts number acts
 
 abbrev pub is_take : Act → Bool
 is_take (Take process place) = true

@@ -1,6 +1,7 @@
 pub mod Core
 pub mod Follows
 pub mod Kept
+pub mod Laws
 pub mod Messages
 pub mod Own
 pub mod Passes

@@ -57,27 +57,27 @@ found_on sectors call = found_by (map (λ stored. stored.words) sectors) call
 -- answering sends the reply with the number last taken; a call of the device writes and shows the write unless its number stands on the sector already; and a
 -- reply is got that was sent and is the one that is awaited, the last that was asked on that file
 pub data Causes (site : Site) (number : ℕ) (node : ℕ) (core : Core) (before : Around) : Cause → Deed → Act → List Message → Around → Type 0 where
-  inner : Causes site number node core before (Running number) Went (act.Step number) [] before
-  take : {found : Chosen} → chosen core.receive before.waiting ≡ Some found
+  by_inner : Causes site number node core before (Running number) Went (act.Step number) [] before
+  by_take : {found : Chosen} → chosen core.receive before.waiting ≡ Some found
       → Causes site number node core before (Running number) (Took found.request.opener found.request.words) (act.Take number found.request.opener) []
       (record before { waiting = found.rest })
-  ask : {file : ℕ} {words : List ℤ}
+  by_ask : {file : ℕ} {words : List ℤ}
       → Causes site number node core before (Running number) (Asked file words) (act.Step number) (map Asking (asked_on site number core file words))
       (record before { requests = asked_on site number core file words ++ before.requests })
-  answer : {place : ℕ} {words : List ℤ} {block : OpenerBlock} → slice_get core.receive.openers place ≡ Some block
+  by_answer : {place : ℕ} {words : List ℤ} {block : OpenerBlock} → slice_get core.receive.openers place ≡ Some block
       → Causes site number node core before (Running number) (Answered place words) (act.Step number)
       (Replying (record { process = number; opener = place; number = block.taken; words = words }) ∷ [])
       (record before { replies = record { process = number; opener = place; number = block.taken; words = words } ∷ before.replies })
-  device : {call : DeviceCall} → is_new_write before.sectors call ≡ false
+  by_device : {call : DeviceCall} → is_new_write before.sectors call ≡ false
       → Causes site number node core before (Running number) (Acted call (found_on before.sectors call)) (act.Step number) [] before
-  device_writes : {sector : ℕ} {words : List ℤ} {write : ℕ} → is_new_write before.sectors (Write sector words write) ≡ true
+  by_write : {sector : ℕ} {words : List ℤ} {write : ℕ} → is_new_write before.sectors (Write sector words write) ≡ true
       → Causes site number node core before (Running number) (Acted (Write sector words write) (found_on before.sectors (Write sector words write)))
       (act.Step number) []
       (record before {
         sectors = slice_set before.sectors sector (record { words = words; number = write });
         shown = shown.Write number sector words ∷ before.shown;
       })
-  reply : {file : ℕ} {words : List ℤ} {reply : Reply} → IsAmong reply before.replies
+  by_reply : {file : ℕ} {words : List ℤ} {reply : Reply} → IsAmong reply before.replies
       → opener_of site (who.File number file) ≡ Some (record { server = reply.process; place = reply.opener })
       → reply.number + 1 ≡ next_on core file → words ≡ reply.words
       → Causes site number node core before (Handing node (Replying reply)) (Got file words) (act.Step number) [] before

@@ -45,27 +45,27 @@ after_applying number k message applied kept pair =
 -- other copy's processor; a watching copy applies a sent checkpoint whose era is its own and whose number is the next; a copy that acts is told that the
 -- checkpoint which it has sent was taken; and it passes its mark, which it did already, or which is kept now with its held acts before it
 pub data Passes (number : ℕ) (marks : List Mark) (kept : List Act) (pair : Pair) : Cause → List Sending → Pair → List Act → Type 0 where
-  send : (k : Which) → (copy_of k pair).role ≡ Acting → process.point (copy_of k pair).core.state ≡ point.Mark → (copy_of k pair).sent ≡ false
+  by_send : (k : Which) → (copy_of k pair).role ≡ Acting → process.point (copy_of k pair).core.state ≡ point.Mark → (copy_of k pair).sent ≡ false
       → has_marked marks (copy_of k pair).processor (copy_of (other_of k) pair).processor ≡ false
       → Passes number marks kept pair (Running number)
       (sent_at (copy_of k pair).processor (Checkpointing (checkpoint_of number (copy_of k pair)) ∷ []))
       (with_copy k (after_sending (copy_of k pair)) (record pair { checkpoints = checkpoint_of number (copy_of k pair) ∷ pair.checkpoints })) kept
-  pass_again : (k : Which) → (copy_of k pair).role ≡ Acting → process.point (copy_of k pair).core.state ≡ point.Mark → may_pass marks k pair ≡ true
+  by_pass_again : (k : Which) → (copy_of k pair).role ≡ Acting → process.point (copy_of k pair).core.state ≡ point.Mark → may_pass marks k pair ≡ true
       → (copy_of k pair).position < own_acts number kept
       → Passes number marks kept pair (Running number) []
       (with_copy k (record (after_mark (copy_of k pair)) { position = (copy_of k pair).position + 1 }) pair) kept
-  pass : (k : Which) → (copy_of k pair).role ≡ Acting → process.point (copy_of k pair).core.state ≡ point.Mark → may_pass marks k pair ≡ true
+  by_pass : (k : Which) → (copy_of k pair).role ≡ Acting → process.point (copy_of k pair).core.state ≡ point.Mark → may_pass marks k pair ≡ true
       → own_acts number kept ≤ (copy_of k pair).position
       → Passes number marks kept pair (Running number) []
       (with_copy k (record (after_mark (copy_of k pair)) { position = own_acts number (kept_at_mark number (copy_of k pair) kept); held = [] }) pair)
       (kept_at_mark number (copy_of k pair) kept)
-  apply : (k : Which) (message : ImageMessage) (applied : Core) → (copy_of k pair).role ≡ Watching → IsAmong message pair.checkpoints
+  by_apply : (k : Which) (message : ImageMessage) (applied : Core) → (copy_of k pair).role ≡ Watching → IsAmong message pair.checkpoints
       → message.era ≡ (copy_of k pair).era → message.number ≡ (copy_of k pair).number + 1 → put_in (copy_of k pair).core message.image ≡ Some applied
       → Passes number marks kept pair (Handing (copy_of k pair).processor (Checkpointing message))
       (sent_at (copy_of k pair).processor (Taking (taken_of message) ∷ []))
       (after_applying number k message applied kept pair)
       (kept_at_mark number (copy_of (other_of k) pair) kept)
-  acknowledge : (k : Which) (taken : TakenMessage) → (copy_of k pair).role ≡ Acting → (copy_of k pair).sent ≡ true → IsAmong taken pair.takens
+  by_acknowledge : (k : Which) (taken : TakenMessage) → (copy_of k pair).role ≡ Acting → (copy_of k pair).sent ≡ true → IsAmong taken pair.takens
       → taken.era ≡ (copy_of k pair).era → taken.number ≡ (copy_of k pair).number
       → Passes number marks kept pair (Handing (copy_of k pair).processor (Taking taken)) []
       (with_copy k (record (copy_of k pair) { acknowledged = true }) pair) kept

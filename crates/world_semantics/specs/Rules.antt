@@ -1,7 +1,7 @@
 -- The rules of the world: what may change in it, where, and what is sent or sent again. Each rule is one constructor: of `Causes` where a copy does an act of
--- its own (inner, take, ask, answer, device, reply), of `Passes` where a checkpoint goes from copy to copy (send, pass, apply, acknowledge), and else of
--- `Change` (comes, comes_early, enter, print, stop, and mark with the takeovers).
-use Rattle.std.specs.Prelude.{◌≡◌, ℕ, ◌+◌, ◌==◌, ◌&&◌, ℤ, Bool, true, false, if◌then◌else◌, List, [], ◌∷◌, map, slice_get, slice_set, Some}
+-- its own (inner, take, ask, answer, device, write, reply), of `Passes` where a checkpoint goes from copy to copy (send, pass, apply, acknowledge), and else
+-- of `Change` (request, early request, enter, print, stop, and mark with the takeovers).
+use Rattle.std.specs.Prelude.{◌≡◌, ℕ, ◌+◌, ◌==◌, ◌&&◌, ℤ, Bool, true, false, if◌then◌else◌, List, [], ◌∷◌, map, slice_get, slice_set, Some, Option, None}
 use Rattle.std.specs.List.{flat_map}
 use Rattle.gd_words.specs.declared.message.Request.{Request}
 use Rattle.gd_words.specs.declared.message.Reply.{Reply}
@@ -26,7 +26,7 @@ use Rattle.world_semantics.specs.Passes.{Passes}
 -- Stops
 
 abbrev pub stopped_copy : ℕ → Copy → Copy
-stopped_copy processor copy = if copy.processor == processor then record copy { role = Gone } else copy
+stopped_copy processor copy = record copy { role = if copy.processor == processor then Gone else copy.role }
 
 -- a process after a processor stopped: its copy there is gone, and all else of that copy stays as it was
 abbrev pub stopped_pair : ℕ → Pair → Pair
@@ -60,23 +60,30 @@ abbrev pub after_takeover : Which → Pair → Pair
 after_takeover k pair =
     with_copy k (taken_over pair.base (copy_of k pair)) (with_copy (other_of k) (record (copy_of (other_of k) pair) { held = [] }) pair)
 
+-- which copy of a process takes over when a node marks a processor
+abbrev pub taker : ℕ → ℕ → Pair → Option Which
+taker node processor pair =
+    if takes_over node processor First pair then Some First else if takes_over node processor Second pair then Some Second else None
+
+abbrev pub after_marking : Option Which → Pair → Pair
+after_marking None pair = pair
+after_marking (Some k) pair = after_takeover k pair
+
 -- a process after a node marked a processor
 abbrev pub marked_pair : ℕ → ℕ → Pair → Pair
-marked_pair node processor pair =
-    if takes_over node processor First pair then after_takeover First pair
-    else if takes_over node processor Second pair then after_takeover Second pair
-    else pair
+marked_pair node processor pair = after_marking (taker node processor pair) pair
 
 -- the replies that a copy sends again when it takes over: those kept to its waiting requests
 abbrev pub told_again : Copy → List Sending
 told_again copy = sent_at copy.processor (map Replying (all_repeated copy.core.receive copy.waiting))
 
+abbrev pub told_by : Option Which → Pair → List Sending
+told_by None pair = []
+told_by (Some k) pair = told_again (copy_of k pair)
+
 -- what is sent again when a node marks a processor
 abbrev pub told_at_mark : ℕ → ℕ → Pair → List Sending
-told_at_mark node processor pair =
-    if takes_over node processor First pair then told_again pair.first
-    else if takes_over node processor Second pair then told_again pair.second
-    else []
+told_at_mark node processor pair = told_by (taker node processor pair) pair
 
 -- Changes
 
@@ -101,26 +108,26 @@ entered_request opener terminal words =
 -- awaits, to the last request that it entered, is printed. A processor that hasn't stopped stops. A node that runs marks a processor that has stopped, if it
 -- hasn't marked it, and each copy there that watches one in that processor takes over, in the order of the deck
 pub data Change (site : Site) (w : World) : Cause → List Sending → World → Type 0 where
-  own : {cause : Cause} {deed : Deed} {done : Act} {messages : List Message} {after : Around} {core : Core} {entered : Copy} {kept : List Act}
+  by_own : {cause : Cause} {deed : Deed} {done : Act} {messages : List Message} {after : Around} {core : Core} {entered : Copy} {kept : List Act}
       → (number : ℕ) (k : Which) (pair : Pair) → slice_get w.processes number ≡ Some pair → (copy_of k pair).role ≡ Acting
       → Causes site number (copy_of k pair).processor (copy_of k pair).core (around (copy_of k pair) pair w) cause deed done messages after
       → Advances (openers_of site number) (copy_of k pair).core deed core
       → Enters number done w.kept (copy_of k pair) entered kept
       → Change site w cause (sent_at (copy_of k pair).processor messages) (after_own number k pair core entered after kept w)
-  passes : {cause : Cause} {sendings : List Sending} {next : Pair} {kept : List Act} → (number : ℕ) (pair : Pair) → slice_get w.processes number ≡ Some pair
+  by_checkpoint : {cause : Cause} {sendings : List Sending} {next : Pair} {kept : List Act} → (number : ℕ) (pair : Pair) → slice_get w.processes number ≡ Some pair
       → Passes number w.marks w.kept pair cause sendings next kept
       → Change site w cause sendings (record (with_pair number next w) { kept = kept })
-  comes : (request : Request) (k : Which) (pair : Pair) → IsAmong request w.requests → slice_get w.processes request.process ≡ Some pair
+  by_request : (request : Request) (k : Which) (pair : Pair) → IsAmong request w.requests → slice_get w.processes request.process ≡ Some pair
       → (copy_of k pair).role ≡ Acting
       → Change site w (Handing (copy_of k pair).processor (Asking request))
       (sent_at (copy_of k pair).processor (map Replying (repeated (copy_of k pair).core.receive request)))
       (with_pair request.process
       (with_copy k (record (copy_of k pair) { waiting = came (copy_of k pair).core.receive (copy_of k pair).waiting request }) pair) w)
-  comes_early : (request : Request) (k : Which) (pair : Pair) → IsAmong request w.requests → slice_get w.processes request.process ≡ Some pair
+  by_early_request : (request : Request) (k : Which) (pair : Pair) → IsAmong request w.requests → slice_get w.processes request.process ≡ Some pair
       → (copy_of k pair).role ≡ Watching
       → Change site w (Handing (copy_of k pair).processor (Asking request)) []
       (with_pair request.process (with_copy k (record (copy_of k pair) { waiting = waits (copy_of k pair).waiting request }) pair) w)
-  enter : {words : List ℤ} → (number : ℕ) (terminal : Terminal) (opener : Opener) → slice_get w.terminals number ≡ Some terminal
+  by_enter : {words : List ℤ} → (number : ℕ) (terminal : Terminal) (opener : Opener) → slice_get w.terminals number ≡ Some terminal
       → terminal.entered ≡ terminal.printed → next_request site number terminal.entered ≡ Some words
       → opener_of site (who.Terminal number) ≡ Some opener
       → Change site w (Entering number) (sent_at terminal_node (Asking (entered_request opener terminal words) ∷ []))
@@ -129,7 +136,7 @@ pub data Change (site : Site) (w : World) : Cause → List Sending → World →
         terminals = slice_set w.terminals number (record terminal { entered = terminal.entered + 1 });
         kept = act.Enter number ∷ w.kept;
       })
-  print : (number : ℕ) (terminal : Terminal) (reply : Reply) → slice_get w.terminals number ≡ Some terminal
+  by_print : (number : ℕ) (terminal : Terminal) (reply : Reply) → slice_get w.terminals number ≡ Some terminal
       → terminal.entered ≡ terminal.printed + 1 → IsAmong reply w.replies
       → opener_of site (who.Terminal number) ≡ Some (record { server = reply.process; place = reply.opener }) → reply.number ≡ terminal.entered
       → Change site w (Handing terminal_node (Replying reply)) []
@@ -138,10 +145,10 @@ pub data Change (site : Site) (w : World) : Cause → List Sending → World →
         shown = shown.Reply number reply.number reply.words ∷ w.shown;
         kept = act.Print number ∷ w.kept;
       })
-  stop : (processor : ℕ) → slice_get w.stopped processor ≡ Some false
+  by_stop : (processor : ℕ) → slice_get w.stopped processor ≡ Some false
       → Change site w (Stopping processor) []
       (record w { stopped = slice_set w.stopped processor true; processes = map (stopped_pair processor) w.processes })
-  mark : (node processor : ℕ) → slice_get w.stopped processor ≡ Some true → is_running w.stopped node ≡ true → has_marked w.marks node processor ≡ false
+  by_mark : (node processor : ℕ) → slice_get w.stopped processor ≡ Some true → is_running w.stopped node ≡ true → has_marked w.marks node processor ≡ false
       → Change site w (Marking node processor) (flat_map (told_at_mark node processor) w.processes)
       (record w {
         marks = record { node = node; down = processor } ∷ w.marks;

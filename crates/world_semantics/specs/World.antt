@@ -1,6 +1,6 @@
 -- The world of copies: all that it has. Lists of what happened (acts, what is shown, messages, marks) have the newest first, so what is added stands before
 -- what was there; processes, terminals, sectors and waiting requests stand in their order.
-use Rattle.std.specs.Prelude.{ℕ, ◌+◌, ◌==◌, ◌&&◌, ℤ, Bool, true, false, ◌||◌, List, [], ◌∷◌, map, replicate, slice_get, slice_set, Option, Some}
+use Rattle.std.specs.Prelude.{ℕ, ◌+◌, ◌==◌, ◌&&◌, ℤ, Bool, false, not, ◌||◌, List, [], ◌∷◌, map, replicate, slice_get, slice_set, Option, Some, None}
 use Rattle.std.specs.List.{list_any}
 use Rattle.gd_words.specs.declared.message.Request.{Request}
 use Rattle.gd_words.specs.declared.message.Reply.{Reply}
@@ -123,13 +123,13 @@ boot site = record {
 abbrev pub terminal_node : ℕ
 terminal_node = 16
 
-abbrev pub is_false : Option Bool → Bool
-is_false (Some false) = true
-is_false _ = false
+abbrev pub runs_by : ℕ → Option Bool → Bool
+runs_by node (Some stopped) = not stopped
+runs_by node None = node == terminal_node
 
--- whether a node runs: the node of the terminals, or a processor that hasn't stopped
+-- whether a node runs: a processor that hasn't stopped, or the node of the terminals
 abbrev pub is_running : List Bool → ℕ → Bool
-is_running stopped node = (node == terminal_node) || is_false (slice_get stopped node)
+is_running stopped node = runs_by node (slice_get stopped node)
 
 -- whether a node has marked a processor
 abbrev pub has_marked : List Mark → ℕ → ℕ → Bool

@@ -6,10 +6,15 @@
 //! of this crate's public functions over whole runs.
 #![tactic(auto)]
 
+pub mod laws;
 pub mod message;
 pub mod receive;
 pub mod role;
 
+pub use laws::{
+    copies_go_with_their_processor, marked_have_stopped, marks_name_one_processor, messages_stay,
+    numbers_never_fall, one_copy_acts, positions_are_kept, shown_and_kept_stay, stops_stay,
+};
 pub use message::{FileNumber, Image, ImageMessage, TakenMessage};
 pub use receive::{OpenerBlock, ReceiveBlock, Standing};
 pub use role::Role;

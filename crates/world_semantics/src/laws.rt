@@ -1,0 +1,69 @@
+ghost use Rattle.std.specs.Prelude.{◌≡◌, ◌≤◌, ◌↔◌, ℕ, List, slice_get, Some, true};
+ghost use Rattle.tal_tree.specs.declared.site.Site.{Site};
+ghost use Rattle.schedule.specs.declared.event.Event.{Event};
+ghost use Rattle.world_semantics.specs.declared.role.Role.TheVariants.{Acting, Gone};
+ghost use Rattle.world_semantics.specs.World.{Pair, Mark, Terminal, World, Which, copy_of, IsAmong};
+ghost use Rattle.world_semantics.specs.Kept.{own_acts};
+ghost use Rattle.world_semantics.specs.Follows.{Leads, IsRun};
+ghost use Rattle.world_semantics.specs.Laws.{IsLater, IsLaterTerminal, HasGrown};
+
+/// In a run only processors that have stopped are marked.
+pub fn marked_have_stopped()
+    ensures { (site : Site) (events : List Event) (w : World) (mark : Mark) → IsRun site events w → IsAmong mark w.marks → slice_get w.stopped mark.down ≡ Some true }
+{}
+
+/// Where at most one processor has stopped, all marks of a run name the same one.
+pub fn marks_name_one_processor()
+    ensures { (site : Site) (events : List Event) (w : World) (one other : Mark) → IsRun site events w
+        → ((x y : ℕ) → slice_get w.stopped x ≡ Some true → slice_get w.stopped y ≡ Some true → x ≡ y)
+        → IsAmong one w.marks → IsAmong other w.marks → one.down ≡ other.down }
+{}
+
+/// A processor that has stopped stays so.
+pub fn stops_stay()
+    ensures { (site : Site) (events : List Event) (w end : World) (processor : ℕ) → Leads site w events end → slice_get w.stopped processor ≡ Some true → slice_get end.stopped processor ≡ Some true }
+{}
+
+/// In a run a copy is gone exactly where its processor has stopped.
+pub fn copies_go_with_their_processor()
+    ensures { (site : Site) (events : List Event) (w : World) (number : ℕ) (pair : Pair) (k : Which) → IsRun site events w → slice_get w.processes number ≡ Some pair
+        → ((copy_of k pair).role ≡ Gone ↔ slice_get w.stopped (copy_of k pair).processor ≡ Some true) }
+{}
+
+/// In a run at most one copy of a process acts.
+pub fn one_copy_acts()
+    ensures { (site : Site) (events : List Event) (w : World) (number : ℕ) (pair : Pair) → IsRun site events w → slice_get w.processes number ≡ Some pair
+        → pair.first.role ≡ Acting → pair.second.role ≡ Acting → ⊥ }
+{}
+
+/// In a run no position of a copy, and no base, is past the kept acts of its process.
+pub fn positions_are_kept()
+    ensures position { (site : Site) (events : List Event) (w : World) (number : ℕ) (pair : Pair) (k : Which) → IsRun site events w
+        → slice_get w.processes number ≡ Some pair → (copy_of k pair).position ≤ own_acts number w.kept }
+    ensures base { (site : Site) (events : List Event) (w : World) (number : ℕ) (pair : Pair) → IsRun site events w
+        → slice_get w.processes number ≡ Some pair → pair.base ≤ own_acts number w.kept }
+{}
+
+/// No era falls, and no number of checkpoints while the era stays; no terminal's numbers fall.
+pub fn numbers_never_fall()
+    ensures copies { (site : Site) (events : List Event) (w end : World) (number : ℕ) (before after : Pair) (k : Which) → Leads site w events end
+        → slice_get w.processes number ≡ Some before → slice_get end.processes number ≡ Some after → IsLater (copy_of k before) (copy_of k after) }
+    ensures terminals { (site : Site) (events : List Event) (w end : World) (number : ℕ) (before after : Terminal) → Leads site w events end
+        → slice_get w.terminals number ≡ Some before → slice_get end.terminals number ≡ Some after → IsLaterTerminal before after }
+{}
+
+/// The messages ever sent only grow.
+pub fn messages_stay()
+    ensures requests { (site : Site) (events : List Event) (w end : World) → Leads site w events end → HasGrown w.requests end.requests }
+    ensures replies { (site : Site) (events : List Event) (w end : World) → Leads site w events end → HasGrown w.replies end.replies }
+    ensures checkpoints { (site : Site) (events : List Event) (w end : World) (number : ℕ) (before after : Pair) → Leads site w events end
+        → slice_get w.processes number ≡ Some before → slice_get end.processes number ≡ Some after → HasGrown before.checkpoints after.checkpoints }
+    ensures takens { (site : Site) (events : List Event) (w end : World) (number : ℕ) (before after : Pair) → Leads site w events end
+        → slice_get w.processes number ≡ Some before → slice_get end.processes number ≡ Some after → HasGrown before.takens after.takens }
+{}
+
+/// What was shown and the acts that are kept only grow.
+pub fn shown_and_kept_stay()
+    ensures shown { (site : Site) (events : List Event) (w end : World) → Leads site w events end → HasGrown w.shown end.shown }
+    ensures kept { (site : Site) (events : List Event) (w end : World) → Leads site w events end → HasGrown w.kept end.kept }
+{}
