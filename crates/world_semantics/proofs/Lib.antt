@@ -6,3 +6,7 @@ pub mod Positions
 pub mod Reached
 pub mod Roles
 pub mod Runs
+pub mod Running
+pub mod Ran
+pub mod Settled
+pub mod Outcomes

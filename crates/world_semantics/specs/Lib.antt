@@ -7,4 +7,5 @@ pub mod Own
 pub mod Passes
 pub mod Receive
 pub mod Rules
+pub mod Running
 pub mod World

@@ -1,10 +1,14 @@
-ghost use Rattle.std.specs.Prelude.{◌≡◌, ◌≤◌, ◌↔◌, ℕ, List, slice_get, Some, true};
+ghost use Rattle.std.specs.Prelude.{◌≡◌, ◌≤◌, ◌↔◌, ℕ, List, slice_get, Some, None, true};
 ghost use Rattle.tal_tree.specs.declared.site.Site.{Site};
 ghost use Rattle.schedule.specs.declared.event.Event.{Event};
+ghost use Rattle.schedule.specs.declared.event.Event.TheVariants.{Run};
 ghost use Rattle.world_semantics.specs.declared.role.Role.TheVariants.{Acting, Gone};
 ghost use Rattle.world_semantics.specs.World.{Pair, Mark, Terminal, World, Which, copy_of, IsAmong};
 ghost use Rattle.world_semantics.specs.Kept.{own_acts};
-ghost use Rattle.world_semantics.specs.Follows.{Leads, IsRun};
+ghost use Rattle.world_semantics.specs.Follows.{Follows, IsIdleFor, Leads, IsRun};
+ghost use Rattle.world_semantics.specs.Messages.{Sending, Running};
+ghost use Rattle.world_semantics.specs.Rules.{Change};
+ghost use Rattle.world_semantics.specs.Running.{Done, run_done, world_after, sendings_of};
 ghost use Rattle.world_semantics.specs.Laws.{IsLater, IsLaterTerminal, HasGrown};
 
 /// In a run only processors that have stopped are marked.
@@ -66,4 +70,17 @@ pub fn messages_stay()
 pub fn shown_and_kept_stay()
     ensures shown { (site : Site) (events : List Event) (w end : World) → Leads site w events end → HasGrown w.shown end.shown }
     ensures kept { (site : Site) (events : List Event) (w end : World) → Leads site w events end → HasGrown w.kept end.kept }
+{}
+
+/// A process that runs makes the change that is computed, and none where none is.
+pub fn a_run_is_computed()
+    ensures made { (site : Site) (w : World) (number : ℕ) (done : Done) → run_done site number w ≡ Some done → Change site w (Running number) done.sendings done.world }
+    ensures none { (site : Site) (w : World) (number : ℕ) → run_done site number w ≡ None → IsIdleFor site w (Running number) }
+    ensures follows { (site : Site) (w : World) (number : ℕ) → Follows site w (Run number) (sendings_of (run_done site number w)) (world_after w (run_done site number w)) }
+{}
+
+/// In a run nothing else than what is computed follows where a process runs.
+pub fn a_run_has_one_outcome()
+    ensures { (site : Site) (events : List Event) (w next : World) (number : ℕ) (sendings : List Sending) → IsRun site events w
+        → Follows site w (Run number) sendings next → (next ≡ world_after w (run_done site number w)) × (sendings ≡ sendings_of (run_done site number w)) }
 {}

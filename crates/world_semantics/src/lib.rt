@@ -12,8 +12,9 @@ pub mod receive;
 pub mod role;
 
 pub use laws::{
-    copies_go_with_their_processor, marked_have_stopped, marks_name_one_processor, messages_stay,
-    numbers_never_fall, one_copy_acts, positions_are_kept, shown_and_kept_stay, stops_stay,
+    a_run_has_one_outcome, a_run_is_computed, copies_go_with_their_processor, marked_have_stopped,
+    marks_name_one_processor, messages_stay, numbers_never_fall, one_copy_acts, positions_are_kept,
+    shown_and_kept_stay, stops_stay,
 };
 pub use message::{FileNumber, Image, ImageMessage, TakenMessage};
 pub use receive::{OpenerBlock, ReceiveBlock, Standing};
