@@ -10,3 +10,5 @@ pub mod Running
 pub mod Ran
 pub mod Settled
 pub mod Outcomes
+pub mod Moves
+pub mod Played

@@ -1,4 +1,5 @@
 pub mod Core
+pub mod Examples
 pub mod Follows
 pub mod Kept
 pub mod Laws

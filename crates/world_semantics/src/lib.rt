@@ -6,11 +6,13 @@
 //! of this crate's public functions over whole runs.
 #![tactic(auto)]
 
+pub mod examples;
 pub mod laws;
 pub mod message;
 pub mod receive;
 pub mod role;
 
+pub use examples::{a_disc_finds_its_write_done, a_lost_take_is_replaced, an_adder_is_taken_over};
 pub use laws::{
     a_run_has_one_outcome, a_run_is_computed, copies_go_with_their_processor, marked_have_stopped,
     marks_name_one_processor, messages_stay, numbers_never_fall, one_copy_acts, positions_are_kept,
