@@ -12,3 +12,4 @@ pub mod Settled
 pub mod Outcomes
 pub mod Moves
 pub mod Played
+pub mod Coming

@@ -3,10 +3,14 @@ use Rattle.std.proofs.Common.{◌≡◌, ℕ, zero, suc, ◌+◌, ◌==◌, ◌&
 use Rattle.std.proofs.lemmas.Bool.{eqb-true}
 use Rattle.gd_words.specs.declared.message.Request.{Request}
 use Rattle.gd_words.specs.declared.message.Reply.{Reply}
+use Rattle.tal_tree.specs.declared.act.Act.TheVariants as act
 use Rattle.tal_tree.specs.declared.site.Site.{Site}
 use Rattle.tal_tree.specs.declared.site.Who.TheVariants as who
 use Rattle.schedule.specs.declared.event.Event.{Event}
 use Rattle.schedule.specs.declared.event.Event.TheVariants as event
+use Rattle.process_semantics.specs.declared.point.Point.{Point}
+use Rattle.process_semantics.specs.declared.point.Point.TheVariants as point
+use Rattle.process_semantics.specs.Process as process
 use Rattle.plain_semantics.specs.declared.slot.Opener.{Opener}
 use Rattle.plain_semantics.specs.Openers.{opener_of}
 use Rattle.plain_semantics.specs.Machine.{next_request}
@@ -14,14 +18,16 @@ use Rattle.world_semantics.specs.declared.message.ImageMessage.{ImageMessage}
 use Rattle.world_semantics.specs.declared.message.TakenMessage.{TakenMessage}
 use Rattle.world_semantics.specs.declared.role.Role.{Role}
 use Rattle.world_semantics.specs.declared.role.Role.TheVariants.{Acting, Watching, Gone}
-use Rattle.world_semantics.specs.Core.{put_in}
+use Rattle.world_semantics.specs.Core.{put_in, next_on, gets}
 use Rattle.world_semantics.specs.World.{Pair, World, is_running, has_marked, Which, copy_of, IsAmong, is_first, is_later}
 use Rattle.world_semantics.specs.Messages.{Sending}
 use Rattle.world_semantics.specs.Passes.{by_apply, by_acknowledge}
-use Rattle.world_semantics.specs.Rules.{by_checkpoint, by_request, by_early_request, by_enter, by_print, by_stop, by_mark}
+use Rattle.world_semantics.specs.Own.{by_reply}
+use Rattle.world_semantics.specs.Rules.{by_own, by_checkpoint, by_request, by_early_request, by_enter, by_print, by_stop, by_mark}
 use Rattle.world_semantics.specs.Follows.{marks_none, marks_one, Follows, runs, enters, delivers, ticks, fails, Leads, stays, goes_on}
 use Rattle.world_semantics.specs.Running.{run_done}
 use Rattle.world_semantics.proofs.Lists.{some-same}
+use Rattle.world_semantics.proofs.Running.{enters-as}
 use Rattle.world_semantics.proofs.Ran.{run-may}
 
 -- which change an event makes: of the messages that were ever sent, each is named by its place among those of its kind, the newest at 0
@@ -34,6 +40,8 @@ pub data Move : Type 0 where
   Brings : (request : ℕ) → (k : Which) → Move
   -- a reply comes to a terminal
   Prints : (reply : ℕ) → (terminal : ℕ) → Move
+  -- a reply comes to one copy of a process
+  Gets : (number : ℕ) → (reply : ℕ) → (k : Which) → Move
   -- a checkpoint of a process comes to one of its copies
   Applies : (number : ℕ) → (checkpoint : ℕ) → (k : Which) → Move
   -- a process's copy is told that a checkpoint was taken
@@ -48,6 +56,7 @@ event_of (Runs number) = event.Run number
 event_of (Enters terminal) = event.Enter terminal
 event_of (Brings request k) = event.Deliver false 0
 event_of (Prints reply terminal) = event.Deliver false 0
+event_of (Gets number reply k) = event.Deliver false 0
 event_of (Applies number checkpoint k) = event.Deliver false 0
 event_of (Tells number taken k) = event.Deliver false 0
 event_of (Fails processor) = event.Fail processor
@@ -135,6 +144,34 @@ print_move site w place number =
           (opens ∙ ap Some (opener-is opener reply own)) (eqb-true _ _ same));
     })))))))
 
+abbrev get_at : (site : Site) (w : World) (number : ℕ) (reply : Reply) (k : Which) (pair : Pair) (p : Point) → slice_get w.processes number ≡ Some pair
+    → IsAmong reply w.replies → (copy_of k pair).role ≡ Acting → process.point (copy_of k pair).core.state ≡ p → Perhaps site w (event.Deliver false 0)
+get_at site w number reply k pair point.Await there i role stands =
+    with_reason (opener_of site (who.File number (process.asked_file (copy_of k pair).core.state))) (λ opener opens.
+    where_true (is_opener opener reply) (λ same.
+    where_true (reply.number + 1 == next_on (copy_of k pair).core (process.asked_file (copy_of k pair).core.state)) (λ awaits.
+    Some (record {
+      world = _;
+      sendings = _;
+      follows =
+          delivers _ _ (by_own number k pair there role
+          (by_reply i (opens ∙ ap Some (opener-is opener reply same)) (eqb-true _ _ awaits) refl) (gets stands refl)
+          (enters-as number (act.Step number) w.kept (copy_of k pair)));
+    }))))
+get_at site w number reply k pair _ there i role stands = None
+
+abbrev get_as : (site : Site) (w : World) (number : ℕ) (reply : Reply) (k : Which) (pair : Pair) (role : Role) → slice_get w.processes number ≡ Some pair
+    → IsAmong reply w.replies → (copy_of k pair).role ≡ role → Perhaps site w (event.Deliver false 0)
+get_as site w number reply k pair Acting there i role =
+    get_at site w number reply k pair (process.point (copy_of k pair).core.state) there i role refl
+get_as site w number reply k pair _ there i role = None
+
+abbrev get_move : (site : Site) (w : World) (number place : ℕ) (k : Which) → Perhaps site w (event.Deliver false 0)
+get_move site w number place k =
+    with_reason (slice_get w.replies place) (λ reply sent.
+    with_reason (slice_get w.processes number) (λ pair there.
+    get_as site w number reply k pair (copy_of k pair).role there (at-place w.replies place reply sent) refl))
+
 abbrev apply_as : (site : Site) (w : World) (number : ℕ) (message : ImageMessage) (k : Which) (pair : Pair) (role : Role) → slice_get w.processes number ≡ Some pair
     → IsAmong message pair.checkpoints → (copy_of k pair).role ≡ role → Perhaps site w (event.Deliver false 0)
 apply_as site w number message k pair Watching there i role =
@@ -190,6 +227,7 @@ moved site w (Runs number) = run_move site w number
 moved site w (Enters terminal) = enter_move site w terminal
 moved site w (Brings request k) = bring_move site w request k
 moved site w (Prints reply terminal) = print_move site w reply terminal
+moved site w (Gets number reply k) = get_move site w number reply k
 moved site w (Applies number checkpoint k) = apply_move site w number checkpoint k
 moved site w (Tells number taken k) = tell_move site w number taken k
 moved site w (Fails processor) = fail_as site w processor (slice_get w.stopped processor) refl

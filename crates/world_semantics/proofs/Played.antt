@@ -11,9 +11,9 @@ use Rattle.schedule.specs.declared.event.Event.{Event}
 use Rattle.plain_semantics.specs.Machine.{IsPossible, shown_by}
 use Rattle.world_semantics.specs.World.{World, First, Second, boot}
 use Rattle.world_semantics.specs.Kept.{closed}
-use Rattle.world_semantics.specs.Examples.{adder_for, disc_site, takeover_events, takeover_acts, takeover_shown, lost_take_events, lost_take_acts, lost_take_shown, disc_events, disc_acts, disc_shown, CanKeep}
+use Rattle.world_semantics.specs.Examples.{adder_for, disc_site, takeover_events, takeover_acts, takeover_shown, lost_take_events, lost_take_acts, lost_take_shown, disc_events, disc_acts, disc_shown, bank_site, repeat_events, repeat_acts, repeat_shown, CanKeep}
 use Rattle.world_semantics.proofs.Lists.{some-same}
-use Rattle.world_semantics.proofs.Moves.{Move, Runs, Enters, Brings, Prints, Applies, Tells, Fails, Ticks, Played, played}
+use Rattle.world_semantics.proofs.Moves.{Move, Runs, Enters, Brings, Prints, Gets, Applies, Tells, Fails, Ticks, Played, played}
 
 -- what a run keeps and shows
 record Seen : Type 0 where
@@ -58,6 +58,16 @@ pub disc_finds : CanKeep disc_site disc_events disc_acts disc_shown
 unfolding int_wrap
 disc_finds = can-keep disc_acts disc_shown (played disc_site disc_moves (boot disc_site)) refl
 
+abbrev repeat_moves : List Move
+repeat_moves =
+    Enters 0 ∷ Runs 1 ∷ Runs 1 ∷ Runs 1 ∷ Runs 1 ∷ Brings 0 First ∷ Runs 1 ∷ Runs 1 ∷ Runs 1 ∷ Applies 1 0 Second ∷ Tells 1 0 First ∷ Runs 1 ∷ Runs 1 ∷ Runs 1
+    ∷ Runs 1 ∷ Runs 1 ∷ Brings 0 First ∷ Runs 0 ∷ Runs 0 ∷ Applies 0 0 Second ∷ Tells 0 0 First ∷ Runs 0 ∷ Runs 0 ∷ Runs 0 ∷ Fails 0 ∷ Ticks 1 0 ∷ Runs 1
+    ∷ Runs 1 ∷ Runs 1 ∷ Runs 1 ∷ Brings 0 First ∷ Gets 1 0 Second ∷ Runs 1 ∷ Runs 1 ∷ Prints 0 0 ∷ Runs 1 ∷ []
+
+pub repeated : CanKeep bank_site repeat_events repeat_acts repeat_shown
+unfolding out-What shown-the_row-Statement-0 shown out int_wrap
+repeated = can-keep repeat_acts repeat_shown (played bank_site repeat_moves (boot bank_site)) refl
+
 -- The same on the machine of single unfailing processes
 
 pub takeover-possible : IsPossible (adder_for (pos 5 ∷ [])) takeover_acts
@@ -83,3 +93,11 @@ disc-possible = refl
 pub disc-shows : shown_by disc_site disc_acts ≡ reverse disc_shown
 unfolding int_wrap
 disc-shows = refl
+
+pub repeated-possible : IsPossible bank_site repeat_acts
+unfolding out-What shown-the_row-Statement-0 shown out int_wrap
+repeated-possible = refl
+
+pub repeated-shows : shown_by bank_site repeat_acts ≡ reverse repeat_shown
+unfolding out-What shown-the_row-Statement-0 shown out int_wrap
+repeated-shows = refl

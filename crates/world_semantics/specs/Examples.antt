@@ -150,6 +150,82 @@ disc_acts = act.Enter 0 ∷ act.Take 0 0 ∷ act.Step 0 ∷ act.Step 0 ∷ act.S
 abbrev pub disc_shown : List Shown
 disc_shown = reply 0 (pos 0) ∷ shown.Write 0 0 (pos 5 ∷ pos 0 ∷ pos 0 ∷ pos 0 ∷ pos 0 ∷ pos 0 ∷ pos 0 ∷ pos 0 ∷ []) ∷ []
 
+-- The repeated request: a bank adds what it is sent, checkpoints, writes the total to a disc, and answers. Its first copy is lost while it awaits the disc, which has
+-- written and answered. The second copy takes over and asks again; the disc, which keeps its reply, sends it again
+
+-- the three words that ask the disc to write the total to its sector 0
+abbrev pub out : ℕ → Spot
+out n = spot.Element 5 (Number (pos n))
+
+abbrev pub banking : List Statement
+banking =
+    line 5 (what.ReadUpdate 4 (Number (pos 1)) (variable.Simple 1))
+    ∷ line 6 (what.Assign total (sum_of (read total) (read (spot.Element 4 (Number (pos 0))))))
+    ∷ line 7 (what.Checkpoint (4 ∷ 5 ∷ 1 ∷ 0 ∷ []) (1 ∷ []))
+    ∷ line 8 (what.Assign (out 0) (Number (pos 2)))
+    ∷ line 9 (what.Assign (out 1) (Number (pos 0)))
+    ∷ line 10 (what.Assign (out 2) (read total))
+    ∷ line 11 (what.WriteRead 1 5 (Number (pos 3)) (Number (pos 1)) (variable.Simple 1))
+    ∷ line 12 (what.Assign (spot.Element 4 (Number (pos 0))) (read total))
+    ∷ line 13 (what.Reply 4 (Number (pos 1)))
+    ∷ []
+
+abbrev pub bank : Program
+bank = record {
+  items =
+      record { name = codes "TOTAL"; shape = shape.Simple }
+      ∷ record { name = codes "GOT"; shape = shape.Simple }
+      ∷ record { name = codes "RCV"; shape = shape.File 0 }
+      ∷ record { name = codes "DISK"; shape = shape.File 1 }
+      ∷ record { name = codes "BUF"; shape = shape.Array (pos 0) (pos 0) }
+      ∷ record { name = codes "OUT"; shape = shape.Array (pos 0) (pos 2) }
+      ∷ [];
+  files = record { item = 2; target = target.Receive; depth = 1 } ∷ record { item = 3; target = target.Process (codes "$DATA"); depth = 1 } ∷ [];
+  procedures =
+      record {
+        name = codes "BANK";
+        gives = false;
+        parameters = 0;
+        locals = [];
+        body =
+            line 1 what.CheckMonitor ∷ line 2 (what.Open 0) ∷ line 3 (what.Open 1)
+            ∷ line 4 (what.While' (Truth (Number (pos 1))) (places banking) (rows banking)) ∷ [];
+      }
+      ∷ [];
+  main = 0;
+}
+
+-- the disc in the processors 2 and 3, the bank in the processors 0 and 1, and a terminal that sends 5 to the bank
+abbrev pub bank_site : Site
+bank_site = record {
+  processors = 4;
+  processes =
+      record { name = codes "$DATA"; primary = 2; backup = 3; what = kind.Disc 4 }
+      ∷ record { name = codes "$BANK"; primary = 0; backup = 1; what = kind.Pair bank }
+      ∷ [];
+  terminals = record { name = codes "$T"; target = 1; requests = (pos 5 ∷ []) ∷ [] } ∷ [];
+}
+
+abbrev pub banks : Event
+banks = event.Run 1
+
+-- the events of the repeated request
+abbrev pub repeat_events : List Event
+repeat_events =
+    event.Enter 0 ∷ banks ∷ banks ∷ banks ∷ banks ∷ delivery ∷ banks ∷ banks ∷ banks ∷ delivery ∷ delivery ∷ banks ∷ banks ∷ banks ∷ banks ∷ banks
+    ∷ delivery ∷ run ∷ run ∷ delivery ∷ delivery ∷ run ∷ run ∷ run ∷ event.Fail 0 ∷ event.Tick 1 ∷ banks ∷ banks ∷ banks ∷ banks ∷ delivery ∷ delivery
+    ∷ banks ∷ banks ∷ delivery ∷ banks ∷ []
+
+-- what the repeated request keeps: what was done before the stop once
+abbrev pub repeat_acts : List Act
+repeat_acts =
+    act.Enter 0 ∷ act.Step 1 ∷ act.Step 1 ∷ act.Step 1 ∷ act.Step 1 ∷ act.Take 1 0 ∷ act.Step 1 ∷ act.Step 1 ∷ act.Step 1 ∷ act.Step 1 ∷ act.Step 1
+    ∷ act.Step 1 ∷ act.Take 0 0 ∷ act.Step 0 ∷ act.Step 0 ∷ act.Step 0 ∷ act.Step 1 ∷ act.Step 1 ∷ act.Step 1 ∷ act.Print 0 ∷ act.Step 1 ∷ []
+
+-- what it shows, the newest first
+abbrev pub repeat_shown : List Shown
+repeat_shown = reply 0 (pos 5) ∷ shown.Write 0 0 (pos 5 ∷ pos 0 ∷ pos 0 ∷ pos 0 ∷ pos 0 ∷ pos 0 ∷ pos 0 ∷ pos 0 ∷ []) ∷ []
+
 -- a run of these events can keep these acts, the oldest first, and shows this, the newest first
 abbrev pub CanKeep : Site → List Event → List Act → List Shown → Type 0
 CanKeep site events acts shown = (w : World) × IsRun site events w × (closed w ≡ acts) × (w.shown ≡ shown)

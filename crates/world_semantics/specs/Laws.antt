@@ -1,6 +1,7 @@
 -- Words for the laws of runs.
-use Rattle.std.specs.Prelude.{◌≡◌, ◌≤◌, List, ◌++◌}
-use Rattle.world_semantics.specs.World.{Copy, Pair, Terminal}
+use Rattle.std.specs.Prelude.{◌≡◌, ◌≤◌, ℕ, List, ◌++◌, slice_get, Some}
+use Rattle.world_semantics.specs.World.{Copy, Pair, Terminal, World, IsAmong}
+use Rattle.world_semantics.specs.Messages.{Message, Asking, Replying, Checkpointing, Taking}
 
 -- a copy as it is later: its era didn't fall, and neither did the number of its checkpoints while the era stayed
 pub record IsLater (before after : Copy) : Type 0 where
@@ -22,3 +23,10 @@ pub record IsLaterPair (before after : Pair) : Type 0 where
   pub second : IsLater before.second after.second
   pub checkpoints : HasGrown before.checkpoints after.checkpoints
   pub takens : HasGrown before.takens after.takens
+
+-- a message was ever sent
+abbrev pub WasSent : World → Message → Type 0
+WasSent w (Asking request) = IsAmong request w.requests
+WasSent w (Replying reply) = IsAmong reply w.replies
+WasSent w (Checkpointing message) = (number : ℕ) × (pair : Pair) × (slice_get w.processes number ≡ Some pair) × IsAmong message pair.checkpoints
+WasSent w (Taking taken) = (number : ℕ) × (pair : Pair) × (slice_get w.processes number ≡ Some pair) × IsAmong taken pair.takens

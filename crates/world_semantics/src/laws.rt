@@ -6,10 +6,10 @@ ghost use Rattle.world_semantics.specs.declared.role.Role.TheVariants.{Acting, G
 ghost use Rattle.world_semantics.specs.World.{Pair, Mark, Terminal, World, Which, copy_of, IsAmong};
 ghost use Rattle.world_semantics.specs.Kept.{own_acts};
 ghost use Rattle.world_semantics.specs.Follows.{Follows, IsIdleFor, Leads, IsRun};
-ghost use Rattle.world_semantics.specs.Messages.{Sending, Running};
+ghost use Rattle.world_semantics.specs.Messages.{Message, Sending, Running, Handing};
 ghost use Rattle.world_semantics.specs.Rules.{Change};
 ghost use Rattle.world_semantics.specs.Running.{Done, run_done, world_after, sendings_of};
-ghost use Rattle.world_semantics.specs.Laws.{IsLater, IsLaterTerminal, HasGrown};
+ghost use Rattle.world_semantics.specs.Laws.{IsLater, IsLaterTerminal, HasGrown, WasSent};
 
 /// In a run only processors that have stopped are marked.
 pub fn marked_have_stopped()
@@ -70,6 +70,17 @@ pub fn messages_stay()
 pub fn shown_and_kept_stay()
     ensures shown { (site : Site) (events : List Event) (w end : World) → Leads site w events end → HasGrown w.shown end.shown }
     ensures kept { (site : Site) (events : List Event) (w end : World) → Leads site w events end → HasGrown w.kept end.kept }
+{}
+
+/// A message that is handed over was sent.
+pub fn what_comes_was_sent()
+    ensures { (site : Site) (w next : World) (node : ℕ) (message : Message) (sendings : List Sending) → Change site w (Handing node message) sendings next → WasSent w message }
+{}
+
+/// In a run of a site with at most 16 processors nothing is handed over at a processor that has stopped.
+pub fn nothing_comes_to_a_stopped_node()
+    ensures { (site : Site) (events : List Event) (w next : World) (node : ℕ) (message : Message) (sendings : List Sending) → IsRun site events w → site.processors ≤ 16
+        → Change site w (Handing node message) sendings next → slice_get w.stopped node ≡ Some true → ⊥ }
 {}
 
 /// A process that runs makes the change that is computed, and none where none is.

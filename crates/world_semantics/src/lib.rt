@@ -12,11 +12,14 @@ pub mod message;
 pub mod receive;
 pub mod role;
 
-pub use examples::{a_disc_finds_its_write_done, a_lost_take_is_replaced, an_adder_is_taken_over};
+pub use examples::{
+    a_disc_finds_its_write_done, a_lost_take_is_replaced, a_repeated_request_is_answered_once,
+    an_adder_is_taken_over,
+};
 pub use laws::{
     a_run_has_one_outcome, a_run_is_computed, copies_go_with_their_processor, marked_have_stopped,
-    marks_name_one_processor, messages_stay, numbers_never_fall, one_copy_acts, positions_are_kept,
-    shown_and_kept_stay, stops_stay,
+    marks_name_one_processor, messages_stay, nothing_comes_to_a_stopped_node, numbers_never_fall,
+    one_copy_acts, positions_are_kept, shown_and_kept_stay, stops_stay, what_comes_was_sent,
 };
 pub use message::{FileNumber, Image, ImageMessage, TakenMessage};
 pub use receive::{OpenerBlock, ReceiveBlock, Standing};
