@@ -32,7 +32,7 @@ pub record Grows (before after : World) : Type 0 where
   pub shown : HasGrown before.shown after.shown
   pub kept : HasGrown before.kept after.kept
 
-record AroundGrows (before after : Around) : Type 0 where
+pub record AroundGrows (before after : Around) : Type 0 where
   pub requests : HasGrown before.requests after.requests
   pub replies : HasGrown before.replies after.replies
   pub shown : HasGrown before.shown after.shown
@@ -40,7 +40,7 @@ record AroundGrows (before after : Around) : Type 0 where
 around-same : (a : Around) → AroundGrows a a
 around-same a = record { requests = grown-none a.requests; replies = grown-none a.replies; shown = grown-none a.shown }
 
-causes-grow : {site : Site} {number node : ℕ} {core : Core} {before after : Around} {cause : Cause} {deed : Deed} {act : Act} {messages : List Message}
+pub causes-grow : {site : Site} {number node : ℕ} {core : Core} {before after : Around} {cause : Cause} {deed : Deed} {act : Act} {messages : List Message}
     → Causes site number node core before cause deed act messages after → AroundGrows before after
 causes-grow {before = b} by_inner = around-same b
 causes-grow {before = b} (by_take e) = record { requests = grown-none b.requests; replies = grown-none b.replies; shown = grown-none b.shown }

@@ -28,6 +28,7 @@ use Rattle.world_semantics.specs.Follows.{marks_none, marks_one, Follows, runs, 
 use Rattle.world_semantics.specs.Running.{run_done}
 use Rattle.world_semantics.proofs.Lists.{some-same}
 use Rattle.world_semantics.proofs.Running.{enters-as}
+use Rattle.world_semantics.proofs.Roles.{both-true}
 use Rattle.world_semantics.proofs.Ran.{run-may}
 
 -- which change an event makes: of the messages that were ever sent, each is named by its place among those of its kind, the newest at 0
@@ -115,10 +116,6 @@ bring_move site w place k =
     with_reason (slice_get w.requests place) (λ request sent.
     with_reason (slice_get w.processes request.process) (λ pair there.
     bring_as site w request k pair (copy_of k pair).role (at-place w.requests place request sent) there refl))
-
-both-true : (a b : Bool) → (a && b) ≡ true → (a ≡ true) × (b ≡ true)
-both-true true b e = (refl, e)
-both-true false b e = absurd (cc)
 
 abbrev is_opener : Opener → Reply → Bool
 is_opener opener reply = opener.server == reply.process && opener.place == reply.opener

@@ -1,19 +1,19 @@
 -- No copy is further than the kept acts of its process, and neither is the base.
-use Rattle.std.proofs.Common.{zero, suc, ◌≡◌, ◌≤◌, ℕ, ◌+◌, true, List, [], ◌∷◌, ◌++◌, Option, Some, None, slice_get, subst, arith}
+use Rattle.std.proofs.Common.{◌≡◌, ◌≤◌, ℕ, true, List, [], ◌∷◌, ◌++◌, Option, Some, None, slice_get, arith}
 use Rattle.gd_words.specs.declared.message.Request.{Request}
 use Rattle.tal_tree.specs.declared.act.Act.{Act}
 use Rattle.tal_tree.specs.declared.act.Act.TheVariants.{Step, Enter, Print}
 use Rattle.tal_tree.specs.declared.site.Site.{Site}
-use Rattle.tal_tree.specs.declared.site.ProcessSpec.{ProcessSpec}
 use Rattle.world_semantics.specs.Core.{Core, Deed}
-use Rattle.world_semantics.specs.World.{Copy, Stored, Pair, Mark, World, Which, First, Second, copy_of, with_copy, boot, pairs_at_boot}
+use Rattle.world_semantics.specs.World.{Copy, Stored, Pair, Mark, World, Which, First, Second, copy_of, with_copy, boot}
 use Rattle.world_semantics.specs.Kept.{is_own, own_acts, Enters, holds_on, repeats, begins, keeps}
 use Rattle.world_semantics.specs.Messages.{Message, Sending, Cause}
 use Rattle.world_semantics.specs.Own.{Around, Causes, by_inner, by_take, by_ask, by_answer, by_device, by_write, by_reply}
 use Rattle.world_semantics.specs.Passes.{Passes, by_send, by_pass_again, by_pass, by_apply, by_acknowledge, kept_at_mark}
 use Rattle.world_semantics.specs.Rules.{Change, by_own, by_checkpoint, by_request, by_early_request, by_enter, by_print, by_stop, by_mark, stopped_pair, taker, after_marking, marked_pair}
 use Rattle.world_semantics.specs.Laws.{HasGrown}
-use Rattle.world_semantics.proofs.Lists.{some-same, set-all, map-all, grown-one, grown-more}
+use Rattle.world_semantics.proofs.Beginning.{all-begin}
+use Rattle.world_semantics.proofs.Lists.{set-all, map-all, grown-one, grown-more}
 use Rattle.world_semantics.proofs.Counting.{own-grown, own-step, own-take, own-one}
 use Rattle.world_semantics.proofs.Growing.{enters-grows, passes-grow}
 
@@ -37,14 +37,8 @@ all-more : (w : World) (kept : List Act) → HasGrown w.kept kept → AllBounds 
     → BoundsOf kept number pair
 all-more w kept g ok number pair there = bounds-more (ok number pair there) (own-grown number g)
 
-pairs-begin : (site : Site) (from : ℕ) (specs : List ProcessSpec) (number : ℕ) (pair : Pair) → slice_get (pairs_at_boot site from specs) number ≡ Some pair
-    → BoundsOf [] number pair
-pairs-begin site from [] number pair e = absurd (cc)
-pairs-begin site from (spec ∷ specs) zero pair e = subst (BoundsOf [] zero) (some-same e) (record { first = omega arith; second = omega arith; base = omega arith })
-pairs-begin site from (spec ∷ specs) (suc number) pair e = pairs-begin site (from + 1) specs number pair e
-
 pub bounds-begin : (site : Site) → AllBounds (boot site)
-bounds-begin site number pair e = pairs-begin site 0 site.processes number pair e
+bounds-begin site = all-begin (BoundsOf []) site (λ number from spec. record { first = omega arith; second = omega arith; base = omega arith })
 
 -- Acts
 

@@ -1,18 +1,18 @@
 -- Which copies act: those whose processor hasn't stopped, and of one process at most one.
-use Rattle.std.proofs.Common.{◌≡◌, ◌⊎◌, inl, inr, ℕ, zero, suc, ◌+◌, ◌==◌, ◌&&◌, Bool, true, false, if◌then◌else◌, List, [], ◌∷◌, replicate, Option, Some, None, slice_get, slice_set, refl, subst, sym, ap, ◌∙◌}
+use Rattle.std.proofs.Common.{◌≡◌, ◌⊎◌, inl, inr, ℕ, zero, suc, ◌==◌, ◌&&◌, Bool, true, false, if◌then◌else◌, List, [], ◌∷◌, replicate, Option, Some, None, slice_get, slice_set, refl, sym, ap, ◌∙◌}
 use Rattle.std.proofs.lemmas.Bool.{eq-eqb, eqb-true}
 use Rattle.gd_words.specs.declared.message.Request.{Request}
 use Rattle.tal_tree.specs.declared.act.Act.{Act}
 use Rattle.tal_tree.specs.declared.site.Site.{Site}
-use Rattle.tal_tree.specs.declared.site.ProcessSpec.{ProcessSpec}
 use Rattle.world_semantics.specs.declared.role.Role.{Role}
 use Rattle.world_semantics.specs.declared.role.Role.TheVariants.{Acting, Watching, Gone}
 use Rattle.world_semantics.specs.Core.{Core}
-use Rattle.world_semantics.specs.World.{Copy, Stored, Pair, Mark, World, Which, First, Second, copy_of, other_of, with_copy, boot, pairs_at_boot, is_running, runs_by}
+use Rattle.world_semantics.specs.World.{Copy, Stored, Pair, Mark, World, Which, First, Second, copy_of, other_of, with_copy, boot, is_running, runs_by}
 use Rattle.world_semantics.specs.Kept.{Enters, holds_on, repeats, begins, keeps}
 use Rattle.world_semantics.specs.Messages.{Sending, Cause}
 use Rattle.world_semantics.specs.Passes.{Passes, by_send, by_pass_again, by_pass, by_apply, by_acknowledge}
 use Rattle.world_semantics.specs.Rules.{Change, by_own, by_checkpoint, by_request, by_early_request, by_enter, by_print, by_stop, by_mark, stopped_pair, is_watching, takes_over, taker, after_marking, marked_pair}
+use Rattle.world_semantics.proofs.Beginning.{all-begin}
 use Rattle.world_semantics.proofs.Lists.{some-same, set-all, map-all}
 use Rattle.world_semantics.proofs.Growing.{stop-stays}
 
@@ -39,18 +39,16 @@ false-there zero processor e = absurd (cc)
 false-there (suc n) zero e = absurd (cc)
 false-there (suc n) (suc processor) e = false-there n processor e
 
-pairs-begin : (site : Site) (n from : ℕ) (specs : List ProcessSpec) (number : ℕ) (pair : Pair) → slice_get (pairs_at_boot site from specs) number ≡ Some pair
-    → RolesOf (replicate n false) pair
-pairs-begin site n from [] number pair e = absurd (cc)
-pairs-begin site n from (spec ∷ specs) zero pair e = subst (RolesOf (replicate n false)) (some-same e) (record {
-  first_gone = λ s. absurd (false-there n _ s);
-  first_lost = λ g. absurd (cc);
-  second_gone = λ s. absurd (false-there n _ s);
-  second_lost = λ g. absurd (cc);
-  first_leads = λ g. cc;
-  second_alone = λ g. absurd (cc);
-})
-pairs-begin site n from (spec ∷ specs) (suc number) pair e = pairs-begin site n (from + 1) specs number pair e
+pub roles-begin : (site : Site) → AllRoles (boot site)
+roles-begin site =
+    all-begin (λ n p. RolesOf (replicate site.processors false) p) site (λ number from spec. record {
+      first_gone = λ s. absurd (false-there site.processors _ s);
+      first_lost = λ g. absurd (cc);
+      second_gone = λ s. absurd (false-there site.processors _ s);
+      second_lost = λ g. absurd (cc);
+      first_leads = λ g. cc;
+      second_alone = λ g. absurd (cc);
+    })
 
 -- Acts and checkpoints change no role
 
@@ -153,7 +151,7 @@ watching-is Acting e = absurd (cc)
 watching-is Watching e = refl
 watching-is Gone e = absurd (cc)
 
-both-true : (a b : Bool) → (a && b) ≡ true → (a ≡ true) × (b ≡ true)
+pub both-true : (a b : Bool) → (a && b) ≡ true → (a ≡ true) × (b ≡ true)
 both-true true b e = (refl, e)
 both-true false b e = absurd (cc)
 
@@ -215,6 +213,3 @@ change-roles w next cause sendings (by_stop x r) ok =
 change-roles w next cause sendings (by_mark node x s r n) ok =
     map-all (λ n p. RolesOf w.stopped p) (marked_pair node x) w.processes
     (λ n p there. mark-roles w.stopped node x s r p (taker node x p) refl (ok n p there))
-
-pub roles-begin : (site : Site) → AllRoles (boot site)
-roles-begin site number pair e = pairs-begin site site.processors 0 site.processes number pair e

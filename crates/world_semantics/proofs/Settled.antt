@@ -1,16 +1,16 @@
 -- No checkpoint is acknowledged that wasn't sent.
-use Rattle.std.proofs.Common.{◌≡◌, ℕ, zero, suc, ◌+◌, List, [], ◌∷◌, Option, Some, None, slice_get, refl, subst}
+use Rattle.std.proofs.Common.{◌≡◌, ℕ, List, Option, Some, None, slice_get, refl}
 use Rattle.gd_words.specs.declared.message.Request.{Request}
 use Rattle.tal_tree.specs.declared.act.Act.{Act}
 use Rattle.tal_tree.specs.declared.site.Site.{Site}
-use Rattle.tal_tree.specs.declared.site.ProcessSpec.{ProcessSpec}
 use Rattle.world_semantics.specs.Core.{Core}
-use Rattle.world_semantics.specs.World.{Copy, Stored, Pair, Mark, World, Which, First, Second, copy_of, with_copy, boot, pairs_at_boot}
+use Rattle.world_semantics.specs.World.{Copy, Stored, Pair, Mark, World, Which, First, Second, copy_of, with_copy, boot}
 use Rattle.world_semantics.specs.Kept.{Enters, holds_on, repeats, begins, keeps}
 use Rattle.world_semantics.specs.Messages.{Sending, Cause}
 use Rattle.world_semantics.specs.Passes.{Passes, by_send, by_pass_again, by_pass, by_apply, by_acknowledge}
 use Rattle.world_semantics.specs.Rules.{Change, by_own, by_checkpoint, by_request, by_early_request, by_enter, by_print, by_stop, by_mark, stopped_pair, taker, after_marking, marked_pair}
-use Rattle.world_semantics.proofs.Lists.{some-same, set-all, map-all}
+use Rattle.world_semantics.proofs.Beginning.{all-begin}
+use Rattle.world_semantics.proofs.Lists.{set-all, map-all}
 use Rattle.world_semantics.proofs.Ran.{IsSettled}
 
 -- of both copies of a process
@@ -73,14 +73,8 @@ change-settled w next cause sendings (by_stop x r) ok =
 change-settled w next cause sendings (by_mark node x s r n) ok =
     map-all (λ n p. AreSettled p) (marked_pair node x) w.processes (λ n p there. marking-settled (taker node x p) p (ok n p there))
 
-pairs-begin : (site : Site) (from : ℕ) (specs : List ProcessSpec) (number : ℕ) (pair : Pair) → slice_get (pairs_at_boot site from specs) number ≡ Some pair
-    → AreSettled pair
-pairs-begin site from [] number pair e = absurd (cc)
-pairs-begin site from (spec ∷ specs) zero pair e = subst AreSettled (some-same e) (record { first = λ _. refl; second = λ _. refl })
-pairs-begin site from (spec ∷ specs) (suc number) pair e = pairs-begin site (from + 1) specs number pair e
-
 pub settled-begin : (site : Site) → AllSettled (boot site)
-settled-begin site number pair e = pairs-begin site 0 site.processes number pair e
+settled-begin site = all-begin (λ n p. AreSettled p) site (λ number from spec. record { first = λ _. refl; second = λ _. refl })
 
 pub settled-of : (pair : Pair) → AreSettled pair → (k : Which) → IsSettled (copy_of k pair)
 settled-of pair ok First = ok.first

@@ -1,12 +1,13 @@
-ghost use Rattle.std.specs.Prelude.{◌≡◌, ◌≤◌, ◌↔◌, ℕ, List, slice_get, Some, None, true};
+ghost use Rattle.std.specs.Prelude.{◌≡◌, ◌≤◌, ◌↔◌, ℕ, List, slice_get, Some, None, is_some, true};
 ghost use Rattle.tal_tree.specs.declared.site.Site.{Site};
 ghost use Rattle.schedule.specs.declared.event.Event.{Event};
 ghost use Rattle.schedule.specs.declared.event.Event.TheVariants.{Run};
+ghost use Rattle.process_semantics.specs.Process.{in_hand};
 ghost use Rattle.world_semantics.specs.declared.role.Role.TheVariants.{Acting, Gone};
 ghost use Rattle.world_semantics.specs.World.{Pair, Mark, Terminal, World, Which, copy_of, IsAmong};
 ghost use Rattle.world_semantics.specs.Kept.{own_acts};
 ghost use Rattle.world_semantics.specs.Follows.{Follows, IsIdleFor, Leads, IsRun};
-ghost use Rattle.world_semantics.specs.Messages.{Message, Sending, Running, Handing};
+ghost use Rattle.world_semantics.specs.Messages.{Message, Cause, Sending, Running, Handing};
 ghost use Rattle.world_semantics.specs.Rules.{Change};
 ghost use Rattle.world_semantics.specs.Running.{Done, run_done, world_after, sendings_of};
 ghost use Rattle.world_semantics.specs.Laws.{IsLater, IsLaterTerminal, HasGrown, WasSent};
@@ -75,6 +76,18 @@ pub fn shown_and_kept_stay()
 /// A message that is handed over was sent.
 pub fn what_comes_was_sent()
     ensures { (site : Site) (w next : World) (node : ℕ) (message : Message) (sendings : List Sending) → Change site w (Handing node message) sendings next → WasSent w message }
+{}
+
+/// In a run a copy's receive table has a request in hand exactly where the state of its process has.
+pub fn hands_agree()
+    ensures { (site : Site) (events : List Event) (w : World) (number : ℕ) (pair : Pair) (k : Which) → IsRun site events w → slice_get w.processes number ≡ Some pair
+        → in_hand (copy_of k pair).core.state ≡ is_some (copy_of k pair).core.receive.in_hand }
+{}
+
+/// In a run all that a change sends, or sends again, is among the messages ever sent after it.
+pub fn what_is_sent_stays()
+    ensures { (site : Site) (events : List Event) (w next : World) (cause : Cause) (sendings : List Sending) (sending : Sending) → IsRun site events w
+        → Change site w cause sendings next → IsAmong sending sendings → WasSent next sending.message }
 {}
 
 /// In a run of a site with at most 16 processors nothing is handed over at a processor that has stopped.

@@ -17,9 +17,10 @@ pub use examples::{
     an_adder_is_taken_over,
 };
 pub use laws::{
-    a_run_has_one_outcome, a_run_is_computed, copies_go_with_their_processor, marked_have_stopped,
-    marks_name_one_processor, messages_stay, nothing_comes_to_a_stopped_node, numbers_never_fall,
-    one_copy_acts, positions_are_kept, shown_and_kept_stay, stops_stay, what_comes_was_sent,
+    a_run_has_one_outcome, a_run_is_computed, copies_go_with_their_processor, hands_agree,
+    marked_have_stopped, marks_name_one_processor, messages_stay, nothing_comes_to_a_stopped_node,
+    numbers_never_fall, one_copy_acts, positions_are_kept, shown_and_kept_stay, stops_stay,
+    what_comes_was_sent, what_is_sent_stays,
 };
 pub use message::{FileNumber, Image, ImageMessage, TakenMessage};
 pub use receive::{OpenerBlock, ReceiveBlock, Standing};
