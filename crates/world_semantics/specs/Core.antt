@@ -1,4 +1,4 @@
--- The core of a copy: what its checkpoints carry and restore. Each act of a process is a step of the core.
+-- The core of a copy: what its checkpoints carry and restore, as in Bartlett's "A NonStop Kernel". Each act of a process is a step of the core.
 use Rattle.std.specs.Prelude.{◌≡◌, ℕ, ◌+◌, ℤ, List, [], ◌∷◌, map, is_some, slice_get, slice_set, Option, Some, None}
 use Rattle.std.specs.Option.{option_map, unwrap_or}
 use Rattle.gd_words.specs.declared.device.DeviceCall.{DeviceCall}

@@ -1,4 +1,4 @@
--- How a checkpoint goes from one copy of a process to the other.
+-- How a checkpoint goes from one copy of a process to the other: Bartlett's checkpoint, applied whole. That era and number choose it is our own rule.
 use Rattle.std.specs.Prelude.{◌≡◌, ◌≤◌, ◌<◌, ℕ, ◌+◌, true, false, List, [], ◌∷◌, ◌++◌, Some}
 use Rattle.tal_tree.specs.declared.act.Act.{Act}
 use Rattle.tal_tree.specs.declared.act.Act.TheVariants.{Step}

@@ -1,4 +1,5 @@
--- Receive tables: how a request that comes stands to its process, which replies are kept, and which requests wait.
+-- Receive tables: how a request that comes stands to its process, which replies are kept, and which requests wait. Numbers and the depth of what is kept
+-- are those of the GUARDIAN manual's sync depth; that one request of an opener waits is our own rule.
 use Rattle.std.specs.Prelude.{ℕ, ◌+◌, ◌-◌, ◌==◌, ℤ, Bool, true, false, not, ◌&&◌, if◌then◌else◌, nat_le, nat_lt, List, [], ◌∷◌, ◌++◌, length, drop, reverse, slice_get, slice_set, Option, Some, None}
 use Rattle.std.specs.Option.{option_map}
 use Rattle.std.specs.List.{filter, flat_map, list_any}

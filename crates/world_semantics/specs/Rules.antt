@@ -1,6 +1,6 @@
--- The rules of the world: what may change in it, where, and what is sent or sent again. Each rule is one constructor: of `Causes` where a copy does an act of
--- its own (inner, take, ask, answer, device, write, reply), of `Passes` where a checkpoint goes from copy to copy (send, pass, apply, acknowledge), and else
--- of `Change` (request, early request, enter, print, stop, and mark with the takeovers).
+-- The rules of the world, after Bartlett's account of process pairs: what may change in it, where, and what is sent or sent again. Each rule is one
+-- constructor: of `Causes` where a copy does an act of its own (inner, take, ask, answer, device, write, reply), of `Passes` where a checkpoint goes from
+-- copy to copy (send, pass, apply, acknowledge), and else of `Change` (request, early request, enter, print, stop, and mark with the takeovers).
 use Rattle.std.specs.Prelude.{◌≡◌, ℕ, ◌+◌, ◌==◌, ◌&&◌, ℤ, Bool, true, false, if◌then◌else◌, List, [], ◌∷◌, map, slice_get, slice_set, Some, Option, None}
 use Rattle.std.specs.List.{flat_map}
 use Rattle.gd_words.specs.declared.message.Request.{Request}

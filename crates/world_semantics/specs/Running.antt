@@ -1,4 +1,4 @@
--- The change that an event makes where its process runs or its terminal enters, computed. `Follows` says what is permitted, and laws relate both.
+-- The change that a process makes where it runs, computed. `Follows` says what is permitted, and laws relate both.
 use Rattle.std.specs.Prelude.{ℕ, ◌+◌, ℤ, Bool, true, false, if◌then◌else◌, nat_lt, List, [], ◌∷◌, ◌++◌, map, slice_get, slice_set, Option, Some, None}
 use Rattle.std.specs.Option.{option_map}
 use Rattle.gd_words.specs.declared.device.DeviceCall.{DeviceCall}

@@ -1,5 +1,6 @@
--- The world of copies: all that it has. Lists of what happened (acts, what is shown, messages, marks) have the newest first, so what is added stands before
--- what was there; processes, terminals, sectors and waiting requests stand in their order.
+-- The world of copies: all that it has. Pairs in two processors, checkpoints and takeover are Bartlett's; eras, bases, positions and held acts are our
+-- own. Lists of what happened (acts, what is shown, messages, marks) have the newest first, so what is added stands before what was there; processes,
+-- terminals, sectors and waiting requests stand in their order.
 use Rattle.std.specs.Prelude.{ℕ, ◌+◌, ◌==◌, ◌&&◌, ℤ, Bool, false, not, ◌||◌, List, [], ◌∷◌, map, replicate, slice_get, slice_set, Option, Some, None}
 use Rattle.std.specs.List.{list_any}
 use Rattle.gd_words.specs.declared.message.Request.{Request}
