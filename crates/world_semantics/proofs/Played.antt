@@ -1,0 +1,103 @@
+-- The worked examples, played.
+use Rattle.std.proofs.Common.{◌≡◌, pos, List, [], ◌∷◌, Option, Some, None, reverse, refl, ap}
+use Rattle.std.specs.Int.{int_wrap}
+use denote.Hole.Carrier.{shown, out}
+use Rattle.tal_tree.specs.declared.statement.What.{out-What}
+use Rattle.tal_tree.specs.declared.statement.What.TheBlock.{shown-the_row-Statement-0}
+use Rattle.tal_tree.specs.declared.act.Act.{Act}
+use Rattle.tal_tree.specs.declared.act.Shown.{Shown}
+use Rattle.tal_tree.specs.declared.site.Site.{Site}
+use Rattle.schedule.specs.declared.event.Event.{Event}
+use Rattle.plain_semantics.specs.Machine.{IsPossible, shown_by}
+use Rattle.world_semantics.specs.World.{World, First, Second, boot}
+use Rattle.world_semantics.specs.Kept.{closed}
+use Rattle.world_semantics.specs.Examples.{adder_for, disc_site, takeover_events, takeover_acts, takeover_shown, lost_take_events, lost_take_acts, lost_take_shown, disc_events, disc_acts, disc_shown, bank_site, repeat_events, repeat_acts, repeat_shown, CanKeep}
+use Rattle.world_semantics.proofs.Lists.{some-same}
+use Rattle.world_semantics.proofs.Moves.{Move, Runs, Enters, Brings, Prints, Gets, Applies, Tells, Fails, Ticks, Played, played}
+
+-- what a run keeps and shows
+record Seen : Type 0 where
+  pub acts : List Act
+  pub said : List Shown
+
+abbrev seen : {site : Site} {w : World} {events : List Event} → Option (Played site w events) → Option Seen
+seen None = None
+seen (Some p) = Some (record { acts = closed p.world; said = p.world.shown })
+
+can-keep : {site : Site} {events : List Event} (acts : List Act) (said : List Shown) (p : Option (Played site (boot site) events))
+    → seen p ≡ Some (record { acts = acts; said = said }) → CanKeep site events acts said
+can-keep acts said None e = absurd (cc)
+can-keep acts said (Some p) e = let s = some-same e in (p.world, p.leads, ap (λ (x : Seen). x.acts) s, ap (λ (x : Seen). x.said) s)
+
+abbrev takeover_moves : List Move
+takeover_moves =
+    Enters 0 ∷ Runs 0 ∷ Runs 0 ∷ Runs 0 ∷ Brings 0 Second ∷ Brings 0 First ∷ Runs 0 ∷ Runs 0 ∷ Runs 0 ∷ Runs 0 ∷ Applies 0 0 Second ∷ Tells 0 0 First
+    ∷ Runs 0 ∷ Runs 0 ∷ Fails 0 ∷ Ticks 1 0 ∷ Ticks 16 0 ∷ Runs 0 ∷ Brings 0 Second ∷ Prints 0 0 ∷ Runs 0 ∷ []
+
+pub takeover : CanKeep (adder_for (pos 5 ∷ [])) takeover_events takeover_acts takeover_shown
+unfolding out-What shown-the_row-Statement-0 shown out int_wrap
+takeover = can-keep takeover_acts takeover_shown (played (adder_for (pos 5 ∷ [])) takeover_moves (boot (adder_for (pos 5 ∷ [])))) refl
+
+abbrev lost_take_moves : List Move
+lost_take_moves =
+    Enters 0 ∷ Enters 1 ∷ Runs 0 ∷ Runs 0 ∷ Runs 0 ∷ Brings 1 First ∷ Runs 0 ∷ Runs 0 ∷ Fails 0 ∷ Ticks 1 0 ∷ Brings 0 Second ∷ Runs 0 ∷ Runs 0 ∷ Runs 0
+    ∷ Runs 0 ∷ Runs 0 ∷ Runs 0 ∷ Runs 0 ∷ Runs 0 ∷ Prints 0 1 ∷ []
+
+pub lost_take : CanKeep (adder_for (pos 5 ∷ pos 7 ∷ [])) lost_take_events lost_take_acts lost_take_shown
+unfolding out-What shown-the_row-Statement-0 shown out int_wrap
+lost_take =
+    can-keep lost_take_acts lost_take_shown
+    (played (adder_for (pos 5 ∷ pos 7 ∷ [])) lost_take_moves (boot (adder_for (pos 5 ∷ pos 7 ∷ [])))) refl
+
+abbrev disc_moves : List Move
+disc_moves =
+    Enters 0 ∷ Brings 0 First ∷ Runs 0 ∷ Runs 0 ∷ Applies 0 0 Second ∷ Tells 0 0 First ∷ Runs 0 ∷ Runs 0 ∷ Fails 0 ∷ Ticks 1 0 ∷ Runs 0 ∷ Runs 0
+    ∷ Prints 0 0 ∷ []
+
+pub disc_finds : CanKeep disc_site disc_events disc_acts disc_shown
+unfolding int_wrap
+disc_finds = can-keep disc_acts disc_shown (played disc_site disc_moves (boot disc_site)) refl
+
+abbrev repeat_moves : List Move
+repeat_moves =
+    Enters 0 ∷ Runs 1 ∷ Runs 1 ∷ Runs 1 ∷ Runs 1 ∷ Brings 0 First ∷ Runs 1 ∷ Runs 1 ∷ Runs 1 ∷ Applies 1 0 Second ∷ Tells 1 0 First ∷ Runs 1 ∷ Runs 1 ∷ Runs 1
+    ∷ Runs 1 ∷ Runs 1 ∷ Brings 0 First ∷ Runs 0 ∷ Runs 0 ∷ Applies 0 0 Second ∷ Tells 0 0 First ∷ Runs 0 ∷ Runs 0 ∷ Runs 0 ∷ Fails 0 ∷ Ticks 1 0 ∷ Runs 1
+    ∷ Runs 1 ∷ Runs 1 ∷ Runs 1 ∷ Brings 0 First ∷ Gets 1 0 Second ∷ Runs 1 ∷ Runs 1 ∷ Prints 0 0 ∷ Runs 1 ∷ []
+
+pub repeated : CanKeep bank_site repeat_events repeat_acts repeat_shown
+unfolding out-What shown-the_row-Statement-0 shown out int_wrap
+repeated = can-keep repeat_acts repeat_shown (played bank_site repeat_moves (boot bank_site)) refl
+
+-- The same on the machine of single unfailing processes
+
+pub takeover-possible : IsPossible (adder_for (pos 5 ∷ [])) takeover_acts
+unfolding out-What shown-the_row-Statement-0 shown out int_wrap
+takeover-possible = refl
+
+pub takeover-shows : shown_by (adder_for (pos 5 ∷ [])) takeover_acts ≡ reverse takeover_shown
+unfolding out-What shown-the_row-Statement-0 shown out int_wrap
+takeover-shows = refl
+
+pub lost_take-possible : IsPossible (adder_for (pos 5 ∷ pos 7 ∷ [])) lost_take_acts
+unfolding out-What shown-the_row-Statement-0 shown out int_wrap
+lost_take-possible = refl
+
+pub lost_take-shows : shown_by (adder_for (pos 5 ∷ pos 7 ∷ [])) lost_take_acts ≡ reverse lost_take_shown
+unfolding out-What shown-the_row-Statement-0 shown out int_wrap
+lost_take-shows = refl
+
+pub disc-possible : IsPossible disc_site disc_acts
+unfolding int_wrap
+disc-possible = refl
+
+pub disc-shows : shown_by disc_site disc_acts ≡ reverse disc_shown
+unfolding int_wrap
+disc-shows = refl
+
+pub repeated-possible : IsPossible bank_site repeat_acts
+unfolding out-What shown-the_row-Statement-0 shown out int_wrap
+repeated-possible = refl
+
+pub repeated-shows : shown_by bank_site repeat_acts ≡ reverse repeat_shown
+unfolding out-What shown-the_row-Statement-0 shown out int_wrap
+repeated-shows = refl

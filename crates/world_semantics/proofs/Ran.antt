@@ -1,0 +1,232 @@
+-- A process that runs makes the one change that is computed, and none where none is.
+use Rattle.std.proofs.Common.{◌≡◌, ℕ, ◌||◌, Bool, true, false, nat_lt, List, Option, Some, None, option_map, slice_get, slice_set, refl, subst, sym, ap, ◌∙◌}
+use Rattle.std.proofs.lemmas.Bool.{lt-ltb, ltb-true, le-ltb, ltb-false}
+use Rattle.tal_tree.specs.declared.act.Act.{Act}
+use Rattle.tal_tree.specs.declared.site.Site.{Site}
+use Rattle.process_semantics.specs.declared.point.Point.{Point}
+use Rattle.process_semantics.specs.declared.point.Point.TheVariants as point
+use Rattle.process_semantics.specs.Process as process
+use Rattle.world_semantics.specs.declared.role.Role.{Role}
+use Rattle.world_semantics.specs.declared.role.Role.TheVariants.{Acting, Watching, Gone}
+use Rattle.world_semantics.specs.World.{Copy, Pair, Mark, World, Which, First, Second, copy_of, other_of, may_pass, has_marked}
+use Rattle.world_semantics.specs.Kept.{own_acts}
+use Rattle.world_semantics.specs.Core.{Core, Deed}
+use Rattle.world_semantics.specs.Messages.{Message, Sending, sent_at, Cause, Running}
+use Rattle.world_semantics.specs.Own.{Around, around, Causes, by_inner, by_take, by_ask, by_answer, by_device, by_write, by_reply}
+use Rattle.world_semantics.specs.Passes.{Passes, by_send, by_pass_again, by_pass, by_apply, by_acknowledge}
+use Rattle.world_semantics.specs.Rules.{Change, by_own, by_checkpoint, by_request, by_early_request, by_enter, by_print, by_stop, by_mark, after_own}
+use Rattle.world_semantics.specs.Follows.{IsIdleFor}
+use Rattle.world_semantics.specs.Running.{Done, entered, Own, own_at, own_done, passed_done, mark_done, run_at, run_as, run_copy, first_of_two, run_pair, run_done}
+use Rattle.world_semantics.proofs.Lists.{some-same}
+use Rattle.world_semantics.proofs.Running.{enters-as, enters-only, own-can, own-only}
+
+-- The computed change is permitted
+
+-- a change that is made where a process runs
+abbrev MayRun : Site → ℕ → World → Done → Type 0
+MayRun site number w done = Change site w (Running number) done.sendings done.world
+
+either-not : (a b : Bool) → (a || b) ≡ false → b ≡ false
+either-not true b e = absurd (cc)
+either-not false b e = e
+
+passed-may : (site : Site) (number : ℕ) (k : Which) (pair : Pair) (w : World) → slice_get w.processes number ≡ Some pair → (copy_of k pair).role ≡ Acting
+    → process.point (copy_of k pair).core.state ≡ point.Mark → may_pass w.marks k pair ≡ true
+    → (again : Bool) → nat_lt (copy_of k pair).position (own_acts number w.kept) ≡ again → MayRun site number w (passed_done number k pair w again)
+passed-may site number k pair w there role p m true e = by_checkpoint number pair there (by_pass_again k role p m (ltb-true _ _ e))
+passed-may site number k pair w there role p m false e = by_checkpoint number pair there (by_pass k role p m (ltb-false _ _ e))
+
+mark-may : (site : Site) (number : ℕ) (k : Which) (pair : Pair) (w : World) → slice_get w.processes number ≡ Some pair → (copy_of k pair).role ≡ Acting
+    → process.point (copy_of k pair).core.state ≡ point.Mark → (free sent : Bool) → may_pass w.marks k pair ≡ free → (copy_of k pair).sent ≡ sent
+    → (done : Done) → mark_done number k pair w free sent ≡ Some done → MayRun site number w done
+mark-may site number k pair w there role p true sent m s done e =
+    subst (MayRun site number w) (some-same e) (passed-may site number k pair w there role p m _ refl)
+mark-may site number k pair w there role p false true m s done e = absurd (cc)
+mark-may site number k pair w there role p false false m s done e =
+    subst (MayRun site number w) (some-same e) (by_checkpoint number pair there (by_send k role p s (either-not (copy_of k pair).acknowledged _ m)))
+
+own-may : (site : Site) (number : ℕ) (k : Which) (pair : Pair) (w : World) → slice_get w.processes number ≡ Some pair → (copy_of k pair).role ≡ Acting
+    → (p : Point) → process.point (copy_of k pair).core.state ≡ p → (o : Option Own)
+    → own_at site number (copy_of k pair).core (around (copy_of k pair) pair w) p ≡ o → (done : Done) → option_map (own_done number k pair w) o ≡ Some done
+    → MayRun site number w done
+own-may site number k pair w there role p stands None a done e = absurd (cc)
+own-may site number k pair w there role p stands (Some o) a done e =
+    let can = own-can site number (copy_of k pair).processor (copy_of k pair).core (around (copy_of k pair) pair w) o p stands a in
+    subst (MayRun site number w) (some-same e)
+    (by_own number k pair there role can.causes can.advances (enters-as number o.done w.kept (copy_of k pair)))
+
+at-may : (site : Site) (number : ℕ) (k : Which) (pair : Pair) (w : World) → slice_get w.processes number ≡ Some pair → (copy_of k pair).role ≡ Acting
+    → (p : Point) → process.point (copy_of k pair).core.state ≡ p → (done : Done) → run_at site number k pair w p ≡ Some done → MayRun site number w done
+at-may site number k pair w there role point.Mark stands done e =
+    mark-may site number k pair w there role stands (may_pass w.marks k pair) (copy_of k pair).sent refl refl done e
+at-may site number k pair w there role p stands done e = own-may site number k pair w there role p stands _ refl done e
+
+as-may : (site : Site) (number : ℕ) (k : Which) (pair : Pair) (w : World) → slice_get w.processes number ≡ Some pair → (role : Role)
+    → (copy_of k pair).role ≡ role → (done : Done) → run_as site number k pair w role ≡ Some done → MayRun site number w done
+as-may site number k pair w there Acting role done e = at-may site number k pair w there role _ refl done e
+as-may site number k pair w there Watching role done e = absurd (cc)
+as-may site number k pair w there Gone role done e = absurd (cc)
+
+two-may : (site : Site) (number : ℕ) (w : World) (first second : Option Done) (done : Done)
+    → ((one : Done) → first ≡ Some one → MayRun site number w one) → ((one : Done) → second ≡ Some one → MayRun site number w one)
+    → first_of_two first second ≡ Some done → MayRun site number w done
+two-may site number w None second done a b e = b done e
+two-may site number w (Some one) second done a b e = a done e
+
+pair-may : (site : Site) (number : ℕ) (w : World) (pair : Option Pair) → slice_get w.processes number ≡ pair → (done : Done)
+    → run_pair site number w pair ≡ Some done → MayRun site number w done
+pair-may site number w None there done e = absurd (cc)
+pair-may site number w (Some pair) there done e =
+    two-may site number w (run_copy site number pair w First) (run_copy site number pair w Second) done
+    (λ one. as-may site number First pair w there pair.first.role refl one) (λ one. as-may site number Second pair w there pair.second.role refl one) e
+
+pub run-may : (site : Site) (number : ℕ) (w : World) (done : Done) → run_done site number w ≡ Some done → Change site w (Running number) done.sendings done.world
+run-may site number w done e = pair-may site number w (slice_get w.processes number) refl done e
+
+-- No other change is permitted
+
+-- nothing is acknowledged where nothing is sent
+abbrev pub IsSettled : Copy → Type 0
+IsSettled copy = copy.sent ≡ false → copy.acknowledged ≡ false
+
+-- the copy that makes a change for which its process runs, which is the computed one
+record Ran (site : Site) (number : ℕ) (w : World) (done : Done) : Type 0 where
+  pub pair : Pair
+  pub k : Which
+  pub there : slice_get w.processes number ≡ Some pair
+  pub role : (copy_of k pair).role ≡ Acting
+  pub exact : IsSettled (copy_of k pair) → run_at site number k pair w (process.point (copy_of k pair).core.state) ≡ Some done
+  pub some : run_at site number k pair w (process.point (copy_of k pair).core.state) ≡ None → ⊥
+
+own-run : (site : Site) (number : ℕ) (k : Which) (pair : Pair) (w : World) (p : Point) (o : Own)
+    → own_at site number (copy_of k pair).core (around (copy_of k pair) pair w) p ≡ Some o → run_at site number k pair w p ≡ Some (own_done number k pair w o)
+own-run site number k pair w point.Mark o e = absurd (cc)
+own-run site number k pair w p o e = ap (option_map (own_done number k pair w)) e
+
+not-none : {A : Type 0} {o : Option A} {x : A} → o ≡ Some x → o ≡ None → ⊥
+not-none e n = cc
+
+free-or : (marks : List Mark) (k : Which) (pair : Pair) → IsSettled (copy_of k pair) → (copy_of k pair).sent ≡ false
+    → has_marked marks (copy_of k pair).processor (copy_of (other_of k) pair).processor ≡ false → may_pass marks k pair ≡ false
+free-or marks k pair settled s m = rw (settled s, m) refl
+
+mark-some : (number : ℕ) (k : Which) (pair : Pair) (w : World) (free : Bool) → mark_done number k pair w free false ≡ None → ⊥
+mark-some number k pair w true e = cc
+mark-some number k pair w false e = cc
+
+pass-ran : (site : Site) (number : ℕ) (w : World) (pair : Pair) → slice_get w.processes number ≡ Some pair → {cause : Cause} {sendings : List Sending} {next : Pair}
+    {kept : List Act} → cause ≡ Running number → Passes number w.marks w.kept pair cause sendings next kept
+    → Ran site number w (record { world = record w { processes = slice_set w.processes number next; kept = kept }; sendings = sendings })
+pass-ran site number w pair there r (by_send k role p s m) = record {
+  pair = pair;
+  k = k;
+  there = there;
+  role = role;
+  exact = λ settled.
+      ap (run_at site number k pair w) p ∙ ap (λ sent. mark_done number k pair w (may_pass w.marks k pair) sent) s
+      ∙ ap (λ free. mark_done number k pair w free false) (free-or w.marks k pair settled s m);
+  some = rw (p, s) (mark-some number k pair w (may_pass w.marks k pair));
+}
+pass-ran site number w pair there r (by_pass_again k role p m l) =
+    let e : run_at site number k pair w (process.point (copy_of k pair).core.state) ≡ Some (passed_done number k pair w true) = rw (p, m, lt-ltb _ _ l) refl in
+    record { pair = pair; k = k; there = there; role = role; exact = λ _. e; some = not-none e }
+pass-ran site number w pair there r (by_pass k role p m l) =
+    let e : run_at site number k pair w (process.point (copy_of k pair).core.state) ≡ Some (passed_done number k pair w false) = rw (p, m, le-ltb _ _ l) refl in
+    record { pair = pair; k = k; there = there; role = role; exact = λ _. e; some = not-none e }
+pass-ran site number w pair there r (by_apply k message applied role i e n a) = absurd (cc)
+pass-ran site number w pair there r (by_acknowledge k taken role s i e n) = absurd (cc)
+
+own-ran : (site : Site) (number : ℕ) (k : Which) (pair : Pair) (w : World) → slice_get w.processes number ≡ Some pair → (copy_of k pair).role ≡ Acting
+    → (done : Act) (messages : List Message) (after : Around) (core : Core) (next : Copy) (kept : List Act)
+    → own_at site number (copy_of k pair).core (around (copy_of k pair) pair w) (process.point (copy_of k pair).core.state)
+    ≡ Some (record { done = done; messages = messages; after = after; core = core })
+    → ((entered number done w.kept (copy_of k pair)).copy ≡ next) × ((entered number done w.kept (copy_of k pair)).kept ≡ kept)
+    → Ran site number w (record { world = after_own number k pair core next after kept w; sendings = sent_at (copy_of k pair).processor messages })
+own-ran site number k pair w there role done messages after core next kept e s =
+    let run = own-run site number k pair w (process.point (copy_of k pair).core.state) _ e in
+    record {
+      pair = pair;
+      k = k;
+      there = there;
+      role = role;
+      exact = λ _. rw (sym s.0, sym s.1) run;
+      some = not-none run;
+    }
+
+same-number : {one other : ℕ} → Running one ≡ Running other → one ≡ other
+same-number e = cc
+
+own-number : {site : Site} {number one node : ℕ} {core : Core} {before after : Around} {cause : Cause} {deed : Deed} {done : Act} {messages : List Message}
+    → cause ≡ Running number → Causes site one node core before cause deed done messages after → one ≡ number
+own-number r by_inner = same-number r
+own-number r (by_take e) = same-number r
+own-number r by_ask = same-number r
+own-number r (by_answer e) = same-number r
+own-number r (by_device e) = same-number r
+own-number r (by_write e) = same-number r
+own-number r (by_reply i o m e) = absurd (cc)
+
+pass-number : {number one : ℕ} {marks : List Mark} {kept after : List Act} {pair next : Pair} {cause : Cause} {sendings : List Sending}
+    → cause ≡ Running number → Passes one marks kept pair cause sendings next after → one ≡ number
+pass-number r (by_send k role p s m) = same-number r
+pass-number r (by_pass_again k role p m l) = same-number r
+pass-number r (by_pass k role p m l) = same-number r
+pass-number r (by_apply k message applied role i e n a) = absurd (cc)
+pass-number r (by_acknowledge k taken role s i e n) = absurd (cc)
+
+-- the change by which a process runs
+change-ran : {site : Site} (number : ℕ) (w next : World) (cause : Cause) (sendings : List Sending) → cause ≡ Running number
+    → Change site w cause sendings next → Ran site number w (record { world = next; sendings = sendings })
+change-ran {site = site} number w next cause sendings r (by_own {done = done} {messages = messages} {after = after} {core = core} {entered = copy} {kept = kept} one k pair there role c a e) =
+    let same = own-number r c in
+    subst (λ n. Ran site n w (record { world = after_own one k pair core copy after kept w; sendings = sent_at (copy_of k pair).processor messages })) same
+    (own-ran site one k pair w there role done messages after core copy kept (own-only (r ∙ ap Running (sym same)) c a) (enters-only e))
+change-ran {site = site} number w next cause sendings r (by_checkpoint {next = pair'} {kept = kept} one pair there p) =
+    let same = pass-number r p in
+    subst (λ n. Ran site n w (record { world = record w { processes = slice_set w.processes one pair'; kept = kept }; sendings = sendings })) same
+    (pass-ran site one w pair there (r ∙ ap Running (sym same)) p)
+change-ran number w next cause sendings r (by_request request k pair i there role) = absurd (cc)
+change-ran number w next cause sendings r (by_early_request request k pair i there role) = absurd (cc)
+change-ran number w next cause sendings r (by_enter one terminal opener t e q o) = absurd (cc)
+change-ran number w next cause sendings r (by_print one terminal reply t e i o n) = absurd (cc)
+change-ran number w next cause sendings r (by_stop x s) = absurd (cc)
+change-ran number w next cause sendings r (by_mark node x s run n) = absurd (cc)
+
+none-of-two : (first second : Option Done) → first_of_two first second ≡ None → (first ≡ None) × (second ≡ None)
+none-of-two None second e = (refl, e)
+none-of-two (Some one) second e = absurd (cc)
+
+copy-none : (site : Site) (number : ℕ) (pair : Pair) (w : World) (k : Which) → (run_copy site number pair w First ≡ None) × (run_copy site number pair w Second ≡ None)
+    → run_copy site number pair w k ≡ None
+copy-none site number pair w First n = n.0
+copy-none site number pair w Second n = n.1
+
+-- where nothing is computed, nothing is permitted
+pub run-idle : (site : Site) (number : ℕ) (w : World) → run_done site number w ≡ None → IsIdleFor site w (Running number)
+run-idle site number w none sendings next c =
+    let ran = change-ran number w next (Running number) sendings refl c in
+    let two : run_pair site number w (Some ran.pair) ≡ None = ap (run_pair site number w) (sym ran.there) ∙ none in
+    let copy = copy-none site number ran.pair w ran.k (none-of-two _ _ two) in
+    ran.some (ap (run_as site number ran.k ran.pair w) (sym ran.role) ∙ copy)
+
+not-acting : (site : Site) (number : ℕ) (k : Which) (pair : Pair) (w : World) (role : Role) → (role ≡ Acting → ⊥) → run_as site number k pair w role ≡ None
+not-acting site number k pair w Acting n = absurd (n refl)
+not-acting site number k pair w Watching n = refl
+not-acting site number k pair w Gone n = refl
+
+pair-only : (site : Site) (number : ℕ) (pair : Pair) (w : World) (done : Done) (k : Which) → (pair.first.role ≡ Acting → pair.second.role ≡ Acting → ⊥)
+    → (copy_of k pair).role ≡ Acting → run_copy site number pair w k ≡ Some done → run_pair site number w (Some pair) ≡ Some done
+pair-only site number pair w done First alone role e = rw e refl
+pair-only site number pair w done Second alone role e =
+    let n : run_copy site number pair w First ≡ None = not-acting site number First pair w pair.first.role (λ a. alone a role) in rw n e
+
+-- where at most one copy acts, and none is acknowledged that hasn't sent, the computed change alone is permitted
+pub run-only : (site : Site) (number : ℕ) (w next : World) (sendings : List Sending)
+    → ((pair : Pair) → slice_get w.processes number ≡ Some pair → (pair.first.role ≡ Acting → pair.second.role ≡ Acting → ⊥) × ((k : Which) → IsSettled (copy_of k pair)))
+    → Change site w (Running number) sendings next → run_done site number w ≡ Some (record { world = next; sendings = sendings })
+run-only site number w next sendings ok c =
+    let ran = change-ran number w next (Running number) sendings refl c in
+    let known = ok ran.pair ran.there in
+    let copy : run_copy site number ran.pair w ran.k ≡ Some (record { world = next; sendings = sendings }) =
+    ap (run_as site number ran.k ran.pair w) ran.role ∙ ran.exact (known.1 ran.k) in
+    ap (run_pair site number w) ran.there ∙ pair-only site number ran.pair w _ ran.k known.0 ran.role copy

@@ -1,0 +1,100 @@
+-- The core of a copy: what its checkpoints carry and restore, as in Bartlett's "A NonStop Kernel". Each act of a process is a step of the core.
+use Rattle.std.specs.Prelude.{◌≡◌, ℕ, ◌+◌, ℤ, List, [], ◌∷◌, map, is_some, slice_get, slice_set, Option, Some, None}
+use Rattle.std.specs.Option.{option_map, unwrap_or}
+use Rattle.gd_words.specs.declared.device.DeviceCall.{DeviceCall}
+use Rattle.tal_tree.specs.declared.site.Site.{Site}
+use Rattle.tal_tree.specs.declared.site.ProcessSpec.{ProcessSpec}
+use Rattle.tal_tree.specs.declared.site.OpenerSpec.{OpenerSpec}
+use Rattle.process_semantics.specs.declared.point.Point.TheVariants as point
+use Rattle.process_semantics.specs.Process as process
+use Rattle.process_semantics.specs.Image.{image_of, listed_items, listed_files, restored}
+use Rattle.plain_semantics.specs.Openers.{files_of, openers_of}
+use Rattle.world_semantics.specs.declared.receive.OpenerBlock.{OpenerBlock}
+use Rattle.world_semantics.specs.declared.receive.ReceiveBlock.{ReceiveBlock}
+use Rattle.world_semantics.specs.declared.message.FileNumber.{FileNumber}
+use Rattle.world_semantics.specs.declared.message.Image.{Image}
+use Rattle.world_semantics.specs.Receive.{after_taking, after_answering}
+
+-- what a process is with its files and openers: its state, the number of the next request on each of its files, and its receive table
+pub record Core : Type 0 where
+  pub state : process.ProcessState
+  pub next : List ℕ
+  pub receive : ReceiveBlock
+
+-- the core of a process at its beginning: all next numbers are 1, nothing was taken, and nothing is kept or in hand
+abbrev pub core_at_boot : Site → ℕ → ProcessSpec → Core
+core_at_boot site number spec = record {
+  state = process.start_of spec.what;
+  next = map (λ file. 1) (files_of spec.what);
+  receive = record { openers = map (λ opener. record { taken = 0; kept = [] }) (openers_of site number); in_hand = None };
+}
+
+-- the number of the next request on a file
+abbrev pub next_on : Core → ℕ → ℕ
+next_on core file = unwrap_or (slice_get core.next file) 1
+
+-- Acts of a process
+
+-- what a process does by one act of its own, with the words that it takes in or gives out
+pub data Deed : Type 0 where
+  -- a step inside
+  Went : Deed
+  -- the step at a mark
+  Marked : Deed
+  -- it took a request of the opener at a place
+  Took : (place : ℕ) → (words : List ℤ) → Deed
+  -- it asked on a file
+  Asked : (file : ℕ) → (words : List ℤ) → Deed
+  -- it got the reply on a file
+  Got : (file : ℕ) → (words : List ℤ) → Deed
+  -- it answered the opener at a place
+  Answered : (place : ℕ) → (words : List ℤ) → Deed
+  -- it acted on its device, where these words stood on the sector that it reads
+  Acted : (call : DeviceCall) → (found : List ℤ) → Deed
+
+-- the core goes on after the mark
+abbrev pub after_passing : Core → Core
+after_passing core = record core { state = process.after_mark core.state }
+
+-- a deed is possible where the process stands at its point, and leads to the step of its state. Taking and answering are noted in the receive table, and
+-- asking raises the next number of the file
+pub data Advances (openers : List OpenerSpec) (core : Core) : Deed → Core → Type 0 where
+  goes : process.point core.state ≡ point.Inner → Advances openers core Went (record core { state = process.after_inner core.state })
+  marks : process.point core.state ≡ point.Mark → Advances openers core Marked (after_passing core)
+  takes : {place : ℕ} {words : List ℤ} (block : OpenerBlock) → process.point core.state ≡ point.Take → slice_get core.receive.openers place ≡ Some block
+      → Advances openers core (Took place words)
+      (record core { state = process.after_took core.state words; receive = after_taking place block core.receive })
+  asks : {file : ℕ} {words : List ℤ} → process.point core.state ≡ point.Ask → file ≡ process.asked_file core.state → words ≡ process.asked_words core.state
+      → Advances openers core (Asked file words)
+      (record core { state = process.after_asked core.state; next = slice_set core.next file (next_on core file + 1) })
+  gets : {file : ℕ} {words : List ℤ} → process.point core.state ≡ point.Await → file ≡ process.asked_file core.state
+      → Advances openers core (Got file words) (record core { state = process.after_got core.state words })
+  answers : {place : ℕ} {words : List ℤ} (opener : OpenerSpec) (block : OpenerBlock) → process.point core.state ≡ point.Answer
+      → core.receive.in_hand ≡ Some place → slice_get openers place ≡ Some opener → slice_get core.receive.openers place ≡ Some block
+      → words ≡ process.answer_of core.state
+      → Advances openers core (Answered place words)
+      (record core { state = process.after_answered core.state; receive = after_answering opener.depth place block words core.receive })
+  acts : {call : DeviceCall} {found : List ℤ} → process.point core.state ≡ point.Device → call ≡ process.call_of core.state
+      → Advances openers core (Acted call found) (record core { state = process.after_device core.state found })
+
+-- Checkpoints
+
+-- what a checkpoint of a core at Mark carries: the words of its image with the items named there, the next numbers of the files named there, and the
+-- receive table
+abbrev pub carried : Core → Image
+carried core = record {
+  body = image_of (listed_items core.state) core.state;
+  files = map (λ file. record { file = file; next = next_on core file }) (listed_files core.state);
+  receive = core.receive;
+}
+
+abbrev pub with_files : List FileNumber → List ℕ → List ℕ
+with_files [] next = next
+with_files (named ∷ files) next = with_files files (slice_set next named.file named.next)
+
+-- the core after what a checkpoint carries was put into it: the state that the image restores, the next numbers of the named files, and the table; none
+-- where the words are no image of the process
+abbrev pub put_in : Core → Image → Option Core
+put_in core image =
+    option_map (λ state. record { state = state; next = with_files image.files core.next; receive = image.receive })
+    (restored core.state (is_some image.receive.in_hand) image.body)

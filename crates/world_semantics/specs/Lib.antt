@@ -1,0 +1,12 @@
+pub mod Core
+pub mod Examples
+pub mod Follows
+pub mod Kept
+pub mod Laws
+pub mod Messages
+pub mod Own
+pub mod Passes
+pub mod Receive
+pub mod Rules
+pub mod Running
+pub mod World

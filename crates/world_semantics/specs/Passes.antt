@@ -1,0 +1,71 @@
+-- How a checkpoint goes from one copy of a process to the other: Bartlett's checkpoint, applied whole. That era and number choose it is our own rule.
+use Rattle.std.specs.Prelude.{◌≡◌, ◌≤◌, ◌<◌, ℕ, ◌+◌, true, false, List, [], ◌∷◌, ◌++◌, Some}
+use Rattle.tal_tree.specs.declared.act.Act.{Act}
+use Rattle.tal_tree.specs.declared.act.Act.TheVariants.{Step}
+use Rattle.process_semantics.specs.declared.point.Point.TheVariants as point
+use Rattle.process_semantics.specs.Process as process
+use Rattle.world_semantics.specs.declared.message.ImageMessage.{ImageMessage}
+use Rattle.world_semantics.specs.declared.message.TakenMessage.{TakenMessage}
+use Rattle.world_semantics.specs.declared.role.Role.TheVariants.{Acting, Watching}
+use Rattle.world_semantics.specs.Core.{Core, after_passing, carried, put_in}
+use Rattle.world_semantics.specs.World.{Copy, Pair, Mark, has_marked, Which, other_of, copy_of, with_copy, may_pass, IsAmong}
+use Rattle.world_semantics.specs.Kept.{own_acts}
+use Rattle.world_semantics.specs.Messages.{Checkpointing, Taking, Sending, sent_at, Cause, Running, Handing}
+
+-- the checkpoint that a copy of a process sends: the next one of its era
+abbrev pub checkpoint_of : ℕ → Copy → ImageMessage
+checkpoint_of number copy = record { process = number; era = copy.era; number = copy.number + 1; image = carried copy.core }
+
+-- the message that a checkpoint was taken
+abbrev pub taken_of : ImageMessage → TakenMessage
+taken_of message = record { process = message.process; era = message.era; number = message.number }
+
+-- the copy after it sent its checkpoint
+abbrev pub after_sending : Copy → Copy
+after_sending copy = record copy { number = copy.number + 1; sent = true; acknowledged = false }
+
+-- the copy after it passed its mark
+abbrev pub after_mark : Copy → Copy
+after_mark copy = record copy { core = after_passing copy.core; sent = false; acknowledged = false }
+
+-- the kept acts after a copy's held acts and the step at its mark were added
+abbrev pub kept_at_mark : ℕ → Copy → List Act → List Act
+kept_at_mark number copy kept = Step number ∷ (copy.held ++ kept)
+
+-- the process after one of its copies applied a checkpoint, by which it has this core: the other copy's held acts and its mark are kept, the base is behind
+-- them, and the other copy stands before that mark. It is so too where the other copy is gone: what a copy that is gone keeps is all but its role, its
+-- position and its held acts
+abbrev pub after_applying : ℕ → Which → ImageMessage → Core → List Act → Pair → Pair
+after_applying number k message applied kept pair =
+    with_copy k (record (copy_of k pair) { core = applied; number = message.number })
+    (with_copy (other_of k) (record (copy_of (other_of k) pair) { position = own_acts number ((copy_of (other_of k) pair).held ++ kept); held = [] })
+    (record pair { base = own_acts number (kept_at_mark number (copy_of (other_of k) pair) kept); takens = taken_of message ∷ pair.takens }))
+
+-- how a checkpoint goes from one copy of a process to the other. A copy that acts at a mark sends its checkpoint, unless it did or its node has marked the
+-- other copy's processor; a watching copy applies a sent checkpoint whose era is its own and whose number is the next; a copy that acts is told that the
+-- checkpoint which it has sent was taken; and it passes its mark, which it did already, or which is kept now with its held acts before it
+pub data Passes (number : ℕ) (marks : List Mark) (kept : List Act) (pair : Pair) : Cause → List Sending → Pair → List Act → Type 0 where
+  by_send : (k : Which) → (copy_of k pair).role ≡ Acting → process.point (copy_of k pair).core.state ≡ point.Mark → (copy_of k pair).sent ≡ false
+      → has_marked marks (copy_of k pair).processor (copy_of (other_of k) pair).processor ≡ false
+      → Passes number marks kept pair (Running number)
+      (sent_at (copy_of k pair).processor (Checkpointing (checkpoint_of number (copy_of k pair)) ∷ []))
+      (with_copy k (after_sending (copy_of k pair)) (record pair { checkpoints = checkpoint_of number (copy_of k pair) ∷ pair.checkpoints })) kept
+  by_pass_again : (k : Which) → (copy_of k pair).role ≡ Acting → process.point (copy_of k pair).core.state ≡ point.Mark → may_pass marks k pair ≡ true
+      → (copy_of k pair).position < own_acts number kept
+      → Passes number marks kept pair (Running number) []
+      (with_copy k (record (after_mark (copy_of k pair)) { position = (copy_of k pair).position + 1 }) pair) kept
+  by_pass : (k : Which) → (copy_of k pair).role ≡ Acting → process.point (copy_of k pair).core.state ≡ point.Mark → may_pass marks k pair ≡ true
+      → own_acts number kept ≤ (copy_of k pair).position
+      → Passes number marks kept pair (Running number) []
+      (with_copy k (record (after_mark (copy_of k pair)) { position = own_acts number (kept_at_mark number (copy_of k pair) kept); held = [] }) pair)
+      (kept_at_mark number (copy_of k pair) kept)
+  by_apply : (k : Which) (message : ImageMessage) (applied : Core) → (copy_of k pair).role ≡ Watching → IsAmong message pair.checkpoints
+      → message.era ≡ (copy_of k pair).era → message.number ≡ (copy_of k pair).number + 1 → put_in (copy_of k pair).core message.image ≡ Some applied
+      → Passes number marks kept pair (Handing (copy_of k pair).processor (Checkpointing message))
+      (sent_at (copy_of k pair).processor (Taking (taken_of message) ∷ []))
+      (after_applying number k message applied kept pair)
+      (kept_at_mark number (copy_of (other_of k) pair) kept)
+  by_acknowledge : (k : Which) (taken : TakenMessage) → (copy_of k pair).role ≡ Acting → (copy_of k pair).sent ≡ true → IsAmong taken pair.takens
+      → taken.era ≡ (copy_of k pair).era → taken.number ≡ (copy_of k pair).number
+      → Passes number marks kept pair (Handing (copy_of k pair).processor (Taking taken)) []
+      (with_copy k (record (copy_of k pair) { acknowledged = true }) pair) kept

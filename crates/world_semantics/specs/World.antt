@@ -1,0 +1,171 @@
+-- The world of copies: all that it has. Pairs in two processors, checkpoints and takeover are Bartlett's; eras, bases, positions and held acts are our
+-- own. Lists of what happened (acts, what is shown, messages, marks) have the newest first, so what is added stands before what was there; processes,
+-- terminals, sectors and waiting requests stand in their order.
+use Rattle.std.specs.Prelude.{ℕ, ◌+◌, ◌==◌, ◌&&◌, ℤ, Bool, false, not, ◌||◌, List, [], ◌∷◌, map, replicate, slice_get, slice_set, Option, Some, None}
+use Rattle.std.specs.List.{list_any}
+use Rattle.gd_words.specs.declared.message.Request.{Request}
+use Rattle.gd_words.specs.declared.message.Reply.{Reply}
+use Rattle.tal_tree.specs.declared.act.Act.{Act}
+use Rattle.tal_tree.specs.declared.act.Shown.{Shown}
+use Rattle.tal_tree.specs.declared.site.Site.{Site}
+use Rattle.tal_tree.specs.declared.site.ProcessSpec.{ProcessSpec}
+use Rattle.tal_tree.specs.declared.site.Kind.{Kind}
+use Rattle.tal_tree.specs.declared.site.Kind.TheVariants as kind
+use Rattle.process_semantics.specs.Program.{zeros}
+use Rattle.world_semantics.specs.declared.message.ImageMessage.{ImageMessage}
+use Rattle.world_semantics.specs.declared.message.TakenMessage.{TakenMessage}
+use Rattle.world_semantics.specs.declared.role.Role.{Role}
+use Rattle.world_semantics.specs.declared.role.Role.TheVariants.{Acting, Watching}
+use Rattle.world_semantics.specs.Core.{Core, core_at_boot}
+
+-- a copy of a process: the processor in which it is, its role, its era, the number of the last checkpoint sent or applied in that era, whether it has sent
+-- the checkpoint of the mark at which it stands, whether that was acknowledged, its core, and the requests that wait. Its position is how many of the
+-- process's kept acts it has done, and its held acts are those that it did beyond them
+pub record Copy : Type 0 where
+  pub processor : ℕ
+  pub role : Role
+  pub era : ℕ
+  pub number : ℕ
+  pub sent : Bool
+  pub acknowledged : Bool
+  pub core : Core
+  pub waiting : List Request
+  pub position : ℕ
+  pub held : List Act
+
+-- a sector of a disc's device: its words, and the number of the write that put them
+pub record Stored : Type 0 where
+  pub words : List ℤ
+  pub number : ℕ
+
+-- a process: its copies in its two processors, how many of its kept acts the last applied checkpoint covers, the checkpoints that its copies ever sent and
+-- the messages that those were taken, and the sectors of its device
+pub record Pair : Type 0 where
+  pub first : Copy
+  pub second : Copy
+  pub base : ℕ
+  pub checkpoints : List ImageMessage
+  pub takens : List TakenMessage
+  pub sectors : List Stored
+
+-- a terminal: how many requests it has entered, and how many replies it has printed
+pub record Terminal : Type 0 where
+  pub entered : ℕ
+  pub printed : ℕ
+
+-- a node has marked a processor as stopped
+pub record Mark : Type 0 where
+  pub node : ℕ
+  pub down : ℕ
+
+-- the world: which processors have stopped, which node has marked which, the requests and replies ever sent, the processes, the terminals, what was shown,
+-- and the acts that are kept
+pub record World : Type 0 where
+  pub stopped : List Bool
+  pub marks : List Mark
+  pub requests : List Request
+  pub replies : List Reply
+  pub processes : List Pair
+  pub terminals : List Terminal
+  pub shown : List Shown
+  pub kept : List Act
+
+-- Beginning
+
+abbrev pub copy_at_boot : Role → ℕ → Core → Copy
+copy_at_boot role processor core = record {
+  processor = processor;
+  role = role;
+  era = 0;
+  number = 0;
+  sent = false;
+  acknowledged = false;
+  core = core;
+  waiting = [];
+  position = 0;
+  held = [];
+}
+
+abbrev pub device_at_boot : Kind → List Stored
+device_at_boot (kind.Disc sectors) = replicate sectors (record { words = zeros 8; number = 0 })
+device_at_boot (kind.Pair program) = []
+
+-- a process at the beginning: the copy in its first-named processor acts, the other one watches, and both are at the beginning of the program
+abbrev pub pair_at_boot : Site → ℕ → ProcessSpec → Pair
+pair_at_boot site number spec = record {
+  first = copy_at_boot Acting spec.primary (core_at_boot site number spec);
+  second = copy_at_boot Watching spec.backup (core_at_boot site number spec);
+  base = 0;
+  checkpoints = [];
+  takens = [];
+  sectors = device_at_boot spec.what;
+}
+
+abbrev pub pairs_at_boot : Site → ℕ → List ProcessSpec → List Pair
+pairs_at_boot site number [] = []
+pairs_at_boot site number (spec ∷ specs) = pair_at_boot site number spec ∷ pairs_at_boot site (number + 1) specs
+
+-- the world at the beginning: nothing has stopped, and nothing was sent, shown or kept
+abbrev pub boot : Site → World
+boot site = record {
+  stopped = replicate site.processors false;
+  marks = [];
+  requests = [];
+  replies = [];
+  processes = pairs_at_boot site 0 site.processes;
+  terminals = map (λ terminal. record { entered = 0; printed = 0 }) site.terminals;
+  shown = [];
+  kept = [];
+}
+
+-- Nodes and copies
+
+-- the node that carries the terminals. It doesn't stop
+abbrev pub terminal_node : ℕ
+terminal_node = 16
+
+abbrev pub runs_by : ℕ → Option Bool → Bool
+runs_by node (Some stopped) = not stopped
+runs_by node None = node == terminal_node
+
+-- whether a node runs: a processor that hasn't stopped, or the node of the terminals
+abbrev pub is_running : List Bool → ℕ → Bool
+is_running stopped node = runs_by node (slice_get stopped node)
+
+-- whether a node has marked a processor
+abbrev pub has_marked : List Mark → ℕ → ℕ → Bool
+has_marked marks node processor = list_any (λ mark. mark.node == node && mark.down == processor) marks
+
+-- one of the two copies of a process: that in its first-named processor, or the other
+pub data Which : Type 0 where
+  First : Which
+  Second : Which
+
+abbrev pub other_of : Which → Which
+other_of First = Second
+other_of Second = First
+
+abbrev pub copy_of : Which → Pair → Copy
+copy_of First pair = pair.first
+copy_of Second pair = pair.second
+
+-- a process with one of its copies changed
+abbrev pub with_copy : Which → Copy → Pair → Pair
+with_copy First copy pair = record pair { first = copy }
+with_copy Second copy pair = record pair { second = copy }
+
+-- whether a copy may go on after its mark: its checkpoint was acknowledged, or its node has marked the other copy's processor
+abbrev pub may_pass : List Mark → Which → Pair → Bool
+may_pass marks k pair =
+    (copy_of k pair).acknowledged || has_marked marks (copy_of k pair).processor (copy_of (other_of k) pair).processor
+
+-- the world with a process changed
+abbrev pub with_pair : ℕ → Pair → World → World
+with_pair number pair w = record w { processes = slice_set w.processes number pair }
+
+-- Membership
+
+-- an element is among those of a list
+pub data IsAmong {A : Type 0} (item : A) : List A → Type 0 where
+  is_first : {items : List A} → IsAmong item (item ∷ items)
+  is_later : {other : A} {items : List A} → IsAmong item items → IsAmong item (other ∷ items)

@@ -1,0 +1,32 @@
+ghost use Rattle.std.specs.Prelude.{◌≡◌, pos, [], ◌∷◌, reverse};
+ghost use Rattle.plain_semantics.specs.Machine.{IsPossible, shown_by};
+ghost use Rattle.world_semantics.specs.Examples.{adder_for, disc_site, takeover_events, takeover_acts, takeover_shown, lost_take_events, lost_take_acts, lost_take_shown, disc_events, disc_acts, disc_shown, bank_site, repeat_events, repeat_acts, repeat_shown, CanKeep};
+
+/// The adder's first copy is lost when it has answered. The second takes over behind the checkpoint and answers anew, and the
+/// acts that are kept are those of one process that doesn't fail.
+pub fn an_adder_is_taken_over()
+    ensures run { CanKeep (adder_for (pos 5 ∷ [])) takeover_events takeover_acts takeover_shown }
+    ensures possible { IsPossible (adder_for (pos 5 ∷ [])) takeover_acts }
+    ensures shown { shown_by (adder_for (pos 5 ∷ [])) takeover_acts ≡ reverse takeover_shown }
+{}
+
+/// A take that is lost with its processor leaves nothing: the copy that takes over takes another request in its place.
+pub fn a_lost_take_is_replaced()
+    ensures run { CanKeep (adder_for (pos 5 ∷ pos 7 ∷ [])) lost_take_events lost_take_acts lost_take_shown }
+    ensures possible { IsPossible (adder_for (pos 5 ∷ pos 7 ∷ [])) lost_take_acts }
+    ensures shown { shown_by (adder_for (pos 5 ∷ pos 7 ∷ [])) lost_take_acts ≡ reverse lost_take_shown }
+{}
+
+/// A disc that is taken over after its write finds it done: the write is shown once.
+pub fn a_disc_finds_its_write_done()
+    ensures run { CanKeep disc_site disc_events disc_acts disc_shown }
+    ensures possible { IsPossible disc_site disc_acts }
+    ensures shown { shown_by disc_site disc_acts ≡ reverse disc_shown }
+{}
+
+/// A bank that is taken over while it awaits a disc asks again, and gets the reply that the disc keeps: nothing is written twice.
+pub fn a_repeated_request_is_answered_once()
+    ensures run { CanKeep bank_site repeat_events repeat_acts repeat_shown }
+    ensures possible { IsPossible bank_site repeat_acts }
+    ensures shown { shown_by bank_site repeat_acts ≡ reverse repeat_shown }
+{}

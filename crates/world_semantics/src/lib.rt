@@ -1,0 +1,27 @@
+//! The world of copies: each process as two copies in two processors, the messages that were ever sent between them, the
+//! processors that stopped, and what may change in it. It says what the machines do, and has no packets, channels or ticks.
+//!
+//! Below stand `process_semantics` with the states and steps of processes, `plain_semantics` with acts and openers, and
+//! `schedule` with the events of a run. The layer above shows that one event of its machine `Follows` here, and uses the laws
+//! of this crate's public functions over whole runs.
+#![tactic(auto)]
+
+pub mod examples;
+pub mod laws;
+pub mod message;
+pub mod receive;
+pub mod role;
+
+pub use examples::{
+    a_disc_finds_its_write_done, a_lost_take_is_replaced, a_repeated_request_is_answered_once,
+    an_adder_is_taken_over,
+};
+pub use laws::{
+    a_run_has_one_outcome, a_run_is_computed, copies_go_with_their_processor, hands_agree,
+    marked_have_stopped, marks_name_one_processor, messages_stay, nothing_comes_to_a_stopped_node,
+    numbers_never_fall, one_copy_acts, positions_are_kept, shown_and_kept_stay, stops_stay,
+    what_comes_was_sent, what_is_sent_stays,
+};
+pub use message::{FileNumber, Image, ImageMessage, TakenMessage};
+pub use receive::{OpenerBlock, ReceiveBlock, Standing};
+pub use role::Role;
