@@ -1,0 +1,6 @@
+pub mod Accepted
+pub mod Bounds
+pub mod Break
+pub mod Dues
+pub mod Path
+pub mod Place
