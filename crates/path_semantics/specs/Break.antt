@@ -8,9 +8,9 @@ use Rattle.tal_tree.specs.declared.statement.What.{What, What-F, out-What}
 use Rattle.process_semantics.specs.Program.{Entry, Run}
 use Rattle.path_semantics.specs.declared.reason.Reason.{Reason}
 use Rattle.path_semantics.specs.declared.reason.Reason.TheVariants.{Data, SyncBlock, Input, Depth}
-use Rattle.path_semantics.specs.Dues.{Dues}
+use Rattle.path_semantics.specs.declared.dues.Dues.{Dues}
 use Rattle.path_semantics.specs.Place.{Stand, next_entry}
-use Rattle.path_semantics.specs.Path.{Leads, next_number}
+use Rattle.path_semantics.specs.Path.{Leads, number_at}
 
 -- whether a number is one of these
 abbrev pub has : ℕ → List ℕ → Bool
@@ -67,5 +67,5 @@ pub record Breaks (program : Program) (path : List ℕ) (reason : Reason) : Type
   pub stand : Stand
   pub split : path ≡ front ++ number ∷ []
   pub leads : Leads program front stand
-  pub next : next_number stand ≡ Some number
+  pub next : number_at stand ≡ Some number
   pub breaks : IsTrue (breaks_at program reason stand)

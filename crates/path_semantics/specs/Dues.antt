@@ -1,25 +1,20 @@
 -- What is due: what a program may have changed or done since its last CHECKPOINT, and a takeover would lose.
-use Rattle.std.specs.Prelude.{ℕ, Bool, true, false, ◌||◌, List, [], ◌∷◌, ◌++◌}
+use Rattle.std.specs.Prelude.{ℕ, Bool, true, false, ◌||◌, List, [], ◌∷◌, ◌++◌, Option, Some, None}
 use Rattle.tal_tree.specs.declared.expression.Spot.{Spot, Local, Simple, Element}
 use Rattle.tal_tree.specs.declared.expression.Variable.{Variable}
 use Rattle.tal_tree.specs.declared.expression.Variable.TheVariants as variable
 use Rattle.tal_tree.specs.declared.statement.Statement.{Statement}
 use Rattle.tal_tree.specs.declared.statement.What.{What, What-F, out-What}
 use Rattle.process_semantics.specs.Program.{Entry, Run, Test, Last}
-
--- the dues along a path: the globals that may have changed, the file of each WRITEREAD that was made, and whether a request was read
-pub record Dues : Type 0 where
-  pub globals : List ℕ
-  pub asked : List ℕ
-  pub read : Bool
+use Rattle.path_semantics.specs.declared.dues.Dues.{Dues}
 
 -- nothing is due at MAIN's start and after each CHECKPOINT, whatever it names
 abbrev pub no_dues : Dues
 no_dues = record { globals = []; asked = []; read = false }
 
 -- the dues where these globals too may have changed
-abbrev pub with_globals : List ℕ → Dues → Dues
-with_globals globals dues = record dues { globals = globals ++ dues.globals }
+abbrev pub with_changed : List ℕ → Dues → Dues
+with_changed globals dues = record dues { globals = dues.globals ++ globals }
 
 -- the global that a target is or in which it is an element; a local is none
 abbrev pub global_of_spot : Spot → List ℕ
@@ -55,22 +50,22 @@ reads _ = false
 abbrev pub after_statement : Dues → What-F What Statement → Dues
 after_statement dues (What-F.Checkpoint items files) = no_dues
 after_statement dues what = record {
-  globals = changed_by what ++ dues.globals;
-  asked = asked_by what ++ dues.asked;
-  read = reads what || dues.read;
+  globals = dues.globals ++ changed_by what;
+  asked = dues.asked ++ asked_by what;
+  read = dues.read || reads what;
 }
 
 -- the dues after an entry: a FOR's test changes nothing, and its last assignment its variable
 abbrev pub after_entry : Dues → Entry → Dues
 after_entry dues (Run statement) = after_statement dues (out-What statement.what)
 after_entry dues (Test statement) = dues
-after_entry dues (Last statement) = with_globals (changed_by (out-What statement.what)) dues
+after_entry dues (Last statement) = with_changed (changed_by (out-What statement.what)) dues
 
 abbrev pub target_of : What-F What Statement → List ℕ
 target_of (What-F.AssignCall to procedure arguments) = global_of_spot to
 target_of _ = []
 
 -- the global that may change when a call returns: the target of `x := f(..)`, where the call is the next entry of its frame
-abbrev pub changed_by_return : List Entry → List ℕ
-changed_by_return (Run statement ∷ rest) = target_of (out-What statement.what)
+abbrev pub changed_by_return : Option Entry → List ℕ
+changed_by_return (Some (Run statement)) = target_of (out-What statement.what)
 changed_by_return _ = []

@@ -5,7 +5,8 @@ use Rattle.tal_tree.specs.declared.program.Procedure.{Procedure}
 use Rattle.tal_tree.specs.declared.statement.Statement.{Statement}
 use Rattle.tal_tree.specs.declared.statement.What.{What, What-F, out-What}
 use Rattle.process_semantics.specs.Program.{Entry, Run, Test, Last, Frame, runs_of, first_of}
-use Rattle.path_semantics.specs.Dues.{Dues, no_dues, with_globals, after_entry, changed_by_return}
+use Rattle.path_semantics.specs.declared.dues.Dues.{Dues}
+use Rattle.path_semantics.specs.Dues.{no_dues, with_changed, after_entry, changed_by_return}
 
 -- a place: what remains in each procedure that runs, the one that runs now first and MAIN last. A call in progress stays first in its frame. A program that
 -- has ended has no frame
@@ -37,16 +38,6 @@ next_in (frame ∷ callers) = first_of frame
 abbrev pub next_entry : Stand → Option Entry
 next_entry stand = next_in stand.place
 
-abbrev pub last_number : What-F What Statement → ℕ
-last_number (What-F.For variable from to body last) = last
-last_number _ = 0
-
--- the number of an entry: that of its statement; a FOR's test has the next number, and its last assignment one of its own
-abbrev pub number_of : Entry → ℕ
-number_of (Run statement) = statement.number
-number_of (Test statement) = statement.number + 1
-number_of (Last statement) = last_number (out-What statement.what)
-
 -- where a statement leads, from a frame with so much after it: a test leads both ways, a call into its procedure, RETURN to the procedure's end, STOP to the end
 abbrev pub ways_of : Program → Statement → List Entry → Place → What-F What Statement → List Place
 ways_of program statement rest callers (What-F.If test first second) = ((runs_of first ++ rest) ∷ callers) ∷ ((runs_of second ++ rest) ∷ callers) ∷ []
@@ -74,7 +65,7 @@ ways program (Last statement) rest callers = (rest ∷ callers) ∷ []
 abbrev pub stand_at : List Entry → Place → Dues → Stand
 stand_at (entry ∷ rest) callers dues = record { place = (entry ∷ rest) ∷ callers; dues = dues }
 stand_at [] [] dues = record { place = []; dues = dues }
-stand_at [] (caller ∷ callers) dues = stand_at (drop 1 caller) callers (with_globals (changed_by_return caller) dues)
+stand_at [] (caller ∷ callers) dues = stand_at (drop 1 caller) callers (with_changed (changed_by_return (first_of caller)) dues)
 
 -- a place as it is come to: without the procedures at whose end it stands
 abbrev pub settled : Dues → Place → Stand

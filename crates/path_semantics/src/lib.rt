@@ -5,6 +5,10 @@
 //! `IsAccepted`, `Leads` and `Breaks` of `specs/`, and the laws of this crate's public functions.
 #![tactic(auto)]
 
+pub mod dues;
+mod frame;
+pub mod laws;
 pub mod reason;
 
+pub use dues::Dues;
 pub use reason::{Reason, Refusal};
