@@ -4,3 +4,4 @@ pub mod Break
 pub mod Dues
 pub mod Path
 pub mod Place
+pub mod Reached

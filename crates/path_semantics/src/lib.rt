@@ -9,6 +9,8 @@ pub mod dues;
 mod frame;
 pub mod laws;
 pub mod reason;
+pub mod stand;
 
 pub use dues::Dues;
 pub use reason::{Reason, Refusal};
+pub use stand::Stand;
