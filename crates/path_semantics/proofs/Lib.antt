@@ -1,1 +1,4 @@
+pub mod Checkpoints
+pub mod Reaching
 pub mod Walks
+pub mod Within

@@ -1,16 +1,17 @@
 -- Walks one after the other, and the ways that an entry leads.
-use Rattle.std.proofs.Common.{◌≡◌, ◌⊎◌, inl, inr, ℕ, true, false, not, Bool, List, [], ◌∷◌, ◌++◌, map, Option, Some, None, refl, ap, subst, sym, ◌∙◌}
+use Rattle.std.proofs.Common.{◌≡◌, inl, ℕ, true, false, Bool, List, [], ◌∷◌, ◌++◌, map, Option, Some, None, refl, ap, subst, sym}
 use Rattle.std.specs.Option.{option_map}
 use Rattle.tal_tree.specs.declared.program.Program.{Program}
 use Rattle.tal_tree.specs.declared.statement.Statement.{Statement}
 use Rattle.tal_tree.specs.declared.statement.What.{What, What-F, out-What}
 use Rattle.process_semantics.specs.Program.{Entry, Run, Test, Last}
 use Rattle.path_semantics.specs.declared.reason.Reason.{Reason}
+use Rattle.process_semantics.specs.Image.{number_of}
 use Rattle.path_semantics.specs.declared.dues.Dues.{Dues}
 use Rattle.path_semantics.specs.Dues.{after_entry}
-use Rattle.path_semantics.specs.Place.{Place, Stand, next_in, ways_of, rounds_of, ways, settled, stands_after, successors, first_stand}
+use Rattle.path_semantics.specs.Place.{Place, Stand, next_in, ways_of, rounds_of, ways, settled, stands_after, first_stand}
 use Rattle.path_semantics.specs.Path.{IsOneOf, number_at, Steps, Walks, Leads, IsPath}
-use Rattle.path_semantics.specs.Break.{Breaks, breaks_at}
+use Rattle.path_semantics.specs.Break.{Breaks, breaks_entry, breaks_at}
 use Rattle.path_semantics.specs.Accepted.{IsAccepted}
 
 -- a walk that goes on from where another comes to
@@ -90,3 +91,32 @@ break-is-path program path reason broken =
 not-true : (b : Bool) → (b ≡ true → ⊥) → b ≡ false
 not-true true never = absurd (never refl)
 not-true false never = refl
+
+next-number : (f : Entry → ℕ) (entry : Option Entry) (next : Entry) → entry ≡ Some next → option_map f entry ≡ Some (f next)
+next-number f entry next is = ap (option_map f) is
+
+breaking-entry : (program : Program) (reason : Reason) (dues : Dues) (entry : Option Entry) → breaks_entry program reason dues entry ≡ true → (next : Entry) × (entry ≡ Some next)
+breaking-entry program reason dues None is = absurd (cc)
+breaking-entry program reason dues (Some next) is = (next, refl)
+
+-- a path that leads where the next entry breaks goes on to a path that breaks
+pub breaks-on : (program : Program) (path : List ℕ) (stand : Stand) (reason : Reason) → Leads program path stand → breaks_at program reason stand ≡ true
+    → (longer : List ℕ) × Breaks program longer reason
+breaks-on program path stand reason walk is =
+    let found = breaking-entry program reason stand.dues (next_in stand.place) is in (
+      path ++ number_of found.0 ∷ [],
+      record {
+        front = path;
+        number = number_of found.0;
+        stand = stand;
+        split = refl;
+        leads = walk;
+        next = next-number number_of (next_in stand.place) found.0 found.1;
+        breaks = is;
+      },
+    )
+
+pub accepted-unbroken : (program : Program) (path : List ℕ) (stand : Stand) (reason : Reason) → IsAccepted program → Leads program path stand
+    → breaks_at program reason stand ≡ false
+accepted-unbroken program path stand reason accepted walk =
+    not-true (breaks_at program reason stand) (λ is. let found = breaks-on program path stand reason walk is in accepted.unbroken found.0 reason found.1)

@@ -1,45 +1,10 @@
 -- How deep a program's calls go, and how large it is with its calls written out.
-use Rattle.std.specs.Prelude.{ℕ, ◌+◌, ◌≤◌, max, List, [], ◌∷◌, ◌++◌, map, flat_map, sum, sum_by, slice_get}
+use Rattle.std.specs.Prelude.{ℕ, ◌+◌, ◌≤◌, max, List, [], ◌∷◌, ◌++◌, map, length, sum, slice_get}
 use Rattle.std.specs.Option.{unwrap_or}
 use Rattle.tal_tree.specs.declared.program.Program.{Program}
 use Rattle.tal_tree.specs.declared.program.Procedure.{Procedure}
 use Rattle.tal_tree.specs.declared.statement.Statement.{Statement}
-use Rattle.tal_tree.specs.declared.statement.What.{What, What-F, out-What, If', While', For', Row_of-Statement, end_of-Statement, more_of-Statement}
-
--- the statements that stand in a statement, at any level, in the order of the text
-abbrev mutual
-  pub within : What → List Statement
-  within (If' test _ first _ second) = within_row first ++ within_row second
-  within (While' test _ body) = within_row body
-  within (For' variable from to _ body last) = within_row body
-  within _ = []
-
-  pub within_row : {n : _} → Row_of-Statement n → List Statement
-  within_row end_of-Statement = []
-  within_row (more_of-Statement number line what rest) = record { number = number; line = line; what = what } ∷ (within what ++ within_row rest)
-
--- a statement and those that stand in it
-abbrev pub all_in : Statement → List Statement
-all_in statement = statement ∷ within statement.what
-
--- statements and those that stand in them
-abbrev pub all_of : List Statement → List Statement
-all_of statements = flat_map all_in statements
-
--- how many numbers a statement has: a FOR's first assignment, test and last assignment have one each
-abbrev pub count_in : What-F What Statement → ℕ
-count_in (What-F.For variable from to body last) = 3
-count_in _ = 1
-
--- the procedure that a statement calls
-abbrev pub call_in : What-F What Statement → List ℕ
-call_in (What-F.AssignCall to procedure arguments) = procedure ∷ []
-call_in (What-F.Call procedure arguments) = procedure ∷ []
-call_in _ = []
-
--- the procedures that are called in statements, one for each call
-abbrev pub calls_of : List Statement → List ℕ
-calls_of statements = flat_map (λ statement. call_in (out-What statement.what)) (all_of statements)
+use Rattle.path_semantics.specs.Statements.{numbers_of, calls_of}
 
 abbrev pub greatest : List ℕ → ℕ
 greatest [] = 0
@@ -53,9 +18,9 @@ of_called before body = map (λ procedure. unwrap_or (slice_get before procedure
 abbrev pub depth_from : List ℕ → List Statement → ℕ
 depth_from before body = greatest (of_called before body) + 1
 
--- the size of a procedure: how many numbers its statements have, and for each call the size of the procedure that is called
+-- the size of a procedure: the count of its statements' numbers, and for each call the size of the procedure that is called
 abbrev pub size_from : List ℕ → List Statement → ℕ
-size_from before body = sum_by (λ statement. count_in (out-What statement.what)) (all_of body) + sum (of_called before body)
+size_from before body = length (numbers_of body) + sum (of_called before body)
 
 -- a number for each procedure in their order, from those of the procedures before it: a procedure calls only procedures before it
 abbrev pub in_order : (List ℕ → List Statement → ℕ) → List ℕ → List Procedure → List ℕ

@@ -20,7 +20,7 @@ pub struct Dues {
 
 impl Dues {
     /// Nothing is due.
-    pub fn none(alloc: Global) -> Dues
+    pub(crate) fn none(alloc: Global) -> Dues
         ensures { result ≡ no_dues }
     {
         Dues {
@@ -31,7 +31,7 @@ impl Dues {
     }
 
     /// The same dues once more.
-    pub fn copy(&self, alloc: Global) -> Result<Dues, NoMemory>
+    pub(crate) fn copy(&self, alloc: Global) -> Result<Dues, NoMemory>
         ensures { IfOk result (λ dues. dues ≡ self.now) }
     {
         let mut dues = Dues::none(alloc);

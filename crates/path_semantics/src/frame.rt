@@ -11,7 +11,7 @@ use tal_tree::Statement;
 
 /// What remains in a procedure, the next entry last.
 #[derive(Debug, Drop)]
-pub struct Frame<'a> {
+pub(crate) struct Frame<'a> {
     rest: Vec<Entry<'a>>,
 }
 

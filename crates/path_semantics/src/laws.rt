@@ -1,8 +1,15 @@
-ghost use Rattle.std.specs.Prelude.{◌≡◌, ℕ, List, ◌∷◌, ◌++◌};
+ghost use Rattle.std.specs.Prelude.{◌≡◌, ℕ, false, List, [], ◌∷◌, ◌++◌};
 ghost use Rattle.tal_tree.specs.declared.program.Program.{Program};
+ghost use Rattle.tal_tree.specs.declared.statement.Statement.{Statement};
+ghost use Rattle.tal_tree.specs.declared.statement.What.{What-F, out-What};
+ghost use Rattle.process_semantics.specs.Program.{Entry, Run};
+ghost use Rattle.path_semantics.specs.declared.dues.Dues.{Dues};
 ghost use Rattle.path_semantics.specs.declared.reason.Reason.{Reason};
-ghost use Rattle.path_semantics.specs.Path.{IsPath};
-ghost use Rattle.path_semantics.specs.Break.{Breaks};
+ghost use Rattle.path_semantics.specs.Dues.{no_dues};
+ghost use Rattle.path_semantics.specs.Place.{Place, Stand, successors, stand_at};
+ghost use Rattle.path_semantics.specs.Path.{IsOneOf, Leads, IsPath};
+ghost use Rattle.path_semantics.specs.Break.{Breaks, breaks_at};
+ghost use Rattle.path_semantics.specs.Accepted.{IsAccepted};
 
 /// The front of a path is a path.
 pub fn front_is_path()
@@ -12,4 +19,16 @@ pub fn front_is_path()
 /// What breaks is a path.
 pub fn break_is_path()
     ensures { (program : Program) (path : List ℕ) (reason : Reason) → Breaks program path reason → IsPath program path }
+{}
+
+/// Wherever a path of an accepted program leads, the next entry breaks for no reason.
+pub fn accepted_breaks_nowhere()
+    ensures { (program : Program) (path : List ℕ) (stand : Stand) (reason : Reason) → IsAccepted program → Leads program path stand → breaks_at program reason stand ≡ false }
+{}
+
+/// A CHECKPOINT leads on alone, and what was due before it isn't due after it: nothing is, but the targets of the calls whose
+/// procedures end with it.
+pub fn checkpoint_clears()
+    ensures after { (program : Program) (dues : Dues) (statement : Statement) (items files : List ℕ) (rest : List Entry) (callers : Place) → out-What statement.what ≡ What-F.Checkpoint items files → successors program (record { place = (Run statement ∷ rest) ∷ callers; dues = dues }) ≡ stand_at rest callers no_dues ∷ [] }
+    ensures nothing { (entry : Entry) (rest : List Entry) (callers : Place) → (stand_at (entry ∷ rest) callers no_dues).dues ≡ no_dues }
 {}

@@ -5,12 +5,19 @@
 //! `IsAccepted`, `Leads` and `Breaks` of `specs/`, and the laws of this crate's public functions.
 #![tactic(auto)]
 
+mod breaking;
 pub mod dues;
 mod frame;
 pub mod laws;
+pub mod paths;
 pub mod reason;
-pub mod stand;
+#[cfg(test)]
+mod samples;
+mod stand;
+#[cfg(test)]
+mod tests;
 
 pub use dues::Dues;
+pub use laws::{accepted_breaks_nowhere, break_is_path, checkpoint_clears, front_is_path};
+pub use paths::{breaks, is_path};
 pub use reason::{Reason, Refusal};
-pub use stand::Stand;

@@ -15,7 +15,7 @@ use tal_tree::{Program, Statement, What};
 
 /// Where a path leads: a place, and what is due there.
 #[derive(Debug, Drop)]
-pub struct Stand<'a> {
+pub(crate) struct Stand<'a> {
     frames: Vec<Frame<'a>>,
     dues: Dues,
 }
@@ -35,7 +35,7 @@ impl<'a> Model for Stand<'a> {
 
 impl<'a> Stand<'a> {
     /// Where every path begins.
-    pub fn first(alloc: Global, program: &'a Program) -> Result<Stand<'a>, NoMemory>
+    pub(crate) fn first(alloc: Global, program: &'a Program) -> Result<Stand<'a>, NoMemory>
         ensures { IfOk result (λ stand. stand ≡ first_stand program.now) }
     {
         let running = body_of(alloc, program, program.main)?;
@@ -43,7 +43,7 @@ impl<'a> Stand<'a> {
     }
 
     /// What is due.
-    pub fn dues(&self) -> &Dues
+    pub(crate) fn dues(&self) -> &Dues
         ensures { result.now ≡ self.now.dues }
     {
         &self.dues
@@ -60,7 +60,7 @@ impl<'a> Stand<'a> {
     }
 
     /// Where the next entry leads.
-    pub fn successors(
+    pub(crate) fn successors(
         &self,
         alloc: Global,
         program: &'a Program,
