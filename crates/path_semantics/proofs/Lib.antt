@@ -1,4 +1,7 @@
 pub mod Checkpoints
+pub mod Entries
+pub mod Kept
+pub mod QuietPrograms
 pub mod Reaching
 pub mod Walks
 pub mod Within

@@ -1,4 +1,4 @@
-ghost use Rattle.std.specs.Prelude.{◌≡◌, ℕ, false, List, [], ◌∷◌, ◌++◌};
+ghost use Rattle.std.specs.Prelude.{◌≡◌, ◌↔◌, ℕ, false, List, [], ◌∷◌, ◌++◌};
 ghost use Rattle.tal_tree.specs.declared.program.Program.{Program};
 ghost use Rattle.tal_tree.specs.declared.statement.Statement.{Statement};
 ghost use Rattle.tal_tree.specs.declared.statement.What.{What-F, out-What};
@@ -9,6 +9,8 @@ ghost use Rattle.path_semantics.specs.Dues.{no_dues};
 ghost use Rattle.path_semantics.specs.Place.{Place, Stand, successors, stand_at};
 ghost use Rattle.path_semantics.specs.Path.{IsOneOf, Leads, IsPath};
 ghost use Rattle.path_semantics.specs.Break.{Breaks, breaks_at};
+ghost use Rattle.path_semantics.specs.Bounds.{IsWithinBounds};
+ghost use Rattle.path_semantics.specs.Quiet.{IsQuiet};
 ghost use Rattle.path_semantics.specs.Accepted.{IsAccepted};
 
 /// The front of a path is a path.
@@ -31,4 +33,9 @@ pub fn accepted_breaks_nowhere()
 pub fn checkpoint_clears()
     ensures after { (program : Program) (dues : Dues) (statement : Statement) (items files : List ℕ) (rest : List Entry) (callers : Place) → out-What statement.what ≡ What-F.Checkpoint items files → successors program (record { place = (Run statement ∷ rest) ∷ callers; dues = dues }) ≡ stand_at rest callers no_dues ∷ [] }
     ensures nothing { (entry : Entry) (rest : List Entry) (callers : Place) → (stand_at (entry ∷ rest) callers no_dues).dues ≡ no_dues }
+{}
+
+/// A program without CHECKPOINT, READUPDATE, WRITEREAD and REPLY is accepted exactly where its calls are within bounds.
+pub fn quiet_programs_are_bounded()
+    ensures { (program : Program) → IsQuiet program → IsWithinBounds program ↔ IsAccepted program }
 {}

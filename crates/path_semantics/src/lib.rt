@@ -18,6 +18,9 @@ mod stand;
 mod tests;
 
 pub use dues::Dues;
-pub use laws::{accepted_breaks_nowhere, break_is_path, checkpoint_clears, front_is_path};
+pub use laws::{
+    accepted_breaks_nowhere, break_is_path, checkpoint_clears, front_is_path,
+    quiet_programs_are_bounded,
+};
 pub use paths::{breaks, is_path};
 pub use reason::{Reason, Refusal};
