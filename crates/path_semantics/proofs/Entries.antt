@@ -49,11 +49,11 @@ for-drop : (P : Statement → Type 0) (frame : List Entry) → HoldsFor P frame 
 for-drop P [] holds = tt
 for-drop P (entry ∷ rest) holds = holds.1
 
-only-way : {A : Type 0} (P : A → Type 0) (way one : A) → IsOneOf way (one ∷ []) → P one → P way
+pub only-way : {A : Type 0} (P : A → Type 0) (way one : A) → IsOneOf way (one ∷ []) → P one → P way
 only-way P way one (inl same) holds = subst P (sym same) holds
 only-way P way one (inr among) holds = absurd among
 
-either-way : {A : Type 0} (P : A → Type 0) (way one other : A) → IsOneOf way (one ∷ other ∷ []) → P one → P other → P way
+pub either-way : {A : Type 0} (P : A → Type 0) (way one other : A) → IsOneOf way (one ∷ other ∷ []) → P one → P other → P way
 either-way P way one other (inl same) first second = subst P (sym same) first
 either-way P way one other (inr among) first second = only-way P way other among second
 

@@ -31,7 +31,7 @@ one-mapped f y [] among = absurd among
 one-mapped f y (x ∷ xs) (inl same) = (x, inl refl, same)
 one-mapped f y (x ∷ xs) (inr among) = let found = one-mapped f y xs among in (found.0, inr found.1, found.2)
 
-kept-after : (program : Program) (P : Place → Type 0) → IsKept program P → (dues : Dues) (place : Place) (there : Stand) → P place
+pub kept-after : (program : Program) (P : Place → Type 0) → IsKept program P → (dues : Dues) (place : Place) (there : Stand) → P place
     → IsOneOf there (stands_after program dues place) → P there.place
 kept-after program P kept dues [] there holds among = absurd among
 kept-after program P kept dues ([] ∷ callers) there holds among = absurd among

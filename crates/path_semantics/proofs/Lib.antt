@@ -1,6 +1,10 @@
 pub mod Checkpoints
+pub mod Differing
+pub mod Distinct
 pub mod Entries
 pub mod Kept
+pub mod Levels
+pub mod LevelsKept
 pub mod QuietPrograms
 pub mod Reaching
 pub mod Walks

@@ -72,7 +72,7 @@ goes-on program dues ((first ∷ rest) ∷ callers) entry next =
       subst (λ (places : List Place). IsOneOf (settled (after_entry dues first) found.one) (map (settled (after_entry dues first)) places)) (sym found.split) (inl refl),
     )
 
-numbered : (f : Entry → ℕ) (entry : Option Entry) (number : ℕ) → option_map f entry ≡ Some number → (next : Entry) × (entry ≡ Some next)
+pub numbered : (f : Entry → ℕ) (entry : Option Entry) (number : ℕ) → option_map f entry ≡ Some number → (next : Entry) × (entry ≡ Some next)
 numbered f None number has = absurd (cc)
 numbered f (Some next) number has = (next, refl)
 

@@ -7,15 +7,26 @@ ghost use Rattle.path_semantics.specs.declared.dues.Dues.{Dues};
 ghost use Rattle.path_semantics.specs.declared.reason.Reason.{Reason};
 ghost use Rattle.path_semantics.specs.Dues.{no_dues};
 ghost use Rattle.path_semantics.specs.Place.{Place, Stand, successors, stand_at};
-ghost use Rattle.path_semantics.specs.Path.{IsOneOf, Leads, IsPath};
+ghost use Rattle.path_semantics.specs.Path.{IsOneOf, number_at, Leads, IsPath};
 ghost use Rattle.path_semantics.specs.Break.{Breaks, breaks_at};
 ghost use Rattle.path_semantics.specs.Bounds.{IsWithinBounds};
+ghost use Rattle.path_semantics.specs.Ordered.{IsOrdered};
 ghost use Rattle.path_semantics.specs.Quiet.{IsQuiet};
 ghost use Rattle.path_semantics.specs.Accepted.{IsAccepted};
 
 /// The front of a path is a path.
 pub fn front_is_path()
     ensures { (program : Program) (front path : List ℕ) → IsPath program (front ++ path) → IsPath program front }
+{}
+
+/// Where a path leads, the next entry leads to stands whose next entries have different numbers, or to one stand.
+pub fn successors_differ()
+    ensures { (program : Program) (path : List ℕ) (here one other : Stand) → IsOrdered program → Leads program path here → IsOneOf one (successors program here) → IsOneOf other (successors program here) → number_at one ≡ number_at other → one ≡ other }
+{}
+
+/// A path fixes the place and the dues at each of its entries: where its front leads and its next number stands.
+pub fn path_fixes_its_stand()
+    ensures { (program : Program) (path : List ℕ) (one other : Stand) → IsOrdered program → Leads program path one → Leads program path other → number_at one ≡ number_at other → one ≡ other }
 {}
 
 /// What breaks is a path.
