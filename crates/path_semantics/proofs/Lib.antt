@@ -2,6 +2,7 @@ pub mod Checkpoints
 pub mod Differing
 pub mod Distinct
 pub mod Entries
+pub mod InOrder
 pub mod Kept
 pub mod Levels
 pub mod LevelsKept

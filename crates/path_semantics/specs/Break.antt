@@ -1,4 +1,5 @@
--- What breaks the discipline: the last statement of a path, with the dues before it.
+-- What breaks the discipline: the last statement of a path, with the dues before it. Sync depth and the data of a checkpoint are GUARDIAN's; these exact
+-- rules are our own.
 use Rattle.std.specs.Prelude.{◌≡◌, ℕ, ◌==◌, Bool, false, not, ◌&&◌, nat_le, IsTrue, List, [], ◌∷◌, ◌++◌, count_by, slice_get, Option, Some, None}
 use Rattle.std.specs.List.{list_any}
 use Rattle.tal_tree.specs.declared.program.FileUse.{FileUse}

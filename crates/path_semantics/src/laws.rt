@@ -1,5 +1,6 @@
-ghost use Rattle.std.specs.Prelude.{◌≡◌, ◌↔◌, ℕ, false, List, [], ◌∷◌, ◌++◌};
+ghost use Rattle.std.specs.Prelude.{◌≡◌, ◌↔◌, ℕ, false, List, [], ◌∷◌, ◌++◌, slice_get, Some};
 ghost use Rattle.tal_tree.specs.declared.program.Program.{Program};
+ghost use Rattle.tal_tree.specs.declared.program.Procedure.{Procedure};
 ghost use Rattle.tal_tree.specs.declared.statement.Statement.{Statement};
 ghost use Rattle.tal_tree.specs.declared.statement.What.{What-F, out-What};
 ghost use Rattle.process_semantics.specs.Program.{Entry, Run};
@@ -9,7 +10,7 @@ ghost use Rattle.path_semantics.specs.Dues.{no_dues};
 ghost use Rattle.path_semantics.specs.Place.{Place, Stand, successors, stand_at};
 ghost use Rattle.path_semantics.specs.Path.{IsOneOf, number_at, Leads, IsPath};
 ghost use Rattle.path_semantics.specs.Break.{Breaks, breaks_at};
-ghost use Rattle.path_semantics.specs.Bounds.{IsWithinBounds};
+ghost use Rattle.path_semantics.specs.Bounds.{depth_from, size_from, depths, sizes, IsWithinBounds};
 ghost use Rattle.path_semantics.specs.Ordered.{IsOrdered};
 ghost use Rattle.path_semantics.specs.Quiet.{IsQuiet};
 ghost use Rattle.path_semantics.specs.Accepted.{IsAccepted};
@@ -49,4 +50,10 @@ pub fn checkpoint_clears()
 /// A program without CHECKPOINT, READUPDATE, WRITEREAD and REPLY is accepted exactly where its calls are within bounds.
 pub fn quiet_programs_are_bounded()
     ensures { (program : Program) → IsQuiet program → IsWithinBounds program ↔ IsAccepted program }
+{}
+
+/// The depth and the size of each procedure come from those of the procedures that it calls.
+pub fn bounds_follow_calls()
+    ensures depth { (program : Program) (k : ℕ) (procedure : Procedure) → IsOrdered program → slice_get program.procedures k ≡ Some procedure → slice_get (depths program) k ≡ Some (depth_from (depths program) procedure.body) }
+    ensures size { (program : Program) (k : ℕ) (procedure : Procedure) → IsOrdered program → slice_get program.procedures k ≡ Some procedure → slice_get (sizes program) k ≡ Some (size_from (sizes program) procedure.body) }
 {}

@@ -19,8 +19,8 @@ mod tests;
 
 pub use dues::Dues;
 pub use laws::{
-    accepted_breaks_nowhere, break_is_path, checkpoint_clears, front_is_path, path_fixes_its_stand,
-    quiet_programs_are_bounded, successors_differ,
+    accepted_breaks_nowhere, bounds_follow_calls, break_is_path, checkpoint_clears, front_is_path,
+    path_fixes_its_stand, quiet_programs_are_bounded, successors_differ,
 };
 pub use paths::{breaks, is_path};
 pub use reason::{Reason, Refusal};
