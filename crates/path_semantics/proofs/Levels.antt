@@ -1,0 +1,148 @@
+-- The numbers of the entries that remain at a place: those of one frame are apart, and each frame has those of a procedure of its own.
+use Rattle.std.proofs.Common.{◌≡◌, inl, inr, ℕ, ◌+◌, ◌<◌, ◌≤◌, List, [], ◌∷◌, ◌++◌, drop, Option, Some, None, slice_get, flat_map, refl, ap, subst, sym, ◌∙◌}
+use Rattle.std.proofs.lemmas.Grind.{flat_map-append}
+use Rattle.tal_tree.specs.declared.program.Program.{Program}
+use Rattle.tal_tree.specs.declared.program.Procedure.{Procedure}
+use Rattle.tal_tree.specs.declared.statement.Statement.{Statement}
+use Rattle.tal_tree.specs.declared.statement.What.{What, What-F, out-What}
+use Rattle.process_semantics.specs.Program.{Entry, Run, Test, Last, runs_of}
+use Rattle.process_semantics.specs.Image.{number_of, last_of}
+use Rattle.path_semantics.specs.Statements.{all_in, all_of, numbers_in, own_numbers, numbers_of, own_calls, calls_of}
+use Rattle.path_semantics.specs.Place.{Place, body_in}
+use Rattle.path_semantics.specs.Path.{IsOneOf}
+use Rattle.path_semantics.specs.Ordered.{AreDistinct, IsOrdered}
+use Rattle.path_semantics.proofs.Distinct.{distinct-left, distinct-right, distinct-apart, given-part, given_at, given-distinct}
+use Rattle.path_semantics.proofs.Entries.{statement_of}
+use Rattle.path_semantics.proofs.Reaching.{one-either, one-given}
+use Rattle.path_semantics.proofs.Within.{within_of, within-is}
+
+-- the numbers in a statement, at any level
+abbrev pub inside : ℕ → What-F What Statement → List ℕ
+inside number what = numbers_in number what ++ flat_map own_numbers (within_of what)
+
+abbrev pub inside_test : ℕ → What-F What Statement → List ℕ
+inside_test number (What-F.For variable from to body last) = (number + 1) ∷ last ∷ numbers_of body
+inside_test number _ = (number + 1) ∷ []
+
+-- the numbers of an entry and of what it leads into
+abbrev pub numbers_at : Entry → List ℕ
+numbers_at (Run statement) = inside statement.number (out-What statement.what)
+numbers_at (Test statement) = inside_test statement.number (out-What statement.what)
+numbers_at (Last statement) = last_of (out-What statement.what) ∷ []
+
+-- the calls in an entry's statement
+abbrev pub calls_at : Entry → List ℕ
+calls_at entry = flat_map own_calls (all_in (statement_of entry))
+
+number-in : (number : ℕ) (what : What-F What Statement) → IsOneOf number (inside number what)
+number-in number (What-F.For variable from to body last) = inl refl
+number-in number _ = inl refl
+
+number-in-test : (number : ℕ) (what : What-F What Statement) → IsOneOf (number + 1) (inside_test number what)
+number-in-test number (What-F.For variable from to body last) = inl refl
+number-in-test number _ = inl refl
+
+pub number-own : (entry : Entry) → IsOneOf (number_of entry) (numbers_at entry)
+number-own (Run statement) = number-in statement.number (out-What statement.what)
+number-own (Test statement) = number-in-test statement.number (out-What statement.what)
+number-own (Last statement) = inl refl
+
+numbers-self : (statement : Statement) → flat_map own_numbers (all_in statement) ≡ numbers_at (Run statement)
+numbers-self statement = ap (λ (parts : List Statement). own_numbers statement ++ flat_map own_numbers parts) (within-is statement.what)
+
+numbers-cons : (statement : Statement) (rest : List Statement) → numbers_of (statement ∷ rest) ≡ numbers_at (Run statement) ++ numbers_of rest
+numbers-cons statement rest =
+    flat_map-append own_numbers (all_in statement) (all_of rest) ∙ ap (λ (ns : List ℕ). ns ++ numbers_of rest) (numbers-self statement)
+
+-- Frames
+
+-- no later entry has a number of an earlier one
+abbrev pub AreApart : List Entry → Type 0
+AreApart [] = Unit {0}
+AreApart (entry ∷ rest) = AreDistinct (numbers_at entry) × ((later : Entry) → IsOneOf later rest → IsOneOf (number_of later) (numbers_at entry) → ⊥) × AreApart rest
+
+abbrev pub numbers_of_procedure : Program → ℕ → List ℕ
+numbers_of_procedure program k = given_at (λ (procedure : Procedure). numbers_of procedure.body) (slice_get program.procedures k)
+
+-- an entry is of a procedure, and calls procedures before it
+pub record BelongsTo (program : Program) (k : ℕ) (entry : Entry) : Type 0 where
+  pub numbers : (n : ℕ) → IsOneOf n (numbers_at entry) → IsOneOf n (numbers_of_procedure program k)
+  pub calls : (called : ℕ) → IsOneOf called (calls_at entry) → called < k
+
+abbrev pub BelongTo : Program → ℕ → List Entry → Type 0
+BelongTo program k entries = (entry : Entry) → IsOneOf entry entries → BelongsTo program k entry
+
+pub record IsFrameOf (program : Program) (k : ℕ) (frame : List Entry) : Type 0 where
+  pub apart : AreApart frame
+  pub belong : BelongTo program k frame
+
+-- each frame is of a procedure before that of the frame below it
+abbrev pub AreLevels : Program → ℕ → Place → Type 0
+AreLevels program low [] = Unit {0}
+AreLevels program low (frame ∷ callers) = (k : ℕ) × (low ≤ k) × IsFrameOf program k frame × AreLevels program (k + 1) callers
+
+run-of : (entry : Entry) (statements : List Statement) → IsOneOf entry (runs_of statements) → (statement : Statement) × IsOneOf statement statements × (entry ≡ Run statement)
+run-of entry [] among = absurd among
+run-of entry (statement ∷ rest) (inl same) = (statement, inl refl, same)
+run-of entry (statement ∷ rest) (inr among) = let found = run-of entry rest among in (found.0, inr found.1, found.2)
+
+all-one : (statement part : Statement) (statements : List Statement) → IsOneOf statement statements → IsOneOf part (all_in statement) → IsOneOf part (all_of statements)
+all-one statement part statements among inner = one-given all_in statement part statements among inner
+
+-- what a statement of some has, they all have
+pub run-numbers : (entry : Entry) (statements : List Statement) (n : ℕ) → IsOneOf entry (runs_of statements) → IsOneOf n (numbers_at entry) → IsOneOf n (numbers_of statements)
+run-numbers entry statements n among inner =
+    let found = run-of entry statements among in
+    let own : IsOneOf n (flat_map own_numbers (all_in found.0)) =
+    subst (IsOneOf n) (sym (numbers-self found.0)) (subst (λ (e : Entry). IsOneOf n (numbers_at e)) found.2 inner) in
+    given-part own_numbers (all_in found.0) (all_of statements) (λ part inner. all-one found.0 part statements found.1 inner) n own
+
+pub run-calls : (entry : Entry) (statements : List Statement) (n : ℕ) → IsOneOf entry (runs_of statements) → IsOneOf n (calls_at entry) → IsOneOf n (calls_of statements)
+run-calls entry statements n among inner =
+    let found = run-of entry statements among in
+    given-part own_calls (all_in found.0) (all_of statements) (λ part inner. all-one found.0 part statements found.1 inner) n
+    (subst (λ (e : Entry). IsOneOf n (calls_at e)) found.2 inner)
+
+pub apart-join : (first second : List Entry) → AreApart first → AreApart second
+    → ((entry later : Entry) → IsOneOf entry first → IsOneOf later second → IsOneOf (number_of later) (numbers_at entry) → ⊥) → AreApart (first ++ second)
+apart-join [] second one two cross = two
+apart-join (entry ∷ first) second one two cross = (
+  one.0,
+  (λ later among. elim (one-either later first second among) [ inl here' ↦ one.1 later here' | inr there' ↦ cross entry later (inl refl) there' ]),
+  apart-join first second one.2 two (λ e later among. cross e later (inr among)),
+)
+
+pub apart-runs : (statements : List Statement) → AreDistinct (numbers_of statements) → AreApart (runs_of statements)
+apart-runs [] distinct = tt
+apart-runs (statement ∷ rest) distinct =
+    let split : AreDistinct (numbers_at (Run statement) ++ numbers_of rest) = subst AreDistinct (numbers-cons statement rest) distinct in (
+      distinct-left (numbers_at (Run statement)) (numbers_of rest) split,
+      (λ later among inner. distinct-apart (numbers_at (Run statement)) (numbers_of rest) split (number_of later) inner
+          (run-numbers later rest (number_of later) among (number-own later))),
+      apart-runs rest (distinct-right (numbers_at (Run statement)) (numbers_of rest) split),
+    )
+
+apart-drop : (frame : List Entry) → AreApart frame → AreApart (drop 1 frame)
+apart-drop [] apart = tt
+apart-drop (entry ∷ rest) apart = apart.2
+
+drop-among : (entry : Entry) (frame : List Entry) → IsOneOf entry (drop 1 frame) → IsOneOf entry frame
+drop-among entry [] among = among
+drop-among entry (first ∷ rest) among = inr among
+
+pub dropped : (program : Program) (k : ℕ) (frame : List Entry) → IsFrameOf program k frame → IsFrameOf program k (drop 1 frame)
+dropped program k frame is = record { apart = apart-drop frame is.apart; belong = λ entry among. is.belong entry (drop-among entry frame among) }
+
+pub body-frame : (program : Program) → IsOrdered program → (k : ℕ) (procedure : Option Procedure) → slice_get program.procedures k ≡ procedure
+    → IsFrameOf program k (body_in procedure)
+body-frame program ordered k None is = record { apart = tt; belong = λ entry among. absurd among }
+body-frame program ordered k (Some procedure) is =
+    let numbers : numbers_of procedure.body ≡ numbers_of_procedure program k = ap (given_at (λ (procedure : Procedure). numbers_of procedure.body)) (sym is) in
+    record {
+      apart = apart-runs procedure.body
+          (subst AreDistinct (sym numbers) (given-distinct (λ (procedure : Procedure). numbers_of procedure.body) program.procedures k ordered.numbers));
+      belong = λ entry among. record {
+        numbers = λ n inner. subst (IsOneOf n) numbers (run-numbers entry procedure.body n among inner);
+        calls = λ called inner. ordered.calls k procedure is called (run-calls entry procedure.body called among inner);
+      };
+    }

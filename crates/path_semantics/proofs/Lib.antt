@@ -1,0 +1,12 @@
+pub mod Checkpoints
+pub mod Differing
+pub mod Distinct
+pub mod Entries
+pub mod InOrder
+pub mod Kept
+pub mod Levels
+pub mod LevelsKept
+pub mod QuietPrograms
+pub mod Reaching
+pub mod Walks
+pub mod Within

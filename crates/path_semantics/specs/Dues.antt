@@ -1,0 +1,71 @@
+-- What is due: what a program may have changed or done since its last CHECKPOINT, and a takeover would lose.
+use Rattle.std.specs.Prelude.{ℕ, Bool, true, false, ◌||◌, List, [], ◌∷◌, ◌++◌, Option, Some}
+use Rattle.tal_tree.specs.declared.expression.Spot.{Spot, Local, Simple, Element}
+use Rattle.tal_tree.specs.declared.expression.Variable.{Variable}
+use Rattle.tal_tree.specs.declared.expression.Variable.TheVariants as variable
+use Rattle.tal_tree.specs.declared.statement.Statement.{Statement}
+use Rattle.tal_tree.specs.declared.statement.What.{What, What-F, out-What}
+use Rattle.process_semantics.specs.Program.{Entry, Run, Test, Last}
+use Rattle.path_semantics.specs.declared.dues.Dues.{Dues}
+
+-- nothing is due at MAIN's start and after each CHECKPOINT, whatever it names
+abbrev pub no_dues : Dues
+no_dues = record { globals = []; asked = []; read = false }
+
+-- the dues where these globals too may have changed
+abbrev pub with_changed : List ℕ → Dues → Dues
+with_changed globals dues = record dues { globals = dues.globals ++ globals }
+
+-- the global that a target is or in which it is an element; a local is none
+abbrev pub global_of_spot : Spot → List ℕ
+global_of_spot (Local local) = []
+global_of_spot (Simple item) = item ∷ []
+global_of_spot (Element item index) = item ∷ []
+
+-- the global that a simple variable is; a local is none
+abbrev pub global_of : Variable → List ℕ
+global_of (variable.Local local) = []
+global_of (variable.Simple item) = item ∷ []
+
+-- the globals that a statement may change in its own step: the target of an assignment, the variable of a FOR, and the buffer and the count of READUPDATE
+-- and WRITEREAD
+abbrev pub changed_by : What-F What Statement → List ℕ
+changed_by (What-F.Assign to value) = global_of_spot to
+changed_by (What-F.For variable from to body last) = global_of variable
+changed_by (What-F.ReadUpdate buffer most got) = buffer ∷ global_of got
+changed_by (What-F.WriteRead file buffer send room got) = buffer ∷ global_of got
+changed_by _ = []
+
+-- the file that a WRITEREAD asks
+abbrev pub asked_by : What-F What Statement → List ℕ
+asked_by (What-F.WriteRead file buffer send room got) = file ∷ []
+asked_by _ = []
+
+-- whether a statement reads a request
+abbrev pub reads : What-F What Statement → Bool
+reads (What-F.ReadUpdate buffer most got) = true
+reads _ = false
+
+-- the dues after a statement's own step: none after a CHECKPOINT, and else those before it with what the statement adds
+abbrev pub after_statement : Dues → What-F What Statement → Dues
+after_statement dues (What-F.Checkpoint items files) = no_dues
+after_statement dues what = record {
+  globals = dues.globals ++ changed_by what;
+  asked = dues.asked ++ asked_by what;
+  read = dues.read || reads what;
+}
+
+-- the dues after an entry: a FOR's test changes nothing, and its last assignment its variable
+abbrev pub after_entry : Dues → Entry → Dues
+after_entry dues (Run statement) = after_statement dues (out-What statement.what)
+after_entry dues (Test statement) = dues
+after_entry dues (Last statement) = with_changed (changed_by (out-What statement.what)) dues
+
+abbrev pub target_of : What-F What Statement → List ℕ
+target_of (What-F.AssignCall to procedure arguments) = global_of_spot to
+target_of _ = []
+
+-- the global that may change when a call returns: the target of `x := f(..)`, where the call is the next entry of its frame
+abbrev pub changed_by_return : Option Entry → List ℕ
+changed_by_return (Some (Run statement)) = target_of (out-What statement.what)
+changed_by_return _ = []

@@ -1,0 +1,20 @@
+-- Programs that do nothing of which the discipline speaks.
+use Rattle.tal_tree.specs.declared.program.Program.{Program}
+use Rattle.tal_tree.specs.declared.program.Procedure.{Procedure}
+use Rattle.tal_tree.specs.declared.statement.Statement.{Statement}
+use Rattle.tal_tree.specs.declared.statement.What.{What, What-F, out-What}
+use Rattle.path_semantics.specs.Path.{IsOneOf}
+use Rattle.path_semantics.specs.Statements.{all_of}
+
+-- any statement but CHECKPOINT, READUPDATE, WRITEREAD and REPLY
+abbrev pub IsQuietStatement : What-F What Statement → Type 0
+IsQuietStatement (What-F.Checkpoint items files) = ⊥
+IsQuietStatement (What-F.ReadUpdate buffer most got) = ⊥
+IsQuietStatement (What-F.WriteRead file buffer send room got) = ⊥
+IsQuietStatement (What-F.Reply buffer count) = ⊥
+IsQuietStatement _ = Unit {0}
+
+-- a program that has none of these four
+abbrev pub IsQuiet : Program → Type 0
+IsQuiet program = (procedure : Procedure) (statement : Statement) → IsOneOf procedure program.procedures → IsOneOf statement (all_of procedure.body)
+    → IsQuietStatement (out-What statement.what)

@@ -1,0 +1,49 @@
+-- The statements of a program, at any level, with their numbers and calls.
+use Rattle.std.specs.Prelude.{ℕ, ◌+◌, List, [], ◌∷◌, ◌++◌, flat_map}
+use Rattle.tal_tree.specs.declared.statement.Statement.{Statement}
+use Rattle.tal_tree.specs.declared.statement.What.{What, What-F, out-What, If', While', For', Row_of-Statement, end_of-Statement, more_of-Statement}
+
+-- the statements that stand in a statement, at any level, in the order of the text
+abbrev mutual
+  pub within : What → List Statement
+  within (If' test _ first _ second) = within_row first ++ within_row second
+  within (While' test _ body) = within_row body
+  within (For' variable from to _ body last) = within_row body
+  within _ = []
+
+  pub within_row : {n : _} → Row_of-Statement n → List Statement
+  within_row end_of-Statement = []
+  within_row (more_of-Statement number line what rest) = record { number = number; line = line; what = what } ∷ (within what ++ within_row rest)
+
+-- a statement and those that stand in it
+abbrev pub all_in : Statement → List Statement
+all_in statement = statement ∷ within statement.what
+
+-- statements and those that stand in them
+abbrev pub all_of : List Statement → List Statement
+all_of statements = flat_map all_in statements
+
+-- the numbers of a statement alone: a FOR's first assignment, its test and its last assignment have one each
+abbrev pub numbers_in : ℕ → What-F What Statement → List ℕ
+numbers_in number (What-F.For variable from to body last) = number ∷ (number + 1) ∷ last ∷ []
+numbers_in number _ = number ∷ []
+
+abbrev pub own_numbers : Statement → List ℕ
+own_numbers statement = numbers_in statement.number (out-What statement.what)
+
+-- the numbers of statements and of those that stand in them
+abbrev pub numbers_of : List Statement → List ℕ
+numbers_of statements = flat_map own_numbers (all_of statements)
+
+-- the procedure that a statement calls
+abbrev pub call_in : What-F What Statement → List ℕ
+call_in (What-F.AssignCall to procedure arguments) = procedure ∷ []
+call_in (What-F.Call procedure arguments) = procedure ∷ []
+call_in _ = []
+
+abbrev pub own_calls : Statement → List ℕ
+own_calls statement = call_in (out-What statement.what)
+
+-- the procedures that are called in statements, one for each call
+abbrev pub calls_of : List Statement → List ℕ
+calls_of statements = flat_map own_calls (all_of statements)

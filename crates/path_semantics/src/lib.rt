@@ -1,0 +1,26 @@
+//! The checkpoint discipline: what a path through a program is, what is due along it, when it breaks, and which programs are
+//! accepted. The definitions are in `specs/`.
+//!
+//! Below stand `tal_tree` with the trees and `process_semantics`, whose entries remain at a place. The layer above uses
+//! `IsAccepted`, `Leads` and `Breaks` of `specs/`, and the laws of this crate's public functions.
+#![tactic(auto)]
+
+mod breaking;
+pub mod dues;
+mod frame;
+pub mod laws;
+pub mod paths;
+pub mod reason;
+#[cfg(test)]
+mod samples;
+mod stand;
+#[cfg(test)]
+mod tests;
+
+pub use dues::Dues;
+pub use laws::{
+    accepted_breaks_nowhere, bounds_follow_calls, break_is_path, checkpoint_clears, front_is_path,
+    path_fixes_its_stand, quiet_programs_are_bounded, successors_differ,
+};
+pub use paths::{breaks, is_path};
+pub use reason::{Reason, Refusal};
