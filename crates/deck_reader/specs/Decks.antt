@@ -1,10 +1,14 @@
 -- The deck that bytes spell.
-use Rattle.std.specs.Prelude.{◌≡◌, ◌<◌, ◌≤◌, ℕ, List, [], ◌∷◌, length, Option, Some, option_map, slice_get}
+use Rattle.std.specs.Prelude.{◌≡◌, ◌<◌, ◌≤◌, ℕ, Bool, true, false, List, [], ◌∷◌, length, Option, Some, option_map, slice_get}
 use Rattle.tal_tree.specs.declared.fault.DeckFault.{DeckFault}
 use Rattle.tal_tree.specs.declared.fault.DeckFault.TheVariants as fault
 use Rattle.tal_tree.specs.declared.fault.TalFault.{TalFault}
 use Rattle.tal_tree.specs.declared.fault.TalFault.TheVariants as tal
+use Rattle.std.specs.List.{list_all}
+use Rattle.tal_tree.specs.declared.program.FileUse.{FileUse}
 use Rattle.tal_tree.specs.declared.program.Program.{Program}
+use Rattle.tal_tree.specs.declared.program.Target.{Target}
+use Rattle.tal_tree.specs.declared.program.Target.TheVariants as target
 use Rattle.tal_tree.specs.declared.site.ProcessSpec.{ProcessSpec}
 use Rattle.tal_tree.specs.declared.site.TerminalSpec.{TerminalSpec}
 use Rattle.tal_tree.specs.declared.site.Kind.TheVariants as kind
@@ -23,13 +27,22 @@ EachWith R (x ∷ xs) (y ∷ ys) = R x y × EachWith R xs ys
 EachWith R [] (y ∷ ys) = ⊥
 EachWith R (x ∷ xs) [] = ⊥
 
--- the process of a pair's lines runs the program that its text reads as; a text is no longer than a deck may be
+-- a file that is opened to `$RECEIVE`
+abbrev pub is_receive : Target → Bool
+is_receive target.Receive = true
+is_receive (target.Process name) = false
+
+-- files that are all opened to `$RECEIVE`: the program asks no process
+abbrev pub are_receive : List FileUse → Bool
+are_receive files = list_all (λ file. is_receive file.target) files
+
+-- the process of a pair's lines runs the program that its text reads as, which asks no process; a text is no longer than a deck may be
 pub record IsProcessOf (pair : PairLines) (process : ProcessSpec) : Type 0 where
   pub short : length pair.text ≤ 1048576
   pub name : process.name ≡ pair.name
   pub primary : process.primary ≡ pair.primary
   pub backup : process.backup ≡ pair.backup
-  pub program : (program : Program) × (process.what ≡ kind.Pair program) × Reads pair.text program
+  pub program : (program : Program) × (process.what ≡ kind.Pair program) × Reads pair.text program × (are_receive program.files ≡ true)
 
 abbrev pub AreProcessesOf : List PairLines → List ProcessSpec → Type 0
 AreProcessesOf pairs processes = EachWith IsProcessOf pairs processes

@@ -1,7 +1,7 @@
 ghost use Rattle.std.specs.Prelude.{◌≡◌, ◌<◌, ◌≤◌, ◌↔◌, ℕ, length, IfOk, IfErr, IsTrue, MatchOption, Some, option_map};
 ghost use Rattle.deck_reader.specs.Lines.{lines_of};
 ghost use Rattle.deck_reader.specs.Outlined.{outline_of};
-ghost use Rattle.deck_reader.specs.Decks.{Decks, IsDeckOf, AreProcessesOf, AreTerminalsOf, IsPlaceOf, IsProcessOf, IsTerminalOf, IsFaultOfToday, IsRefusedBy, refusal_of};
+ghost use Rattle.deck_reader.specs.Decks.{Decks, IsDeckOf, AreProcessesOf, AreTerminalsOf, IsPlaceOf, IsProcessOf, IsTerminalOf, IsFaultOfToday, IsRefusedBy, refusal_of, are_receive, is_receive};
 ghost use Rattle.deck_reader.specs.declared.deck.Deck.{Deck};
 
 use crate::lines::next_line;
@@ -10,7 +10,7 @@ use gd_words::{List, Name, NoMemory};
 use schedule::Line;
 use std::alloc::Global;
 use tal_reader::read_program;
-use tal_tree::{DeckFault, Kind, ProcessSpec, Site, TalFault, TerminalSpec};
+use tal_tree::{DeckFault, FileUse, Kind, ProcessSpec, Site, TalFault, Target, TerminalSpec};
 
 /// A deck has at most this many bytes.
 const MOST_BYTES: usize = 1_048_576;
@@ -103,13 +103,35 @@ fn process_of(alloc: Global, pair: &PairLines) -> Result<ProcessSpec, DeckFault>
         return Err(DeckFault::NotYet);
     }
     match read_program(alloc, text) {
-        Ok(program) => Ok(ProcessSpec {
-            name: pair.name,
-            primary: pair.primary,
-            backup: pair.backup,
-            what: Kind::Pair(program),
-        }),
+        Ok(program) => {
+            if !are_receive(program.files.as_slice()) {
+                return Err(DeckFault::NotYet);
+            }
+            Ok(ProcessSpec {
+                name: pair.name,
+                primary: pair.primary,
+                backup: pair.backup,
+                what: Kind::Pair(program),
+            })
+        }
         Err(fault) => Err(refusal_of(fault)),
+    }
+}
+
+/// Whether all files are opened to `$RECEIVE`.
+fn are_receive(files: &[FileUse]) -> bool
+    ensures { result ≡ are_receive files.now }
+{
+    files.iter().all(|file| is_receive(&file.target))
+}
+
+/// Whether a file is opened to `$RECEIVE`.
+fn is_receive(target: &Target) -> bool
+    ensures { result ≡ is_receive target.now }
+{
+    match target {
+        Target::Receive => true,
+        Target::Process(_) => false,
     }
 }
 

@@ -2,7 +2,7 @@
 use Rattle.std.proofs.Common.{◌≡◌, List, Some, None, Ok, Err, sym, ap, ◌∙◌}
 use Rattle.std.specs.Prelude.{Result}
 use Rattle.tal_tokens.specs.declared.token.Token.{Token}
-use Rattle.tal_syntax.specs.declared.syntax.Text.{Text}
+use Rattle.tal_syntax.specs.declared.text.Text.{Text}
 use Rattle.tal_syntax.specs.Grammar as g
 use Rattle.tal_syntax.specs.Seen.{seen_text}
 use Rattle.tal_builder.specs.declared.stop.Stop.{Stop}
@@ -10,11 +10,11 @@ use Rattle.tal_builder.specs.Built.{IsSyntax, Built}
 use Rattle.tal_builder.specs.Outcome.{Tells}
 use Rattle.tal_builder.specs.Parse.{text_at}
 use Rattle.tal_builder.proofs.Told.{told_of}
-use Rattle.tal_builder.proofs.Sound.{text_is}
-use Rattle.tal_builder.proofs.Found.{found_text}
+use Rattle.tal_builder.proofs.SoundTexts.{text_is}
+use Rattle.tal_builder.proofs.FoundTexts.{found_text}
 
 pub syntax_found : (ks : List Token) (t : g.Text) → IsSyntax ks t → text_at ks ≡ Some t
-syntax_found ks t h = sym (ap text_at h.0) ∙ found_text t h.1
+syntax_found ks t h = sym (ap text_at h.1) ∙ found_text t h.0 h.2
 
 pub built : (ks : List Token) (r : Result Text Stop) → Tells seen_text r (text_at ks) → Built ks r
 built ks (Ok t) h = told_of (text_at ks) (seen_text t) (text_is ks) h

@@ -1,6 +1,14 @@
+pub mod AfterLevels
 pub mod Exact
-pub mod Found
-pub mod Sound
+pub mod Flat
+pub mod FoundExpressions
+pub mod FoundStatements
+pub mod FoundTexts
+pub mod Sizes
+pub mod SoundExpressions
+pub mod SoundStatements
+pub mod SoundTexts
+pub mod SoundTokens
 pub mod Steps
 pub mod Told
 pub mod Turns

@@ -1,10 +1,10 @@
 -- One turn of a loop that reads a chain: the links so far before what is left.
-use Rattle.std.proofs.Common.{◌≡◌, ℕ, zero, suc, List, [], ◌∷◌, ◌++◌, Some, None, refl, sym, ap, ◌∙◌}
+use Rattle.std.proofs.Common.{◌≡◌, ℕ, Bool, true, false, cond, zero, suc, List, [], ◌∷◌, ◌++◌, Some, None, refl, sym, ap, ◌∙◌}
 use Rattle.std.specs.Prelude.{option_map}
 use Rattle.std.specs.Option.{option_and_then}
 use Rattle.tal_tokens.specs.declared.token.Token.{Token}
 use Rattle.tal_syntax.specs.Seen.{chained}
-use Rattle.tal_builder.specs.Parse.{Found, rest_by, rest_after}
+use Rattle.tal_builder.specs.Parse.{Found, rest_by, rest_after, row_by}
 
 -- links before a chain that is found
 abbrev pub onto : {T R : Type 0} → (T → R → R) → List T → Found R → Found R
@@ -46,3 +46,30 @@ module _ {T S X R : Type 0} (link : T → R → R) (none : R) (more : S → X �
       ap (λ k. onto link all (rest_by none more sign part k rest)) count
       ∙ ap (λ o. onto link all (rest_after none more part (rest_by none more sign part m) rest o)) e
       ∙ ap (λ o. onto link all (option_and_then (λ p. option_map (λ r. (more s p.0 r.0, r.1)) (rest_by none more sign part m p.1)) o)) f
+
+module _ {T X R : Type 0} (link : T → R → R) (none : R) (more : X → R → R) (begins : List Token → Bool) (part : List Token → Found X) where
+  abbrev step : ℕ → Found X → Found R
+  step m o = option_and_then (λ p. option_map (λ r. (more p.0 r.0, r.1)) (row_by none more begins part m p.1)) o
+
+  -- the row ends where none begins
+  pub row_ends : (all : List T) (n : ℕ) (rest : List Token) → begins rest ≡ false → onto link all (row_by none more begins part n rest) ≡ Some (chained link all none, rest)
+  row_ends all zero rest e = refl
+  row_ends all (suc n) rest e = ap (λ b. onto link all (cond b (step n (part rest)) (Some (none, rest)))) e
+
+  -- one more in the row
+  pub row_turns : (all : List T) (n m : ℕ) (rest vs : List Token) (x : X) (t : T) → n ≡ suc m → begins rest ≡ true → part rest ≡ Some (x, vs)
+      → ((r : R) → link t r ≡ more x r)
+      → onto link all (row_by none more begins part n rest) ≡ onto link (all ++ t ∷ []) (row_by none more begins part m vs)
+  row_turns all n m rest vs x t count e f same =
+      ap (λ k. onto link all (row_by none more begins part k rest)) count
+      ∙ ap (λ b. onto link all (cond b (step m (part rest)) (Some (none, rest)))) e
+      ∙ ap (λ o. onto link all (step m o)) f
+      ∙ onto-last link all t (more x) same (row_by none more begins part m vs)
+
+  -- nothing where the next isn't found
+  pub row_fails : (all : List T) (n m : ℕ) (rest : List Token) → n ≡ suc m → begins rest ≡ true → part rest ≡ None
+      → onto link all (row_by none more begins part n rest) ≡ None
+  row_fails all n m rest count e f =
+      ap (λ k. onto link all (row_by none more begins part k rest)) count
+      ∙ ap (λ b. onto link all (cond b (step m (part rest)) (Some (none, rest)))) e
+      ∙ ap (λ o. onto link all (step m o)) f

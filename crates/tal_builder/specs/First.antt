@@ -1,91 +1,79 @@
 -- The token with which tokens begin.
-use Rattle.std.specs.Prelude.{ℤ, ℕ, Bool, true, false, List, ◌∷◌, Option, Some, None}
+use Rattle.std.specs.Prelude.{ℕ, Bool, true, false, List, ◌∷◌, Option, Some, None}
 use Rattle.tal_tokens.specs.declared.token.At.{At}
 use Rattle.tal_tokens.specs.declared.token.Token.{Token}
-use Rattle.tal_tokens.specs.declared.token.Token.TheVariants.{Name, Number, Plus, Int, Proc, Main, Begin, End, While, Do, Call, Semicolon, Comma, Colon, Assign, Minus, Open, Close, OpenIndex, CloseIndex, Finish}
+use Rattle.tal_tokens.specs.declared.token.Token.TheVariants as tok
 use Rattle.tal_syntax.specs.Grammar as g
 
-abbrev pub int_of : List Token → Option (At × List Token)
-int_of (Int at ∷ ks) = Some (at, ks)
-int_of _ = None
-
-abbrev pub proc_of : List Token → Option (At × List Token)
-proc_of (Proc at ∷ ks) = Some (at, ks)
-proc_of _ = None
-
-abbrev pub main_of : List Token → Option (At × List Token)
-main_of (Main at ∷ ks) = Some (at, ks)
-main_of _ = None
-
-abbrev pub begin_of : List Token → Option (At × List Token)
-begin_of (Begin at ∷ ks) = Some (at, ks)
-begin_of _ = None
-
-abbrev pub end_of : List Token → Option (At × List Token)
-end_of (End at ∷ ks) = Some (at, ks)
-end_of _ = None
-
-abbrev pub do_of : List Token → Option (At × List Token)
-do_of (Do at ∷ ks) = Some (at, ks)
-do_of _ = None
-
-abbrev pub semicolon_of : List Token → Option (At × List Token)
-semicolon_of (Semicolon at ∷ ks) = Some (at, ks)
-semicolon_of _ = None
-
-abbrev pub comma_of : List Token → Option (At × List Token)
-comma_of (Comma at ∷ ks) = Some (at, ks)
-comma_of _ = None
-
-abbrev pub colon_of : List Token → Option (At × List Token)
-colon_of (Colon at ∷ ks) = Some (at, ks)
-colon_of _ = None
-
-abbrev pub assign_of : List Token → Option (At × List Token)
-assign_of (Assign at ∷ ks) = Some (at, ks)
-assign_of _ = None
-
-abbrev pub minus_of : List Token → Option (At × List Token)
-minus_of (Minus at ∷ ks) = Some (at, ks)
-minus_of _ = None
-
-abbrev pub open_of : List Token → Option (At × List Token)
-open_of (Open at ∷ ks) = Some (at, ks)
-open_of _ = None
-
-abbrev pub close_of : List Token → Option (At × List Token)
-close_of (Close at ∷ ks) = Some (at, ks)
-close_of _ = None
-
-abbrev pub open_index_of : List Token → Option (At × List Token)
-open_index_of (OpenIndex at ∷ ks) = Some (at, ks)
-open_index_of _ = None
-
-abbrev pub close_index_of : List Token → Option (At × List Token)
-close_index_of (CloseIndex at ∷ ks) = Some (at, ks)
-close_index_of _ = None
-
-abbrev pub finish_of : List Token → Option (At × List Token)
-finish_of (Finish at ∷ ks) = Some (at, ks)
-finish_of _ = None
-
-abbrev pub name_of : List Token → Option (At × List ℕ × List Token)
-name_of (Name at name ∷ ks) = Some (at, name, ks)
+-- a name, with its place
+abbrev pub name_of : List Token → Option ((At × List ℕ) × List Token)
+name_of (tok.Name at name ∷ ks) = Some ((at, name), ks)
 name_of _ = None
 
-abbrev pub number_of : List Token → Option (At × ℤ × List Token)
-number_of (Number at value ∷ ks) = Some (at, value, ks)
-number_of _ = None
+-- a name directly before an opening parenthesis
+abbrev pub called_of : List Token → Option (At × List ℕ × At × List Token)
+called_of (tok.Name at name ∷ tok.Open start ∷ ks) = Some (at, name, start, ks)
+called_of _ = None
+
+abbrev pub rel_of : List Token → Option (g.Rel × List Token)
+rel_of (tok.Equal at ∷ ks) = Some (g.equal at, ks)
+rel_of (tok.Differs at ∷ ks) = Some (g.differs at, ks)
+rel_of (tok.Less at ∷ ks) = Some (g.less at, ks)
+rel_of (tok.AtMost at ∷ ks) = Some (g.at_most at, ks)
+rel_of (tok.Greater at ∷ ks) = Some (g.greater at, ks)
+rel_of (tok.AtLeast at ∷ ks) = Some (g.at_least at, ks)
+rel_of _ = None
 
 abbrev pub sign_of : List Token → Option (g.Sign × List Token)
-sign_of (Plus at ∷ ks) = Some (g.plus at, ks)
-sign_of (Minus at ∷ ks) = Some (g.minus at, ks)
+sign_of (tok.Plus at ∷ ks) = Some (g.plus at, ks)
+sign_of (tok.Minus at ∷ ks) = Some (g.dash at, ks)
 sign_of _ = None
+
+abbrev pub scale_of : List Token → Option (g.Scale × List Token)
+scale_of (tok.Star at ∷ ks) = Some (g.times at, ks)
+scale_of (tok.Slash at ∷ ks) = Some (g.over at, ks)
+scale_of _ = None
+
+-- a string
+abbrev pub string_of : List Token → Option (g.Argument × List Token)
+string_of (tok.Receive at ∷ ks) = Some (g.receive at, ks)
+string_of (tok.Process at name ∷ ks) = Some (g.process at name, ks)
+string_of (tok.Text at ∷ ks) = Some (g.quoted at, ks)
+string_of _ = None
+
+-- whether an expression begins here
+abbrev pub is_value : List Token → Bool
+is_value (tok.Not at ∷ ks) = true
+is_value (tok.Minus at ∷ ks) = true
+is_value (tok.Number at n ∷ ks) = true
+is_value (tok.Name at name ∷ ks) = true
+is_value (tok.Open at ∷ ks) = true
+is_value _ = false
 
 -- whether a statement that isn't empty begins here
 abbrev pub is_begun : List Token → Bool
-is_begun (Begin at ∷ ks) = true
-is_begun (While at ∷ ks) = true
-is_begun (Call at ∷ ks) = true
-is_begun (Name at name ∷ ks) = true
+is_begun (tok.Begin at ∷ ks) = true
+is_begun (tok.If at ∷ ks) = true
+is_begun (tok.While at ∷ ks) = true
+is_begun (tok.For at ∷ ks) = true
+is_begun (tok.Call at ∷ ks) = true
+is_begun (tok.Return at ∷ ks) = true
+is_begun (tok.Name at name ∷ ks) = true
 is_begun _ = false
+
+-- whether a line of globals begins here: after INT a name tells it from a procedure
+abbrev pub is_line : List Token → Bool
+is_line (tok.Literal at ∷ ks) = true
+is_line (tok.Int at ∷ tok.Name place name ∷ ks) = true
+is_line _ = false
+
+-- whether a procedure begins here
+abbrev pub is_heading : List Token → Bool
+is_heading (tok.Int at ∷ ks) = true
+is_heading (tok.Proc at ∷ ks) = true
+is_heading _ = false
+
+-- whether locals begin here
+abbrev pub is_local : List Token → Bool
+is_local (tok.Int at ∷ ks) = true
+is_local _ = false

@@ -1,4 +1,5 @@
 pub mod Built
 pub mod First
+pub mod Marks
 pub mod Outcome
 pub mod Parse

@@ -1,61 +1,132 @@
 ghost use Rattle.std.specs.Prelude.{◌≡◌};
 ghost use Rattle.tal_builder.specs.Outcome.{Tells};
-ghost use Rattle.tal_builder.specs.Parse.{index_at, spot_at, factor_at, terms_at, expr_at};
-ghost use Rattle.tal_syntax.specs.Seen.{seen_index, seen_spot, seen_factor, seen_terms, seen_expr};
+ghost use Rattle.tal_builder.specs.Parse.{ors_by, ands_by, compared_by, relation_by, terms_by, factors_by, index_by, parens_by, minus_by, negated_by, expr_at, both_at, neg_at, sum_at, product_at, factor_at, spot_at, expr_in, neg_in, factor_in};
+ghost use Rattle.tal_syntax.specs.Seen.{seen_expr, seen_ors, seen_both, seen_ands, seen_neg, seen_compared, seen_sum, seen_terms, seen_product, seen_factors, seen_factor, seen_spot, seen_index};
 
-use crate::sign::{close_index_first, name_first, number_first, open_index_first, sign_first};
+use crate::first::{name_first, rel_first, scale_first, sign_first};
+use crate::mark::{Mark, expect, optional};
 use crate::stop::Stop;
-use gd_words::List;
+use gd_words::{Boxed, List};
 use std::alloc::Global;
-use tal_syntax::{Expr, Factor, Index, Spot, Term};
-use tal_tokens::Token;
+use tal_syntax::{
+    Both, Compared, Expr, Factor, Index, Neg, NextBoth, NextFactor, NextNeg, Product, Spot, Sum,
+    Term,
+};
+use tal_tokens::{At, Token};
 
-/// `[ "[" number "]" ]`, which opens a level of the `room` that is left.
-fn index(room: u8, tokens: &[Token]) -> Result<(Index, &[Token]), Stop>
-    ensures { Tells (λ r. (seen_index r.0, r.1.now)) result (index_at room tokens.now) }
+/// `both { OR both }`, in which so many levels may be opened.
+#[cycle(expression)]
+pub fn expr(alloc: Global, room: u8, tokens: &[Token]) -> Result<(Expr, &[Token]), Stop>
+    ensures { Tells (λ r. (seen_expr r.0, r.1.now)) result (expr_at room tokens.now) }
 {
-    let Some((start, after)) = open_index_first(tokens) else {
-        return Ok((Index::Simple, tokens));
-    };
-    if room == 0 {
-        return Err(Stop::TooDeep(tokens.len()));
-    }
-    let Some((at, value, after)) = number_first(after) else {
-        return Err(Stop::Unexpected(after.len()));
-    };
-    let Some((close, rest)) = close_index_first(after) else {
-        return Err(Stop::Unexpected(after.len()));
-    };
-    Ok((Index::Element(start, at, value, close), rest))
+    let (first, after) = both(alloc, room, tokens)?;
+    let (more, rest) = more_boths(alloc, room, after)?;
+    Ok((Expr { first, more }, rest))
 }
 
-/// `name index`
-pub fn spot(room: u8, tokens: &[Token]) -> Result<(Spot, &[Token]), Stop>
-    ensures { Tells (λ r. (seen_spot r.0, r.1.now)) result (spot_at room tokens.now) }
+/// `{ OR both }`
+#[cycle(expression)]
+fn more_boths(alloc: Global, room: u8, tokens: &[Token]) -> Result<(List<NextBoth>, &[Token]), Stop>
+    ensures { Tells (λ r. (seen_ors r.0, r.1.now)) result (ors_by (both_at room) tokens.now) }
 {
-    let Some((at, name, after)) = name_first(tokens) else {
-        return Err(Stop::Unexpected(tokens.len()));
+    let mut all = List::new(alloc);
+    let mut rest = tokens;
+    for _turn in 0..tokens.len() {
+        let Some((or, after)) = optional(Mark::Or, rest) else {
+            return Ok((all, rest));
+        };
+        let (both, after) = both(alloc, room, after)?;
+        all.push(NextBoth { or, both })?;
+        rest = after;
+    }
+    Ok((all, rest))
+}
+
+/// `neg { AND neg }`
+#[cycle(expression)]
+fn both(alloc: Global, room: u8, tokens: &[Token]) -> Result<(Both, &[Token]), Stop>
+    ensures { Tells (λ r. (seen_both r.0, r.1.now)) result (both_at room tokens.now) }
+{
+    let (first, after) = neg(alloc, room, tokens)?;
+    let (more, rest) = more_negs(alloc, room, after)?;
+    Ok((Both { first, more }, rest))
+}
+
+/// `{ AND neg }`
+#[cycle(expression)]
+fn more_negs(alloc: Global, room: u8, tokens: &[Token]) -> Result<(List<NextNeg>, &[Token]), Stop>
+    ensures { Tells (λ r. (seen_ands r.0, r.1.now)) result (ands_by (neg_at room) tokens.now) }
+{
+    let mut all = List::new(alloc);
+    let mut rest = tokens;
+    for _turn in 0..tokens.len() {
+        let Some((and, after)) = optional(Mark::And, rest) else {
+            return Ok((all, rest));
+        };
+        let (neg, after) = neg(alloc, room, after)?;
+        all.push(NextNeg { and, neg })?;
+        rest = after;
+    }
+    Ok((all, rest))
+}
+
+/// `NOT neg | sum compared`
+#[cycle(expression)]
+fn neg(alloc: Global, room: u8, tokens: &[Token]) -> Result<(Neg, &[Token]), Stop>
+    ensures { Tells (λ r. (seen_neg r.0, r.1.now)) result (neg_at room tokens.now) }
+{
+    match tokens {
+        [Token::Not(at), rest @ ..] => negation(alloc, room, *at, rest),
+        _ => relation(alloc, room, tokens),
+    }
+}
+
+/// `neg`, after NOT
+#[cycle(expression)]
+fn negation(alloc: Global, room: u8, at: At, tokens: &[Token]) -> Result<(Neg, &[Token]), Stop>
+    ensures { Tells (λ r. (seen_neg r.0, r.1.now)) result (negated_by (neg_in room) at tokens.now) }
+{
+    let (inner, rest) = neg_within(alloc, room, tokens)?;
+    let inner = Boxed::new(alloc, inner)?;
+    Ok((Neg::Not(at, inner), rest))
+}
+
+/// `sum compared`
+#[cycle(expression)]
+fn relation(alloc: Global, room: u8, tokens: &[Token]) -> Result<(Neg, &[Token]), Stop>
+    ensures { Tells (λ r. (seen_neg r.0, r.1.now)) result (relation_by (sum_at room) tokens.now) }
+{
+    let (left, after) = sum(alloc, room, tokens)?;
+    let (compared, rest) = compared(alloc, room, after)?;
+    Ok((Neg::Relation(left, compared), rest))
+}
+
+/// `[ rel sum ]`
+#[cycle(expression)]
+fn compared(alloc: Global, room: u8, tokens: &[Token]) -> Result<(Compared, &[Token]), Stop>
+    ensures { Tells (λ r. (seen_compared r.0, r.1.now)) result (compared_by (sum_at room) tokens.now) }
+{
+    let Some((rel, after)) = rel_first(tokens) else {
+        return Ok((Compared::Alone, tokens));
     };
-    let (index, rest) = index(room, after)?;
-    Ok((Spot { at, name, index }, rest))
+    let (right, rest) = sum(alloc, room, after)?;
+    Ok((Compared::With(rel, right), rest))
 }
 
-/// `number | spot`
-fn factor(room: u8, tokens: &[Token]) -> Result<(Factor, &[Token]), Stop>
-    ensures { Tells (λ r. (seen_factor r.0, r.1.now)) result (factor_at room tokens.now) }
+/// `product { sign product }`
+#[cycle(expression)]
+fn sum(alloc: Global, room: u8, tokens: &[Token]) -> Result<(Sum, &[Token]), Stop>
+    ensures { Tells (λ r. (seen_sum r.0, r.1.now)) result (sum_at room tokens.now) }
 {
-    if let Some((at, value, rest)) = number_first(tokens) {
-        return Ok((Factor::Number(at, value), rest));
-    }
-    match spot(room, tokens) {
-        Ok((spot, rest)) => Ok((Factor::Spot(spot), rest)),
-        Err(stop) => Err(stop),
-    }
+    let (first, after) = product(alloc, room, tokens)?;
+    let (more, rest) = more_terms(alloc, room, after)?;
+    Ok((Sum { first, more }, rest))
 }
 
-/// `{ ( "+" | "-" ) factor }`
-fn terms(alloc: Global, room: u8, tokens: &[Token]) -> Result<(List<Term>, &[Token]), Stop>
-    ensures { Tells (λ r. (seen_terms r.0, r.1.now)) result (terms_at room tokens.now) }
+/// `{ sign product }`
+#[cycle(expression)]
+fn more_terms(alloc: Global, room: u8, tokens: &[Token]) -> Result<(List<Term>, &[Token]), Stop>
+    ensures { Tells (λ r. (seen_terms r.0, r.1.now)) result (terms_by (product_at room) tokens.now) }
 {
     let mut all = List::new(alloc);
     let mut rest = tokens;
@@ -63,26 +134,144 @@ fn terms(alloc: Global, room: u8, tokens: &[Token]) -> Result<(List<Term>, &[Tok
         let Some((sign, after)) = sign_first(rest) else {
             return Ok((all, rest));
         };
-        match factor(room, after) {
-            Ok((factor, after)) => {
-                all.push(Term { sign, factor })?;
-                rest = after;
-            }
-            Err(stop) => return Err(stop),
-        }
+        let (product, after) = product(alloc, room, after)?;
+        all.push(Term { sign, product })?;
+        rest = after;
     }
     Ok((all, rest))
 }
 
-/// `factor { ( "+" | "-" ) factor }`
-pub fn expr(alloc: Global, room: u8, tokens: &[Token]) -> Result<(Expr, &[Token]), Stop>
-    ensures { Tells (λ r. (seen_expr r.0, r.1.now)) result (expr_at room tokens.now) }
+/// `factor { scale factor }`
+#[cycle(expression)]
+fn product(alloc: Global, room: u8, tokens: &[Token]) -> Result<(Product, &[Token]), Stop>
+    ensures { Tells (λ r. (seen_product r.0, r.1.now)) result (product_at room tokens.now) }
 {
-    match factor(room, tokens) {
-        Ok((first, after)) => {
-            let (terms, rest) = terms(alloc, room, after)?;
-            Ok((Expr { first, terms }, rest))
-        }
-        Err(stop) => Err(stop),
+    let (first, after) = factor(alloc, room, tokens)?;
+    let (more, rest) = more_factors(alloc, room, after)?;
+    Ok((Product { first, more }, rest))
+}
+
+/// `{ scale factor }`
+#[cycle(expression)]
+fn more_factors(
+    alloc: Global,
+    room: u8,
+    tokens: &[Token],
+) -> Result<(List<NextFactor>, &[Token]), Stop>
+    ensures { Tells (λ r. (seen_factors r.0, r.1.now)) result (factors_by (factor_at room) tokens.now) }
+{
+    let mut all = List::new(alloc);
+    let mut rest = tokens;
+    for _turn in 0..tokens.len() {
+        let Some((scale, after)) = scale_first(rest) else {
+            return Ok((all, rest));
+        };
+        let (factor, after) = factor(alloc, room, after)?;
+        all.push(NextFactor { scale, factor })?;
+        rest = after;
     }
+    Ok((all, rest))
+}
+
+/// `"-" factor | number | spot | "(" expr ")"`
+#[cycle(expression)]
+fn factor(alloc: Global, room: u8, tokens: &[Token]) -> Result<(Factor, &[Token]), Stop>
+    ensures { Tells (λ r. (seen_factor r.0, r.1.now)) result (factor_at room tokens.now) }
+{
+    match tokens {
+        [Token::Minus(at), rest @ ..] => negative(alloc, room, *at, rest),
+        [Token::Number(at, value), rest @ ..] => Ok((Factor::Number(*at, *value), rest)),
+        [Token::Open(start), rest @ ..] => parens(alloc, room, *start, rest),
+        _ => {
+            let (spot, rest) = spot(alloc, room, tokens)?;
+            Ok((Factor::Spot(spot), rest))
+        }
+    }
+}
+
+/// `factor`, after `-`
+#[cycle(expression)]
+fn negative(alloc: Global, room: u8, at: At, tokens: &[Token]) -> Result<(Factor, &[Token]), Stop>
+    ensures { Tells (λ r. (seen_factor r.0, r.1.now)) result (minus_by (factor_in room) at tokens.now) }
+{
+    let (inner, rest) = factor_within(alloc, room, tokens)?;
+    let inner = Boxed::new(alloc, inner)?;
+    Ok((Factor::Minus(at, inner), rest))
+}
+
+/// `expr ")"`, after `(`
+#[cycle(expression)]
+fn parens(alloc: Global, room: u8, start: At, tokens: &[Token]) -> Result<(Factor, &[Token]), Stop>
+    ensures { Tells (λ r. (seen_factor r.0, r.1.now)) result (parens_by (expr_in room) start tokens.now) }
+{
+    let (inner, after) = expr_within(alloc, room, tokens)?;
+    let (close, rest) = expect(Mark::Close, after)?;
+    let inner = Boxed::new(alloc, inner)?;
+    Ok((Factor::Parens(start, inner, close), rest))
+}
+
+/// `name index`
+#[cycle(expression)]
+pub fn spot(alloc: Global, room: u8, tokens: &[Token]) -> Result<(Spot, &[Token]), Stop>
+    ensures { Tells (λ r. (seen_spot r.0, r.1.now)) result (spot_at room tokens.now) }
+{
+    let Some((named, after)) = name_first(tokens) else {
+        return Err(Stop::NoSyntax);
+    };
+    let (index, rest) = index(alloc, room, after)?;
+    Ok((
+        Spot {
+            at: named.at,
+            name: named.name,
+            index,
+        },
+        rest,
+    ))
+}
+
+/// `[ "[" expr "]" ]`
+#[cycle(expression)]
+fn index(alloc: Global, room: u8, tokens: &[Token]) -> Result<(Index, &[Token]), Stop>
+    ensures { Tells (λ r. (seen_index r.0, r.1.now)) result (index_by (expr_in room) tokens.now) }
+{
+    let Some((start, after)) = optional(Mark::OpenIndex, tokens) else {
+        return Ok((Index::Simple, tokens));
+    };
+    let (inner, after) = expr_within(alloc, room, after)?;
+    let (close, rest) = expect(Mark::CloseIndex, after)?;
+    let inner = Boxed::new(alloc, inner)?;
+    Ok((Index::Element(start, inner, close), rest))
+}
+
+/// An expression that opens the first of so many levels.
+#[cycle(expression)]
+fn expr_within(alloc: Global, room: u8, tokens: &[Token]) -> Result<(Expr, &[Token]), Stop>
+    ensures { Tells (λ r. (seen_expr r.0, r.1.now)) result (expr_in room tokens.now) }
+{
+    if room == 0 {
+        return Err(Stop::NoSyntax);
+    }
+    expr(alloc, room - 1, tokens)
+}
+
+/// The operand of a NOT that opens the first of so many levels.
+#[cycle(expression)]
+fn neg_within(alloc: Global, room: u8, tokens: &[Token]) -> Result<(Neg, &[Token]), Stop>
+    ensures { Tells (λ r. (seen_neg r.0, r.1.now)) result (neg_in room tokens.now) }
+{
+    if room == 0 {
+        return Err(Stop::NoSyntax);
+    }
+    neg(alloc, room - 1, tokens)
+}
+
+/// The operand of a minus that opens the first of so many levels.
+#[cycle(expression)]
+fn factor_within(alloc: Global, room: u8, tokens: &[Token]) -> Result<(Factor, &[Token]), Stop>
+    ensures { Tells (λ r. (seen_factor r.0, r.1.now)) result (factor_in room tokens.now) }
+{
+    if room == 0 {
+        return Err(Stop::NoSyntax);
+    }
+    factor(alloc, room - 1, tokens)
 }

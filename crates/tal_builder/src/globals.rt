@@ -1,61 +1,85 @@
 ghost use Rattle.std.specs.Prelude.{◌≡◌};
-ghost use Rattle.tal_builder.specs.Outcome.{Tells};
-ghost use Rattle.tal_builder.specs.Parse.{constant_at, bounds_at, item_at, items_at, line_at, lines_at};
-ghost use Rattle.tal_syntax.specs.Seen.{seen_constant, seen_bounds, seen_item, seen_items, seen_line, seen_lines};
+ghost use Rattle.tal_builder.specs.Outcome.{Gives, Tells};
+ghost use Rattle.tal_builder.specs.Parse.{atom_at, constant_at, bounds_at, item_at, items_at, literal_at, literals_at, int_line_at, literal_line_at, line_at, lines_at};
+ghost use Rattle.tal_syntax.specs.Seen.{seen_atom, seen_constant, seen_bounds, seen_item, seen_items, seen_literal, seen_literals, seen_globals, seen_lines};
 
-use crate::sign::{
-    close_index_first, colon_first, comma_first, int_first, minus_first, name_first, number_first,
-    open_index_first, semicolon_first,
-};
+use crate::first::{is_line, name_first};
+use crate::mark::{Mark, expect, optional};
 use crate::stop::Stop;
 use gd_words::List;
 use std::alloc::Global;
-use tal_syntax::{Bounds, Constant, Globals, Item, NextItem};
-use tal_tokens::Token;
+use tal_syntax::{
+    Atom, Bounds, Constant, Globals, IntLine, Item, Literal, LiteralLine, NextItem, NextLiteral,
+};
+use tal_tokens::{At, Token};
 
-/// `[ "-" ] number`
-fn constant(tokens: &[Token]) -> Result<(Constant, &[Token]), Stop>
-    ensures { Tells (λ r. (seen_constant r.0, r.1.now)) result (constant_at tokens.now) }
+/// `number | name`
+fn atom(tokens: &[Token]) -> Option<(Atom, &[Token])>
+    ensures { Gives (λ r. (seen_atom r.0, r.1.now)) result (atom_at tokens.now) }
 {
-    if let Some((minus, after)) = minus_first(tokens) {
-        let Some((at, value, rest)) = number_first(after) else {
-            return Err(Stop::Unexpected(after.len()));
-        };
-        return Ok((Constant::Negative(minus, at, value), rest));
+    match tokens {
+        [Token::Number(at, value), rest @ ..] => Some((Atom::Number(*at, *value), rest)),
+        [Token::Name(at, name), rest @ ..] => Some((Atom::Name(*at, *name), rest)),
+        _ => None,
     }
-    let Some((at, value, rest)) = number_first(tokens) else {
-        return Err(Stop::Unexpected(tokens.len()));
-    };
-    Ok((Constant::Number(at, value), rest))
+}
+
+/// `[ "-" ] atom`
+fn constant(tokens: &[Token]) -> Option<(Constant, &[Token])>
+    ensures { Gives (λ r. (seen_constant r.0, r.1.now)) result (constant_at tokens.now) }
+{
+    match optional(Mark::Minus, tokens) {
+        Some((sign, after)) => match atom(after) {
+            Some((atom, rest)) => Some((Constant::Negative(sign, atom), rest)),
+            None => None,
+        },
+        None => match atom(tokens) {
+            Some((atom, rest)) => Some((Constant::Positive(atom), rest)),
+            None => None,
+        },
+    }
 }
 
 /// `[ "[" constant ":" constant "]" ]`
-fn bounds(tokens: &[Token]) -> Result<(Bounds, &[Token]), Stop>
-    ensures { Tells (λ r. (seen_bounds r.0, r.1.now)) result (bounds_at tokens.now) }
+fn bounds(tokens: &[Token]) -> Option<(Bounds, &[Token])>
+    ensures { Gives (λ r. (seen_bounds r.0, r.1.now)) result (bounds_at tokens.now) }
 {
-    let Some((start, after)) = open_index_first(tokens) else {
-        return Ok((Bounds::Simple, tokens));
+    let Some((start, after)) = optional(Mark::OpenIndex, tokens) else {
+        return Some((Bounds::Simple, tokens));
     };
-    let (low, after) = constant(after)?;
-    let Some((colon, after)) = colon_first(after) else {
-        return Err(Stop::Unexpected(after.len()));
+    let Some((low, after)) = constant(after) else {
+        return None;
     };
-    let (high, after) = constant(after)?;
-    let Some((close, rest)) = close_index_first(after) else {
-        return Err(Stop::Unexpected(after.len()));
+    let Some((colon, after)) = optional(Mark::Colon, after) else {
+        return None;
     };
-    Ok((Bounds::Array(start, low, colon, high, close), rest))
+    let Some((high, after)) = constant(after) else {
+        return None;
+    };
+    let Some((close, rest)) = optional(Mark::CloseIndex, after) else {
+        return None;
+    };
+    Some((Bounds::Array(start, low, colon, high, close), rest))
 }
 
 /// `name bounds`
-fn item(tokens: &[Token]) -> Result<(Item, &[Token]), Stop>
-    ensures { Tells (λ r. (seen_item r.0, r.1.now)) result (item_at tokens.now) }
+fn item(tokens: &[Token]) -> Option<(Item, &[Token])>
+    ensures { Gives (λ r. (seen_item r.0, r.1.now)) result (item_at tokens.now) }
 {
-    let Some((at, name, after)) = name_first(tokens) else {
-        return Err(Stop::Unexpected(tokens.len()));
+    let Some((named, after)) = name_first(tokens) else {
+        return None;
     };
-    let (bounds, rest) = bounds(after)?;
-    Ok((Item { at, name, bounds }, rest))
+    let Some((bounds, rest)) = bounds(after) else {
+        return None;
+    };
+    Some((
+        Item {
+            at: named.at,
+            name: named.name,
+            bounds,
+        },
+        rest,
+    ))
 }
 
 /// `{ "," item }`
@@ -65,56 +89,119 @@ fn more_items(alloc: Global, tokens: &[Token]) -> Result<(List<NextItem>, &[Toke
     let mut all = List::new(alloc);
     let mut rest = tokens;
     for _turn in 0..tokens.len() {
-        let Some((comma, after)) = comma_first(rest) else {
+        let Some((comma, after)) = optional(Mark::Comma, rest) else {
             return Ok((all, rest));
         };
-        match item(after) {
-            Ok((item, after)) => {
-                all.push(NextItem { comma, item })?;
-                rest = after;
-            }
-            Err(stop) => return Err(stop),
-        }
+        let Some((item, after)) = item(after) else {
+            return Err(Stop::NoSyntax);
+        };
+        all.push(NextItem { comma, item })?;
+        rest = after;
     }
     Ok((all, rest))
 }
 
-/// `INT item { "," item } ";"`
-fn globals_line(alloc: Global, tokens: &[Token]) -> Result<(Globals, &[Token]), Stop>
-    ensures { Tells (λ r. (seen_line r.0, r.1.now)) result (line_at tokens.now) }
+/// `name "=" constant`
+fn literal(tokens: &[Token]) -> Option<(Literal, &[Token])>
+    ensures { Gives (λ r. (seen_literal r.0, r.1.now)) result (literal_at tokens.now) }
 {
-    let Some((int, after)) = int_first(tokens) else {
-        return Err(Stop::Unexpected(tokens.len()));
+    let Some((named, after)) = name_first(tokens) else {
+        return None;
     };
-    match item(after) {
-        Ok((first, after)) => {
-            let (more, after) = more_items(alloc, after)?;
-            let Some((end, rest)) = semicolon_first(after) else {
-                return Err(Stop::Unexpected(after.len()));
-            };
-            let line = Globals {
-                int,
-                first,
-                more,
-                end,
-            };
-            Ok((line, rest))
+    let Some((equal, after)) = optional(Mark::Equal, after) else {
+        return None;
+    };
+    let Some((constant, rest)) = constant(after) else {
+        return None;
+    };
+    let literal = Literal {
+        at: named.at,
+        name: named.name,
+        equal,
+        constant,
+    };
+    Some((literal, rest))
+}
+
+/// `{ "," literal }`
+fn more_literals(alloc: Global, tokens: &[Token]) -> Result<(List<NextLiteral>, &[Token]), Stop>
+    ensures { Tells (λ r. (seen_literals r.0, r.1.now)) result (literals_at tokens.now) }
+{
+    let mut all = List::new(alloc);
+    let mut rest = tokens;
+    for _turn in 0..tokens.len() {
+        let Some((comma, after)) = optional(Mark::Comma, rest) else {
+            return Ok((all, rest));
+        };
+        let Some((literal, after)) = literal(after) else {
+            return Err(Stop::NoSyntax);
+        };
+        all.push(NextLiteral { comma, literal })?;
+        rest = after;
+    }
+    Ok((all, rest))
+}
+
+/// `item { "," item } ";"`, after INT
+fn int_line(alloc: Global, int: At, tokens: &[Token]) -> Result<(Globals, &[Token]), Stop>
+    ensures { Tells (λ r. (seen_globals r.0, r.1.now)) result (int_line_at int tokens.now) }
+{
+    let Some((first, after)) = item(tokens) else {
+        return Err(Stop::NoSyntax);
+    };
+    let (more, after) = more_items(alloc, after)?;
+    let (end, rest) = expect(Mark::Semicolon, after)?;
+    let line = IntLine {
+        int,
+        first,
+        more,
+        end,
+    };
+    Ok((Globals::Int(line), rest))
+}
+
+/// `literal { "," literal } ";"`, after LITERAL
+fn literal_line(alloc: Global, word: At, tokens: &[Token]) -> Result<(Globals, &[Token]), Stop>
+    ensures { Tells (λ r. (seen_globals r.0, r.1.now)) result (literal_line_at word tokens.now) }
+{
+    let Some((first, after)) = literal(tokens) else {
+        return Err(Stop::NoSyntax);
+    };
+    let (more, after) = more_literals(alloc, after)?;
+    let (end, rest) = expect(Mark::Semicolon, after)?;
+    let line = LiteralLine {
+        word,
+        first,
+        more,
+        end,
+    };
+    Ok((Globals::Literal(line), rest))
+}
+
+/// `INT item { "," item } ";" | LITERAL literal { "," literal } ";"`
+fn line(alloc: Global, tokens: &[Token]) -> Result<(Globals, &[Token]), Stop>
+    ensures { Tells (λ r. (seen_globals r.0, r.1.now)) result (line_at tokens.now) }
+{
+    match optional(Mark::Int, tokens) {
+        Some((int, after)) => int_line(alloc, int, after),
+        None => {
+            let (word, after) = expect(Mark::Literal, tokens)?;
+            literal_line(alloc, word, after)
         }
-        Err(stop) => Err(stop),
     }
 }
 
-/// `{ globals }`
+/// `{ line }`
 pub fn globals(alloc: Global, tokens: &[Token]) -> Result<(List<Globals>, &[Token]), Stop>
     ensures { Tells (λ r. (seen_lines r.0, r.1.now)) result (lines_at tokens.now) }
 {
     let mut all = List::new(alloc);
     let mut rest = tokens;
     for _turn in 0..tokens.len() {
-        let Some(_) = int_first(rest) else {
+        if !is_line(rest) {
             return Ok((all, rest));
-        };
-        let (line, after) = globals_line(alloc, rest)?;
+        }
+        let (line, after) = line(alloc, rest)?;
         all.push(line)?;
         rest = after;
     }

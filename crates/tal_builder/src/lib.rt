@@ -1,12 +1,14 @@
-//! The builder of syntax: from the tokens of a program text to its parts, or to the token that can't stand where it does.
+//! The builder of syntax: from the tokens of a program text to its parts, where the text is of the grammar.
 //!
 //! Below stand `tal_tokens` for the tokens and `tal_syntax` for the grammar, as data and as the types that are built here.
 //! The reader above uses the one clause of `build`.
 #![tactic(auto)]
 
 mod expression;
+mod first;
 mod globals;
-mod sign;
+mod heading;
+mod mark;
 mod simple;
 mod statement;
 pub mod stop;
@@ -14,3 +16,6 @@ pub mod text;
 
 pub use stop::Stop;
 pub use text::build;
+
+#[cfg(test)]
+mod tests;

@@ -1,25 +1,35 @@
 ghost use Rattle.std.specs.Prelude.{◌≡◌};
 ghost use Rattle.tal_builder.specs.Outcome.{Tells};
-ghost use Rattle.tal_builder.specs.Parse.{argument_at, further_at, listed_at, arguments_at, call_at, assign_at};
-ghost use Rattle.tal_syntax.specs.Seen.{seen_argument, seen_further, seen_arguments, seen_statement};
+ghost use Rattle.tal_builder.specs.Parse.{argument_at, further_at, listed_at, arguments_at, call_at, answer_at, return_at, values_at, value_list_at, value_list_in, right_at, assign_at};
+ghost use Rattle.tal_syntax.specs.Seen.{seen_argument, seen_further, seen_arguments, seen_statement, seen_answer, seen_values, seen_expr, seen_spot};
 
 use crate::expression::{expr, spot};
-use crate::sign::{assign_first, close_first, comma_first, name_first, open_first};
+use crate::first::{called_first, is_value, name_first, string_first};
+use crate::mark::{Mark, expect, optional};
 use crate::stop::Stop;
-use gd_words::List;
+use gd_words::{Boxed, List};
 use std::alloc::Global;
-use tal_syntax::{Argument, Arguments, Call, NextArgument, Statement};
+use tal_syntax::{
+    Answer, Argument, ArgumentList, Arguments, Assign, AssignCall, Call, Expr, NextArgument,
+    NextValue, Return, Spot, Statement,
+};
 use tal_tokens::{At, Token};
+
+/// The values of a call on a right side, and where its parenthesis closes.
+#[derive(Drop)]
+struct ValueList {
+    first: Expr,
+    more: List<NextValue>,
+    close: At,
+}
 
 /// `expr | string`
 fn argument(alloc: Global, room: u8, tokens: &[Token]) -> Result<(Argument, &[Token]), Stop>
     ensures { Tells (λ r. (seen_argument r.0, r.1.now)) result (argument_at room tokens.now) }
 {
-    match tokens {
-        [Token::Receive(at), rest @ ..] => Ok((Argument::Receive(*at), rest)),
-        [Token::Process(at, name), rest @ ..] => Ok((Argument::Process(*at, *name), rest)),
-        [Token::Text(at), rest @ ..] => Ok((Argument::Text(*at), rest)),
-        _ => {
+    match string_first(tokens) {
+        Some(found) => Ok(found),
+        None => {
             let (value, rest) = expr(alloc, room, tokens)?;
             Ok((Argument::Value(value), rest))
         }
@@ -37,7 +47,7 @@ fn more_arguments(
     let mut all = List::new(alloc);
     let mut rest = tokens;
     for _turn in 0..tokens.len() {
-        let Some((comma, after)) = comma_first(rest) else {
+        let Some((comma, after)) = optional(Mark::Comma, rest) else {
             return Ok((all, rest));
         };
         let (argument, after) = argument(alloc, room, after)?;
@@ -58,26 +68,30 @@ fn listed(
 {
     let (first, after) = argument(alloc, room, tokens)?;
     let (more, after) = more_arguments(alloc, room, after)?;
-    let Some((close, rest)) = close_first(after) else {
-        return Err(Stop::Unexpected(after.len()));
+    let (close, rest) = expect(Mark::Close, after)?;
+    let list = ArgumentList {
+        start,
+        first,
+        more,
+        close,
     };
-    Ok((Arguments::Listed(start, first, more, close), rest))
+    Ok((Arguments::Listed(list), rest))
 }
 
 /// `[ "(" argument { "," argument } ")" ]`, which opens a level
 fn arguments(alloc: Global, room: u8, tokens: &[Token]) -> Result<(Arguments, &[Token]), Stop>
     ensures { Tells (λ r. (seen_arguments r.0, r.1.now)) result (arguments_at room tokens.now) }
 {
-    let Some((start, after)) = open_first(tokens) else {
-        return Ok((Arguments::None, tokens));
+    let Some((start, after)) = optional(Mark::Open, tokens) else {
+        return Ok((Arguments::Absent, tokens));
     };
     if room == 0 {
-        return Err(Stop::TooDeep(tokens.len()));
+        return Err(Stop::NoSyntax);
     }
     listed(alloc, room - 1, start, after)
 }
 
-/// `CALL name arguments`, after CALL
+/// `name arguments`, after CALL
 pub fn call(
     alloc: Global,
     room: u8,
@@ -86,31 +100,127 @@ pub fn call(
 ) -> Result<(Statement, &[Token]), Stop>
     ensures { Tells (λ r. (seen_statement r.0, r.1.now)) result (call_at room head tokens.now) }
 {
-    let Some((at, name, after)) = name_first(tokens) else {
-        return Err(Stop::Unexpected(tokens.len()));
+    let Some((named, after)) = name_first(tokens) else {
+        return Err(Stop::NoSyntax);
     };
     let (arguments, rest) = arguments(alloc, room, after)?;
     let call = Call {
-        call: head,
-        at,
-        name,
+        head,
+        at: named.at,
+        name: named.name,
         arguments,
     };
+    let call = Boxed::new(alloc, call)?;
     Ok((Statement::Call(call), rest))
 }
 
-/// `spot ":=" expr`
+/// `[ expr ]`
+fn answer(alloc: Global, room: u8, tokens: &[Token]) -> Result<(Answer, &[Token]), Stop>
+    ensures { Tells (λ r. (seen_answer r.0, r.1.now)) result (answer_at room tokens.now) }
+{
+    if is_value(tokens) {
+        let (value, rest) = expr(alloc, room, tokens)?;
+        Ok((Answer::Value(value), rest))
+    } else {
+        Ok((Answer::Absent, tokens))
+    }
+}
+
+/// `answer`, after RETURN
+pub fn return_of(
+    alloc: Global,
+    room: u8,
+    head: At,
+    tokens: &[Token],
+) -> Result<(Statement, &[Token]), Stop>
+    ensures { Tells (λ r. (seen_statement r.0, r.1.now)) result (return_at room head tokens.now) }
+{
+    let (answer, rest) = answer(alloc, room, tokens)?;
+    let back = Boxed::new(alloc, Return { head, answer })?;
+    Ok((Statement::Return(back), rest))
+}
+
+/// `{ "," expr }`
+fn more_values(
+    alloc: Global,
+    room: u8,
+    tokens: &[Token],
+) -> Result<(List<NextValue>, &[Token]), Stop>
+    ensures { Tells (λ r. (seen_values r.0, r.1.now)) result (values_at room tokens.now) }
+{
+    let mut all = List::new(alloc);
+    let mut rest = tokens;
+    for _turn in 0..tokens.len() {
+        let Some((comma, after)) = optional(Mark::Comma, rest) else {
+            return Ok((all, rest));
+        };
+        let (value, after) = expr(alloc, room, after)?;
+        all.push(NextValue { comma, value })?;
+        rest = after;
+    }
+    Ok((all, rest))
+}
+
+/// `expr { "," expr } ")"`, after `(`
+fn value_list(alloc: Global, room: u8, tokens: &[Token]) -> Result<(ValueList, &[Token]), Stop>
+    ensures { Tells (λ r. ((seen_expr r.0.first, seen_values r.0.more, r.0.close), r.1.now)) result (value_list_at room tokens.now) }
+{
+    let (first, after) = expr(alloc, room, tokens)?;
+    let (more, after) = more_values(alloc, room, after)?;
+    let (close, rest) = expect(Mark::Close, after)?;
+    Ok((ValueList { first, more, close }, rest))
+}
+
+/// The same where the parenthesis opens the first of so many levels.
+fn value_list_within(
+    alloc: Global,
+    room: u8,
+    tokens: &[Token],
+) -> Result<(ValueList, &[Token]), Stop>
+    ensures { Tells (λ r. ((seen_expr r.0.first, seen_values r.0.more, r.0.close), r.1.now)) result (value_list_in room tokens.now) }
+{
+    if room == 0 {
+        return Err(Stop::NoSyntax);
+    }
+    value_list(alloc, room - 1, tokens)
+}
+
+/// What stands behind `:=`: a call where a name stands directly before `(`, or else an expression.
+fn right_side(
+    alloc: Global,
+    room: u8,
+    target: Spot,
+    at: At,
+    tokens: &[Token],
+) -> Result<(Statement, &[Token]), Stop>
+    ensures { Tells (λ r. (seen_statement r.0, r.1.now)) result (right_at room (seen_spot target) at tokens.now) }
+{
+    let Some((name_at, name, start, after)) = called_first(tokens) else {
+        let (value, rest) = expr(alloc, room, tokens)?;
+        let assign = Boxed::new(alloc, Assign { target, at, value })?;
+        return Ok((Statement::Assign(assign), rest));
+    };
+    let (values, rest) = value_list_within(alloc, room, after)?;
+    let ValueList { first, more, close } = values;
+    let assign = AssignCall {
+        target,
+        at,
+        name_at,
+        name,
+        start,
+        first,
+        more,
+        close,
+    };
+    let assign = Boxed::new(alloc, assign)?;
+    Ok((Statement::AssignCall(assign), rest))
+}
+
+/// `spot ":=" expr | spot ":=" name "(" expr { "," expr } ")"`
 pub fn assignment(alloc: Global, room: u8, tokens: &[Token]) -> Result<(Statement, &[Token]), Stop>
     ensures { Tells (λ r. (seen_statement r.0, r.1.now)) result (assign_at room tokens.now) }
 {
-    match spot(room, tokens) {
-        Ok((to, after)) => {
-            let Some((assign, after)) = assign_first(after) else {
-                return Err(Stop::Unexpected(after.len()));
-            };
-            let (value, rest) = expr(alloc, room, after)?;
-            Ok((Statement::Assign(to, assign, value), rest))
-        }
-        Err(stop) => Err(stop),
-    }
+    let (target, after) = spot(alloc, room, tokens)?;
+    let (at, after) = expect(Mark::Assign, after)?;
+    right_side(alloc, room, target, at, after)
 }

@@ -1,31 +1,30 @@
 ghost use Rattle.std.specs.Prelude.{◌≡◌};
 ghost use Rattle.tal_builder.specs.Outcome.{Tells};
-ghost use Rattle.tal_builder.specs.Parse.{row_at, block_by, while_by, statement_by, statement_at};
-ghost use Rattle.tal_syntax.specs.Seen.{seen_statement, seen_row};
+ghost use Rattle.tal_builder.specs.Parse.{row_at, block_by, otherwise_by, if_by, while_by, for_by, begun_by, statement_at};
+ghost use Rattle.tal_syntax.specs.Seen.{seen_statement, seen_otherwise, seen_row};
 
 use crate::expression::expr;
-use crate::sign::{do_first, end_first, is_begun, semicolon_first};
-use crate::simple::{assignment, call};
+use crate::first::{is_begun, name_first};
+use crate::mark::{Mark, expect, optional};
+use crate::simple::{assignment, call, return_of};
 use crate::stop::Stop;
 use gd_words::{Boxed, List};
 use std::alloc::Global;
-use tal_syntax::{Next, Statement};
+use tal_syntax::{ForHead, Next, Otherwise, Statement, Test};
 use tal_tokens::{At, Token};
 
-/// A statement that may open so many levels, its own among them.
+/// A statement in which so many levels may be opened, its own among them.
 #[cycle(statement)]
 pub fn statement(alloc: Global, room: u8, tokens: &[Token]) -> Result<(Statement, &[Token]), Stop>
     ensures { Tells (λ r. (seen_statement r.0, r.1.now)) result (statement_at room tokens.now) }
 {
-    if room == 0 {
-        if is_begun(tokens) {
-            Err(Stop::TooDeep(tokens.len()))
-        } else {
-            Ok((Statement::Nothing, tokens))
-        }
-    } else {
-        within(alloc, room - 1, tokens)
+    if !is_begun(tokens) {
+        return Ok((Statement::Nothing, tokens));
     }
+    if room == 0 {
+        return Err(Stop::NoSyntax);
+    }
+    begun(alloc, room - 1, tokens)
 }
 
 /// `{ ";" statement }`
@@ -36,7 +35,7 @@ pub fn row(alloc: Global, room: u8, tokens: &[Token]) -> Result<(List<Next>, &[T
     let mut all = List::new(alloc);
     let mut rest = tokens;
     for _turn in 0..tokens.len() {
-        let Some((semicolon, after)) = semicolon_first(rest) else {
+        let Some((semicolon, after)) = optional(Mark::Semicolon, rest) else {
             return Ok((all, rest));
         };
         let (statement, after) = statement(alloc, room, after)?;
@@ -49,7 +48,23 @@ pub fn row(alloc: Global, room: u8, tokens: &[Token]) -> Result<(List<Next>, &[T
     Ok((all, rest))
 }
 
-/// `BEGIN statement { ";" statement } END`, after BEGIN
+/// A statement that isn't empty, in which so many levels may be opened.
+#[cycle(statement)]
+fn begun(alloc: Global, room: u8, tokens: &[Token]) -> Result<(Statement, &[Token]), Stop>
+    ensures { Tells (λ r. (seen_statement r.0, r.1.now)) result (begun_by (statement_at room) room tokens.now) }
+{
+    match tokens {
+        [Token::Begin(at), rest @ ..] => block(alloc, room, *at, rest),
+        [Token::If(at), rest @ ..] => if_then(alloc, room, *at, rest),
+        [Token::While(at), rest @ ..] => while_loop(alloc, room, *at, rest),
+        [Token::For(at), rest @ ..] => for_loop(alloc, room, *at, rest),
+        [Token::Call(at), rest @ ..] => call(alloc, room, *at, rest),
+        [Token::Return(at), rest @ ..] => return_of(alloc, room, *at, rest),
+        _ => assignment(alloc, room, tokens),
+    }
+}
+
+/// `statement { ";" statement } END`, after BEGIN
 #[cycle(statement)]
 fn block(
     alloc: Global,
@@ -61,14 +76,44 @@ fn block(
 {
     let (first, after) = statement(alloc, room, tokens)?;
     let (more, after) = row(alloc, room, after)?;
-    let Some((end, rest)) = end_first(after) else {
-        return Err(Stop::Unexpected(after.len()));
-    };
+    let (end, rest) = expect(Mark::End, after)?;
     let first = Boxed::new(alloc, first)?;
     Ok((Statement::Block(begin, first, more, end), rest))
 }
 
-/// `WHILE expr DO statement`, after WHILE
+/// `[ ELSE statement ]`
+#[cycle(statement)]
+fn otherwise(alloc: Global, room: u8, tokens: &[Token]) -> Result<(Otherwise, &[Token]), Stop>
+    ensures { Tells (λ r. (seen_otherwise r.0, r.1.now)) result (otherwise_by (statement_at room) tokens.now) }
+{
+    let Some((at, after)) = optional(Mark::Else, tokens) else {
+        return Ok((Otherwise::Absent, tokens));
+    };
+    let (inner, rest) = statement(alloc, room, after)?;
+    let inner = Boxed::new(alloc, inner)?;
+    Ok((Otherwise::Else(at, inner), rest))
+}
+
+/// `expr THEN statement [ ELSE statement ]`, after IF
+#[cycle(statement)]
+fn if_then(
+    alloc: Global,
+    room: u8,
+    head: At,
+    tokens: &[Token],
+) -> Result<(Statement, &[Token]), Stop>
+    ensures { Tells (λ r. (seen_statement r.0, r.1.now)) result (if_by (statement_at room) room head tokens.now) }
+{
+    let (test, after) = expr(alloc, room, tokens)?;
+    let (end, after) = expect(Mark::Then, after)?;
+    let (inner, after) = statement(alloc, room, after)?;
+    let (otherwise, rest) = otherwise(alloc, room, after)?;
+    let test = Boxed::new(alloc, Test { head, test, end })?;
+    let inner = Boxed::new(alloc, inner)?;
+    Ok((Statement::If(test, inner, otherwise), rest))
+}
+
+/// `expr DO statement`, after WHILE
 #[cycle(statement)]
 fn while_loop(
     alloc: Global,
@@ -79,24 +124,43 @@ fn while_loop(
     ensures { Tells (λ r. (seen_statement r.0, r.1.now)) result (while_by (statement_at room) room head tokens.now) }
 {
     let (test, after) = expr(alloc, room, tokens)?;
-    let Some((sign, after)) = do_first(after) else {
-        return Err(Stop::Unexpected(after.len()));
-    };
-    let (body, rest) = statement(alloc, room, after)?;
-    let body = Boxed::new(alloc, body)?;
-    Ok((Statement::While(head, test, sign, body), rest))
+    let (end, after) = expect(Mark::Do, after)?;
+    let (inner, rest) = statement(alloc, room, after)?;
+    let test = Boxed::new(alloc, Test { head, test, end })?;
+    let inner = Boxed::new(alloc, inner)?;
+    Ok((Statement::While(test, inner), rest))
 }
 
-/// A statement inside which so many levels may be opened.
+/// `name ":=" expr TO expr DO statement`, after FOR
 #[cycle(statement)]
-fn within(alloc: Global, room: u8, tokens: &[Token]) -> Result<(Statement, &[Token]), Stop>
-    ensures { Tells (λ r. (seen_statement r.0, r.1.now)) result (statement_by (statement_at room) room tokens.now) }
+fn for_loop(
+    alloc: Global,
+    room: u8,
+    head: At,
+    tokens: &[Token],
+) -> Result<(Statement, &[Token]), Stop>
+    ensures { Tells (λ r. (seen_statement r.0, r.1.now)) result (for_by (statement_at room) room head tokens.now) }
 {
-    match tokens {
-        [Token::Begin(at), rest @ ..] => block(alloc, room, *at, rest),
-        [Token::While(at), rest @ ..] => while_loop(alloc, room, *at, rest),
-        [Token::Call(at), rest @ ..] => call(alloc, room, *at, rest),
-        [Token::Name(_, _), ..] => assignment(alloc, room, tokens),
-        _ => Ok((Statement::Nothing, tokens)),
-    }
+    let Some((named, after)) = name_first(tokens) else {
+        return Err(Stop::NoSyntax);
+    };
+    let (set_at, after) = expect(Mark::Assign, after)?;
+    let (from, after) = expr(alloc, room, after)?;
+    let (to_at, after) = expect(Mark::To, after)?;
+    let (to, after) = expr(alloc, room, after)?;
+    let (do_at, after) = expect(Mark::Do, after)?;
+    let (inner, rest) = statement(alloc, room, after)?;
+    let counted = ForHead {
+        head,
+        at: named.at,
+        name: named.name,
+        set_at,
+        from,
+        to_at,
+        to,
+        do_at,
+    };
+    let counted = Boxed::new(alloc, counted)?;
+    let inner = Boxed::new(alloc, inner)?;
+    Ok((Statement::For(counted, inner), rest))
 }

@@ -3,11 +3,10 @@ ghost use Rattle.tal_builder.specs.declared.stop.Stop.TheVariants as variants;
 
 use gd_words::NoMemory;
 
-/// Why tokens aren't read: a token that can't stand where so many tokens are left, or one that opens a level too many.
+/// Why no syntax is built: the tokens have none, or there is no memory.
 #[derive(Clone, Copy, Debug, PartialEq, Eq)]
 pub enum Stop {
-    Unexpected(usize),
-    TooDeep(usize),
+    NoSyntax,
     NoMemory,
 }
 

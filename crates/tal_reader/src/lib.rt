@@ -1,10 +1,17 @@
-//! The reader of program texts: from the bytes to the tree, or to a fault that refuses them.
+//! The reader of program texts: the program that a text reads as, or the one fault for which it is refused.
 //!
-//! Below stand `tal_tokens`, which cuts the text into tokens, `tal_builder`, which finds their syntax in the grammar of
-//! `tal_syntax`, and `tal_rules`, which finds the tree of a syntax that keeps the rules. The crates above use the one
-//! clause of `read_program`: it answers a program exactly where `Reads` says that the text reads as that program.
+//! Below stand `tal_tokens`, which cuts a text into tokens, `tal_recogniser`, which judges them by the grammar, `tal_builder`,
+//! which builds their syntax, `tal_rules`, whose faults judge that, and `tal_trees`, which makes its tree. The layer above uses
+//! `read_program`, whose contract names `Reads` and `IsRefused` of `specs/Reads.antt`, and the laws of reading.
 #![tactic(auto)]
 
+mod place;
 pub mod reader;
 
-pub use reader::read_program;
+pub use reader::{
+    a_text_is_refused_for_one_fault, a_text_reads_as_one_program, read_program,
+    what_is_refused_reads_as_none,
+};
+
+#[cfg(test)]
+mod tests;

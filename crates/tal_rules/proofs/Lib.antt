@@ -1,3 +1,7 @@
-pub mod Counts
-pub mod Fallen
-pub mod Steps
+pub mod Counted
+pub mod Lookups
+pub mod Opens
+pub mod Order
+pub mod Parts
+pub mod StatementSteps
+pub mod Turns

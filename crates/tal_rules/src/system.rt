@@ -1,5 +1,7 @@
 ghost use Rattle.std.specs.Prelude.{◌≡◌};
-ghost use Rattle.tal_rules.specs.System.{same, system_of};
+ghost use Rattle.tal_rules.specs.Systems.{system_of};
+
+use gd_words::Ident;
 
 /// The system's own calls.
 #[derive(Clone, Copy, Debug, PartialEq, Eq)]
@@ -13,32 +15,18 @@ pub enum System {
     WriteRead,
 }
 
-/// Whether two names are the same.
-pub fn is(name: &[u8], other: &[u8]) -> bool
-    ensures { result ≡ same name.now other.now }
-{
-    name == other
-}
-
 /// The system's call that has the name.
-pub fn system_of(name: &[u8]) -> Option<System>
-    ensures { result ≡ system_of name.now }
+pub fn system_of(name: Ident) -> Option<System>
+    ensures { result ≡ system_of name }
 {
-    if is(name, b"CHECKMONITOR") {
-        Some(System::CheckMonitor)
-    } else if is(name, b"CHECKPOINT") {
-        Some(System::Checkpoint)
-    } else if is(name, b"OPEN") {
-        Some(System::Open)
-    } else if is(name, b"READUPDATE") {
-        Some(System::ReadUpdate)
-    } else if is(name, b"REPLY") {
-        Some(System::Reply)
-    } else if is(name, b"STOP") {
-        Some(System::Stop)
-    } else if is(name, b"WRITEREAD") {
-        Some(System::WriteRead)
-    } else {
-        None
+    match name.text() {
+        b"CHECKMONITOR" => Some(System::CheckMonitor),
+        b"CHECKPOINT" => Some(System::Checkpoint),
+        b"OPEN" => Some(System::Open),
+        b"READUPDATE" => Some(System::ReadUpdate),
+        b"REPLY" => Some(System::Reply),
+        b"STOP" => Some(System::Stop),
+        b"WRITEREAD" => Some(System::WriteRead),
+        _ => None,
     }
 }

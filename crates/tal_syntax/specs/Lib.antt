@@ -1,2 +1,4 @@
 pub mod Grammar
+pub mod Nesting
+pub mod Expected
 pub mod Seen

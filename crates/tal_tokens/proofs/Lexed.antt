@@ -19,10 +19,13 @@ skipped zero here (c ∷ text) h = refl
 skipped (suc k) here [] h = absurd (omega arith)
 skipped (suc k) here (c ∷ text) h = skipped k (after here c) text (omega arith)
 
-pub after_gap : (list : List Token) (here : Cursor) (rest : List ℕ) → 0 < length rest → begun_of here rest ≡ Gap
-    → onto list (lexed 0 here rest) ≡ onto list (lexed 0 (passed here (take 1 rest)) (drop 1 rest))
-after_gap list here [] h e = absurd (omega arith)
-after_gap list here (c ∷ rest) h e = ap (λ b. onto list (lexed_by b (λ k. lexed k (after here c) rest))) e
+pub after_gap : (list : List Token) (here : Cursor) (rest : List ℕ) (n : ℕ) → 1 ≤ n → n ≤ length rest → begun_of here rest ≡ Gap n
+    → onto list (lexed 0 here rest) ≡ onto list (lexed 0 (passed here (take n rest)) (drop n rest))
+after_gap list here [] n low high e = absurd (omega arith)
+after_gap list here (c ∷ rest) zero low high e = absurd (omega arith)
+after_gap list here (c ∷ rest) (suc n) low high e =
+    ap (λ b. onto list (lexed_by b (λ k. lexed k (after here c) rest))) e
+    ∙ ap (λ tokens. onto list tokens) (ap (λ k. lexed k (after here c) rest) (omega arith) ∙ skipped n (after here c) rest (omega arith))
 
 pub after_token : (list : List Token) (here : Cursor) (rest : List ℕ) (token : Token) (n : ℕ) → 1 ≤ n → n ≤ length rest → begun_of here rest ≡ Whole token n
     → onto list (lexed 0 here rest) ≡ onto (list ++ token ∷ []) (lexed 0 (passed here (take n rest)) (drop n rest))

@@ -168,19 +168,32 @@ symbol_begun here c rest = longest here c (paired (at_front here 2) c rest)
 abbrev pub is_blank : ℕ → Bool
 is_blank c = (c == 32) || (c == 9) || (c == 10)
 
+-- a comment goes up to the next `!`, or up to the end of its line
+abbrev pub is_comment_end : ℕ → Bool
+is_comment_end c = (c == 33) || (c == 10)
+
+abbrev pub comment_to : List ℕ → Option ℕ → ℕ
+comment_to rest None = length rest + 1
+comment_to rest (Some k) = k + 2
+
+-- how many bytes a comment takes, whose first `!` stands before the text
+abbrev pub comment_of : List ℕ → ℕ
+comment_of rest = comment_to rest (position is_comment_end rest)
+
 -- what a text begins with
 abbrev pub begun_of : Cursor → List ℕ → Begun
-begun_of here [] = Gap
+begun_of here [] = Gap 1
 begun_of here (c ∷ rest) =
-    if is_blank c then Gap else
+    if is_blank c then Gap 1 else
+    if c == 33 then Gap (comment_of rest) else
     if is_ascii_digit c then decimal_begun here (c ∷ rest) else
     if is_ident_sign c then name_begun here (c ∷ rest) else
     if c == 37 then octal_begun here rest else
     if c == 34 then string_begun here rest else
     symbol_begun here c rest
 
--- a token takes at least one byte and at most n
+-- what is passed over and what is a token take at least one byte and at most n
 abbrev pub TakesUpTo : ℕ → Begun → Type 0
-TakesUpTo n Gap = Unit {0}
+TakesUpTo n (Gap k) = (1 ≤ k) × (k ≤ n)
 TakesUpTo n (Whole token k) = (1 ≤ k) × (k ≤ n)
 TakesUpTo n (Broken fault) = Unit {0}

@@ -1,5 +1,6 @@
 -- The tokens of a text.
-use Rattle.std.specs.Prelude.{ℕ, ◌-◌, zero, suc, List, [], ◌∷◌, Some, None}
+use Rattle.std.specs.Prelude.{ℕ, ◌≡◌, ◌-◌, zero, suc, List, [], ◌∷◌, ◌++◌, Some, None}
+use Rattle.tal_tokens.specs.declared.token.At.{At}
 use Rattle.tal_tokens.specs.declared.begun.Begun.{Begun}
 use Rattle.tal_tokens.specs.declared.begun.Begun.TheVariants.{Gap, Whole, Broken}
 use Rattle.tal_tokens.specs.declared.cursor.Cursor.{Cursor}
@@ -14,7 +15,7 @@ with_front token tokens = record tokens { list = token ∷ tokens.list }
 
 -- what comes of what stands here, where `go k` is what comes after k further bytes
 abbrev pub lexed_by : Begun → (ℕ → TokenList) → TokenList
-lexed_by Gap go = go 0
+lexed_by (Gap n) go = go (n - 1)
 lexed_by (Whole token n) go = with_front token (go (n - 1))
 lexed_by (Broken fault) go = record { list = []; fault = Some fault }
 
@@ -27,3 +28,7 @@ lexed (suc skip) here (c ∷ rest) = lexed skip (after here c) rest
 -- the tokens of a text
 abbrev pub tokens_of : List ℕ → TokenList
 tokens_of text = lexed 0 start_of_text text
+
+-- the tokens of a text without fault end with its end
+abbrev pub IsEnded : TokenList → Type 0
+IsEnded tokens = tokens.fault ≡ None → (front : List Token) × (at : At) × (tokens.list ≡ front ++ Finish at ∷ [])

@@ -1,5 +1,6 @@
 ghost use Rattle.std.specs.Prelude.{◌≡◌, ◌<◌, ◌≤◌, ◌+◌, length};
 
+use crate::comment::comment;
 use crate::cursor::Cursor;
 use crate::number::{decimal, octal};
 use crate::symbol::{is_blank, symbol};
@@ -9,10 +10,10 @@ use crate::word::name;
 use gd_words::ident::is_ident_sign;
 use tal_tree::TalFault;
 
-/// What a text begins with: a sign that separates tokens, a token of so many bytes, or what no token begins with.
+/// What a text begins with: so many bytes that separate tokens, a token of so many bytes, or what no token begins with.
 #[derive(Clone, Copy, Debug, PartialEq, Eq)]
 pub enum Begun {
-    Gap,
+    Gap(usize),
     Whole(Token, usize),
     Broken(TalFault),
 }
@@ -28,10 +29,12 @@ impl Begun {
         ensures within { TakesUpTo (length text.now) result }
     {
         match text {
-            [] => Begun::Gap,
+            [] => Begun::Gap(1),
             [first, rest @ ..] => {
                 if is_blank(*first) {
-                    Begun::Gap
+                    Begun::Gap(1)
+                } else if *first == b'!' {
+                    Begun::Gap(comment(rest))
                 } else if first.is_ascii_digit() {
                     decimal(here, text)
                 } else if is_ident_sign(*first) {

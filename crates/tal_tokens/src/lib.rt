@@ -1,10 +1,11 @@
-//! The tokens of a program text: names, numbers, strings, keywords and symbols, each with its place.
+//! The tokens of a program text: names, numbers, strings, keywords and symbols, each with its place. Comments are none.
 //!
 //! Below stand `gd_words` for identifiers and lists and `tal_tree` for places, faults and what a string opens. The reader
-//! of programs above uses the one clause of `tokens`: its answer is `lexed`, the tokens of the text as they are defined.
+//! of programs above uses the one clause of `tokens`: its answer is `tokens_of`, the tokens of the text as they are defined.
 #![tactic(auto)]
 
 mod begun;
+mod comment;
 mod cursor;
 pub mod lexer;
 mod number;
@@ -16,3 +17,6 @@ mod word;
 
 pub use lexer::{TokenList, tokens};
 pub use token::{At, Token};
+
+#[cfg(test)]
+mod tests;

@@ -1,42 +1,86 @@
-use Rattle.std.proofs.Common.{◌≡◌, ◌-◌, ◌+◌, suc, length, Some, refl, sym, ap, ◌∙◌, arith, subst}
+use Rattle.std.proofs.Common.{◌≡◌, ◌-◌, ◌+◌, suc, true, length, Some, None, refl, sym, ap, ◌∙◌, arith, subst}
 use Rattle.tal_syntax.specs.Grammar as g
-use Rattle.tal_syntax.specs.Grammar.{no_row, more_row}
-use Rattle.tal_syntax.specs.Seen.{link_row, seen_statement, seen_row, seen_expr}
-use Rattle.tal_syntax.proofs.SeenSteps.{seen-block, seen-while}
-use Rattle.tal_builder.specs.First.{semicolon_of}
-use Rattle.tal_builder.specs.Outcome.{Tells}
+use Rattle.tal_syntax.specs.Seen.{link_row, seen_statement}
+use Rattle.tal_builder.specs.Marks.{mark_of}
+use Rattle.tal_builder.specs.declared.mark.Mark.TheVariants as mark
 use Rattle.tal_builder.specs.Parse.{statement_at}
-use Rattle.tal_builder.proofs.Turns.{turns}
-use Rattle.tal_builder.proofs.Steps.{block-found, while-found}
+use Rattle.tal_builder.proofs.Turns.{ends, turns}
+use Rattle.tal_syntax.specs.Seen.{seen_expr, seen_row, seen_otherwise}
+use Rattle.tal_syntax.specs.declared.statement.Test.{Test}
+use Rattle.tal_syntax.specs.declared.statement.ForHead.{ForHead}
+use Rattle.tal_syntax.proofs.SeenSteps.{seen-block, seen-if, seen-while, seen-for, seen-else}
+use Rattle.tal_builder.specs.Outcome.{Tells}
+use Rattle.std.specs.Prelude.{cond}
+use Rattle.tal_builder.specs.First.{is_begun}
+use Rattle.tal_builder.specs.Parse.{begun_by}
+use Rattle.tal_builder.proofs.Steps.{block-found, otherwise-found, if-found, while-found, for-found}
 use Rattle.tal_builder.proofs.statement.+statement.Goals as goal
 
-pub block-returns : goal.block-returns
-block-returns t c =
-    block-found (statement_at c.args.room) c.args.begin c.in-Some.end c.args.tokens.now c.in_ok-first.after.now c.in_ok-more.after.now c.in-Some.rest.now
-    (seen_statement c.in_ok-first.first) (seen_row c.in_ok-more.more) c.in_ok-first.ensures c.in_ok-more.ensures c.in-Some.ensures
-    ∙ ap (λ s. Some (s, c.in-Some.rest.now))
-    (ap (λ f. g.block c.args.begin (seen_statement f) (seen_row c.in_ok-more.more) c.in-Some.end) (sym c.in_ok-first-2.ensures)
-    ∙ sym (seen-block c.args.begin c.in_ok-first-2.first c.in_ok-more.more c.in-Some.end))
-
-pub while_loop-returns : goal.while_loop-returns
-while_loop-returns t c =
-    while-found (statement_at c.args.room) c.args.room c.args.head c.in-Some.sign c.args.tokens.now c.in_ok-test.after.now c.in-Some.after.now c.in_ok-body.rest.now
-    (seen_expr c.in_ok-test.test) (seen_statement c.in_ok-body.body) c.in_ok-test.ensures c.in-Some.ensures c.in_ok-body.ensures
-    ∙ ap (λ s. Some (s, c.in_ok-body.rest.now))
-    (ap (λ b. g.while_do c.args.head (seen_expr c.in_ok-test.test) c.in-Some.sign (seen_statement b)) (sym c.in_ok-body-2.ensures)
-    ∙ sym (seen-while c.args.head c.in_ok-test.test c.in-Some.sign c.in_ok-body-2.body))
-
-pub statement-returns-else-room-eq0 : goal.statement-returns-else-room-eq0
-statement-returns-else-room-eq0 t c =
-    let next : suc (c.args.room - 1) ≡ c.args.room = omega (arith, c.if-room-eq0.false) in
-    subst (λ n. Tells (λ r. (seen_statement r.0, r.1.now)) c.within.result (statement_at n c.args.tokens.now)) next c.within.ensures
+pub row-returns-in_default : goal.row-returns-in_default
+row-returns-in_default t c =
+    let none : mark_of mark.Semicolon c.loop-turn.rest.now ≡ None = rw c.in_default.is at c.optional.ensures in
+    sym c.loop-turn.invariant
+    ∙ ends link_row g.no_row g.more_row (mark_of mark.Semicolon) (statement_at c.args.room) c.loop-turn.all (length c.args.tokens.now - c.loop-turn._turn) c.loop-turn.rest.now none
 
 pub row-loop-turn-preserved : goal.row-loop-turn-preserved
 row-loop-turn-preserved t c =
     let count : length c.args.tokens.now - c.loop-turn._turn ≡ suc (length c.args.tokens.now - (c.loop-turn._turn + 1)) = omega (arith, c.loop-turn-test.true) in
-    let sign : semicolon_of c.loop-turn.rest.now ≡ Some (c.in-Some.semicolon, c.in-Some.after.now) = c.in-Some.ensures in
-    let part : statement_at c.args.room c.in-Some.after.now ≡ Some (seen_statement c.in_ok-statement.statement, c.in_ok-statement.after.now) = c.in_ok-statement.ensures in
+    let sign : mark_of mark.Semicolon c.loop-turn.rest.now ≡ Some (c.in-Some.semicolon, c.in-Some.after.now) = c.in-Some.ensures in
+    let part : (statement_at c.args.room) c.in-Some.after.now ≡ Some (seen_statement c.in_ok-statement.statement, c.in_ok-statement.after.now) = c.in_ok-statement.ensures in
     rw c.in_ok-push.ensures.ok
-    (sym (turns link_row no_row more_row semicolon_of (statement_at c.args.room) c.loop-turn.all _ _ c.loop-turn.rest.now c.in-Some.after.now c.in_ok-statement.after.now
-    c.in-Some.semicolon (seen_statement c.in_ok-statement.statement) (record { semicolon = c.in-Some.semicolon; statement = c.in_ok-statement.statement }) count sign part (λ r. refl))
-    ∙ c.loop-turn.invariant)
+    (sym (turns link_row g.no_row g.more_row (mark_of mark.Semicolon) (statement_at c.args.room) c.loop-turn.all _ _ c.loop-turn.rest.now c.in-Some.after.now c.in_ok-statement.after.now
+    c.in-Some.semicolon (seen_statement c.in_ok-statement.statement) (record { semicolon = c.in-Some.semicolon; statement = c.in_ok-statement.statement }) count sign part (λ r. refl)) ∙ c.loop-turn.invariant)
+
+pub block-returns : goal.block-returns
+block-returns t c =
+    block-found (statement_at c.args.room) c.args.begin c.in_ok-end.end c.args.tokens.now c.in_ok-first.after.now c.in_ok-more.after.now c.in_ok-end.rest.now
+    (seen_statement c.in_ok-first.first) (seen_row c.in_ok-more.more) c.in_ok-first.ensures c.in_ok-more.ensures c.in_ok-end.ensures
+    ∙ ap (λ s. Some (s, c.in_ok-end.rest.now))
+    (ap (λ f. g.block c.args.begin (seen_statement f) (seen_row c.in_ok-more.more) c.in_ok-end.end) (sym c.in_ok-first-2.ensures)
+    ∙ sym (seen-block c.args.begin c.in_ok-first-2.first c.in_ok-more.more c.in_ok-end.end))
+
+pub otherwise-returns : goal.otherwise-returns
+otherwise-returns t c =
+    otherwise-found (statement_at c.args.room) c.in-Some.at c.args.tokens.now c.in-Some.after.now c.in_ok-inner.rest.now (seen_statement c.in_ok-inner.inner)
+    c.in-Some.ensures c.in_ok-inner.ensures
+    ∙ ap (λ o. Some (o, c.in_ok-inner.rest.now))
+    (ap (λ s. g.otherwise c.in-Some.at (seen_statement s)) (sym c.in_ok-inner-2.ensures) ∙ sym (seen-else c.in-Some.at c.in_ok-inner-2.inner))
+
+pub if_then-returns : goal.if_then-returns
+if_then-returns t c =
+    if-found (statement_at c.args.room) c.args.room c.args.head c.in_ok-end.end c.args.tokens.now c.in_ok-test.after.now c.in_ok-end.after.now c.in_ok-inner.after.now c.in_ok-otherwise.rest.now
+    (seen_expr c.in_ok-test.test) (seen_statement c.in_ok-inner.inner) (seen_otherwise c.in_ok-otherwise.otherwise)
+    c.in_ok-test.ensures c.in_ok-end.ensures c.in_ok-inner.ensures c.in_ok-otherwise.ensures
+    ∙ ap (λ s. Some (s, c.in_ok-otherwise.rest.now))
+    (ap (λ s. g.if_then c.args.head (seen_expr c.in_ok-test.test) c.in_ok-end.end (seen_statement s) (seen_otherwise c.in_ok-otherwise.otherwise)) (sym c.in_ok-inner-2.ensures)
+    ∙ ap (λ (t : Test). g.if_then t.head (seen_expr t.test) t.end (seen_statement c.in_ok-inner-2.inner) (seen_otherwise c.in_ok-otherwise.otherwise)) (sym c.in_ok-test-2.ensures)
+    ∙ sym (seen-if c.in_ok-test-2.test c.in_ok-inner-2.inner c.in_ok-otherwise.otherwise))
+
+pub while_loop-returns : goal.while_loop-returns
+while_loop-returns t c =
+    while-found (statement_at c.args.room) c.args.room c.args.head c.in_ok-end.end c.args.tokens.now c.in_ok-test.after.now c.in_ok-end.after.now c.in_ok-inner.rest.now
+    (seen_expr c.in_ok-test.test) (seen_statement c.in_ok-inner.inner)
+    c.in_ok-test.ensures c.in_ok-end.ensures c.in_ok-inner.ensures
+    ∙ ap (λ s. Some (s, c.in_ok-inner.rest.now))
+    (ap (λ s. g.while_do c.args.head (seen_expr c.in_ok-test.test) c.in_ok-end.end (seen_statement s)) (sym c.in_ok-inner-2.ensures)
+    ∙ ap (λ (t : Test). g.while_do t.head (seen_expr t.test) t.end (seen_statement c.in_ok-inner-2.inner)) (sym c.in_ok-test-2.ensures)
+    ∙ sym (seen-while c.in_ok-test-2.test c.in_ok-inner-2.inner))
+
+pub for_loop-returns : goal.for_loop-returns
+for_loop-returns t c =
+    for-found (statement_at c.args.room) c.args.room c.args.head c.in-Some.named.at c.in-Some.named.name c.in_ok-set_at.set_at c.in_ok-to_at.to_at c.in_ok-do_at.do_at
+    c.args.tokens.now c.in-Some.after.now c.in_ok-set_at.after.now c.in_ok-from.after.now c.in_ok-to_at.after.now c.in_ok-to.after.now c.in_ok-do_at.after.now c.in_ok-inner.rest.now
+    (seen_expr c.in_ok-from.from) (seen_expr c.in_ok-to.to) (seen_statement c.in_ok-inner.inner)
+    c.in-Some.ensures c.in_ok-set_at.ensures c.in_ok-from.ensures c.in_ok-to_at.ensures c.in_ok-to.ensures c.in_ok-do_at.ensures c.in_ok-inner.ensures
+    ∙ ap (λ s. Some (s, c.in_ok-inner.rest.now))
+    (ap (λ s. g.for_do c.args.head c.in-Some.named.at c.in-Some.named.name c.in_ok-set_at.set_at (seen_expr c.in_ok-from.from) c.in_ok-to_at.to_at (seen_expr c.in_ok-to.to) c.in_ok-do_at.do_at (seen_statement s)) (sym c.in_ok-inner-2.ensures)
+    ∙ ap (λ (f : ForHead). g.for_do f.head f.at f.name f.set_at (seen_expr f.from) f.to_at (seen_expr f.to) f.do_at (seen_statement c.in_ok-inner-2.inner)) (sym c.in_ok-counted.ensures)
+    ∙ sym (seen-for c.in_ok-counted.counted c.in_ok-inner-2.inner))
+
+pub statement-returns : goal.statement-returns
+statement-returns t c =
+    let next : suc (c.args.room - 1) ≡ c.args.room = omega (arith, c.if-room-eq0.false) in
+    let begins : is_begun c.args.tokens.now ≡ true = sym c.is_begun.ensures ∙ c.if-not-is_begun.false in
+    subst (λ n. Tells (λ r. (seen_statement r.0, r.1.now)) c.begun.result (statement_at n c.args.tokens.now)) next
+    (subst (λ b. Tells (λ r. (seen_statement r.0, r.1.now)) c.begun.result (cond b (begun_by (statement_at (c.args.room - 1)) (c.args.room - 1) c.args.tokens.now) (Some (g.nothing, c.args.tokens.now))))
+    (sym begins) c.begun.ensures)

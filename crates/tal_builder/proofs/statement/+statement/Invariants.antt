@@ -1,8 +1,9 @@
 use Rattle.std.proofs.Common.{◌≡◌, ◌+◌, ◌*◌, ◌-◌, length}
-use Rattle.tal_syntax.specs.Grammar.{no_row, more_row}
+use Rattle.tal_syntax.specs.Grammar as g
 use Rattle.tal_syntax.specs.Seen.{link_row}
-use Rattle.tal_builder.specs.First.{semicolon_of}
-use Rattle.tal_builder.specs.Parse.{rest_by, statement_at, row_at}
+use Rattle.tal_builder.specs.Marks.{mark_of}
+use Rattle.tal_builder.specs.declared.mark.Mark.TheVariants as mark
+use Rattle.tal_builder.specs.Parse.{rest_by, row_at, statement_at}
 use Rattle.tal_builder.proofs.Turns.{onto}
 use Rattle.tal_builder.proofs.statement.+statement.Given as goal
 
@@ -12,15 +13,24 @@ decreases-statement l = 4 * l.room
 abbrev pub decreases-row : goal.decreases-row
 decreases-row l = 4 * l.room + 1
 
+abbrev pub decreases-begun : goal.decreases-begun
+decreases-begun l = 4 * l.room + 3
+
 abbrev pub decreases-block : goal.decreases-block
 decreases-block l = 4 * l.room + 2
+
+abbrev pub decreases-otherwise : goal.decreases-otherwise
+decreases-otherwise l = 4 * l.room + 1
+
+abbrev pub decreases-if_then : goal.decreases-if_then
+decreases-if_then l = 4 * l.room + 2
 
 abbrev pub decreases-while_loop : goal.decreases-while_loop
 decreases-while_loop l = 4 * l.room + 2
 
-abbrev pub decreases-within : goal.decreases-within
-decreases-within l = 4 * l.room + 3
+abbrev pub decreases-for_loop : goal.decreases-for_loop
+decreases-for_loop l = 4 * l.room + 2
 
 -- the links so far and those of the tokens that are left are the whole chain
 abbrev pub invariant-row-loop-turn : goal.invariant-row-loop-turn
-invariant-row-loop-turn l = onto link_row l.all (rest_by no_row more_row semicolon_of (statement_at l.room) (length l.tokens - l._turn) l.rest) ≡ row_at l.room l.tokens
+invariant-row-loop-turn l = onto link_row l.all (rest_by g.no_row g.more_row (mark_of mark.Semicolon) (statement_at l.room) (length l.tokens - l._turn) l.rest) ≡ row_at l.room l.tokens

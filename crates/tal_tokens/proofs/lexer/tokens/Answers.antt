@@ -1,5 +1,4 @@
-use Rattle.std.proofs.lemmas.Bool.Decides.{nat_tests}
-use Rattle.std.proofs.Common.{◌≡◌, ◌<◌, ◌≤◌, ◌++◌, ◌∷◌, [], length, sym, ◌∙◌, arith}
+use Rattle.std.proofs.Common.{◌≡◌, ◌≤◌, ◌++◌, ◌∷◌, [], length, sym, ◌∙◌, arith}
 use Rattle.tal_tokens.specs.declared.begun.Begun.TheVariants.{Gap, Whole}
 use Rattle.tal_tokens.specs.Lexeme.{begun_of}
 use Rattle.tal_tokens.proofs.Lexed.{after_gap, after_token}
@@ -10,10 +9,10 @@ pub loop-rest-preserved : goal.loop-rest-preserved
 loop-rest-preserved c = record {
   told = elim c.match-of.branch [
     | in-Gap w ↦
-        let here : begun_of c.loop-rest.here c.loop-rest.rest.now ≡ Gap = sym c.of.ensures.value ∙ w.in-Gap.is in
-        let some : 0 < length c.loop-rest.rest.now = grind (arith, nat_tests) in
+        let here : begun_of c.loop-rest.here c.loop-rest.rest.now ≡ Gap w.in-Gap.len = sym c.of.ensures.value ∙ w.in-Gap.is in
+        let within : (1 ≤ w.in-Gap.len) × (w.in-Gap.len ≤ length c.loop-rest.rest.now) = rw w.in-Gap.is at c.of.ensures.within in
         rw (w.list-is, c.past-here.ensures.place, c.split_at.ensures.front, c.split_at.ensures.back, w.taken-is)
-        (sym (after_gap c.loop-rest.list c.loop-rest.here c.loop-rest.rest.now some here) ∙ c.loop-rest.invariant.told)
+        (sym (after_gap c.loop-rest.list c.loop-rest.here c.loop-rest.rest.now w.in-Gap.len within.0 within.1 here) ∙ c.loop-rest.invariant.told)
     | in-Whole+in_ok-push-in-Whole w ↦
         let here : begun_of c.loop-rest.here c.loop-rest.rest.now ≡ Whole w.in-Whole.token w.in-Whole.len = sym c.of.ensures.value ∙ w.in-Whole.is in
         let within : (1 ≤ w.in-Whole.len) × (w.in-Whole.len ≤ length c.loop-rest.rest.now) = rw w.in-Whole.is at c.of.ensures.within in

@@ -1,0 +1,67 @@
+-- What stands first in tokens that begin with it.
+use Rattle.std.proofs.Common.{◌≡◌, List, [], ◌∷◌, refl, ap}
+use Rattle.tal_tokens.specs.declared.token.Token.{Token}
+use Rattle.tal_tokens.specs.declared.token.Token.TheVariants as tok
+use Rattle.tal_syntax.specs.Grammar as g
+use Rattle.tal_builder.specs.declared.mark.Mark.{Mark}
+use Rattle.tal_builder.specs.declared.mark.Mark.TheVariants as mark
+use Rattle.tal_builder.specs.First.{name_of, called_of, rel_of, sign_of, scale_of}
+use Rattle.tal_builder.specs.Marks.{of_mark, place_of, mark_of}
+use Rattle.tal_builder.proofs.Told.{Told, mapped}
+
+place_is : (m : Mark) (k : Token) → Told (place_of m k) (λ at. of_mark m at ≡ k)
+place_is mark.And (tok.And at) = record { told = refl }
+place_is mark.Begin (tok.Begin at) = record { told = refl }
+place_is mark.Do (tok.Do at) = record { told = refl }
+place_is mark.Else (tok.Else at) = record { told = refl }
+place_is mark.End (tok.End at) = record { told = refl }
+place_is mark.Int (tok.Int at) = record { told = refl }
+place_is mark.Literal (tok.Literal at) = record { told = refl }
+place_is mark.Main (tok.Main at) = record { told = refl }
+place_is mark.Or (tok.Or at) = record { told = refl }
+place_is mark.Proc (tok.Proc at) = record { told = refl }
+place_is mark.Then (tok.Then at) = record { told = refl }
+place_is mark.To (tok.To at) = record { told = refl }
+place_is mark.Assign (tok.Assign at) = record { told = refl }
+place_is mark.Equal (tok.Equal at) = record { told = refl }
+place_is mark.Minus (tok.Minus at) = record { told = refl }
+place_is mark.Open (tok.Open at) = record { told = refl }
+place_is mark.Close (tok.Close at) = record { told = refl }
+place_is mark.OpenIndex (tok.OpenIndex at) = record { told = refl }
+place_is mark.CloseIndex (tok.CloseIndex at) = record { told = refl }
+place_is mark.Comma (tok.Comma at) = record { told = refl }
+place_is mark.Semicolon (tok.Semicolon at) = record { told = refl }
+place_is mark.Colon (tok.Colon at) = record { told = refl }
+place_is mark.Finish (tok.Finish at) = record { told = refl }
+place_is _ _ = record { told = tt }
+
+pub mark_is : (m : Mark) (ks : List Token) → Told (mark_of m ks) (λ r. of_mark m r.0 ∷ r.1 ≡ ks)
+mark_is m [] = record { told = tt }
+mark_is m (k ∷ ks) = mapped (place_of m k) _ (place_is m k) (λ at e. ap (λ k. k ∷ ks) e)
+
+pub name_is : (ks : List Token) → Told (name_of ks) (λ r. tok.Name r.0.0 r.0.1 ∷ r.1 ≡ ks)
+name_is (tok.Name at name ∷ ks) = record { told = refl }
+name_is _ = record { told = tt }
+
+pub called_is : (ks : List Token) → Told (called_of ks) (λ r. tok.Name r.0 r.1 ∷ tok.Open r.2 ∷ r.3 ≡ ks)
+called_is (tok.Name at name ∷ tok.Open start ∷ ks) = record { told = refl }
+called_is _ = record { told = tt }
+
+pub rel_is : (ks : List Token) → Told (rel_of ks) (λ r. g.of_rel r.0 ∷ r.1 ≡ ks)
+rel_is (tok.Equal at ∷ ks) = record { told = refl }
+rel_is (tok.Differs at ∷ ks) = record { told = refl }
+rel_is (tok.Less at ∷ ks) = record { told = refl }
+rel_is (tok.AtMost at ∷ ks) = record { told = refl }
+rel_is (tok.Greater at ∷ ks) = record { told = refl }
+rel_is (tok.AtLeast at ∷ ks) = record { told = refl }
+rel_is _ = record { told = tt }
+
+pub sign_is : (ks : List Token) → Told (sign_of ks) (λ r. g.of_sign r.0 ∷ r.1 ≡ ks)
+sign_is (tok.Plus at ∷ ks) = record { told = refl }
+sign_is (tok.Minus at ∷ ks) = record { told = refl }
+sign_is _ = record { told = tt }
+
+pub scale_is : (ks : List Token) → Told (scale_of ks) (λ r. g.of_scale r.0 ∷ r.1 ≡ ks)
+scale_is (tok.Star at ∷ ks) = record { told = refl }
+scale_is (tok.Slash at ∷ ks) = record { told = refl }
+scale_is _ = record { told = tt }

@@ -1,0 +1,10 @@
+-- A level stands open for a mark in the stack.
+use Rattle.std.proofs.Common.{◌≤◌, [], ◌∷◌, length, arith}
+use Rattle.tal_recogniser.specs.declared.symbol.Symbol.TheVariants as sym
+use Rattle.tal_recogniser.specs.ExpressionTable.{Stack}
+use Rattle.tal_recogniser.specs.Machine.{marks}
+
+pub few_marks : (ss : Stack) → marks ss ≤ length ss
+few_marks [] = omega arith
+few_marks (sym.Mark ∷ ss) = let h : marks ss ≤ length ss = few_marks ss in omega arith
+few_marks (s ∷ ss) = let h : marks ss ≤ length ss = few_marks ss in omega arith

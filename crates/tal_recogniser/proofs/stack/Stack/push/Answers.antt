@@ -1,0 +1,14 @@
+use Rattle.std.proofs.Common.{◌≡◌, ◌≤◌, length, arith, rules}
+use Rattle.tal_recogniser.specs.Machine.{marks}
+use Rattle.tal_recogniser.proofs.Levels.{few_marks}
+use Rattle.tal_recogniser.proofs.stack.Stack.push.Goals as goal
+
+pub prove-unreachable-requires : goal.prove-unreachable-requires
+prove-unreachable-requires c =
+    let few : marks c.self.inside.symbols.items ≤ length c.self.inside.symbols.items = few_marks c.self.inside.symbols.items in
+    let a = c.len-held.ensures in
+    let b = c.in_ok-push_front.ensures.len in
+    let d = c.self.invariant in
+    let e = c.if-prove.true in
+    let f : length c.self.inside.symbols.items ≡ c.self.inside.symbols.len = search rules in
+    omega arith

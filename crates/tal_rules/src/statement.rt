@@ -1,0 +1,373 @@
+ghost use Rattle.std.specs.Prelude.{◌≡◌, ◌+◌, OnOk, IfOk};
+ghost use Rattle.tal_rules.specs.Calls.{values_count};
+ghost use Rattle.tal_rules.specs.Faults.{least};
+ghost use Rattle.tal_rules.specs.Files.{call_of};
+ghost use Rattle.tal_rules.specs.Places.{arguments_of, first_of_spot};
+ghost use Rattle.tal_rules.specs.Statements.{next_number, stage_after, stage_after_monitor, stage_after_open, next_file, stepped, after_call, number_faults, return_faults, right_by, right_named, right_faults, call_statement_faults, return_statement_faults, assign_faults, assign_call_faults, for_head_faults, test_faults, after, after_else, after_row, statement_faults, else_faults, row_faults};
+ghost use Rattle.tal_syntax.specs.Seen.{seen_spot, seen_expr, seen_arguments, seen_values, seen_answer, seen_statement, seen_otherwise, seen_row};
+
+use crate::alone::{argument, name_of_expr};
+use crate::call::{judge_call, judge_called, judge_values, opens_receive};
+use crate::expression::{judge_expr, judge_spot, judge_value};
+use crate::fault::{Rule, RuleFault};
+use crate::files::call_of;
+use crate::least::with_fault_if;
+use crate::lookup::{judge_name, meaning_of};
+use crate::meaning::{Meaning, Need, Wanted};
+use crate::scope::{Named, Scope, Stage, Walk};
+use crate::system::System;
+use gd_words::NoMemory;
+use std::alloc::Global;
+use tal_syntax::{
+    Answer, Arguments, Assign, AssignCall, Call, Expr, ForHead, Next, NextValue, Otherwise, Return,
+    Statement, Test,
+};
+use tal_tokens::At;
+
+/// The most numbered statements.
+const STATEMENTS: u16 = 2000;
+
+/// The most files.
+const FILES: u8 = 8;
+
+/// What stands before a statement, and the least fault so far.
+#[derive(Clone, Copy)]
+pub struct Judged {
+    pub walk: Walk,
+    pub least: Option<RuleFault>,
+}
+
+/// The number after another.
+fn next_number(number: u16) -> u16
+    ensures { result ≡ next_number number }
+{
+    if number > STATEMENTS {
+        number
+    } else {
+        number + 1
+    }
+}
+
+fn stage_after(stage: Stage) -> Stage
+    ensures { result ≡ stage_after stage }
+{
+    match stage {
+        Stage::Start => Stage::Missed,
+        Stage::Opens => Stage::Over,
+        Stage::Over => Stage::Over,
+        Stage::Missed => Stage::Missed,
+    }
+}
+
+fn stage_after_monitor(stage: Stage) -> Stage
+    ensures { result ≡ stage_after_monitor stage }
+{
+    match stage {
+        Stage::Start => Stage::Opens,
+        _ => stage_after(stage),
+    }
+}
+
+fn stage_after_open(stage: Stage) -> Stage
+    ensures { result ≡ stage_after_open stage }
+{
+    match stage {
+        Stage::Opens => Stage::Opens,
+        _ => stage_after(stage),
+    }
+}
+
+fn next_file(files: u8) -> u8
+    ensures { result ≡ next_file files }
+{
+    if files > FILES { files } else { files + 1 }
+}
+
+/// What stands before the statement that follows one with a number.
+pub fn stepped(walk: Walk) -> Walk
+    ensures { result ≡ stepped walk }
+{
+    Walk {
+        number: next_number(walk.number),
+        stage: stage_after(walk.stage),
+        files: walk.files,
+        receive: walk.receive,
+    }
+}
+
+/// What stands before the statement that follows a call.
+pub fn after_call(walk: Walk, arguments: &Arguments, system: Option<System>) -> Walk
+    ensures { result ≡ after_call walk (arguments_of (seen_arguments arguments.now)) system }
+{
+    match system {
+        Some(System::CheckMonitor) => Walk {
+            number: next_number(walk.number),
+            stage: stage_after_monitor(walk.stage),
+            files: walk.files,
+            receive: walk.receive,
+        },
+        Some(System::Open) => Walk {
+            number: next_number(walk.number),
+            stage: stage_after_open(walk.stage),
+            files: next_file(walk.files),
+            receive: walk.receive || opens_receive(argument(arguments, 0)),
+        },
+        _ => stepped(walk),
+    }
+}
+
+fn judge_number(number: u16, at: At, so_far: Option<RuleFault>) -> Option<RuleFault>
+    ensures { result ≡ least so_far (number_faults number at) }
+{
+    with_fault_if(so_far, number > STATEMENTS, at, Rule::Limit(7))
+}
+
+/// Judges whether RETURN has an expression exactly where its procedure gives a value.
+#[tactic(auto, using(crate::proofs::Parts::parts))]
+fn judge_return(
+    scope: &Scope,
+    head: At,
+    answer: &Answer,
+    so_far: Option<RuleFault>,
+) -> Option<RuleFault>
+    ensures { result ≡ least so_far (return_faults scope.now head (seen_answer answer.now)) }
+{
+    match answer {
+        Answer::Absent => with_fault_if(so_far, scope.gives, head, Rule::WrongKind),
+        Answer::Value(value) => {
+            let so_far = with_fault_if(so_far, !scope.gives, head, Rule::WrongKind);
+            judge_value(value, scope, so_far)
+        }
+    }
+}
+
+fn judge_right_by(
+    scope: &Scope,
+    value: &Expr,
+    at: At,
+    found: Option<Meaning>,
+    so_far: Option<RuleFault>,
+) -> Option<RuleFault>
+    ensures { result ≡ least so_far (right_by scope.now (seen_expr value.now) at found) }
+{
+    match found {
+        None => judge_value(value, scope, so_far),
+        Some(meaning) => match meaning {
+            Meaning::Procedure {
+                number: _,
+                gives: _,
+                parameters: _,
+            } => judge_called(scope, true, at, 0, Some(meaning), so_far),
+            _ => judge_value(value, scope, so_far),
+        },
+    }
+}
+
+/// Judges a right side.
+fn judge_right(scope: &Scope, value: &Expr, so_far: Option<RuleFault>) -> Option<RuleFault>
+    ensures { result ≡ least so_far (right_faults scope.now (seen_expr value.now)) }
+{
+    match name_of_expr(value) {
+        None => judge_value(value, scope, so_far),
+        Some(named) => judge_right_by(
+            scope,
+            value,
+            named.at,
+            meaning_of(scope, named.name),
+            so_far,
+        ),
+    }
+}
+
+#[tactic(auto, using(crate::proofs::Parts::parts))]
+fn judge_call_statement(
+    alloc: Global,
+    scope: &Scope,
+    walk: Walk,
+    call: &Call,
+    so_far: Option<RuleFault>,
+) -> Result<Judged, NoMemory>
+    ensures walk { IfOk result (λ j. j.walk ≡ after_call walk (arguments_of (seen_arguments call.now.arguments)) (call_of scope.now.locals call.now.name)) }
+    ensures least { IfOk result (λ j. j.least ≡ least so_far (call_statement_faults scope.now walk call.now.head call.now.at call.now.name (arguments_of (seen_arguments call.now.arguments)))) }
+{
+    let so_far = judge_number(walk.number, call.head, so_far);
+    let system = call_of(&scope.locals, call.name);
+    let arguments = &call.arguments;
+    let least = judge_call(
+        alloc, scope, walk, call.at, call.name, arguments, system, so_far,
+    )?;
+    Ok(Judged {
+        walk: after_call(walk, arguments, system),
+        least,
+    })
+}
+
+#[tactic(auto, using(crate::proofs::Parts::parts))]
+fn judge_return_statement(
+    scope: &Scope,
+    walk: Walk,
+    said: &Return,
+    so_far: Option<RuleFault>,
+) -> Judged
+    ensures walk { result.walk ≡ stepped walk }
+    ensures least { result.least ≡ least so_far (return_statement_faults scope.now walk said.now.head (seen_answer said.now.answer)) }
+{
+    let so_far = judge_number(walk.number, said.head, so_far);
+    Judged {
+        walk: stepped(walk),
+        least: judge_return(scope, said.head, &said.answer, so_far),
+    }
+}
+
+#[tactic(auto, using(crate::proofs::Parts::parts))]
+fn judge_assign(scope: &Scope, walk: Walk, said: &Assign, so_far: Option<RuleFault>) -> Judged
+    ensures walk { result.walk ≡ stepped walk }
+    ensures least { result.least ≡ least so_far (assign_faults scope.now walk (seen_spot said.now.target) (seen_expr said.now.value)) }
+{
+    let so_far = judge_number(walk.number, said.target.at, so_far);
+    let so_far = judge_spot(&said.target, scope, Need::Variable, so_far);
+    Judged {
+        walk: stepped(walk),
+        least: judge_right(scope, &said.value, so_far),
+    }
+}
+
+fn count_values(more: &[NextValue]) -> usize
+    ensures { result ≡ values_count (seen_values more.now) + 1 }
+{
+    more.len() + 1
+}
+
+#[tactic(auto, using(crate::proofs::Parts::parts))]
+fn judge_assign_call(
+    scope: &Scope,
+    walk: Walk,
+    said: &AssignCall,
+    so_far: Option<RuleFault>,
+) -> Judged
+    ensures walk { result.walk ≡ stepped walk }
+    ensures least { result.least ≡ least so_far (assign_call_faults scope.now walk (seen_spot said.now.target) said.now.name_at said.now.name (seen_expr said.now.first) (seen_values said.now.more)) }
+{
+    let so_far = judge_number(walk.number, said.target.at, so_far);
+    let so_far = judge_spot(&said.target, scope, Need::Variable, so_far);
+    let more = said.more.as_slice();
+    let count = count_values(more);
+    let found = meaning_of(scope, said.name);
+    let so_far = judge_called(scope, true, said.name_at, count, found, so_far);
+    let so_far = judge_value(&said.first, scope, so_far);
+    Judged {
+        walk: stepped(walk),
+        least: judge_values(scope, more, so_far),
+    }
+}
+
+#[tactic(auto, using(crate::proofs::Parts::parts))]
+fn judge_test(
+    scope: &Scope,
+    walk: Walk,
+    test: &Test,
+    so_far: Option<RuleFault>,
+) -> Option<RuleFault>
+    ensures { result ≡ least so_far (test_faults scope.now walk test.now.head (seen_expr test.now.test)) }
+{
+    let so_far = judge_number(walk.number, test.head, so_far);
+    judge_expr(&test.test, scope, Wanted::Condition, so_far)
+}
+
+#[tactic(auto, using(crate::proofs::Parts::parts))]
+fn judge_for_head(scope: &Scope, head: &ForHead, so_far: Option<RuleFault>) -> Option<RuleFault>
+    ensures { result ≡ least so_far (for_head_faults scope.now head.now.at head.now.name (seen_expr head.now.from) (seen_expr head.now.to)) }
+{
+    let so_far = judge_name(scope, Need::Variable, head.at, head.name, so_far);
+    let so_far = judge_value(&head.from, scope, so_far);
+    judge_value(&head.to, scope, so_far)
+}
+
+/// Judges a statement.
+#[cycle(statement)]
+pub fn judge_statement(
+    statement: &Statement,
+    alloc: Global,
+    scope: &Scope,
+    walk: Walk,
+    so_far: Option<RuleFault>,
+) -> Result<Judged, NoMemory>
+    ensures walk { IfOk result (λ j. j.walk ≡ after scope.now walk (seen_statement statement.now)) }
+    ensures least { IfOk result (λ j. j.least ≡ least so_far (statement_faults scope.now walk (seen_statement statement.now))) }
+{
+    match statement {
+        Statement::Nothing => Ok(Judged {
+            walk,
+            least: so_far,
+        }),
+        Statement::Block(_, first, more, _) => {
+            let judged = judge_statement(first.get(), alloc, scope, walk, so_far)?;
+            judge_row(more.as_slice(), alloc, scope, judged.walk, judged.least)
+        }
+        Statement::If(test, body, otherwise) => {
+            let so_far = judge_test(scope, walk, test.get(), so_far);
+            let judged = judge_statement(body.get(), alloc, scope, stepped(walk), so_far)?;
+            judge_else(otherwise, alloc, scope, judged.walk, judged.least)
+        }
+        Statement::While(test, body) => {
+            let so_far = judge_test(scope, walk, test.get(), so_far);
+            judge_statement(body.get(), alloc, scope, stepped(walk), so_far)
+        }
+        Statement::For(head, body) => {
+            let head = head.get();
+            let so_far = judge_for_head(scope, head, so_far);
+            let inside = stepped(stepped(walk));
+            let judged = judge_statement(body.get(), alloc, scope, inside, so_far)?;
+            Ok(Judged {
+                walk: stepped(judged.walk),
+                least: judge_number(judged.walk.number, head.head, judged.least),
+            })
+        }
+        Statement::Call(call) => judge_call_statement(alloc, scope, walk, call.get(), so_far),
+        Statement::Return(said) => Ok(judge_return_statement(scope, walk, said.get(), so_far)),
+        Statement::Assign(said) => Ok(judge_assign(scope, walk, said.get(), so_far)),
+        Statement::AssignCall(said) => Ok(judge_assign_call(scope, walk, said.get(), so_far)),
+    }
+}
+
+#[cycle(statement)]
+fn judge_else(
+    otherwise: &Otherwise,
+    alloc: Global,
+    scope: &Scope,
+    walk: Walk,
+    so_far: Option<RuleFault>,
+) -> Result<Judged, NoMemory>
+    ensures walk { IfOk result (λ j. j.walk ≡ after_else scope.now walk (seen_otherwise otherwise.now)) }
+    ensures least { IfOk result (λ j. j.least ≡ least so_far (else_faults scope.now walk (seen_otherwise otherwise.now))) }
+{
+    match otherwise {
+        Otherwise::Absent => Ok(Judged {
+            walk,
+            least: so_far,
+        }),
+        Otherwise::Else(_, body) => judge_statement(body.get(), alloc, scope, walk, so_far),
+    }
+}
+
+/// Judges a row of statements.
+#[cycle(statement)]
+pub fn judge_row(
+    more: &[Next],
+    alloc: Global,
+    scope: &Scope,
+    walk: Walk,
+    so_far: Option<RuleFault>,
+) -> Result<Judged, NoMemory>
+    ensures walk { IfOk result (λ j. j.walk ≡ after_row scope.now walk (seen_row more.now)) }
+    ensures least { IfOk result (λ j. j.least ≡ least so_far (row_faults scope.now walk (seen_row more.now))) }
+{
+    let mut judged = Judged {
+        walk,
+        least: so_far,
+    };
+    for next in more {
+        judged = judge_statement(&next.statement, alloc, scope, judged.walk, judged.least)?;
+    }
+    Ok(judged)
+}

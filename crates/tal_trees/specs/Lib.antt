@@ -1,0 +1,5 @@
+pub mod Calls
+pub mod Expressions
+pub mod Judged
+pub mod Programs
+pub mod Statements
