@@ -1,4 +1,5 @@
 pub mod Checkpoints
+pub mod Deepest
 pub mod Differing
 pub mod Distinct
 pub mod Entries

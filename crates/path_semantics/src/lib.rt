@@ -2,10 +2,12 @@
 //! accepted. The definitions are in `specs/`.
 //!
 //! Below stand `tal_tree` with the trees and `process_semantics`, whose entries remain at a place. The layer above uses
-//! `IsAccepted`, `Leads` and `Breaks` of `specs/`, and the laws of this crate's public functions.
+//! `IsAccepted`, `Leads` and `Breaks` of `specs/`, `call_depth`, which counts how deep a program's calls go, and the laws of
+//! this crate's public functions.
 #![tactic(auto)]
 
 mod breaking;
+mod depth;
 pub mod dues;
 mod frame;
 pub mod laws;
@@ -17,6 +19,7 @@ mod stand;
 #[cfg(test)]
 mod tests;
 
+pub use depth::call_depth;
 pub use dues::Dues;
 pub use laws::{
     accepted_breaks_nowhere, bounds_follow_calls, break_is_path, checkpoint_clears, front_is_path,

@@ -56,6 +56,21 @@ impl Body {
         )
     }
 
+    /// Adds an IF, no ELSE, around statements that begin with the number after its own.
+    pub fn add_if(&mut self, alloc: Global, body: Body) -> Result<(), NoMemory> {
+        let number = self.number;
+        self.number = body.number;
+        let test = Cond::Truth(Expr::Number(1));
+        self.put(
+            number,
+            What::If {
+                test,
+                yes: body.statements,
+                no: List::new(alloc),
+            },
+        )
+    }
+
     fn put(&mut self, number: u16, what: What) -> Result<(), NoMemory> {
         let line = u32::from(number);
         self.statements.push(Statement { number, line, what })
@@ -85,6 +100,14 @@ pub fn set_first(item: u16) -> What {
 pub fn set_by_call(alloc: Global, item: u16, procedure: u16) -> What {
     What::AssignCall {
         to: Spot::Simple(item),
+        procedure,
+        arguments: List::new(alloc),
+    }
+}
+
+/// `CALL f`
+pub fn call(alloc: Global, procedure: u16) -> What {
+    What::Call {
         procedure,
         arguments: List::new(alloc),
     }
@@ -254,5 +277,19 @@ pub fn setter(alloc: Global, function: Body) -> Result<Program, Fail> {
         files: List::new(alloc),
         procedures: procedures(alloc, bodies)?,
         main: 1,
+    })
+}
+
+/// A program of three procedures, numbered 0 to 2, with these bodies, the last of which is MAIN.
+pub fn three(alloc: Global, first: Body, second: Body, main: Body) -> Result<Program, Fail> {
+    let mut bodies = Vec::new(alloc);
+    bodies.push(first.statements)?;
+    bodies.push(second.statements)?;
+    bodies.push(main.statements)?;
+    Ok(Program {
+        items: List::new(alloc),
+        files: List::new(alloc),
+        procedures: procedures(alloc, bodies)?,
+        main: 2,
     })
 }

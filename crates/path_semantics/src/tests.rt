@@ -1,8 +1,8 @@
 use crate::samples::{
-    BUF, Body, DISK, GOT, OUT, TOTAL, asker, bank, checkpoint, read_request, set, set_first,
-    setter, turn, write,
+    BUF, Body, DISK, GOT, OUT, TOTAL, asker, bank, call, checkpoint, read_request, set,
+    set_by_call, set_first, setter, three, turn, write,
 };
-use crate::{Reason, breaks, is_path};
+use crate::{Reason, breaks, call_depth, is_path};
 use std::alloc::Global;
 use std::test::Fail;
 use tal_tree::{Program, What};
@@ -152,5 +152,59 @@ fn a_target_is_due_when_its_function_is_left(rt: HostRuntime) -> Result<(), Fail
     stops.add(What::Stop)?;
     let stops = setter(alloc, stops)?;
     assert!(rt; is_least(alloc, &stops, Reason::Data(0), None)?);
+    Ok(())
+}
+
+/// A body that calls nothing.
+fn silent(alloc: Global) -> Body {
+    Body::from(alloc, 1)
+}
+
+/// A body of one call.
+fn caller(alloc: Global, number: u16, procedure: u16) -> Result<Body, Fail> {
+    let mut body = Body::from(alloc, number);
+    body.add(call(alloc, procedure))?;
+    Ok(body)
+}
+
+/// The depth of a program's calls, where its procedures are few enough.
+fn depth_of(program: &Program) -> Option<u32> {
+    if program.procedures.len() <= 64 {
+        Some(call_depth(program))
+    } else {
+        None
+    }
+}
+
+#[test]
+fn calls_go_as_deep_as_their_longest_chain(rt: HostRuntime) -> Result<(), Fail> {
+    let alloc = rt.alloc();
+    let alone = three(alloc, silent(alloc), silent(alloc), silent(alloc))?;
+    assert!(rt; depth_of(&alone) == Some(1));
+    let chain = three(
+        alloc,
+        silent(alloc),
+        caller(alloc, 1, 0)?,
+        caller(alloc, 2, 1)?,
+    )?;
+    assert!(rt; depth_of(&chain) == Some(3));
+    let mut around = Body::from(alloc, 2);
+    around.add_if(alloc, caller(alloc, 3, 0)?)?;
+    let mut main = Body::from(alloc, 1);
+    main.add_while(around)?;
+    let inside = three(alloc, silent(alloc), silent(alloc), main)?;
+    assert!(rt; depth_of(&inside) == Some(2));
+    let mut main = Body::from(alloc, 2);
+    main.add(set_by_call(alloc, 0, 1))?;
+    main.add(call(alloc, 0))?;
+    let deeper_first = three(alloc, silent(alloc), caller(alloc, 1, 0)?, main)?;
+    assert!(rt; depth_of(&deeper_first) == Some(3));
+    let not_before = three(
+        alloc,
+        silent(alloc),
+        caller(alloc, 1, 1)?,
+        caller(alloc, 2, 2)?,
+    )?;
+    assert!(rt; depth_of(&not_before) == Some(1));
     Ok(())
 }
