@@ -1,0 +1,4 @@
+pub mod Entries
+pub mod Faultless
+pub mod Limits
+pub mod Names

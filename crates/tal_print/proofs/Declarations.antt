@@ -1,0 +1,6 @@
+pub mod DeclarationsBack
+pub mod HeadingsBack
+pub mod ItemsBack
+pub mod ItemsDeclared
+pub mod LocalsBack
+pub mod LocalsFaults

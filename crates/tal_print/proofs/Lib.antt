@@ -1,0 +1,9 @@
+pub mod Bodies
+pub mod Common
+pub mod Declarations
+pub mod Scopes
+pub mod Spelling
+pub mod Standing
+pub mod Texts
+pub mod Values
+pub mod Words

@@ -1,0 +1,10 @@
+pub mod Begun
+pub mod Cut
+pub mod Follow
+pub mod Growing
+pub mod Numbers
+pub mod Runs
+pub mod SpelledTokens
+pub mod Strings
+pub mod Symbols
+pub mod UpperCase

@@ -1,0 +1,13 @@
+pub mod ArgumentsFit
+pub mod BodiesStand
+pub mod CallsStand
+pub mod FilesGrow
+pub mod Fitting
+pub mod LevelsAfter
+pub mod LoneStands
+pub mod Lower
+pub mod MentionsStand
+pub mod OpenDepths
+pub mod OpenStands
+pub mod SourceStands
+pub mod Stands

@@ -1,0 +1,6 @@
+pub mod Flagged
+pub mod LaterLevels
+pub mod OneProcedureBack
+pub mod ProceduresBack
+pub mod ReadsAgain
+pub mod TextBack

@@ -1,0 +1,11 @@
+use Rattle.std.proofs.Common.{refl, arith}
+use Rattle.tal_print.proofs.Values.Layers.{pieces_for, weight_for}
+use Rattle.tal_print.proofs.statements.take_for.Goals as goal
+
+pub returns-clause-pieces : goal.returns-clause-pieces
+returns-clause-pieces c last =
+    rw (c.in_ok-put.ensures, pieces_for, c.as_slice.ensures, c.variable_name.ensures) refl
+
+pub returns-clause-less : goal.returns-clause-less
+returns-clause-less c last =
+    rw (c.in_ok-put.ensures, weight_for, c.as_slice.ensures) (omega arith)

@@ -1,0 +1,11 @@
+use Rattle.std.proofs.Common.{refl, arith}
+use Rattle.tal_print.proofs.Values.Layers.{pieces_while, weight_while}
+use Rattle.tal_print.proofs.statements.take_while.Goals as goal
+
+pub returns-clause-pieces : goal.returns-clause-pieces
+returns-clause-pieces c =
+    rw (c.in_ok-put.ensures, pieces_while, c.as_slice.ensures) refl
+
+pub returns-clause-less : goal.returns-clause-less
+returns-clause-less c =
+    rw (c.in_ok-put.ensures, weight_while, c.as_slice.ensures) (omega arith)

@@ -1,0 +1,338 @@
+ghost use Rattle.std.specs.Prelude.{◌≡◌, ◌<◌, ◌+◌, ℕ, [], ◌∷◌, length, true, OnOk, pos};
+ghost use Rattle.std.specs.Option.{option_copied};
+ghost use Rattle.tal_print.specs.Printed.Statements.{body_pieces, inner_pieces, kept, more_files, more_items, more_statements, what_pieces};
+ghost use Rattle.tal_print.specs.Work.{list_weight, pieces_left, returns_or_calls_the_system, statements_weight, what_weight, work_left};
+ghost use Rattle.tal_tree.specs.declared.statement.What.{AssignCall, Call, If, While, For};
+
+use crate::names::{file_name, item_name, procedure_name, variable_name};
+use crate::piece::{Keyword, Symbol};
+use crate::rank::{TestRank, ValueRank};
+use crate::system_calls::{take_open, take_read_update, take_reply, take_return, take_write_read};
+use crate::work::{Part, Work, WorkList};
+use gd_words::{Ident, List, NoMemory};
+use tal_rules::System;
+use tal_tree::{Cond, Expr, Program, Spot, Statement, Variable, What};
+
+/// Takes statements in the place of one apart.
+pub fn take_inner<'a>(
+    program: &'a Program,
+    locals: &'a [Ident],
+    statements: &'a [Statement],
+    list: &mut WorkList<'a>,
+) -> Result<(), NoMemory>
+    ensures pieces { OnOk result (pieces_left program.now locals.now list.new.works.items ≡ inner_pieces program.now locals.now statements.now (pieces_left program.now locals.now list.old.works.items)) }
+    ensures less { OnOk result (work_left list.new.works.items < (statements_weight statements.now + 3) + work_left list.old.works.items) }
+{
+    match statements {
+        [] => {}
+        [only] => list.put(&[Work::Part(Part::What(&only.what))])?,
+        [first, second, rest @ ..] => list.put(&[
+            Work::Word(Keyword::Begin),
+            Work::Part(Part::What(&first.what)),
+            Work::Sign(Symbol::Semicolon),
+            Work::Part(Part::What(&second.what)),
+            Work::Part(Part::Statements(rest)),
+            Work::Word(Keyword::End),
+        ])?,
+    }
+    Ok(())
+}
+
+/// Takes the statements after one apart.
+pub fn take_statements<'a>(
+    program: &'a Program,
+    locals: &'a [Ident],
+    statements: &'a [Statement],
+    list: &mut WorkList<'a>,
+) -> Result<(), NoMemory>
+    ensures pieces { OnOk result (pieces_left program.now locals.now list.new.works.items ≡ more_statements program.now locals.now statements.now (pieces_left program.now locals.now list.old.works.items)) }
+    ensures less { OnOk result (work_left list.new.works.items < statements_weight statements.now + work_left list.old.works.items) }
+{
+    if let [first, rest @ ..] = statements {
+        list.put(&[
+            Work::Sign(Symbol::Semicolon),
+            Work::Part(Part::What(&first.what)),
+            Work::Part(Part::Statements(rest)),
+        ])?;
+    }
+    Ok(())
+}
+
+/// Takes the statements of a procedure apart.
+pub fn take_body<'a>(
+    program: &'a Program,
+    locals: &'a [Ident],
+    statements: &'a [Statement],
+    list: &mut WorkList<'a>,
+) -> Result<(), NoMemory>
+    ensures pieces { OnOk result (pieces_left program.now locals.now list.new.works.items ≡ body_pieces program.now locals.now statements.now (pieces_left program.now locals.now list.old.works.items)) }
+    ensures less { OnOk result (work_left list.new.works.items < (statements_weight statements.now + 1) + work_left list.old.works.items) }
+{
+    if let [first, rest @ ..] = statements {
+        list.put(&[
+            Work::Part(Part::What(&first.what)),
+            Work::Part(Part::Statements(rest)),
+        ])?;
+    }
+    Ok(())
+}
+
+/// Takes more items of a CHECKPOINT apart.
+pub fn take_kept<'a>(
+    program: &'a Program,
+    locals: &'a [Ident],
+    items: &'a [u16],
+    list: &mut WorkList<'a>,
+) -> Result<(), NoMemory>
+    ensures pieces { OnOk result (pieces_left program.now locals.now list.new.works.items ≡ more_items program.now items.now (pieces_left program.now locals.now list.old.works.items)) }
+    ensures less { OnOk result (work_left list.new.works.items < list_weight items.now + work_left list.old.works.items) }
+{
+    if let [item, rest @ ..] = items {
+        list.put(&[
+            Work::Sign(Symbol::Comma),
+            Work::Name(item_name(program, *item)),
+            Work::Part(Part::Kept(rest)),
+        ])?;
+    }
+    Ok(())
+}
+
+/// Takes more files of a CHECKPOINT apart.
+pub fn take_files<'a>(
+    program: &'a Program,
+    locals: &'a [Ident],
+    files: &'a [u8],
+    list: &mut WorkList<'a>,
+) -> Result<(), NoMemory>
+    ensures pieces { OnOk result (pieces_left program.now locals.now list.new.works.items ≡ more_files program.now files.now (pieces_left program.now locals.now list.old.works.items)) }
+    ensures less { OnOk result (work_left list.new.works.items < list_weight files.now + work_left list.old.works.items) }
+{
+    if let [file, rest @ ..] = files {
+        list.put(&[
+            Work::Sign(Symbol::Comma),
+            Work::Name(file_name(program, *file)),
+            Work::Part(Part::Files(rest)),
+        ])?;
+    }
+    Ok(())
+}
+
+/// Takes the list of a CHECKPOINT apart.
+pub fn take_checkpoint<'a>(
+    program: &'a Program,
+    locals: &'a [Ident],
+    items: &'a [u16],
+    files: &'a [u8],
+    list: &mut WorkList<'a>,
+) -> Result<(), NoMemory>
+    ensures pieces { OnOk result (pieces_left program.now locals.now list.new.works.items ≡ kept program.now items.now files.now (pieces_left program.now locals.now list.old.works.items)) }
+    ensures less { OnOk result (work_left list.new.works.items < (list_weight items.now + list_weight files.now + 6) + work_left list.old.works.items) }
+{
+    match items {
+        [item, more @ ..] => list.put(&[
+            Work::Sign(Symbol::Open),
+            Work::Name(item_name(program, *item)),
+            Work::Part(Part::Kept(more)),
+            Work::Part(Part::Files(files)),
+            Work::Sign(Symbol::Close),
+        ])?,
+        [] => match files {
+            [file, more @ ..] => list.put(&[
+                Work::Sign(Symbol::Open),
+                Work::Name(file_name(program, *file)),
+                Work::Part(Part::Files(more)),
+                Work::Sign(Symbol::Close),
+            ])?,
+            [] => {}
+        },
+    }
+    Ok(())
+}
+
+/// Takes the assignment of a call's answer apart.
+pub fn take_assign_call<'a>(
+    program: &'a Program,
+    locals: &'a [Ident],
+    to: &'a Spot,
+    procedure: u16,
+    arguments: &'a List<Expr>,
+    list: &mut WorkList<'a>,
+) -> Result<(), NoMemory>
+    ensures pieces { OnOk result (pieces_left program.now locals.now list.new.works.items ≡ what_pieces program.now locals.now (AssignCall to.now procedure arguments.now) (pieces_left program.now locals.now list.old.works.items)) }
+    ensures less { OnOk result (work_left list.new.works.items < what_weight (AssignCall to.now procedure arguments.now) + work_left list.old.works.items) }
+{
+    list.put(&[
+        Work::Part(Part::Spot(to)),
+        Work::Sign(Symbol::Assign),
+        Work::Name(procedure_name(program, procedure)),
+        Work::Part(Part::Arguments(arguments.as_slice())),
+    ])?;
+    Ok(())
+}
+
+/// Takes a call of a procedure apart.
+pub fn take_call<'a>(
+    program: &'a Program,
+    locals: &'a [Ident],
+    procedure: u16,
+    arguments: &'a List<Expr>,
+    list: &mut WorkList<'a>,
+) -> Result<(), NoMemory>
+    ensures pieces { OnOk result (pieces_left program.now locals.now list.new.works.items ≡ what_pieces program.now locals.now (Call procedure arguments.now) (pieces_left program.now locals.now list.old.works.items)) }
+    ensures less { OnOk result (work_left list.new.works.items < what_weight (Call procedure arguments.now) + work_left list.old.works.items) }
+{
+    list.put(&[
+        Work::Word(Keyword::Call),
+        Work::Name(procedure_name(program, procedure)),
+        Work::Part(Part::Arguments(arguments.as_slice())),
+    ])?;
+    Ok(())
+}
+
+/// Takes an IF apart.
+pub fn take_if<'a>(
+    program: &'a Program,
+    locals: &'a [Ident],
+    test: &'a Cond,
+    yes: &'a List<Statement>,
+    no: &'a List<Statement>,
+    list: &mut WorkList<'a>,
+) -> Result<(), NoMemory>
+    ensures pieces { OnOk result (pieces_left program.now locals.now list.new.works.items ≡ what_pieces program.now locals.now (If test.now yes.now no.now) (pieces_left program.now locals.now list.old.works.items)) }
+    ensures less { OnOk result (work_left list.new.works.items < what_weight (If test.now yes.now no.now) + work_left list.old.works.items) }
+{
+    list.put(&[
+        Work::Word(Keyword::If),
+        Work::Part(Part::Test(TestRank::Or, test)),
+        Work::Word(Keyword::Then),
+        Work::Part(Part::Inner(yes.as_slice())),
+        Work::Word(Keyword::Else),
+        Work::Part(Part::Inner(no.as_slice())),
+    ])?;
+    Ok(())
+}
+
+/// Takes a WHILE apart.
+pub fn take_while<'a>(
+    program: &'a Program,
+    locals: &'a [Ident],
+    test: &'a Cond,
+    body: &'a List<Statement>,
+    list: &mut WorkList<'a>,
+) -> Result<(), NoMemory>
+    ensures pieces { OnOk result (pieces_left program.now locals.now list.new.works.items ≡ what_pieces program.now locals.now (While test.now body.now) (pieces_left program.now locals.now list.old.works.items)) }
+    ensures less { OnOk result (work_left list.new.works.items < what_weight (While test.now body.now) + work_left list.old.works.items) }
+{
+    list.put(&[
+        Work::Word(Keyword::While),
+        Work::Part(Part::Test(TestRank::Or, test)),
+        Work::Word(Keyword::Do),
+        Work::Part(Part::Inner(body.as_slice())),
+    ])?;
+    Ok(())
+}
+
+/// Takes a FOR apart, whatever number its last statement has.
+pub fn take_for<'a>(
+    program: &'a Program,
+    locals: &'a [Ident],
+    variable: Variable,
+    from: &'a Expr,
+    to: &'a Expr,
+    body: &'a List<Statement>,
+    list: &mut WorkList<'a>,
+) -> Result<(), NoMemory>
+    ensures pieces { OnOk result ((last : ℕ) → pieces_left program.now locals.now list.new.works.items ≡ what_pieces program.now locals.now (For variable from.now to.now body.now last) (pieces_left program.now locals.now list.old.works.items)) }
+    ensures less { OnOk result ((last : ℕ) → work_left list.new.works.items < what_weight (For variable from.now to.now body.now last) + work_left list.old.works.items) }
+{
+    list.put(&[
+        Work::Word(Keyword::For),
+        Work::Name(variable_name(program, locals, variable)),
+        Work::Sign(Symbol::Assign),
+        Work::Part(Part::Value(ValueRank::Sum, from)),
+        Work::Word(Keyword::To),
+        Work::Part(Part::Value(ValueRank::Sum, to)),
+        Work::Word(Keyword::Do),
+        Work::Part(Part::Inner(body.as_slice())),
+    ])?;
+    Ok(())
+}
+
+/// Takes a RETURN or a call of the system apart.
+pub fn take_return_or_system_call<'a>(
+    program: &'a Program,
+    locals: &'a [Ident],
+    what: &'a What,
+    list: &mut WorkList<'a>,
+) -> Result<(), NoMemory>
+    requires { returns_or_calls_the_system what.now ≡ true }
+    ensures pieces { OnOk result (pieces_left program.now locals.now list.new.works.items ≡ what_pieces program.now locals.now what.now (pieces_left program.now locals.now list.old.works.items)) }
+    ensures less { OnOk result (work_left list.new.works.items < what_weight what.now + work_left list.old.works.items) }
+{
+    match what {
+        What::Return(given) => take_return(program, locals, given, list)?,
+        What::ReadUpdate { buffer, most, got } => {
+            take_read_update(program, locals, *buffer, most, *got, list)?;
+        }
+        What::Reply { buffer, count } => take_reply(program, locals, *buffer, count, list)?,
+        What::WriteRead {
+            file,
+            buffer,
+            send,
+            room,
+            got,
+        } => take_write_read(program, locals, *file, *buffer, send, room, *got, list)?,
+        What::Checkpoint { items, files } => list.put(&[
+            Work::Word(Keyword::Call),
+            Work::System(System::Checkpoint),
+            Work::Part(Part::Checkpoint(items.as_slice(), files.as_slice())),
+        ])?,
+        What::CheckMonitor => list.put(&[
+            Work::Word(Keyword::Call),
+            Work::System(System::CheckMonitor),
+        ])?,
+        What::Open(file) => take_open(program, locals, *file, list)?,
+        What::Stop => list.put(&[Work::Word(Keyword::Call), Work::System(System::Stop)])?,
+        _ => {}
+    }
+    Ok(())
+}
+
+/// Takes a statement apart.
+pub fn take_what<'a>(
+    program: &'a Program,
+    locals: &'a [Ident],
+    what: &'a What,
+    list: &mut WorkList<'a>,
+) -> Result<(), NoMemory>
+    ensures pieces { OnOk result (pieces_left program.now locals.now list.new.works.items ≡ what_pieces program.now locals.now what.now (pieces_left program.now locals.now list.old.works.items)) }
+    ensures less { OnOk result (work_left list.new.works.items < what_weight what.now + work_left list.old.works.items) }
+{
+    match what {
+        What::Assign { to, value } => list.put(&[
+            Work::Part(Part::Spot(to)),
+            Work::Sign(Symbol::Assign),
+            Work::Part(Part::Value(ValueRank::Sum, value)),
+        ])?,
+        What::AssignCall {
+            to,
+            procedure,
+            arguments,
+        } => take_assign_call(program, locals, to, *procedure, arguments, list)?,
+        What::If { test, yes, no } => take_if(program, locals, test, yes, no, list)?,
+        What::While { test, body } => take_while(program, locals, test, body, list)?,
+        What::For {
+            variable,
+            from,
+            to,
+            body,
+            last: _,
+        } => take_for(program, locals, *variable, from, to, body, list)?,
+        What::Call {
+            procedure,
+            arguments,
+        } => take_call(program, locals, *procedure, arguments, list)?,
+        _ => take_return_or_system_call(program, locals, what, list)?,
+    }
+    Ok(())
+}
