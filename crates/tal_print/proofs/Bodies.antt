@@ -1,3 +1,4 @@
+-- Printed statements that keep the rules where they stand read back as themselves.
 pub mod ArgumentsBack
 pub mod AssignBack
 pub mod CheckpointBack

@@ -1,3 +1,4 @@
+-- Printed globals and headings read back, and declare what they declared.
 pub mod DeclarationsBack
 pub mod HeadingsBack
 pub mod ItemsBack

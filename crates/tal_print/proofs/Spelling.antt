@@ -1,3 +1,4 @@
+-- The text of pieces is cut into just these pieces, and every token of a text can be spelled.
 pub mod Begun
 pub mod Cut
 pub mod Follow

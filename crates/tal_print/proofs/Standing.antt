@@ -1,3 +1,4 @@
+-- The statements of a text without faults keep the rules where they stand in the printed text.
 pub mod ArgumentsFit
 pub mod BodiesStand
 pub mod CallsStand

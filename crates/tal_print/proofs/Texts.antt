@@ -1,3 +1,4 @@
+-- The whole: printed procedures, in their order, and the text read back.
 pub mod Flagged
 pub mod LaterLevels
 pub mod OneProcedureBack

@@ -1,3 +1,4 @@
+-- Printed values, conditions and lists of values read back, no deeper than they were.
 pub mod Back
 pub mod Chains
 pub mod Deepest

@@ -1,3 +1,4 @@
+-- Every piece of the program of a text can be spelled.
 pub mod LiteralWords
 pub mod SpelledDeclarations
 pub mod SpelledFiles
