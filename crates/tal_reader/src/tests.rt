@@ -4,6 +4,7 @@ use std::alloc::Global;
 use std::test::Fail;
 use tal_tree::{Place, Shape, Statement, TalFault, What};
 
+mod answers;
 mod first_faults;
 
 const ADDER: &[u8] =
