@@ -95,7 +95,7 @@ fn a_long_value_and_a_long_body_are_printed(rt: HostRuntime) -> Result<(), Fail>
     let alloc = rt.alloc();
     let cases: [(&[u8], &[u8], u32); 2] = [
         (b" + y", b" + Y", 300_000),
-        (b"; x := 1", b";\n  X := 1", 1_900),
+        (b"; x := 1", b";\n  X := 1", 1_993),
     ];
     for (piece, wanted, times) in cases {
         let source = joined(alloc, HEAD, b"x := 1", piece, times, b"\nEND;")?;
