@@ -1,6 +1,1 @@
-pub mod Cuts
-pub mod Printed
-pub mod ReadsAgain
-pub mod Spelling
-pub mod Unlined
 pub mod Work

@@ -1,14 +1,14 @@
 ghost use Rattle.std.specs.Prelude.{◌≡◌, ◌<◌, ◌+◌, [], ◌∷◌, OnOk};
 ghost use Rattle.std.specs.Option.{option_copied};
-ghost use Rattle.tal_print.specs.Printed.Expressions.{and_needs, arguments, left_rank, more_values, op_symbol, or_needs, rel_symbol, right_rank, spot_pieces, test_pieces, value_needs, value_pieces};
-ghost use Rattle.tal_print.specs.Printed.Names.{named};
-ghost use Rattle.tal_print.specs.Work.{pieces_left, spot_weight, test_weight, value_weight, values_weight, work_left};
+ghost use Rattle.tal_pieces.specs.Printed.Expressions.{and_needs, arguments, left_rank, more_values, op_symbol, or_needs, rel_symbol, right_rank, spot_pieces, test_pieces, value_needs, value_pieces};
+ghost use Rattle.tal_pieces.specs.Printed.Names.{named};
+ghost use Rattle.tal_print.specs.Work.{pieces_left, work_left};
+ghost use Rattle.tal_pieces.specs.Weights.{spot_weight, test_weight, value_weight, values_weight};
 
 use crate::names::item_name;
-use crate::piece::{Keyword, Symbol};
-use crate::rank::{TestRank, ValueRank};
 use crate::work::{Part, Work, WorkList};
 use gd_words::{Ident, NoMemory};
+use tal_pieces::{Keyword, Symbol, TestRank, ValueRank};
 use tal_tree::{Cond, Expr, Op, Program, Rel, Spot};
 
 fn op_symbol(op: Op) -> Symbol
@@ -92,7 +92,7 @@ fn and_needs(rank: TestRank) -> bool
     }
 }
 
-#[tactic(auto, using(crate::proofs::Values::Layers::layers))]
+#[tactic(auto, using(crate::proofs::Layers::layers))]
 fn two<'a>(
     program: &'a Program,
     locals: &'a [Ident],
@@ -119,7 +119,7 @@ fn two<'a>(
 }
 
 /// Takes a value apart.
-#[tactic(auto, using(crate::proofs::Values::Layers::layers))]
+#[tactic(auto, using(crate::proofs::Layers::layers))]
 pub fn take_value<'a>(
     program: &'a Program,
     locals: &'a [Ident],
@@ -173,7 +173,7 @@ pub fn take_spot<'a>(
     Ok(())
 }
 
-#[tactic(auto, using(crate::proofs::Values::Layers::layers))]
+#[tactic(auto, using(crate::proofs::Layers::layers))]
 fn and<'a>(
     program: &'a Program,
     locals: &'a [Ident],
@@ -198,7 +198,7 @@ fn and<'a>(
     Ok(())
 }
 
-#[tactic(auto, using(crate::proofs::Values::Layers::layers))]
+#[tactic(auto, using(crate::proofs::Layers::layers))]
 fn or<'a>(
     program: &'a Program,
     locals: &'a [Ident],
@@ -224,7 +224,7 @@ fn or<'a>(
 }
 
 /// Takes a condition apart.
-#[tactic(auto, using(crate::proofs::Values::Layers::layers))]
+#[tactic(auto, using(crate::proofs::Layers::layers))]
 pub fn take_test<'a>(
     program: &'a Program,
     locals: &'a [Ident],

@@ -1,19 +1,8 @@
 ghost use Rattle.std.specs.Prelude.{◌≡◌, ◌≤◌, ◌++◌, ◌*◌, OnOk};
-ghost use Rattle.tal_print.specs.Spelling.{begins_list, depth_after, depth_at, ending_of, gap, hangs, is_end, is_number, is_tight, line_at};
+ghost use Rattle.tal_pieces.specs.Spelling.{begins_list, depth_after, depth_at, ending_of, gap, hangs, is_end, is_number, is_tight, line_at};
 
-use crate::piece::{Keyword, Piece, Symbol};
 use gd_words::{List, NoMemory};
-
-/// What a text ends with, as far as the layout of the next piece goes.
-#[derive(Clone, Copy, Debug, PartialEq, Eq)]
-pub enum Ending {
-    Nothing,
-    Line,
-    Bracket,
-    Name,
-    Colon,
-    Other,
-}
+use tal_pieces::{Ending, Keyword, Piece, Symbol};
 
 /// What a text ends with after a piece.
 pub fn ending_of(piece: &Piece) -> Ending
@@ -107,7 +96,7 @@ pub fn depth_after(depth: usize, piece: &Piece) -> usize
     }
 }
 
-#[tactic(auto, using(crate::proofs::Spelling::Growing::blanks_more))]
+#[tactic(auto, using(crate::proofs::Growing::blanks_more))]
 fn push_line(text: &mut List<u8>, depth: usize) -> Result<(), NoMemory>
     requires { depth ≤ 40 }
     ensures { OnOk result (text.new ≡ text.old ++ line_at depth) }

@@ -1,11 +1,11 @@
 ghost use Rattle.std.specs.Prelude.{◌≡◌, ◌<◌, [], ◌∷◌, ◌++◌, IfOk, OnOk};
-ghost use Rattle.tal_print.specs.Spelling.{blank, laid, number_text, octal_digit, octal_text, text_of};
+ghost use Rattle.tal_pieces.specs.Spelling.{blank, laid, number_text, octal_digit, octal_text, text_of};
 
-use crate::layout::{Ending, depth_after, ending_of, push_gap};
-use crate::piece::{Piece, system_name};
+use crate::layout::{depth_after, ending_of, push_gap};
 use gd_words::{List, NoMemory, decimal_of};
 use std::alloc::Global;
 use std::marker::Model;
+use tal_pieces::{Ending, Piece, system_name};
 
 /// A text that is being written.
 #[derive(Drop)]
@@ -17,7 +17,7 @@ pub struct Page {
 
 impl Model for Page {
     ghost use Rattle.std.specs.Prelude.{◌≤◌};
-    ghost use Rattle.tal_print.specs.Spelling.{Sheet};
+    ghost use Rattle.tal_pieces.specs.Spelling.{Sheet};
 
     ghost Value = { Sheet };
 
@@ -85,7 +85,7 @@ fn octal_text(pattern: u16) -> [u8; 6]
     ]
 }
 
-#[tactic(auto, using(crate::proofs::Spelling::Growing::one_more))]
+#[tactic(auto, using(crate::proofs::Growing::one_more))]
 fn push_octal(text: &mut List<u8>, pattern: u16) -> Result<(), NoMemory>
     ensures { OnOk result (text.new ≡ text.old ++ 37 ∷ octal_text pattern) }
 {
@@ -105,7 +105,7 @@ fn push_number(text: &mut List<u8>, number: i16) -> Result<(), NoMemory>
     Ok(())
 }
 
-#[tactic(auto, using(crate::proofs::Spelling::Growing::quoted_text))]
+#[tactic(auto, using(crate::proofs::Growing::quoted_text))]
 fn push_process(text: &mut List<u8>, name: &[u8]) -> Result<(), NoMemory>
     ensures { OnOk result (text.new ≡ text.old ++ 34 ∷ name.now ++ 34 ∷ []) }
 {

@@ -1,14 +1,13 @@
 ghost use Rattle.std.specs.Prelude.{◌≡◌, ◌<◌, ◌+◌, ℕ, List as Items, [], IfOk, OnOk};
-ghost use Rattle.tal_print.specs.Printed.Names.{target_piece};
-ghost use Rattle.tal_print.specs.Printed.Procedures.{printed};
-ghost use Rattle.tal_print.specs.ReadsAgain.{ReadsAgain};
-ghost use Rattle.tal_print.specs.Spelling.{lay, spelled};
+ghost use Rattle.tal_pieces.specs.Printed.Names.{target_piece};
+ghost use Rattle.tal_pieces.specs.Printed.Procedures.{printed};
+ghost use Rattle.tal_pieces.specs.ReadsAgain.{ReadsAgain};
+ghost use Rattle.tal_pieces.specs.Spelling.{lay, spelled};
 ghost use Rattle.tal_print.specs.Work.{part_pieces, part_weight, pieces_left, work_left};
 ghost use Rattle.tal_reader.specs.Reads.{Reads};
 
 use crate::expressions::{take_arguments, take_spot, take_test, take_value, take_values};
 use crate::page::Page;
-use crate::piece::Piece;
 use crate::procedures::{
     back, front, take_items, take_locals, take_main, take_names, take_parameters, take_procedures,
 };
@@ -18,6 +17,7 @@ use crate::statements::{
 use crate::work::{Part, Work, WorkList};
 use gd_words::{Ident, List, NoMemory};
 use std::alloc::Global;
+use tal_pieces::Piece;
 use tal_tree::{Program, Target};
 
 /// Puts in the place of a part what it consists of.

@@ -1,11 +1,12 @@
 ghost use Rattle.std.specs.Prelude.{◌≡◌, ◌<◌, ◌+◌, [], ◌∷◌, drop, take, OnOk};
 ghost use Rattle.std.specs.Option.{option_copied};
-ghost use Rattle.tal_print.specs.Printed.Procedures.{items_pieces, locals_pieces, main_pieces, more_names, parameters_pieces, procedure_pieces, procedures_pieces};
-ghost use Rattle.tal_print.specs.Work.{items_weight, list_weight, pieces_left, procedure_weight, procedures_weight, work_left};
+ghost use Rattle.tal_pieces.specs.Printed.Procedures.{items_pieces, locals_pieces, main_pieces, more_names, parameters_pieces, procedure_pieces, procedures_pieces};
+ghost use Rattle.tal_print.specs.Work.{pieces_left, work_left};
+ghost use Rattle.tal_pieces.specs.Weights.{items_weight, list_weight, procedure_weight, procedures_weight};
 
-use crate::piece::{Keyword, Symbol};
 use crate::work::{Part, Work, WorkList};
 use gd_words::{Ident, NoMemory};
+use tal_pieces::{Keyword, Symbol};
 use tal_tree::{Item, Procedure, Program, Shape};
 
 /// The first of these, at most so many.
@@ -128,7 +129,7 @@ pub fn take_locals<'a>(
     Ok(())
 }
 
-#[tactic(auto, using(crate::proofs::Values::Layers::fronts))]
+#[tactic(auto, using(crate::proofs::Layers::fronts))]
 fn take_procedure<'a>(
     program: &'a Program,
     locals: &'a [Ident],

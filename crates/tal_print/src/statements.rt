@@ -1,15 +1,15 @@
 ghost use Rattle.std.specs.Prelude.{◌≡◌, ◌<◌, ◌+◌, ℕ, [], ◌∷◌, length, true, OnOk, pos};
 ghost use Rattle.std.specs.Option.{option_copied};
-ghost use Rattle.tal_print.specs.Printed.Statements.{body_pieces, inner_pieces, kept, more_files, more_items, more_statements, what_pieces};
-ghost use Rattle.tal_print.specs.Work.{list_weight, pieces_left, returns_or_calls_the_system, statements_weight, what_weight, work_left};
+ghost use Rattle.tal_pieces.specs.Printed.Statements.{body_pieces, inner_pieces, kept, more_files, more_items, more_statements, what_pieces};
+ghost use Rattle.tal_print.specs.Work.{pieces_left, returns_or_calls_the_system, work_left};
+ghost use Rattle.tal_pieces.specs.Weights.{list_weight, statements_weight, what_weight};
 ghost use Rattle.tal_tree.specs.declared.statement.What.{AssignCall, Call, If, While, For};
 
 use crate::names::{file_name, item_name, procedure_name, variable_name};
-use crate::piece::{Keyword, Symbol};
-use crate::rank::{TestRank, ValueRank};
 use crate::system_calls::{take_open, take_read_update, take_reply, take_return, take_write_read};
 use crate::work::{Part, Work, WorkList};
 use gd_words::{Ident, List, NoMemory};
+use tal_pieces::{Keyword, Symbol, TestRank, ValueRank};
 use tal_rules::System;
 use tal_tree::{Cond, Expr, Program, Spot, Statement, Variable, What};
 

@@ -1,15 +1,15 @@
 ghost use Rattle.std.specs.Prelude.{◌≡◌, ◌<◌, ◌+◌, [], ◌∷◌, slice_get, OnOk, pos};
 ghost use Rattle.std.specs.Option.{option_copied};
-ghost use Rattle.tal_print.specs.Printed.Statements.{open_pieces, read_update_pieces, reply_pieces, return_pieces, write_read_pieces};
-ghost use Rattle.tal_print.specs.declared.piece.Keyword.TheVariants as word;
-ghost use Rattle.tal_print.specs.declared.piece.Piece.TheVariants as piece;
-ghost use Rattle.tal_print.specs.Work.{answer_weight, pieces_left, value_weight, work_left};
+ghost use Rattle.tal_pieces.specs.Printed.Statements.{open_pieces, read_update_pieces, reply_pieces, return_pieces, write_read_pieces};
+ghost use Rattle.tal_pieces.specs.declared.piece.Keyword.TheVariants as word;
+ghost use Rattle.tal_pieces.specs.declared.piece.Piece.TheVariants as piece;
+ghost use Rattle.tal_print.specs.Work.{pieces_left, work_left};
+ghost use Rattle.tal_pieces.specs.Weights.{answer_weight, value_weight};
 
 use crate::names::{file_name, item_name, receive_name, variable_name};
-use crate::piece::{Keyword, Symbol};
-use crate::rank::ValueRank;
 use crate::work::{Part, Work, WorkList};
 use gd_words::{Ident, NoMemory};
+use tal_pieces::{Keyword, Symbol, ValueRank};
 use tal_rules::System;
 use tal_tree::{Expr, Program, Variable};
 

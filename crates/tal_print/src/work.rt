@@ -1,10 +1,9 @@
 ghost use Rattle.std.specs.Prelude.{◌≡◌, [], ◌∷◌, ◌++◌, MatchOption, OnOk};
 
-use crate::piece::{Keyword, Symbol};
-use crate::rank::{TestRank, ValueRank};
 use gd_words::{Ident, NoMemory};
 use std::alloc::Global;
 use std::collections::VecDeque;
+use tal_pieces::{Keyword, Symbol, TestRank, ValueRank};
 use tal_rules::System;
 use tal_tree::{Cond, Expr, Item, Procedure, Spot, Statement, Target, What};
 

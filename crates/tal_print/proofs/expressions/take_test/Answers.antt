@@ -1,5 +1,5 @@
 use Rattle.std.proofs.Common.{refl}
-use Rattle.tal_print.proofs.Values.Layers.{pieces_not}
+use Rattle.tal_pieces.proofs.Values.Layers.{pieces_not}
 use Rattle.tal_print.proofs.expressions.take_test.Goals as goal
 
 pub returns-in_ok-put-in-Not-clause-pieces : goal.returns-in_ok-put-in-Not-clause-pieces

@@ -1,5 +1,5 @@
 use Rattle.std.proofs.Common.{refl}
-use Rattle.tal_print.proofs.Values.Layers.{pieces_read, pieces_minus}
+use Rattle.tal_pieces.proofs.Values.Layers.{pieces_read, pieces_minus}
 use Rattle.tal_print.proofs.expressions.take_value.Goals as goal
 
 pub returns-in_ok-put-in-Read-clause-pieces : goal.returns-in_ok-put-in-Read-clause-pieces

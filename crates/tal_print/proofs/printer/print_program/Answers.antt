@@ -1,10 +1,10 @@
 use Rattle.std.proofs.Common.{◌≡◌, ℕ, List, sym, subst}
 use Rattle.std.proofs.lemmas.Result.{IfOk-weaker}
 use Rattle.tal_reader.specs.Reads.{Reads}
-use Rattle.tal_print.specs.Printed.Procedures.{printed}
-use Rattle.tal_print.specs.ReadsAgain.{ReadsAgain}
-use Rattle.tal_print.specs.Spelling.{spelled}
-use Rattle.tal_print.proofs.Texts.ReadsAgain.{reads_again}
+use Rattle.tal_pieces.specs.Printed.Procedures.{printed}
+use Rattle.tal_pieces.specs.ReadsAgain.{ReadsAgain}
+use Rattle.tal_pieces.specs.Spelling.{spelled}
+use Rattle.tal_pieces.proofs.Texts.ReadsAgain.{reads_again}
 use Rattle.tal_print.proofs.printer.print_program.Goals as goal
 
 pub returns-clause-again : goal.returns-clause-again

@@ -1,5 +1,5 @@
 use Rattle.std.proofs.Common.{◌≡◌, []}
-use Rattle.tal_print.specs.Spelling.{lay}
+use Rattle.tal_pieces.specs.Spelling.{lay}
 use Rattle.tal_print.specs.Work.{pieces_left, work_left}
 use Rattle.tal_print.proofs.printer.write_all.Given as goal
 

@@ -1,5 +1,5 @@
 use Rattle.std.proofs.Common.{refl, arith}
-use Rattle.tal_print.proofs.Values.Layers.{pieces_for, weight_for}
+use Rattle.tal_pieces.proofs.Values.Layers.{pieces_for, weight_for}
 use Rattle.tal_print.proofs.statements.take_for.Goals as goal
 
 pub returns-clause-pieces : goal.returns-clause-pieces

@@ -1,5 +1,5 @@
 use Rattle.std.proofs.Common.{refl, arith}
-use Rattle.tal_print.proofs.Values.Layers.{pieces_while, weight_while}
+use Rattle.tal_pieces.proofs.Values.Layers.{pieces_while, weight_while}
 use Rattle.tal_print.proofs.statements.take_while.Goals as goal
 
 pub returns-clause-pieces : goal.returns-clause-pieces

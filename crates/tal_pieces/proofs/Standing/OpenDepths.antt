@@ -1,0 +1,71 @@
+-- The depth of an OPEN in a text without faults.
+use Rattle.std.proofs.Common.{◌≡◌, ℕ, Bool, true, false, not, nat_le, List, [], refl, sym, ap, ◌∙◌, if◌then◌else◌}
+use Rattle.std.specs.Prelude.{ℤ, pos, negsuc, Option, Some, None}
+use Rattle.std.specs.Option.{option_and_then}
+use Rattle.std.proofs.lemmas.Bool.{not-false}
+use Rattle.tal_tokens.specs.declared.token.At.{At}
+use Rattle.tal_syntax.specs.Grammar as g
+use Rattle.tal_rules.specs.declared.fault.Rule.TheVariants.{Limit}
+use Rattle.tal_rules.specs.declared.meaning.Meaning.{Meaning}
+use Rattle.tal_rules.specs.declared.meaning.Meaning.TheVariants as m
+use Rattle.tal_rules.specs.declared.scope.Scope.{Scope}
+use Rattle.tal_rules.specs.Calls.{is_depth, depth_limit, depth_form, depth_faults}
+use Rattle.tal_rules.specs.Files.{constant_of, named_in, declared_before, depth_value, depth_of}
+use Rattle.tal_rules.specs.Globals.{atom_of, constant_value, atom_faults, literal_faults}
+use Rattle.tal_rules.specs.Names.{meaning_in}
+use Rattle.tal_rules.specs.Places.{first_of_argument}
+use Rattle.tal_rules.specs.Scopes.{or_else, meaning_of, is_file}
+use Rattle.tal_pieces.proofs.Scopes.SourceNames.{SourceNames}
+use Rattle.tal_pieces.proofs.Bodies.OpenedFiles.{depth_is}
+use Rattle.tal_pieces.proofs.Bodies.StatementsBack.{without_files}
+use Rattle.tal_pieces.proofs.Common.Faultless.{no_fault, split, refuted}
+
+-- a depth that is allowed is what the tree has
+kept_depth : (receive : Bool) (value : Option ℤ) (a : g.Argument) → depth_limit receive a value ≡ [] → is_depth receive (pos (depth_of value)) ≡ true
+kept_depth true None a faultless = refl
+kept_depth false None a faultless = refl
+kept_depth receive (Some (pos n)) a faultless =
+    let fine = not-false (is_depth receive (pos n)) (refuted (not (is_depth receive (pos n))) (first_of_argument a) (Limit 9) faultless) in
+    ap (λ k. is_depth receive (pos k)) (depth_is receive n fine) ∙ fine
+kept_depth true (Some (negsuc n)) a faultless = no_fault faultless
+kept_depth false (Some (negsuc n)) a faultless = no_fault faultless
+
+module _ (s : Scope) (names : SourceNames s) where
+  -- a LITERAL is the same before the files are known
+  literal_stays : (name : List ℕ) (value : ℤ) → meaning_of s name ≡ Some (m.Literal value) → meaning_of (without_files s) name ≡ Some (m.Literal value)
+  literal_stays name value e = by (meaning_in name s.locals) (meaning_in name s.files) refl e
+    where
+      by : (local listed : Option Meaning) → meaning_in name s.files ≡ listed → or_else local (or_else listed (meaning_in name s.globals)) ≡ Some (m.Literal value)
+          → or_else local (meaning_in name s.globals) ≡ Some (m.Literal value)
+      by (Some x) listed d h = h
+      by None None d h = h
+      by None (Some x) d h = absurd (file_meant (names.listed name x d) h)
+        where
+          file_meant : {x : Meaning} → is_file x ≡ true → Some x ≡ Some (m.Literal value) → ⊥
+          file_meant {x} file is = cc
+
+  known_stays : (at : At) (name : List ℕ) (found : Option Meaning) → meaning_of s name ≡ found → literal_faults at (declared_before s.number found) ≡ []
+      → declared_before s.number (meaning_of (without_files s) name) ≡ declared_before s.number (meaning_of s name)
+  known_stays at name None e faultless = no_fault faultless
+  known_stays at name (Some (m.Literal value)) e faultless = ap (declared_before s.number) (literal_stays name value e ∙ sym e)
+  known_stays at name (Some (m.Procedure number gives parameters)) e faultless = not_literal (nat_le number s.number) faultless
+    where
+      not_literal : {A : Type 0} (b : Bool) → literal_faults at (if b then Some (m.Procedure number gives parameters) else None) ≡ [] → A
+      not_literal true h = no_fault h
+      not_literal false h = no_fault h
+  known_stays at name (Some other) e faultless = no_fault faultless
+
+  atom_stays : (a : g.Atom) → atom_faults a (named_in s a) ≡ [] → named_in (without_files s) a ≡ named_in s a
+  atom_stays (g.digits at value) faultless = refl
+  atom_stays (g.known at name) faultless = known_stays at name (meaning_of s name) refl faultless
+
+  form_stays : (a : g.Argument) (c : Option g.Constant) → depth_form s a c ≡ []
+      → option_and_then (λ x. constant_value x (named_in (without_files s) (atom_of x))) c ≡ option_and_then (λ x. constant_value x (named_in s (atom_of x))) c
+  form_stays a None faultless = refl
+  form_stays a (Some c) faultless = ap (constant_value c) (atom_stays (atom_of c) faultless)
+
+  pub open_depth : (receive : Bool) (a : g.Argument) → depth_faults s receive (Some a) ≡ []
+      → is_depth receive (pos (depth_of (depth_value (without_files s) a))) ≡ true
+  open_depth receive a faultless =
+      let parts = split faultless in
+      ap (λ v. is_depth receive (pos (depth_of v))) (form_stays a (constant_of a) parts.0) ∙ kept_depth receive (depth_value s a) a parts.1
