@@ -2,8 +2,8 @@
 use Rattle.std.specs.Prelude.{ℕ, ◌+◌, ◌-◌, ◌*◌, ◌/◌, ◌%◌, min, Bool, true, false, ◌||◌, ℤ, pos, int_lt, List, [], ◌∷◌, ◌++◌, replicate, codes, if◌then◌else◌}
 use Rattle.std.specs.Fmt.{signed_decimal}
 use Rattle.std.specs.Int.{cast_unsigned, w16}
-use Rattle.tal_rules.specs.declared.system.System.{System}
-use Rattle.tal_rules.specs.declared.system.System.TheVariants as system
+use Rattle.tal_names.specs.declared.system.System.{System}
+use Rattle.tal_names.specs.declared.system.System.TheVariants as system
 use Rattle.tal_pieces.specs.declared.piece.Keyword.{Keyword}
 use Rattle.tal_pieces.specs.declared.piece.Keyword.TheVariants as word
 use Rattle.tal_pieces.specs.declared.piece.Symbol.{Symbol}

@@ -2,7 +2,7 @@ ghost use Rattle.std.specs.Prelude.{◌≡◌};
 ghost use Rattle.tal_pieces.specs.Spelling.{keyword_text, symbol_text, system_text};
 
 use gd_words::{Ident, Name};
-use tal_rules::System;
+use tal_names::System;
 
 /// A keyword that a printed text may have.
 #[derive(Clone, Copy, Debug, PartialEq, Eq)]

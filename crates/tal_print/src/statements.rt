@@ -9,8 +9,8 @@ use crate::names::{file_name, item_name, procedure_name, variable_name};
 use crate::system_calls::{take_open, take_read_update, take_reply, take_return, take_write_read};
 use crate::work::{Part, Work, WorkList};
 use gd_words::{Ident, List, NoMemory};
+use tal_names::System;
 use tal_pieces::{Keyword, Symbol, TestRank, ValueRank};
-use tal_rules::System;
 use tal_tree::{Cond, Expr, Program, Spot, Statement, Variable, What};
 
 /// Takes statements in the place of one apart.

@@ -9,8 +9,8 @@ ghost use Rattle.tal_pieces.specs.Weights.{answer_weight, value_weight};
 use crate::names::{file_name, item_name, receive_name, variable_name};
 use crate::work::{Part, Work, WorkList};
 use gd_words::{Ident, NoMemory};
+use tal_names::System;
 use tal_pieces::{Keyword, Symbol, ValueRank};
-use tal_rules::System;
 use tal_tree::{Expr, Program, Variable};
 
 /// Takes a RETURN apart.

@@ -3,8 +3,8 @@ ghost use Rattle.std.specs.Prelude.{◌≡◌, [], ◌∷◌, ◌++◌, MatchOpt
 use gd_words::{Ident, NoMemory};
 use std::alloc::Global;
 use std::collections::VecDeque;
+use tal_names::System;
 use tal_pieces::{Keyword, Symbol, TestRank, ValueRank};
-use tal_rules::System;
 use tal_tree::{Cond, Expr, Item, Procedure, Spot, Statement, Target, What};
 
 /// A part of a program that is still to be printed.

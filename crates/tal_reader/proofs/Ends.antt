@@ -1,7 +1,7 @@
 -- The end of a text is its last token, and no token before a fault in the spelling is an end.
-use Rattle.std.proofs.Common.{◌≡◌, ◌⊎◌, inl, inr, ℕ, ◌-◌, zero, suc, Bool, true, false, if◌then◌else◌, List, [], ◌∷◌, ◌++◌, Option, Some, None, refl, ap}
-use Rattle.std.specs.Prelude.{◌+◌, take, slice_index, ◌==◌, unwrap_or, codes}
-use Rattle.std.specs.Option.{option_or, IsSome}
+use Rattle.std.proofs.Common.{◌≡◌, ℕ, ◌-◌, zero, suc, Bool, true, false, if◌then◌else◌, List, [], ◌∷◌, ◌++◌, Option, Some, None, refl, ap}
+use Rattle.std.specs.Prelude.{◌+◌, take, slice_index, ◌==◌, unwrap_or}
+use Rattle.std.specs.Option.{option_or}
 use Rattle.std.specs.Char.{is_ascii_digit}
 use Rattle.std.specs.List.{position}
 use Rattle.gd_words.specs.Spelling.{is_ident_sign, ident_of, name_of}

@@ -1,15 +1,13 @@
 -- The least of faults is one alone.
-use Rattle.std.proofs.Common.{◌≡◌, ℕ, Bool, false, if◌then◌else◌, List, [], ◌∷◌, arith, refl, sym, ap, ap₂, ◌∙◌, ◌≤◌, suc, zero}
+use Rattle.std.proofs.Common.{◌≡◌, ℕ, Bool, false, List, [], arith, refl, sym, ap, ap₂}
 use Rattle.std.proofs.lemmas.Bool.Decides.{nat_tests}
 use Rattle.std.proofs.lemmas.List.Elements.{All-contains}
-use Rattle.std.specs.Prelude.{◌==◌, nat_lt}
-use Rattle.std.specs.List.{All, Contains}
+use Rattle.std.specs.Prelude.{nat_lt}
 use Rattle.tal_tree.specs.declared.place.Place.{Place}
-use Rattle.tal_tree.specs.declared.fault.TalFault.{TalFault}
-use Rattle.tal_rules.specs.declared.fault.Rule.{Rule}
-use Rattle.tal_rules.specs.declared.fault.Rule.TheVariants.{Unknown, Twice, WrongKind, NotBefore, Prologue, Limit, NoMain}
-use Rattle.tal_rules.specs.declared.fault.RuleFault.{RuleFault}
-use Rattle.tal_rules.specs.Faults.{answer_by, answer_of, number_of, which_of, below, is_before, IsLeast}
+use Rattle.tal_names.specs.declared.fault.Rule.{Rule}
+use Rattle.tal_names.specs.declared.fault.Rule.TheVariants.{Unknown, Twice, WrongKind, NotBefore, Prologue, Limit, NoMain}
+use Rattle.tal_names.specs.declared.fault.RuleFault.{RuleFault}
+use Rattle.tal_names.specs.Faults.{answer_by, answer_of, number_of, which_of, below, is_before, IsLeast}
 
 same-by : (a b : ℕ) (r s : Bool) → below a b r ≡ false → below b a s ≡ false → a ≡ b
 same-by a b r s h i = grind (arith, nat_tests)

@@ -1,5 +1,5 @@
 -- What a text reads as, and for which fault it is refused.
-use Rattle.std.proofs.Common.{◌≡◌, ◌⊎◌, inl, inr, ℕ, List, [], ◌∷◌, ◌++◌, Option, Some, None, Ok, Err, refl, sym, ap, subst, ◌∙◌, ◌<◌, length, get_or, zero, suc, arith}
+use Rattle.std.proofs.Common.{◌≡◌, inl, inr, ℕ, List, [], ◌∷◌, ◌++◌, Some, None, Ok, Err, refl, sym, ap, subst, ◌∙◌, ◌<◌, length, get_or, zero, suc, arith}
 use Rattle.std.specs.Prelude.{Result, slice_get}
 use Rattle.tal_tokens.specs.declared.lexer.TokenList.{TokenList}
 use Rattle.tal_tokens.specs.declared.token.At.{At}
@@ -21,9 +21,7 @@ use Rattle.tal_builder.proofs.Exact.{one_syntax}
 use Rattle.tal_tree.specs.declared.fault.TalFault.{TalFault}
 use Rattle.tal_tree.specs.declared.fault.TalFault.TheVariants as fault
 use Rattle.tal_tree.specs.declared.program.Program.{Program}
-use Rattle.tal_rules.specs.declared.fault.RuleFault.{RuleFault}
-use Rattle.tal_rules.specs.Faults.{answer_of, IsLeast}
-use Rattle.tal_trees.specs.Judged.{Judged}
+use Rattle.tal_names.specs.Faults.{IsLeast}
 use Rattle.tal_rules.specs.Texts.{faults}
 use Rattle.tal_trees.specs.Programs.{tree_of}
 use Rattle.tal_reader.specs.Places.{place_of}

@@ -1,7 +1,3 @@
 pub mod Counted
-pub mod Lookups
-pub mod Opens
-pub mod Order
 pub mod Parts
 pub mod StatementSteps
-pub mod Turns

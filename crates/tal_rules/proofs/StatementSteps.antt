@@ -2,12 +2,12 @@
 use Rattle.std.proofs.Common.{◌≡◌, List, Option, ℕ, refl, ap, ◌∙◌}
 use Rattle.tal_tokens.specs.declared.token.At.{At}
 use Rattle.tal_syntax.specs.Grammar as g
-use Rattle.tal_rules.specs.declared.fault.RuleFault.{RuleFault}
-use Rattle.tal_rules.specs.declared.scope.Scope.{Scope}
-use Rattle.tal_rules.specs.declared.scope.Walk.{Walk}
-use Rattle.tal_rules.specs.Faults.{least}
+use Rattle.tal_names.specs.declared.fault.RuleFault.{RuleFault}
+use Rattle.tal_names.specs.declared.scope.Scope.{Scope}
+use Rattle.tal_rules.specs.declared.walk.Walk.{Walk}
+use Rattle.tal_names.specs.Faults.{least}
 use Rattle.tal_rules.specs.Statements.{stepped, number_faults, test_faults, for_head_faults, after, after_else, after_row, statement_faults, else_faults, row_faults}
-use Rattle.tal_rules.proofs.Parts.{least-append, two_parts, three_parts}
+use Rattle.tal_names.proofs.Parts.{least-append, two_parts, three_parts}
 
 module _ (s : Scope) (w inner : Walk) where
   pub block-walk : (begin end : At) (t : g.Statement) (more : g.Row) → inner ≡ after s w t → after_row s inner more ≡ after s w (g.block begin t more end)

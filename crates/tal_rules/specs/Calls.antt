@@ -2,26 +2,26 @@
 use Rattle.std.specs.Prelude.{ℕ, ◌+◌, ◌&&◌, ◌||◌, not, ◌==◌, nat_lt, nat_le, Bool, true, false, ℤ, pos, int_le, List, [], ◌∷◌, ◌++◌, length, slice_get, Option, Some, None, is_none}
 use Rattle.tal_tokens.specs.declared.token.At.{At}
 use Rattle.tal_syntax.specs.Grammar as g
-use Rattle.tal_rules.specs.declared.fault.Rule.TheVariants.{Unknown, Twice, WrongKind, NotBefore, Prologue, Limit}
-use Rattle.tal_rules.specs.declared.fault.RuleFault.{RuleFault}
-use Rattle.tal_rules.specs.declared.meaning.Meaning.{Meaning}
-use Rattle.tal_rules.specs.declared.meaning.Meaning.TheVariants as m
-use Rattle.tal_rules.specs.declared.meaning.Need.{Need}
-use Rattle.tal_rules.specs.declared.meaning.Need.TheVariants as need
-use Rattle.tal_rules.specs.declared.scope.Named.{Named}
-use Rattle.tal_rules.specs.declared.scope.Scope.{Scope}
-use Rattle.tal_rules.specs.declared.scope.Stage.{Stage}
-use Rattle.tal_rules.specs.declared.scope.Stage.TheVariants as stage
-use Rattle.tal_rules.specs.declared.scope.Walk.{Walk}
-use Rattle.tal_rules.specs.declared.system.System.{System}
-use Rattle.tal_rules.specs.declared.system.System.TheVariants as system
+use Rattle.tal_names.specs.declared.fault.Rule.TheVariants.{Unknown, Twice, WrongKind, NotBefore, Prologue, Limit}
+use Rattle.tal_names.specs.declared.fault.RuleFault.{RuleFault}
+use Rattle.tal_names.specs.declared.meaning.Meaning.{Meaning}
+use Rattle.tal_names.specs.declared.meaning.Meaning.TheVariants as m
+use Rattle.tal_names.specs.declared.meaning.Need.{Need}
+use Rattle.tal_names.specs.declared.meaning.Need.TheVariants as need
+use Rattle.tal_names.specs.declared.scope.Named.{Named}
+use Rattle.tal_names.specs.declared.scope.Scope.{Scope}
+use Rattle.tal_rules.specs.declared.walk.Stage.{Stage}
+use Rattle.tal_rules.specs.declared.walk.Stage.TheVariants as stage
+use Rattle.tal_rules.specs.declared.walk.Walk.{Walk}
+use Rattle.tal_names.specs.declared.system.System.{System}
+use Rattle.tal_names.specs.declared.system.System.TheVariants as system
 use Rattle.tal_rules.specs.Expressions.{value_faults}
-use Rattle.tal_rules.specs.Faults.{fault_at, if_so}
-use Rattle.tal_rules.specs.Files.{constant_of, named_in, is_receive, depth_value}
-use Rattle.tal_rules.specs.Globals.{atom_of, constant_faults}
-use Rattle.tal_rules.specs.Names.{Declarations, is_declared, with_name}
-use Rattle.tal_rules.specs.Places.{first_of_argument, name_of_argument, front_name_of_argument}
-use Rattle.tal_rules.specs.Scopes.{meaning_of, name_faults}
+use Rattle.tal_names.specs.Faults.{fault_at, if_so}
+use Rattle.tal_declarations.specs.Files.{named_in, is_receive, depth_value}
+use Rattle.tal_declarations.specs.Globals.{atom_of, constant_faults}
+use Rattle.tal_names.specs.Names.{Declarations, is_declared, with_name}
+use Rattle.tal_names.specs.Places.{first_of_argument, name_of_argument, front_name_of_argument, constant_of}
+use Rattle.tal_names.specs.Scopes.{meaning_of, name_faults}
 
 -- a procedure is called with as many values as it has parameters, on a right side only where it gives a value, and only after
 -- its own declaration has ended

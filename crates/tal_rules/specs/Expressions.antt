@@ -2,16 +2,16 @@
 use Rattle.std.specs.Prelude.{List, [], ◌++◌}
 use Rattle.tal_tokens.specs.declared.token.At.{At}
 use Rattle.tal_syntax.specs.Grammar as g
-use Rattle.tal_rules.specs.declared.fault.Rule.TheVariants.{WrongKind}
-use Rattle.tal_rules.specs.declared.fault.RuleFault.{RuleFault}
-use Rattle.tal_rules.specs.declared.meaning.Need.{Need}
-use Rattle.tal_rules.specs.declared.meaning.Need.TheVariants as need
-use Rattle.tal_rules.specs.declared.meaning.Wanted.{Wanted}
-use Rattle.tal_rules.specs.declared.meaning.Wanted.TheVariants.{Condition, Value}
-use Rattle.tal_rules.specs.declared.scope.Scope.{Scope}
-use Rattle.tal_rules.specs.Faults.{fault_at}
-use Rattle.tal_rules.specs.Places.{first_of_factor, first_of_product, first_of_sum, first_of_expr}
-use Rattle.tal_rules.specs.Scopes.{name_faults}
+use Rattle.tal_names.specs.declared.fault.Rule.TheVariants.{WrongKind}
+use Rattle.tal_names.specs.declared.fault.RuleFault.{RuleFault}
+use Rattle.tal_names.specs.declared.meaning.Need.{Need}
+use Rattle.tal_names.specs.declared.meaning.Need.TheVariants as need
+use Rattle.tal_names.specs.declared.meaning.Wanted.{Wanted}
+use Rattle.tal_names.specs.declared.meaning.Wanted.TheVariants.{Condition, Value}
+use Rattle.tal_names.specs.declared.scope.Scope.{Scope}
+use Rattle.tal_names.specs.Faults.{fault_at}
+use Rattle.tal_names.specs.Places.{first_of_factor, first_of_product, first_of_sum, first_of_expr}
+use Rattle.tal_names.specs.Scopes.{name_faults}
 
 -- a condition in the place of a value is WrongKind where what stands in that place begins
 abbrev pub misplaced : Wanted → List RuleFault

@@ -1,12 +1,4 @@
 pub mod Calls
 pub mod Expressions
-pub mod Faults
-pub mod Files
-pub mod Globals
-pub mod Headings
-pub mod Names
-pub mod Places
-pub mod Scopes
 pub mod Statements
-pub mod Systems
 pub mod Texts

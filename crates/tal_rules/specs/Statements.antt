@@ -2,25 +2,25 @@
 use Rattle.std.specs.Prelude.{ℕ, ◌+◌, ◌||◌, not, nat_lt, true, List, [], ◌++◌, slice_get, Option, Some, None, if◌then◌else◌}
 use Rattle.tal_tokens.specs.declared.token.At.{At}
 use Rattle.tal_syntax.specs.Grammar as g
-use Rattle.tal_rules.specs.declared.fault.Rule.TheVariants.{WrongKind, Limit}
-use Rattle.tal_rules.specs.declared.fault.RuleFault.{RuleFault}
-use Rattle.tal_rules.specs.declared.meaning.Meaning.{Meaning}
-use Rattle.tal_rules.specs.declared.meaning.Meaning.TheVariants as m
-use Rattle.tal_rules.specs.declared.meaning.Need.TheVariants as need
-use Rattle.tal_rules.specs.declared.meaning.Wanted.TheVariants.{Condition}
-use Rattle.tal_rules.specs.declared.scope.Named.{Named}
-use Rattle.tal_rules.specs.declared.scope.Scope.{Scope}
-use Rattle.tal_rules.specs.declared.scope.Stage.{Stage}
-use Rattle.tal_rules.specs.declared.scope.Stage.TheVariants as stage
-use Rattle.tal_rules.specs.declared.scope.Walk.{Walk}
-use Rattle.tal_rules.specs.declared.system.System.{System}
-use Rattle.tal_rules.specs.declared.system.System.TheVariants as system
+use Rattle.tal_names.specs.declared.fault.Rule.TheVariants.{WrongKind, Limit}
+use Rattle.tal_names.specs.declared.fault.RuleFault.{RuleFault}
+use Rattle.tal_names.specs.declared.meaning.Meaning.{Meaning}
+use Rattle.tal_names.specs.declared.meaning.Meaning.TheVariants as m
+use Rattle.tal_names.specs.declared.meaning.Need.TheVariants as need
+use Rattle.tal_names.specs.declared.meaning.Wanted.TheVariants.{Condition}
+use Rattle.tal_names.specs.declared.scope.Named.{Named}
+use Rattle.tal_names.specs.declared.scope.Scope.{Scope}
+use Rattle.tal_rules.specs.declared.walk.Stage.{Stage}
+use Rattle.tal_rules.specs.declared.walk.Stage.TheVariants as stage
+use Rattle.tal_rules.specs.declared.walk.Walk.{Walk}
+use Rattle.tal_names.specs.declared.system.System.{System}
+use Rattle.tal_names.specs.declared.system.System.TheVariants as system
 use Rattle.tal_rules.specs.Calls.{called_faults, call_faults, values_faults, values_count, opens_receive}
 use Rattle.tal_rules.specs.Expressions.{expr_faults, value_faults, spot_faults}
-use Rattle.tal_rules.specs.Faults.{fault_at, if_so}
-use Rattle.tal_rules.specs.Files.{call_of}
-use Rattle.tal_rules.specs.Places.{first_of_spot, name_of_expr, arguments_of}
-use Rattle.tal_rules.specs.Scopes.{meaning_of, name_faults}
+use Rattle.tal_names.specs.Faults.{fault_at, if_so}
+use Rattle.tal_names.specs.Systems.{call_of}
+use Rattle.tal_names.specs.Places.{first_of_spot, name_of_expr, arguments_of}
+use Rattle.tal_names.specs.Scopes.{meaning_of, name_faults}
 
 -- the number after another. Those past the limit all count as 2,001
 abbrev pub next_number : ℕ → ℕ

@@ -2,21 +2,21 @@
 use Rattle.std.specs.Prelude.{ℕ, ◌+◌, ◌||◌, ◌&&◌, not, min, Bool, true, false, List, [], ◌++◌, None, is_none, Option}
 use Rattle.tal_tokens.specs.declared.token.At.{At}
 use Rattle.tal_syntax.specs.Grammar as g
-use Rattle.tal_rules.specs.declared.fault.Rule.TheVariants.{Prologue, NoMain}
-use Rattle.tal_rules.specs.declared.fault.RuleFault.{RuleFault}
-use Rattle.tal_rules.specs.declared.scope.Declared.{Declared}
-use Rattle.tal_rules.specs.declared.scope.Files.{Files}
-use Rattle.tal_rules.specs.declared.scope.Headed.{Headed}
-use Rattle.tal_rules.specs.declared.scope.Progress.{Progress}
-use Rattle.tal_rules.specs.declared.scope.Scope.{Scope}
-use Rattle.tal_rules.specs.declared.scope.Stage.{Stage}
-use Rattle.tal_rules.specs.declared.scope.Stage.TheVariants as stage
-use Rattle.tal_rules.specs.declared.scope.Walk.{Walk}
-use Rattle.tal_rules.specs.Faults.{fault_at, if_so}
-use Rattle.tal_rules.specs.Files.{statement_files, row_files}
-use Rattle.tal_rules.specs.Globals.{lines_faults, with_lines, nothing_declared}
-use Rattle.tal_rules.specs.Headings.{parameters_of, locals_of, with_locals, locals_faults, does_give, headings_faults, with_headings}
-use Rattle.tal_rules.specs.Names.{Declarations}
+use Rattle.tal_names.specs.declared.fault.Rule.TheVariants.{Prologue, NoMain}
+use Rattle.tal_names.specs.declared.fault.RuleFault.{RuleFault}
+use Rattle.tal_declarations.specs.declared.table.Declared.{Declared}
+use Rattle.tal_declarations.specs.declared.table.Files.{Files}
+use Rattle.tal_declarations.specs.declared.table.Headed.{Headed}
+use Rattle.tal_rules.specs.declared.walk.Progress.{Progress}
+use Rattle.tal_names.specs.declared.scope.Scope.{Scope}
+use Rattle.tal_rules.specs.declared.walk.Stage.{Stage}
+use Rattle.tal_rules.specs.declared.walk.Stage.TheVariants as stage
+use Rattle.tal_rules.specs.declared.walk.Walk.{Walk}
+use Rattle.tal_names.specs.Faults.{fault_at, if_so}
+use Rattle.tal_declarations.specs.Files.{statement_files, row_files}
+use Rattle.tal_declarations.specs.Globals.{lines_faults, with_lines, nothing_declared}
+use Rattle.tal_declarations.specs.Headings.{parameters_of, locals_of, with_locals, locals_faults, does_give, headings_faults, with_headings}
+use Rattle.tal_names.specs.Names.{Declarations}
 use Rattle.tal_rules.specs.Statements.{after, after_row, statement_faults, row_faults}
 
 -- what the names of a procedure stand for, among the globals and the files of the text

@@ -1,26 +1,27 @@
 ghost use Rattle.std.specs.Prelude.{◌≡◌, [], OnOk, IfOk, option_map, length};
 ghost use Rattle.std.specs.Option.{option_copied};
 ghost use Rattle.tal_rules.specs.Calls.{called_faults, argument_faults, arguments_faults, values_faults, undeclared_faults, misfit_faults, named_faults, name_in, value_in, count_faults, read_update_faults, reply_faults, write_read_faults, repeated_faults, with_mention, mention_faults, checkpoint_faults, string_faults, opens_receive, file_number, number_below, name_opened, is_opened, file_limit, is_depth, depth_limit, depth_form, depth_faults, is_start, takes_open, open_faults, monitor_faults, system_faults, procedure_call_faults, call_faults};
-ghost use Rattle.tal_rules.specs.Faults.{least};
-ghost use Rattle.tal_rules.specs.Places.{arguments_of, further_arguments};
+ghost use Rattle.tal_names.specs.Faults.{least};
+ghost use Rattle.tal_names.specs.Places.{arguments_of, further_arguments};
 ghost use Rattle.tal_syntax.specs.Seen.{seen_argument, seen_further, seen_arguments, seen_values, seen_constant};
 
-use crate::alone::{
-    argument, argument_count, constant_of, front_name_of_argument, name_of_argument,
-};
 use crate::expression::judge_value;
-use crate::fault::{Rule, RuleFault};
-use crate::files::{depth_value, is_receive, named_in};
-use crate::globals::{atom_of, judge_constant};
-use crate::least::{with_fault, with_fault_if};
-use crate::lookup::{judge_name, meaning_of};
-use crate::meaning::{Meaning, Need};
-use crate::names::Names;
-use crate::place::at_of_argument;
-use crate::scope::{Named, Scope, Stage, Walk};
-use crate::system::System;
+use crate::walk::{Stage, Walk};
 use gd_words::{Ident, NoMemory};
 use std::alloc::Global;
+use tal_declarations::files::{depth_value, is_receive, named_in};
+use tal_declarations::globals::{atom_of, judge_constant};
+use tal_names::alone::{
+    argument, argument_count, constant_of, front_name_of_argument, name_of_argument,
+};
+use tal_names::fault::{Rule, RuleFault};
+use tal_names::least::{with_fault, with_fault_if};
+use tal_names::lookup::{judge_name, meaning_of};
+use tal_names::meaning::{Meaning, Need};
+use tal_names::names::Names;
+use tal_names::place::at_of_argument;
+use tal_names::scope::{Named, Scope};
+use tal_names::system::System;
 use tal_syntax::{Argument, Arguments, Constant, NextArgument, NextValue};
 use tal_tokens::At;
 

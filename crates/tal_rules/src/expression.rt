@@ -1,14 +1,14 @@
 ghost use Rattle.std.specs.Prelude.{◌≡◌};
 ghost use Rattle.tal_rules.specs.Expressions.{misplaced, ors_misplaced, wanted_by_ors, ands_misplaced, wanted_by_ands, relation_misplaced, wanted_by_relation, wanted_by_terms, wanted_by_factors, need_by_index, expr_faults, both_faults, neg_faults, compared_faults, sum_faults, product_faults, factor_faults, spot_faults, index_faults, value_faults};
-ghost use Rattle.tal_rules.specs.Faults.{least};
+ghost use Rattle.tal_names.specs.Faults.{least};
 ghost use Rattle.tal_syntax.specs.Seen.{seen_spot, seen_index, seen_factor, seen_factors, seen_product, seen_terms, seen_sum, seen_compared, seen_neg, seen_ands, seen_both, seen_ors, seen_expr};
 
-use crate::fault::{Rule, RuleFault};
-use crate::least::with_fault;
-use crate::lookup::judge_name;
-use crate::meaning::{Need, Wanted};
-use crate::place::{at_of_expr, at_of_factor, at_of_product, at_of_sum};
-use crate::scope::Scope;
+use tal_names::fault::{Rule, RuleFault};
+use tal_names::least::with_fault;
+use tal_names::lookup::judge_name;
+use tal_names::meaning::{Need, Wanted};
+use tal_names::place::{at_of_expr, at_of_factor, at_of_product, at_of_sum};
+use tal_names::scope::Scope;
 use tal_syntax::{
     Both, Compared, Expr, Factor, Index, Neg, NextBoth, NextFactor, NextNeg, Product, Spot, Sum,
     Term,

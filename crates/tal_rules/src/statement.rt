@@ -1,23 +1,23 @@
 ghost use Rattle.std.specs.Prelude.{◌≡◌, ◌+◌, OnOk, IfOk};
 ghost use Rattle.tal_rules.specs.Calls.{values_count};
-ghost use Rattle.tal_rules.specs.Faults.{least};
-ghost use Rattle.tal_rules.specs.Files.{call_of};
-ghost use Rattle.tal_rules.specs.Places.{arguments_of, first_of_spot};
+ghost use Rattle.tal_names.specs.Faults.{least};
+ghost use Rattle.tal_names.specs.Systems.{call_of};
+ghost use Rattle.tal_names.specs.Places.{arguments_of, first_of_spot};
 ghost use Rattle.tal_rules.specs.Statements.{next_number, stage_after, stage_after_monitor, stage_after_open, next_file, stepped, after_call, number_faults, return_faults, right_by, right_named, right_faults, call_statement_faults, return_statement_faults, assign_faults, assign_call_faults, for_head_faults, test_faults, after, after_else, after_row, statement_faults, else_faults, row_faults};
 ghost use Rattle.tal_syntax.specs.Seen.{seen_spot, seen_expr, seen_arguments, seen_values, seen_answer, seen_statement, seen_otherwise, seen_row};
 
-use crate::alone::{argument, name_of_expr};
 use crate::call::{judge_call, judge_called, judge_values, opens_receive};
 use crate::expression::{judge_expr, judge_spot, judge_value};
-use crate::fault::{Rule, RuleFault};
-use crate::files::call_of;
-use crate::least::with_fault_if;
-use crate::lookup::{judge_name, meaning_of};
-use crate::meaning::{Meaning, Need, Wanted};
-use crate::scope::{Named, Scope, Stage, Walk};
-use crate::system::System;
+use crate::walk::{Stage, Walk};
 use gd_words::NoMemory;
 use std::alloc::Global;
+use tal_names::alone::{argument, name_of_expr};
+use tal_names::fault::{Rule, RuleFault};
+use tal_names::least::with_fault_if;
+use tal_names::lookup::{judge_name, meaning_of};
+use tal_names::meaning::{Meaning, Need, Wanted};
+use tal_names::scope::Scope;
+use tal_names::system::{System, call_of};
 use tal_syntax::{
     Answer, Arguments, Assign, AssignCall, Call, Expr, ForHead, Next, NextValue, Otherwise, Return,
     Statement, Test,

@@ -1,23 +1,25 @@
 ghost use Rattle.std.specs.Prelude.{◌≡◌, [], ◌++◌, OnOk, IfOk, None};
-ghost use Rattle.tal_rules.specs.Faults.{least};
-ghost use Rattle.tal_rules.specs.Files.{row_files, statement_files};
-ghost use Rattle.tal_rules.specs.Globals.{with_lines, nothing_declared};
-ghost use Rattle.tal_rules.specs.Headings.{with_headings};
+ghost use Rattle.tal_names.specs.Faults.{least};
+ghost use Rattle.tal_declarations.specs.Files.{row_files, statement_files};
+ghost use Rattle.tal_declarations.specs.Globals.{with_lines, nothing_declared};
+ghost use Rattle.tal_declarations.specs.Headings.{with_headings};
 ghost use Rattle.tal_rules.specs.Texts.{locals_by, gives_by, scope_of, next_procedure, procedure_files, files_from, is_main_by, has_word_main, name_place, is_main, stage_at, entered, lacks_monitor, heading_locals_faults, body_after, body_faults, procedure_faults, passed, after_procedure, procedures_faults, first_progress, headed_after, no_files, main_missing, files_by, bodies_faults, headed_text, faults};
 ghost use Rattle.tal_syntax.specs.Seen.{seen_main, seen_heading, seen_locals, seen_statement, seen_row, seen_procedure, seen_procedures, seen_lines, seen_text};
 
-use crate::fault::{Rule, RuleFault};
-use crate::files::{row_files, statement_files};
-use crate::globals::{declared_by, nothing_declared};
-use crate::heading::{
-    declare_locals, does_give, headed_by, judge_locals, locals_of, parameters_of,
-};
-use crate::least::with_fault_if;
-use crate::names::Names;
-use crate::scope::{Declared, Files, Headed, Progress, Scope, Stage, Walk};
 use crate::statement::{Judged, judge_row, judge_statement};
+use crate::walk::{Progress, Stage, Walk};
 use gd_words::{List, NoMemory};
 use std::alloc::Global;
+use tal_declarations::files::{row_files, statement_files};
+use tal_declarations::globals::{declared_by, nothing_declared};
+use tal_declarations::heading::{
+    declare_locals, does_give, headed_by, judge_locals, locals_of, parameters_of,
+};
+use tal_declarations::table::{Declared, Files, Headed};
+use tal_names::fault::{Rule, RuleFault};
+use tal_names::least::with_fault_if;
+use tal_names::names::Names;
+use tal_names::scope::Scope;
 use tal_syntax::{Heading, Local, Main, Next, Procedure, Statement, Text};
 use tal_tokens::At;
 use tal_tree::{FileUse, Item};

@@ -7,12 +7,12 @@ use Rattle.tal_tree.specs.declared.program.Item.{Item}
 use Rattle.tal_tree.specs.declared.program.Program.{Program}
 use Rattle.tal_tree.specs.declared.statement.Statement.{Statement}
 use Rattle.tal_tree.specs.declared.statement.What.TheVariants as what
-use Rattle.tal_rules.specs.declared.scope.Named.{Named}
-use Rattle.tal_rules.specs.declared.scope.Scope.{Scope}
-use Rattle.tal_rules.specs.declared.scope.Walk.{Walk}
-use Rattle.tal_rules.specs.Globals.{with_lines, nothing_declared}
-use Rattle.tal_rules.specs.Names.{Declarations}
-use Rattle.tal_rules.specs.Scopes.{meaning_of}
+use Rattle.tal_names.specs.declared.scope.Named.{Named}
+use Rattle.tal_names.specs.declared.scope.Scope.{Scope}
+use Rattle.tal_rules.specs.declared.walk.Walk.{Walk}
+use Rattle.tal_declarations.specs.Globals.{with_lines, nothing_declared}
+use Rattle.tal_names.specs.Names.{Declarations}
+use Rattle.tal_names.specs.Scopes.{meaning_of}
 use Rattle.tal_rules.specs.Statements.{stepped, after}
 use Rattle.tal_rules.specs.Texts.{headed_text, files_by}
 use Rattle.tal_trees.specs.Calls.{variable_by}

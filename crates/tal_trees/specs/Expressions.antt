@@ -12,10 +12,10 @@ use Rattle.tal_tree.specs.declared.expression.Rel.{Rel}
 use Rattle.tal_tree.specs.declared.expression.Rel.TheVariants as rel
 use Rattle.tal_tree.specs.declared.expression.Spot.{Spot}
 use Rattle.tal_tree.specs.declared.expression.Spot.TheVariants as spot
-use Rattle.tal_rules.specs.declared.meaning.Meaning.{Meaning}
-use Rattle.tal_rules.specs.declared.meaning.Meaning.TheVariants as m
-use Rattle.tal_rules.specs.declared.scope.Scope.{Scope}
-use Rattle.tal_rules.specs.Scopes.{meaning_of}
+use Rattle.tal_names.specs.declared.meaning.Meaning.{Meaning}
+use Rattle.tal_names.specs.declared.meaning.Meaning.TheVariants as m
+use Rattle.tal_names.specs.declared.scope.Scope.{Scope}
+use Rattle.tal_names.specs.Scopes.{meaning_of}
 
 abbrev pub op_of_sign : g.Sign → Op
 op_of_sign (g.plus at) = op.Add

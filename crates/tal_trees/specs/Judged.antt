@@ -4,8 +4,8 @@ use Rattle.tal_syntax.specs.Grammar as g
 use Rattle.tal_tree.specs.declared.fault.TalFault.{TalFault}
 use Rattle.tal_tree.specs.declared.fault.TalFault.TheVariants as tal
 use Rattle.tal_tree.specs.declared.program.Program.{Program}
-use Rattle.tal_rules.specs.declared.fault.RuleFault.{RuleFault}
-use Rattle.tal_rules.specs.Faults.{answer_of, IsLeast}
+use Rattle.tal_names.specs.declared.fault.RuleFault.{RuleFault}
+use Rattle.tal_names.specs.Faults.{answer_of, IsLeast}
 use Rattle.tal_rules.specs.Texts.{faults}
 use Rattle.tal_trees.specs.Programs.{tree_of}
 

@@ -6,13 +6,13 @@ use Rattle.tal_tree.specs.declared.expression.Expr.{Expr}
 use Rattle.tal_tree.specs.declared.statement.Statement.{Statement}
 use Rattle.tal_tree.specs.declared.statement.What.{What}
 use Rattle.tal_tree.specs.declared.statement.What.TheVariants as what
-use Rattle.tal_rules.specs.declared.meaning.Meaning.{Meaning}
-use Rattle.tal_rules.specs.declared.meaning.Meaning.TheVariants as m
-use Rattle.tal_rules.specs.declared.scope.Scope.{Scope}
-use Rattle.tal_rules.specs.declared.scope.Walk.{Walk}
-use Rattle.tal_rules.specs.Files.{call_of}
-use Rattle.tal_rules.specs.Places.{first_of_spot, name_of_expr, arguments_of}
-use Rattle.tal_rules.specs.Scopes.{meaning_of}
+use Rattle.tal_names.specs.declared.meaning.Meaning.{Meaning}
+use Rattle.tal_names.specs.declared.meaning.Meaning.TheVariants as m
+use Rattle.tal_names.specs.declared.scope.Scope.{Scope}
+use Rattle.tal_rules.specs.declared.walk.Walk.{Walk}
+use Rattle.tal_names.specs.Systems.{call_of}
+use Rattle.tal_names.specs.Places.{first_of_spot, name_of_expr, arguments_of}
+use Rattle.tal_names.specs.Scopes.{meaning_of}
 use Rattle.tal_rules.specs.Statements.{stepped, after}
 use Rattle.tal_trees.specs.Calls.{values_of, procedure_by, variable_by, call_what, meaning_by}
 use Rattle.tal_trees.specs.Expressions.{value_of_expr, cond_of_expr, target_of_spot}

@@ -1,19 +1,19 @@
 ghost use Rattle.std.specs.Prelude.{◌≡◌, [], ◌++◌, OnOk, IfOk, option_map};
-ghost use Rattle.tal_rules.specs.declared.system.System.TheVariants as system;
+ghost use Rattle.tal_names.specs.declared.system.System.TheVariants as system;
 ghost use Rattle.std.specs.Option.{option_copied};
-ghost use Rattle.tal_rules.specs.Places.{name_of_argument, arguments_of, further_arguments};
+ghost use Rattle.tal_names.specs.Places.{name_of_argument, arguments_of, further_arguments};
 ghost use Rattle.tal_trees.specs.Calls.{value_of_argument, values_of_arguments, values_of, value_at, meaning_by, meaning_at, item_by, variable_by, file_by, procedure_by, with_item, with_process, items_named, files_named, system_what, call_what};
 ghost use Rattle.tal_syntax.specs.Seen.{seen_argument, seen_further, seen_arguments, seen_values};
 
 use crate::expression::value_of_expr;
 use gd_words::{Ident, List, NoMemory};
 use std::alloc::Global;
-use tal_rules::alone::{argument, name_of_argument};
+use tal_names::alone::{argument, name_of_argument};
+use tal_names::lookup::meaning_of;
+use tal_names::meaning::Meaning;
+use tal_names::scope::{Named, Scope};
+use tal_names::system::System;
 use tal_rules::call::file_number;
-use tal_rules::lookup::meaning_of;
-use tal_rules::meaning::Meaning;
-use tal_rules::scope::{Named, Scope};
-use tal_rules::system::System;
 use tal_syntax::{Argument, Arguments, NextArgument, NextValue};
 use tal_tree::{Expr, Variable, What};
 

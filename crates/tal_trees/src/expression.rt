@@ -6,9 +6,9 @@ ghost use Rattle.tal_tree.specs.declared.expression.Expr.TheVariants.{Read, Two}
 
 use gd_words::{Boxed, NoMemory};
 use std::alloc::Global;
-use tal_rules::lookup::meaning_of;
-use tal_rules::meaning::Meaning;
-use tal_rules::scope::Scope;
+use tal_names::lookup::meaning_of;
+use tal_names::meaning::Meaning;
+use tal_names::scope::Scope;
 use tal_syntax::{Both, Compared, Expr, Factor, Index, Neg, Product, Rel, Scale, Sign, Spot, Sum};
 use tal_tree::{Cond, Op};
 

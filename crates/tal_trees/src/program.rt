@@ -1,5 +1,5 @@
 ghost use Rattle.std.specs.Prelude.{◌≡◌, [], ◌∷◌, ◌++◌, min, length, OnOk, IfOk};
-ghost use Rattle.tal_rules.specs.Headings.{locals_of};
+ghost use Rattle.tal_declarations.specs.Headings.{locals_of};
 ghost use Rattle.tal_rules.specs.Texts.{body_after, after_procedure, first_progress};
 ghost use Rattle.tal_syntax.specs.Seen.{seen_heading, seen_locals, seen_statement, seen_row, seen_procedure, seen_procedures, seen_text};
 ghost use Rattle.tal_trees.specs.Judged.{Judged};
@@ -8,12 +8,13 @@ ghost use Rattle.tal_trees.specs.Programs.{shape_by, items_with, texts_of, proce
 use crate::statement::{push_row, push_statement};
 use gd_words::{Ident, List, NoMemory};
 use std::alloc::Global;
+use tal_declarations::heading::{does_give, locals_of, parameters_of};
+use tal_names::least::answer_of;
+use tal_names::names::Names;
+use tal_names::scope::{Named, Scope};
 use tal_rules::call::file_number;
-use tal_rules::heading::{does_give, locals_of, parameters_of};
-use tal_rules::least::answer_of;
-use tal_rules::names::Names;
-use tal_rules::scope::{Named, Progress, Scope, Walk};
 use tal_rules::text::{Tables, enter, entered, first_progress, judge_text, passed};
+use tal_rules::walk::{Progress, Walk};
 use tal_syntax::{Next, Statement, Text};
 use tal_tree::{Item, Procedure, Program, Shape, TalFault};
 

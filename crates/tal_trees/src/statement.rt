@@ -1,7 +1,7 @@
 ghost use Rattle.std.specs.Prelude.{◌≡◌, [], ◌++◌, ◌∷◌, OnOk, IfOk};
-ghost use Rattle.tal_rules.specs.Files.{call_of};
-ghost use Rattle.tal_rules.specs.Places.{arguments_of, first_of_spot, name_of_expr};
-ghost use Rattle.tal_rules.specs.Scopes.{meaning_of};
+ghost use Rattle.tal_names.specs.Systems.{call_of};
+ghost use Rattle.tal_names.specs.Places.{arguments_of, first_of_spot, name_of_expr};
+ghost use Rattle.tal_names.specs.Scopes.{meaning_of};
 ghost use Rattle.tal_rules.specs.Statements.{stepped, after_call, after, after_else, after_row};
 ghost use Rattle.tal_syntax.specs.Seen.{seen_spot, seen_expr, seen_answer, seen_arguments, seen_values, seen_statement, seen_otherwise, seen_row};
 ghost use Rattle.tal_tree.specs.declared.statement.What.TheVariants as what;
@@ -13,12 +13,13 @@ use crate::call::{call_what, meaning_by, procedure_by, push_values, variable_by}
 use crate::expression::{cond_of_expr, target_of_spot, value_of_expr};
 use gd_words::{List, NoMemory};
 use std::alloc::Global;
-use tal_rules::alone::name_of_expr;
-use tal_rules::files::call_of;
-use tal_rules::lookup::meaning_of;
-use tal_rules::meaning::Meaning;
-use tal_rules::scope::{Scope, Walk};
+use tal_names::alone::name_of_expr;
+use tal_names::lookup::meaning_of;
+use tal_names::meaning::Meaning;
+use tal_names::scope::Scope;
+use tal_names::system::call_of;
 use tal_rules::statement::{after_call, stepped};
+use tal_rules::walk::Walk;
 use tal_syntax::{
     Answer, Assign, AssignCall, Call, Expr, ForHead, Next, NextValue, Otherwise, Return, Spot,
     Statement, Test,

@@ -10,14 +10,14 @@ use Rattle.tal_tokens.specs.declared.token.Token.TheVariants as tok
 use Rattle.tal_syntax.specs.Grammar as g
 use Rattle.tal_syntax.specs.Expected.{AllAtMost}
 use Rattle.tal_syntax.specs.Nesting.{nest_expr, nest_arguments, nest_further, nest_values}
-use Rattle.tal_rules.specs.declared.fault.Rule.TheVariants.{WrongKind, NotBefore}
-use Rattle.tal_rules.specs.declared.meaning.Meaning.TheVariants as m
-use Rattle.tal_rules.specs.declared.scope.Scope.{Scope}
+use Rattle.tal_names.specs.declared.fault.Rule.TheVariants.{WrongKind, NotBefore}
+use Rattle.tal_names.specs.declared.meaning.Meaning.TheVariants as m
+use Rattle.tal_names.specs.declared.scope.Scope.{Scope}
 use Rattle.tal_rules.specs.Calls.{arguments_faults, values_faults, values_count, called_faults}
 use Rattle.tal_rules.specs.Expressions.{value_faults}
-use Rattle.tal_rules.specs.Faults.{fault_at, if_so}
-use Rattle.tal_rules.specs.Places.{arguments_of, further_arguments}
-use Rattle.tal_rules.specs.Scopes.{meaning_of}
+use Rattle.tal_names.specs.Faults.{fault_at, if_so}
+use Rattle.tal_names.specs.Places.{arguments_of, further_arguments}
+use Rattle.tal_names.specs.Scopes.{meaning_of}
 use Rattle.tal_trees.specs.Calls.{values_of, values_of_arguments}
 use Rattle.tal_trees.specs.Expressions.{value_of_expr}
 use Rattle.tal_pieces.specs.declared.piece.Symbol.TheVariants as sign

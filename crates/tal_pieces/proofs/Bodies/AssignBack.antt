@@ -9,14 +9,14 @@ use Rattle.tal_tree.specs.declared.statement.What.TheVariants as what
 use Rattle.tal_tokens.specs.declared.token.Token.{Token}
 use Rattle.tal_syntax.specs.Grammar as g
 use Rattle.tal_syntax.specs.Nesting.{nest_expr, nest_values}
-use Rattle.tal_rules.specs.declared.fault.Rule.TheVariants.{WrongKind}
-use Rattle.tal_rules.specs.declared.scope.Files.{Files}
-use Rattle.tal_rules.specs.declared.scope.Scope.{Scope}
-use Rattle.tal_rules.specs.declared.scope.Walk.{Walk}
+use Rattle.tal_names.specs.declared.fault.Rule.TheVariants.{WrongKind}
+use Rattle.tal_declarations.specs.declared.table.Files.{Files}
+use Rattle.tal_names.specs.declared.scope.Scope.{Scope}
+use Rattle.tal_rules.specs.declared.walk.Walk.{Walk}
 use Rattle.tal_rules.specs.Calls.{call_faults, called_faults, values_count}
-use Rattle.tal_rules.specs.Faults.{fault_at, if_so}
-use Rattle.tal_rules.specs.Files.{call_files}
-use Rattle.tal_rules.specs.Places.{arguments_of, first_of_spot}
+use Rattle.tal_names.specs.Faults.{fault_at, if_so}
+use Rattle.tal_declarations.specs.Files.{call_files}
+use Rattle.tal_names.specs.Places.{arguments_of, first_of_spot}
 use Rattle.tal_rules.specs.Statements.{stepped, after_call, right_by}
 use Rattle.tal_trees.specs.Calls.{call_what, procedure_by}
 use Rattle.tal_trees.specs.Statements.{assign_by}

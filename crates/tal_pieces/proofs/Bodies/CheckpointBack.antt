@@ -8,18 +8,18 @@ use Rattle.tal_tokens.specs.declared.token.Token.{Token}
 use Rattle.tal_syntax.specs.Grammar as g
 use Rattle.tal_syntax.specs.Expected.{AllAtMost}
 use Rattle.tal_syntax.specs.Nesting.{nest_further}
-use Rattle.tal_rules.specs.declared.fault.Rule.TheVariants.{Twice}
-use Rattle.tal_rules.specs.declared.meaning.Meaning.{Meaning}
-use Rattle.tal_rules.specs.declared.meaning.Need.TheVariants as need
-use Rattle.tal_rules.specs.declared.scope.Files.{Files}
-use Rattle.tal_rules.specs.declared.scope.Scope.{Scope}
-use Rattle.tal_rules.specs.declared.scope.Walk.{Walk}
-use Rattle.tal_rules.specs.declared.system.System.TheVariants as system
+use Rattle.tal_names.specs.declared.fault.Rule.TheVariants.{Twice}
+use Rattle.tal_names.specs.declared.meaning.Meaning.{Meaning}
+use Rattle.tal_names.specs.declared.meaning.Need.TheVariants as need
+use Rattle.tal_declarations.specs.declared.table.Files.{Files}
+use Rattle.tal_names.specs.declared.scope.Scope.{Scope}
+use Rattle.tal_rules.specs.declared.walk.Walk.{Walk}
+use Rattle.tal_names.specs.declared.system.System.TheVariants as system
 use Rattle.tal_rules.specs.Calls.{checkpoint_faults}
-use Rattle.tal_rules.specs.Faults.{fault_at, if_so}
-use Rattle.tal_rules.specs.Names.{Declarations}
-use Rattle.tal_rules.specs.Places.{further_arguments}
-use Rattle.tal_rules.specs.Scopes.{meaning_of, kind_faults}
+use Rattle.tal_names.specs.Faults.{fault_at, if_so}
+use Rattle.tal_names.specs.Names.{Declarations}
+use Rattle.tal_names.specs.Places.{further_arguments}
+use Rattle.tal_names.specs.Scopes.{meaning_of, kind_faults}
 use Rattle.tal_rules.specs.Statements.{stepped}
 use Rattle.tal_trees.specs.Calls.{items_named, files_named, with_item, with_process}
 use Rattle.tal_pieces.specs.declared.piece.Piece.{Piece}

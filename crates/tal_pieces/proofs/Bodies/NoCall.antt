@@ -4,16 +4,16 @@ use Rattle.std.specs.Prelude.{Option, Some, None}
 use Rattle.tal_tree.specs.declared.statement.What.TheVariants as what
 use Rattle.tal_tokens.specs.declared.token.At.{At}
 use Rattle.tal_syntax.specs.Grammar as g
-use Rattle.tal_rules.specs.declared.meaning.Meaning.{Meaning}
-use Rattle.tal_rules.specs.declared.meaning.Meaning.TheVariants as m
-use Rattle.tal_rules.specs.declared.meaning.Need.TheVariants as need
-use Rattle.tal_rules.specs.declared.meaning.Wanted.{Wanted}
-use Rattle.tal_rules.specs.declared.meaning.Wanted.TheVariants.{Value}
-use Rattle.tal_rules.specs.declared.scope.Named.{Named}
-use Rattle.tal_rules.specs.declared.scope.Scope.{Scope}
+use Rattle.tal_names.specs.declared.meaning.Meaning.{Meaning}
+use Rattle.tal_names.specs.declared.meaning.Meaning.TheVariants as m
+use Rattle.tal_names.specs.declared.meaning.Need.TheVariants as need
+use Rattle.tal_names.specs.declared.meaning.Wanted.{Wanted}
+use Rattle.tal_names.specs.declared.meaning.Wanted.TheVariants.{Value}
+use Rattle.tal_names.specs.declared.scope.Named.{Named}
+use Rattle.tal_names.specs.declared.scope.Scope.{Scope}
 use Rattle.tal_rules.specs.Expressions.{expr_faults, both_faults, neg_faults, sum_faults, product_faults, factor_faults, value_faults}
-use Rattle.tal_rules.specs.Places.{first_of_expr, name_of_expr, name_of_factor, factor_of_expr, factor_of_both, factor_of_neg, factor_of_sum, factor_of_product}
-use Rattle.tal_rules.specs.Scopes.{meaning_of, kind_faults}
+use Rattle.tal_names.specs.Places.{first_of_expr, name_of_expr, name_of_factor, factor_of_expr, factor_of_both, factor_of_neg, factor_of_sum, factor_of_product}
+use Rattle.tal_names.specs.Scopes.{meaning_of, kind_faults}
 use Rattle.tal_rules.specs.Statements.{right_faults, right_named, right_by}
 use Rattle.tal_trees.specs.Calls.{meaning_by}
 use Rattle.tal_trees.specs.Expressions.{target_of_spot, value_of_expr}

@@ -11,18 +11,18 @@ use Rattle.tal_tokens.specs.declared.token.Token.{Token}
 use Rattle.tal_syntax.specs.Grammar as g
 use Rattle.tal_syntax.specs.Expected.{AllAtMost}
 use Rattle.tal_syntax.specs.Nesting.{nest_argument}
-use Rattle.tal_rules.specs.declared.fault.Rule.TheVariants.{Twice, Prologue, Limit}
-use Rattle.tal_rules.specs.declared.meaning.Need.TheVariants as need
-use Rattle.tal_rules.specs.declared.scope.Files.{Files}
-use Rattle.tal_rules.specs.declared.scope.Scope.{Scope}
-use Rattle.tal_rules.specs.declared.scope.Stage.TheVariants as stage
-use Rattle.tal_rules.specs.declared.scope.Walk.{Walk}
-use Rattle.tal_rules.specs.declared.system.System.TheVariants as system
+use Rattle.tal_names.specs.declared.fault.Rule.TheVariants.{Twice, Prologue, Limit}
+use Rattle.tal_names.specs.declared.meaning.Need.TheVariants as need
+use Rattle.tal_declarations.specs.declared.table.Files.{Files}
+use Rattle.tal_names.specs.declared.scope.Scope.{Scope}
+use Rattle.tal_rules.specs.declared.walk.Stage.TheVariants as stage
+use Rattle.tal_rules.specs.declared.walk.Walk.{Walk}
+use Rattle.tal_names.specs.declared.system.System.TheVariants as system
 use Rattle.tal_rules.specs.Calls.{is_depth, is_start, takes_open, string_faults, file_number, number_below}
-use Rattle.tal_rules.specs.Faults.{fault_at, if_so}
-use Rattle.tal_rules.specs.Files as files
-use Rattle.tal_rules.specs.Names.{is_declared, meaning_in}
-use Rattle.tal_rules.specs.Scopes.{meaning_of, kind_faults}
+use Rattle.tal_names.specs.Faults.{fault_at, if_so}
+use Rattle.tal_declarations.specs.Files as files
+use Rattle.tal_names.specs.Names.{is_declared, meaning_in}
+use Rattle.tal_names.specs.Scopes.{meaning_of, kind_faults}
 use Rattle.tal_rules.specs.Statements.{next_number, next_file, stage_after_monitor, stage_after_open}
 use Rattle.tal_trees.specs.Calls.{file_by}
 use Rattle.tal_pieces.specs.declared.piece.Piece.{Piece}

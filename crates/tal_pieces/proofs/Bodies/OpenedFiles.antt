@@ -6,11 +6,11 @@ use Rattle.std.proofs.lemmas.Option.{slice_get_within}
 use Rattle.std.specs.Prelude.{Bool, true, false, nat_le, min, pos, length, take, slice_get, Some, if◌then◌else◌}
 use Rattle.tal_syntax.specs.Grammar as g
 use Rattle.tal_tree.specs.declared.program.FileUse.{FileUse}
-use Rattle.tal_rules.specs.declared.meaning.Meaning.{Meaning}
-use Rattle.tal_rules.specs.declared.scope.Files.{Files}
+use Rattle.tal_names.specs.declared.meaning.Meaning.{Meaning}
+use Rattle.tal_declarations.specs.declared.table.Files.{Files}
 use Rattle.tal_rules.specs.Calls.{is_depth}
-use Rattle.tal_rules.specs.Files.{depth_of, file_by, target_of, with_file}
-use Rattle.tal_rules.specs.Names.{is_declared, with_name}
+use Rattle.tal_declarations.specs.Files.{depth_of, file_by, target_of, with_file}
+use Rattle.tal_names.specs.Names.{is_declared, with_name}
 use Rattle.tal_pieces.proofs.Standing.Stands.{first_files}
 use Rattle.tal_pieces.proofs.Common.Entries.{take_next}
 

@@ -13,13 +13,13 @@ use Rattle.tal_tokens.specs.declared.token.Token.TheVariants as tok
 use Rattle.tal_syntax.specs.Grammar as g
 use Rattle.tal_syntax.specs.Expected.{AllAtMost}
 use Rattle.tal_syntax.specs.Nesting.{nest_expr, nest_spot}
-use Rattle.tal_rules.specs.declared.meaning.Meaning.{Meaning}
-use Rattle.tal_rules.specs.declared.meaning.Need.TheVariants as need
-use Rattle.tal_rules.specs.declared.meaning.Wanted.TheVariants.{Value}
-use Rattle.tal_rules.specs.declared.scope.Scope.{Scope}
+use Rattle.tal_names.specs.declared.meaning.Meaning.{Meaning}
+use Rattle.tal_names.specs.declared.meaning.Need.TheVariants as need
+use Rattle.tal_names.specs.declared.meaning.Wanted.TheVariants.{Value}
+use Rattle.tal_names.specs.declared.scope.Scope.{Scope}
 use Rattle.tal_rules.specs.Expressions.{value_faults, spot_faults}
-use Rattle.tal_rules.specs.Places.{first_of_sum, name_of_expr}
-use Rattle.tal_rules.specs.Scopes.{meaning_of, kind_faults}
+use Rattle.tal_names.specs.Places.{first_of_sum, name_of_expr}
+use Rattle.tal_names.specs.Scopes.{meaning_of, kind_faults}
 use Rattle.tal_rules.specs.Statements.{right_faults}
 use Rattle.tal_trees.specs.Calls.{meaning_by, variable_by}
 use Rattle.tal_trees.specs.Expressions.{value_of_expr, target_of_spot, target_by}

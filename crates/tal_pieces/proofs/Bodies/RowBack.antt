@@ -6,10 +6,10 @@ use Rattle.tal_tokens.specs.declared.token.Token.{Token}
 use Rattle.tal_tokens.specs.declared.token.Token.TheVariants as tok
 use Rattle.tal_syntax.specs.Grammar as g
 use Rattle.tal_syntax.specs.Nesting.{nest_row}
-use Rattle.tal_rules.specs.declared.scope.Files.{Files}
-use Rattle.tal_rules.specs.declared.scope.Scope.{Scope}
-use Rattle.tal_rules.specs.declared.scope.Walk.{Walk}
-use Rattle.tal_rules.specs.Files.{row_files}
+use Rattle.tal_declarations.specs.declared.table.Files.{Files}
+use Rattle.tal_names.specs.declared.scope.Scope.{Scope}
+use Rattle.tal_rules.specs.declared.walk.Walk.{Walk}
+use Rattle.tal_declarations.specs.Files.{row_files}
 use Rattle.tal_rules.specs.Statements.{after_row, row_faults}
 use Rattle.tal_trees.specs.Statements.{statements_of, row_statements}
 use Rattle.tal_pieces.specs.declared.piece.Keyword.TheVariants as word

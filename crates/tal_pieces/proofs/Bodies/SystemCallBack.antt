@@ -8,13 +8,13 @@ use Rattle.tal_tokens.specs.declared.token.Token.TheVariants as tok
 use Rattle.tal_syntax.specs.Grammar as g
 use Rattle.tal_syntax.specs.Expected.{AllAtMost}
 use Rattle.tal_syntax.specs.Nesting.{nest_arguments}
-use Rattle.tal_rules.specs.declared.scope.Files.{Files}
-use Rattle.tal_rules.specs.declared.scope.Scope.{Scope}
-use Rattle.tal_rules.specs.declared.scope.Walk.{Walk}
-use Rattle.tal_rules.specs.declared.system.System.{System}
+use Rattle.tal_declarations.specs.declared.table.Files.{Files}
+use Rattle.tal_names.specs.declared.scope.Scope.{Scope}
+use Rattle.tal_rules.specs.declared.walk.Walk.{Walk}
+use Rattle.tal_names.specs.declared.system.System.{System}
 use Rattle.tal_rules.specs.Calls.{system_faults, call_faults}
-use Rattle.tal_rules.specs.Files.{call_files}
-use Rattle.tal_rules.specs.Places.{arguments_of}
+use Rattle.tal_declarations.specs.Files.{call_files}
+use Rattle.tal_names.specs.Places.{arguments_of}
 use Rattle.tal_rules.specs.Statements.{after_call}
 use Rattle.tal_trees.specs.Calls.{call_what, system_what}
 use Rattle.tal_pieces.specs.declared.piece.Piece.{Piece}

@@ -8,13 +8,13 @@ use Rattle.tal_tree.specs.declared.statement.What.TheVariants as what
 use Rattle.tal_tokens.specs.declared.token.Token.{Token}
 use Rattle.tal_syntax.specs.Grammar as g
 use Rattle.tal_syntax.specs.Nesting.{nest_expr}
-use Rattle.tal_rules.specs.declared.meaning.Meaning.TheVariants as m
-use Rattle.tal_rules.specs.declared.meaning.Need.TheVariants as need
-use Rattle.tal_rules.specs.declared.scope.Files.{Files}
-use Rattle.tal_rules.specs.declared.scope.Scope.{Scope}
-use Rattle.tal_rules.specs.declared.scope.Walk.{Walk}
-use Rattle.tal_rules.specs.declared.system.System.TheVariants as system
-use Rattle.tal_rules.specs.Scopes.{kind_faults}
+use Rattle.tal_names.specs.declared.meaning.Meaning.TheVariants as m
+use Rattle.tal_names.specs.declared.meaning.Need.TheVariants as need
+use Rattle.tal_declarations.specs.declared.table.Files.{Files}
+use Rattle.tal_names.specs.declared.scope.Scope.{Scope}
+use Rattle.tal_rules.specs.declared.walk.Walk.{Walk}
+use Rattle.tal_names.specs.declared.system.System.TheVariants as system
+use Rattle.tal_names.specs.Scopes.{kind_faults}
 use Rattle.tal_rules.specs.Statements.{stepped}
 use Rattle.tal_trees.specs.Calls.{item_by, file_by}
 use Rattle.tal_pieces.specs.declared.piece.Piece.{Piece}

@@ -1,9 +1,9 @@
 -- What holds where no fault stands.
 use Rattle.std.proofs.Common.{◌≡◌, Bool, true, false, List, [], ◌∷◌, ◌++◌, refl, sym, ap, ◌∙◌}
 use Rattle.tal_tokens.specs.declared.token.At.{At}
-use Rattle.tal_rules.specs.declared.fault.Rule.{Rule}
-use Rattle.tal_rules.specs.declared.fault.RuleFault.{RuleFault}
-use Rattle.tal_rules.specs.Faults.{fault_at, if_so}
+use Rattle.tal_names.specs.declared.fault.Rule.{Rule}
+use Rattle.tal_names.specs.declared.fault.RuleFault.{RuleFault}
+use Rattle.tal_names.specs.Faults.{fault_at, if_so}
 
 pub no_fault : {A : Type 0} {f : RuleFault} {fs : List RuleFault} → f ∷ fs ≡ [] → A
 no_fault e = absurd (cc)

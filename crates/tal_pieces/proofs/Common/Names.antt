@@ -1,8 +1,8 @@
 -- Names that are the same, and the spellings of names.
 use Rattle.std.proofs.Common.{◌≡◌, ℕ, true, List, [], ◌∷◌, ◌++◌, refl, ap}
 use Rattle.std.specs.Cmp.Lexicographic.{bytes_decides}
-use Rattle.tal_rules.specs.declared.scope.Named.{Named}
-use Rattle.tal_rules.specs.Names.{same}
+use Rattle.tal_names.specs.declared.scope.Named.{Named}
+use Rattle.tal_names.specs.Names.{same}
 use Rattle.tal_trees.specs.Programs.{texts_of}
 
 -- names are the same where they are equal

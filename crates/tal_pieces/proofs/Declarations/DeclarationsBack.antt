@@ -9,12 +9,12 @@ use Rattle.tal_tokens.specs.declared.token.Token.TheVariants as tok
 use Rattle.tal_syntax.specs.Grammar as g
 use Rattle.tal_syntax.specs.Expected.{AllAtMost}
 use Rattle.tal_syntax.specs.Nesting.{nest_lines, nest_heading, nest_locals}
-use Rattle.tal_rules.specs.declared.scope.Declared.{Declared}
-use Rattle.tal_rules.specs.declared.scope.Headed.{Headed}
+use Rattle.tal_declarations.specs.declared.table.Declared.{Declared}
+use Rattle.tal_declarations.specs.declared.table.Headed.{Headed}
 use Rattle.tal_rules.specs.Calls.{file_number}
-use Rattle.tal_rules.specs.Globals.{lines_faults, with_lines, nothing_declared}
-use Rattle.tal_rules.specs.Headings.{heading_faults, with_heading, locals_of}
-use Rattle.tal_rules.specs.Names.{Declarations, meaning_in}
+use Rattle.tal_declarations.specs.Globals.{lines_faults, with_lines, nothing_declared}
+use Rattle.tal_declarations.specs.Headings.{heading_faults, with_heading, locals_of}
+use Rattle.tal_names.specs.Names.{Declarations, meaning_in}
 use Rattle.tal_rules.specs.Texts.{gives_by, has_word_main, heading_locals_faults, locals_by}
 use Rattle.tal_trees.specs.Programs.{items_with, name_by, parameters_by, texts_of, procedure_with}
 use Rattle.tal_pieces.specs.declared.piece.Keyword.TheVariants as word

@@ -9,14 +9,14 @@ use Rattle.tal_tokens.specs.declared.token.Token.TheVariants as tok
 use Rattle.tal_syntax.specs.Grammar as g
 use Rattle.tal_syntax.specs.Expected.{AllAtMost}
 use Rattle.tal_syntax.specs.Nesting.{nest_heading, nest_locals}
-use Rattle.tal_rules.specs.declared.fault.Rule.TheVariants.{Twice, Prologue, Limit}
-use Rattle.tal_rules.specs.declared.meaning.Meaning.TheVariants as m
-use Rattle.tal_rules.specs.declared.scope.Headed.{Headed}
-use Rattle.tal_rules.specs.declared.scope.Named.{Named}
-use Rattle.tal_rules.specs.Faults.{fault_at, if_so}
-use Rattle.tal_rules.specs.Globals.{is_taken, taken_faults}
-use Rattle.tal_rules.specs.Headings.{parameters_of, locals_of, with_locals, does_give, main_faults, main_number, heading_faults}
-use Rattle.tal_rules.specs.Names.{with_name}
+use Rattle.tal_names.specs.declared.fault.Rule.TheVariants.{Twice, Prologue, Limit}
+use Rattle.tal_names.specs.declared.meaning.Meaning.TheVariants as m
+use Rattle.tal_declarations.specs.declared.table.Headed.{Headed}
+use Rattle.tal_names.specs.declared.scope.Named.{Named}
+use Rattle.tal_names.specs.Faults.{fault_at, if_so}
+use Rattle.tal_declarations.specs.Globals.{is_taken, taken_faults}
+use Rattle.tal_declarations.specs.Headings.{parameters_of, locals_of, with_locals, does_give, main_faults, main_number, heading_faults}
+use Rattle.tal_names.specs.Names.{with_name}
 use Rattle.tal_rules.specs.Texts.{is_main_by}
 use Rattle.tal_trees.specs.Programs.{texts_of, procedure_with}
 use Rattle.tal_pieces.specs.declared.piece.Keyword.TheVariants as word

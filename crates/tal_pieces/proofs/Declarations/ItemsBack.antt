@@ -10,11 +10,11 @@ use Rattle.tal_tree.specs.declared.program.Shape.TheVariants as shape
 use Rattle.tal_syntax.specs.Grammar as g
 use Rattle.tal_syntax.specs.Expected.{AllAtMost}
 use Rattle.tal_syntax.specs.Nesting.{nest_lines, nest_bounds}
-use Rattle.tal_rules.specs.declared.fault.Rule.TheVariants.{Twice, WrongKind, Limit}
-use Rattle.tal_rules.specs.declared.scope.Declared.{Declared}
+use Rattle.tal_names.specs.declared.fault.Rule.TheVariants.{Twice, WrongKind, Limit}
+use Rattle.tal_declarations.specs.declared.table.Declared.{Declared}
 use Rattle.tal_rules.specs.Calls.{file_number}
-use Rattle.tal_rules.specs.Globals.{is_taken, bounds_faults, extent_of, array_by, item_limits, item_faults, with_extent, with_item, lines_faults, with_lines, nothing_declared}
-use Rattle.tal_rules.specs.Names.{Declarations, meaning_in}
+use Rattle.tal_declarations.specs.Globals.{is_taken, bounds_faults, extent_of, array_by, item_limits, item_faults, with_extent, with_item, lines_faults, with_lines, nothing_declared}
+use Rattle.tal_names.specs.Names.{Declarations, meaning_in}
 use Rattle.tal_trees.specs.Programs.{items_with, shape_by}
 use Rattle.tal_pieces.specs.declared.piece.Keyword.TheVariants as word
 use Rattle.tal_pieces.specs.declared.piece.Symbol.TheVariants as sign

@@ -7,15 +7,15 @@ use Rattle.tal_tree.specs.declared.program.Item.{Item}
 use Rattle.tal_tree.specs.declared.program.Shape.{Shape}
 use Rattle.tal_tree.specs.declared.program.Shape.TheVariants as shape
 use Rattle.tal_syntax.specs.Grammar as g
-use Rattle.tal_rules.specs.declared.fault.Rule.TheVariants.{Unknown, Twice, WrongKind, Limit}
-use Rattle.tal_rules.specs.declared.meaning.Meaning.{Meaning}
-use Rattle.tal_rules.specs.declared.meaning.Meaning.TheVariants as m
-use Rattle.tal_rules.specs.declared.scope.Declared.{Declared}
-use Rattle.tal_rules.specs.declared.scope.Extent.{Extent}
-use Rattle.tal_rules.specs.Faults.{fault_at, if_so}
-use Rattle.tal_rules.specs.Globals.{is_taken, taken_faults, bounds_faults, extent_of, array_by, bounds_by, is_reversed, negated, constant_value, constant_meaning, constant_faults, first_of_constant, atom_faults, atom_value, literal_faults, literal_value}
-use Rattle.tal_rules.specs.Globals.{item_limits, item_faults, item_meaning, with_extent, with_item, literal_line_faults, with_literal, items_faults, with_items, literals_faults, with_literals, line_faults, with_line, lines_faults, with_lines}
-use Rattle.tal_rules.specs.Names.{Declarations, is_declared}
+use Rattle.tal_names.specs.declared.fault.Rule.TheVariants.{Unknown, Twice, WrongKind, Limit}
+use Rattle.tal_names.specs.declared.meaning.Meaning.{Meaning}
+use Rattle.tal_names.specs.declared.meaning.Meaning.TheVariants as m
+use Rattle.tal_declarations.specs.declared.table.Declared.{Declared}
+use Rattle.tal_declarations.specs.declared.table.Extent.{Extent}
+use Rattle.tal_names.specs.Faults.{fault_at, if_so}
+use Rattle.tal_declarations.specs.Globals.{is_taken, taken_faults, bounds_faults, extent_of, array_by, bounds_by, is_reversed, negated, constant_value, constant_meaning, constant_faults, first_of_constant, atom_faults, atom_value, literal_faults, literal_value}
+use Rattle.tal_declarations.specs.Globals.{item_limits, item_faults, item_meaning, with_extent, with_item, literal_line_faults, with_literal, items_faults, with_items, literals_faults, with_literals, line_faults, with_line, lines_faults, with_lines}
+use Rattle.tal_names.specs.Names.{Declarations, is_declared}
 use Rattle.tal_pieces.proofs.Scopes.Agreement.{is_literal, printed_declared}
 use Rattle.tal_pieces.proofs.Scopes.DeclaredNames.{still_free, fresh_of_free, with_literal_name, with_other_name}
 use Rattle.tal_pieces.proofs.Common.Faultless.{first_nil, second_nil, refuted, three}

@@ -1,13 +1,13 @@
 -- The faults of parameters and locals by their names alone: where a text's have none, the printed text's have none.
 use Rattle.std.proofs.Common.{◌≡◌, ℕ, ◌+◌, ◌≤◌, Bool, true, false, not, ◌||◌, nat_le, min, List, [], ◌∷◌, length, refl, sym, ap, ◌∙◌, arith, subst}
 use Rattle.std.proofs.lemmas.Bool.{true≢false, or_parts, or_from, not-false, leb-false}
-use Rattle.tal_rules.specs.declared.fault.Rule.TheVariants.{Unknown, Twice, Limit}
-use Rattle.tal_rules.specs.declared.meaning.Meaning.TheVariants as m
-use Rattle.tal_rules.specs.declared.scope.Named.{Named}
-use Rattle.tal_rules.specs.Faults.{fault_at, if_so}
-use Rattle.tal_rules.specs.Globals.{is_taken, taken_faults}
-use Rattle.tal_rules.specs.Headings.{with_local, with_locals, count_faults, parameter_faults, parameters_faults, outer_faults, one_inner_faults, inner_faults, locals_faults}
-use Rattle.tal_rules.specs.Names.{Declarations, is_declared}
+use Rattle.tal_names.specs.declared.fault.Rule.TheVariants.{Unknown, Twice, Limit}
+use Rattle.tal_names.specs.declared.meaning.Meaning.TheVariants as m
+use Rattle.tal_names.specs.declared.scope.Named.{Named}
+use Rattle.tal_names.specs.Faults.{fault_at, if_so}
+use Rattle.tal_declarations.specs.Globals.{is_taken, taken_faults}
+use Rattle.tal_declarations.specs.Headings.{with_local, with_locals, count_faults, parameter_faults, parameters_faults, outer_faults, one_inner_faults, inner_faults, locals_faults}
+use Rattle.tal_names.specs.Names.{Declarations, is_declared}
 use Rattle.tal_trees.specs.Programs.{texts_of}
 use Rattle.tal_pieces.proofs.Scopes.DeclaredNames.{stays, is_there, fresh_of_free, one_more}
 use Rattle.tal_pieces.proofs.Common.Faultless.{nils, first_nil, second_nil, refuted, silent, three}

@@ -1,7 +1,7 @@
 -- What a name is declared as after a further declaration, and among declarations but for those of LITERALs.
 use Rattle.std.proofs.Common.{◌≡◌, ℕ, suc, Bool, true, false, List, [], ◌∷◌, ◌++◌, slice_get, Some, None, if◌then◌else◌, ◌⊎◌, inl, inr, refl, sym}
-use Rattle.tal_rules.specs.declared.meaning.Meaning.{Meaning}
-use Rattle.tal_rules.specs.Names.{Declarations, same, meaning_in, is_declared, with_name}
+use Rattle.tal_names.specs.declared.meaning.Meaning.{Meaning}
+use Rattle.tal_names.specs.Names.{Declarations, same, meaning_in, is_declared, with_name}
 use Rattle.tal_pieces.proofs.Scopes.Agreement.{is_literal, kept_by, without_literals}
 use Rattle.tal_pieces.proofs.Common.Entries.{none_of}
 use Rattle.tal_pieces.proofs.Common.Names.{same_is, same_self}

@@ -2,10 +2,10 @@
 use Rattle.std.proofs.Common.{◌≡◌, ℕ, ◌+◌, Bool, true, false, List, [], ◌∷◌, ◌++◌, length, length-append, append-nil, refl, sym, ap, ◌∙◌, if◌then◌else◌}
 use Rattle.std.proofs.lemmas.Bool.{true≢false, or_parts, or_from}
 use Rattle.std.specs.Prelude.{is_some}
-use Rattle.tal_rules.specs.declared.meaning.Meaning.{Meaning}
-use Rattle.tal_rules.specs.Globals.{is_taken}
-use Rattle.tal_rules.specs.Names.{Declarations, same, is_declared, with_name}
-use Rattle.tal_rules.specs.Systems.{system_of}
+use Rattle.tal_names.specs.declared.meaning.Meaning.{Meaning}
+use Rattle.tal_declarations.specs.Globals.{is_taken}
+use Rattle.tal_names.specs.Names.{Declarations, same, is_declared, with_name}
+use Rattle.tal_names.specs.Systems.{system_of}
 use Rattle.tal_pieces.proofs.Scopes.Agreement.{is_literal, kept_by, without_literals}
 use Rattle.tal_pieces.proofs.Common.Names.{same_self}
 

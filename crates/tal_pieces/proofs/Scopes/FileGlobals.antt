@@ -1,16 +1,17 @@
 -- The variables of files are simple globals.
 use Rattle.std.proofs.Common.{◌≡◌, ℕ, min, Bool, true, false, List, [], ◌∷◌, length, slice_get, Option, Some, None, if◌then◌else◌, ◌⊎◌, inl, inr, refl, subst}
 use Rattle.tal_syntax.specs.Grammar as g
-use Rattle.tal_rules.specs.declared.meaning.Meaning.{Meaning}
-use Rattle.tal_rules.specs.declared.meaning.Meaning.TheVariants as m
-use Rattle.tal_rules.specs.declared.scope.Files.{Files}
-use Rattle.tal_rules.specs.declared.scope.Named.{Named}
-use Rattle.tal_rules.specs.declared.scope.Scope.{Scope}
-use Rattle.tal_rules.specs.declared.system.System.{System}
-use Rattle.tal_rules.specs.declared.system.System.TheVariants as system
-use Rattle.tal_rules.specs.Files.{call_of, file_by, with_file, simple_by, simple_global, depth_of, depth_value, opened_as, opened_named, opened, call_files, statement_files, else_files, row_files}
-use Rattle.tal_rules.specs.Names.{Declarations, meaning_in, is_declared}
-use Rattle.tal_rules.specs.Places.{name_of_argument, arguments_of}
+use Rattle.tal_names.specs.declared.meaning.Meaning.{Meaning}
+use Rattle.tal_names.specs.declared.meaning.Meaning.TheVariants as m
+use Rattle.tal_declarations.specs.declared.table.Files.{Files}
+use Rattle.tal_names.specs.declared.scope.Named.{Named}
+use Rattle.tal_names.specs.declared.scope.Scope.{Scope}
+use Rattle.tal_names.specs.declared.system.System.{System}
+use Rattle.tal_names.specs.declared.system.System.TheVariants as system
+use Rattle.tal_declarations.specs.Files.{file_by, with_file, simple_by, simple_global, depth_of, depth_value, opened_as, opened_named, opened, call_files, statement_files, else_files, row_files}
+use Rattle.tal_names.specs.Systems.{call_of}
+use Rattle.tal_names.specs.Names.{Declarations, meaning_in, is_declared}
+use Rattle.tal_names.specs.Places.{name_of_argument, arguments_of}
 use Rattle.tal_rules.specs.Texts.{scope_of, next_procedure, procedure_files, files_from, files_by, headed_text, no_files}
 use Rattle.tal_pieces.proofs.Common.Entries.{get_either}
 

@@ -5,20 +5,20 @@ use Rattle.tal_tree.specs.declared.program.FileUse.{FileUse}
 use Rattle.tal_tree.specs.declared.program.Target.{Target}
 use Rattle.tal_tree.specs.declared.program.Target.TheVariants as target
 use Rattle.tal_syntax.specs.Grammar as g
-use Rattle.tal_rules.specs.declared.fault.Rule.TheVariants.{Twice, WrongKind, Prologue, Limit}
-use Rattle.tal_rules.specs.declared.fault.RuleFault.{RuleFault}
-use Rattle.tal_rules.specs.declared.meaning.Meaning.{Meaning}
-use Rattle.tal_rules.specs.declared.meaning.Meaning.TheVariants as m
-use Rattle.tal_rules.specs.declared.meaning.Need.TheVariants as need
-use Rattle.tal_rules.specs.declared.scope.Files.{Files}
-use Rattle.tal_rules.specs.declared.scope.Named.{Named}
-use Rattle.tal_rules.specs.declared.scope.Scope.{Scope}
-use Rattle.tal_rules.specs.declared.scope.Walk.{Walk}
+use Rattle.tal_names.specs.declared.fault.Rule.TheVariants.{Twice, WrongKind, Prologue, Limit}
+use Rattle.tal_names.specs.declared.fault.RuleFault.{RuleFault}
+use Rattle.tal_names.specs.declared.meaning.Meaning.{Meaning}
+use Rattle.tal_names.specs.declared.meaning.Meaning.TheVariants as m
+use Rattle.tal_names.specs.declared.meaning.Need.TheVariants as need
+use Rattle.tal_declarations.specs.declared.table.Files.{Files}
+use Rattle.tal_names.specs.declared.scope.Named.{Named}
+use Rattle.tal_names.specs.declared.scope.Scope.{Scope}
+use Rattle.tal_rules.specs.declared.walk.Walk.{Walk}
 use Rattle.tal_rules.specs.Calls.{count_faults, string_faults, opens_receive, is_opened, file_limit, depth_faults, takes_open, open_faults, name_in, undeclared_faults}
-use Rattle.tal_rules.specs.Faults.{fault_at, if_so}
-use Rattle.tal_rules.specs.Files.{is_receive, file_by, target_of, with_file, simple_global, depth_of, depth_value, opened_as, opened_named, opened}
-use Rattle.tal_rules.specs.Names.{Declarations, meaning_in, is_declared}
-use Rattle.tal_rules.specs.Places.{name_of_argument, front_name_of_argument, first_of_argument}
+use Rattle.tal_names.specs.Faults.{fault_at, if_so}
+use Rattle.tal_declarations.specs.Files.{is_receive, file_by, target_of, with_file, simple_global, depth_of, depth_value, opened_as, opened_named, opened}
+use Rattle.tal_names.specs.Names.{Declarations, meaning_in, is_declared}
+use Rattle.tal_names.specs.Places.{name_of_argument, front_name_of_argument, first_of_argument}
 use Rattle.tal_rules.specs.Statements.{next_file}
 use Rattle.tal_pieces.specs.Printed.Names as printed
 use Rattle.tal_pieces.proofs.Scopes.FileGlobals.{global_is}

@@ -2,18 +2,19 @@
 use Rattle.std.proofs.Common.{◌≡◌, ℕ, Bool, List, [], ◌++◌, Option, Some, refl, subst, arith}
 use Rattle.tal_tokens.specs.declared.token.At.{At}
 use Rattle.tal_syntax.specs.Grammar as g
-use Rattle.tal_rules.specs.declared.fault.Rule.TheVariants.{Prologue}
-use Rattle.tal_rules.specs.declared.scope.Files.{Files}
-use Rattle.tal_rules.specs.declared.scope.Progress.{Progress}
-use Rattle.tal_rules.specs.declared.scope.Scope.{Scope}
-use Rattle.tal_rules.specs.declared.scope.Walk.{Walk}
-use Rattle.tal_rules.specs.declared.system.System.{System}
-use Rattle.tal_rules.specs.declared.system.System.TheVariants as system
+use Rattle.tal_names.specs.declared.fault.Rule.TheVariants.{Prologue}
+use Rattle.tal_declarations.specs.declared.table.Files.{Files}
+use Rattle.tal_rules.specs.declared.walk.Progress.{Progress}
+use Rattle.tal_names.specs.declared.scope.Scope.{Scope}
+use Rattle.tal_rules.specs.declared.walk.Walk.{Walk}
+use Rattle.tal_names.specs.declared.system.System.{System}
+use Rattle.tal_names.specs.declared.system.System.TheVariants as system
 use Rattle.tal_rules.specs.Calls.{call_faults}
-use Rattle.tal_rules.specs.Faults.{fault_at, if_so}
-use Rattle.tal_rules.specs.Files.{call_of, call_files, statement_files, else_files, row_files}
-use Rattle.tal_rules.specs.Names.{Declarations}
-use Rattle.tal_rules.specs.Places.{arguments_of}
+use Rattle.tal_names.specs.Faults.{fault_at, if_so}
+use Rattle.tal_declarations.specs.Files.{call_files, statement_files, else_files, row_files}
+use Rattle.tal_names.specs.Systems.{call_of}
+use Rattle.tal_names.specs.Names.{Declarations}
+use Rattle.tal_names.specs.Places.{arguments_of}
 use Rattle.tal_rules.specs.Statements.{stepped, after, after_else, after_row, after_call, number_faults, test_faults, for_head_faults, statement_faults, else_faults, row_faults}
 use Rattle.tal_rules.specs.Texts.{scope_of, next_procedure, procedure_files, files_from, files_by, headed_text, no_files, entered, body_after, body_faults, heading_locals_faults, lacks_monitor, name_place, procedure_faults, after_procedure, procedures_faults, first_progress, bodies_faults}
 use Rattle.tal_pieces.proofs.Scopes.FileNames.{AreOpened, open_opened}

@@ -1,13 +1,13 @@
 -- No global and no procedure of a text without faults has the name of a system's call.
 use Rattle.std.proofs.Common.{◌≡◌, ℕ, List, [], ◌++◌, Some, None, ◌⊎◌, inl, inr, sym, subst}
 use Rattle.tal_syntax.specs.Grammar as g
-use Rattle.tal_rules.specs.declared.meaning.Meaning.{Meaning}
-use Rattle.tal_rules.specs.declared.scope.Declared.{Declared}
-use Rattle.tal_rules.specs.declared.scope.Headed.{Headed}
-use Rattle.tal_rules.specs.Globals.{taken_faults, bounds_faults, item_limits, extent_of, item_faults, items_faults, with_item, with_items, literal_line_faults, literals_faults, with_literal, with_literals, constant_faults, constant_meaning, line_faults, with_line, lines_faults, with_lines, nothing_declared}
-use Rattle.tal_rules.specs.Headings.{heading_of, heading_faults, headings_faults, with_heading, with_headings}
-use Rattle.tal_rules.specs.Names.{Declarations, meaning_in, with_name}
-use Rattle.tal_rules.specs.Systems.{system_of}
+use Rattle.tal_names.specs.declared.meaning.Meaning.{Meaning}
+use Rattle.tal_declarations.specs.declared.table.Declared.{Declared}
+use Rattle.tal_declarations.specs.declared.table.Headed.{Headed}
+use Rattle.tal_declarations.specs.Globals.{taken_faults, bounds_faults, item_limits, extent_of, item_faults, items_faults, with_item, with_items, literal_line_faults, literals_faults, with_literal, with_literals, constant_faults, constant_meaning, line_faults, with_line, lines_faults, with_lines, nothing_declared}
+use Rattle.tal_declarations.specs.Headings.{heading_of, heading_faults, headings_faults, with_heading, with_headings}
+use Rattle.tal_names.specs.Names.{Declarations, meaning_in, with_name}
+use Rattle.tal_names.specs.Systems.{system_of}
 use Rattle.tal_rules.specs.Texts.{headed_after, headed_text}
 use Rattle.tal_pieces.proofs.Scopes.Declared.{meaning_with}
 use Rattle.tal_pieces.proofs.Scopes.GlobalNames.{not_taken}

@@ -5,17 +5,17 @@ use Rattle.tal_syntax.specs.Grammar as g
 use Rattle.tal_tree.specs.declared.program.Item.{Item}
 use Rattle.tal_tree.specs.declared.program.Shape.{Shape}
 use Rattle.tal_tree.specs.declared.program.Shape.TheVariants as shape
-use Rattle.tal_rules.specs.declared.fault.Rule.TheVariants.{Twice, Limit}
-use Rattle.tal_rules.specs.declared.fault.RuleFault.{RuleFault}
-use Rattle.tal_rules.specs.declared.meaning.Meaning.{Meaning}
-use Rattle.tal_rules.specs.declared.meaning.Meaning.TheVariants as m
-use Rattle.tal_rules.specs.declared.scope.Declared.{Declared}
-use Rattle.tal_rules.specs.declared.scope.Headed.{Headed}
-use Rattle.tal_rules.specs.Faults.{fault_at, if_so}
-use Rattle.tal_rules.specs.Globals.{is_taken, taken_faults, bounds_faults, item_limits, constant_value, constant_meaning, bounds_by, array_by, extent_of, item_meaning, with_item, item_faults, with_literal, items_faults, with_items, with_literals, line_faults, with_line, lines_faults, with_lines, nothing_declared}
-use Rattle.tal_rules.specs.Headings.{heading_of, heading_faults, with_heading, headings_faults, with_headings, main_faults, parameters_of, does_give}
-use Rattle.tal_rules.specs.Names.{Declarations, meaning_in, is_declared, with_name}
-use Rattle.tal_rules.specs.Systems.{system_of}
+use Rattle.tal_names.specs.declared.fault.Rule.TheVariants.{Twice, Limit}
+use Rattle.tal_names.specs.declared.fault.RuleFault.{RuleFault}
+use Rattle.tal_names.specs.declared.meaning.Meaning.{Meaning}
+use Rattle.tal_names.specs.declared.meaning.Meaning.TheVariants as m
+use Rattle.tal_declarations.specs.declared.table.Declared.{Declared}
+use Rattle.tal_declarations.specs.declared.table.Headed.{Headed}
+use Rattle.tal_names.specs.Faults.{fault_at, if_so}
+use Rattle.tal_declarations.specs.Globals.{is_taken, taken_faults, bounds_faults, item_limits, constant_value, constant_meaning, bounds_by, array_by, extent_of, item_meaning, with_item, item_faults, with_literal, items_faults, with_items, with_literals, line_faults, with_line, lines_faults, with_lines, nothing_declared}
+use Rattle.tal_declarations.specs.Headings.{heading_of, heading_faults, with_heading, headings_faults, with_headings, main_faults, parameters_of, does_give}
+use Rattle.tal_names.specs.Names.{Declarations, meaning_in, is_declared, with_name}
+use Rattle.tal_names.specs.Systems.{system_of}
 use Rattle.tal_rules.specs.Texts.{headed_after, headed_text}
 use Rattle.tal_trees.specs.Programs.{name_by}
 use Rattle.tal_pieces.proofs.Scopes.Declared.{meaning_kept, meaning_new, meaning_with}

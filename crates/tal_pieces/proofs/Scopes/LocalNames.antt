@@ -2,19 +2,18 @@
 use Rattle.std.proofs.Common.{◌≡◌, ℕ, ◌+◌, min, nat_le, not, ◌||◌, false, List, [], ◌∷◌, ◌++◌, length, slice_get, is_some, Option, Some, None, ◌⊎◌, inl, inr, refl, sym, ap, ◌∙◌, subst, append_assoc, append-nil, length-append, if◌then◌else◌}
 use Rattle.tal_tokens.specs.declared.token.At.{At}
 use Rattle.tal_syntax.specs.Grammar as g
-use Rattle.tal_rules.specs.declared.fault.Rule.TheVariants.{Unknown, Twice, Limit}
-use Rattle.tal_rules.specs.declared.fault.RuleFault.{RuleFault}
-use Rattle.tal_rules.specs.declared.meaning.Meaning.{Meaning}
-use Rattle.tal_rules.specs.declared.meaning.Meaning.TheVariants as m
-use Rattle.tal_rules.specs.declared.scope.Named.{Named}
-use Rattle.tal_rules.specs.declared.system.System.{System}
-use Rattle.tal_rules.specs.declared.system.System.TheVariants as system
-use Rattle.tal_rules.specs.Faults.{fault_at, if_so}
-use Rattle.tal_rules.specs.Files.{call_of}
-use Rattle.tal_rules.specs.Globals.{is_taken, taken_faults}
-use Rattle.tal_rules.specs.Headings.{parameters_of, locals_of, with_local, with_locals, count_faults, parameter_faults, parameters_faults, outer_faults, one_inner_faults, inner_faults}
-use Rattle.tal_rules.specs.Names.{Declarations, meaning_in, is_declared}
-use Rattle.tal_rules.specs.Systems.{system_of}
+use Rattle.tal_names.specs.declared.fault.Rule.TheVariants.{Unknown, Twice, Limit}
+use Rattle.tal_names.specs.declared.fault.RuleFault.{RuleFault}
+use Rattle.tal_names.specs.declared.meaning.Meaning.{Meaning}
+use Rattle.tal_names.specs.declared.meaning.Meaning.TheVariants as m
+use Rattle.tal_names.specs.declared.scope.Named.{Named}
+use Rattle.tal_names.specs.declared.system.System.{System}
+use Rattle.tal_names.specs.declared.system.System.TheVariants as system
+use Rattle.tal_names.specs.Faults.{fault_at, if_so}
+use Rattle.tal_declarations.specs.Globals.{is_taken, taken_faults}
+use Rattle.tal_declarations.specs.Headings.{parameters_of, locals_of, with_local, with_locals, count_faults, parameter_faults, parameters_faults, outer_faults, one_inner_faults, inner_faults}
+use Rattle.tal_names.specs.Names.{Declarations, meaning_in, is_declared}
+use Rattle.tal_names.specs.Systems.{system_of, call_of}
 use Rattle.tal_rules.specs.Texts.{locals_by, heading_locals_faults}
 use Rattle.tal_trees.specs.Programs.{parameters_by, texts_of}
 use Rattle.tal_pieces.specs.Spelling.{system_text}

@@ -12,16 +12,16 @@ use Rattle.tal_tree.specs.declared.program.Shape.TheVariants as shape
 use Rattle.tal_tree.specs.declared.program.Target.{Target}
 use Rattle.tal_tree.specs.declared.program.Target.TheVariants as target
 use Rattle.tal_syntax.specs.Grammar as g
-use Rattle.tal_rules.specs.declared.meaning.Meaning.{Meaning}
-use Rattle.tal_rules.specs.declared.meaning.Meaning.TheVariants as m
-use Rattle.tal_rules.specs.declared.scope.Files.{Files}
-use Rattle.tal_rules.specs.declared.scope.Progress.{Progress}
-use Rattle.tal_rules.specs.declared.scope.Scope.{Scope}
+use Rattle.tal_names.specs.declared.meaning.Meaning.{Meaning}
+use Rattle.tal_names.specs.declared.meaning.Meaning.TheVariants as m
+use Rattle.tal_declarations.specs.declared.table.Files.{Files}
+use Rattle.tal_rules.specs.declared.walk.Progress.{Progress}
+use Rattle.tal_names.specs.declared.scope.Scope.{Scope}
 use Rattle.tal_rules.specs.Calls.{file_number}
-use Rattle.tal_rules.specs.Globals.{lines_faults, with_lines, nothing_declared}
-use Rattle.tal_rules.specs.Headings.{locals_of, heading_of, headings_faults}
-use Rattle.tal_rules.specs.Names.{Declarations, meaning_in}
-use Rattle.tal_rules.specs.Scopes.{or_else, meaning_of}
+use Rattle.tal_declarations.specs.Globals.{lines_faults, with_lines, nothing_declared}
+use Rattle.tal_declarations.specs.Headings.{locals_of, heading_of, headings_faults}
+use Rattle.tal_names.specs.Names.{Declarations, meaning_in}
+use Rattle.tal_names.specs.Scopes.{or_else, meaning_of}
 use Rattle.tal_rules.specs.Texts.{faults, headed_after, headed_text, files_by, bodies_faults, main_missing, locals_by, after_procedure, first_progress, heading_locals_faults}
 use Rattle.tal_trees.specs.Programs.{items_with, texts_of, name_by, parameters_by, trees_of, tree_of_procedure, tree_of}
 use Rattle.tal_pieces.specs.Printed.Names.{item_name, procedure_name, file_name, is_receive, receives, receive_name}

@@ -1,11 +1,12 @@
 -- What else holds of the names of a text's procedure.
 use Rattle.std.specs.Prelude.{◌≡◌, ℕ, Bool, true, List, Some, None}
-use Rattle.tal_rules.specs.declared.meaning.Meaning.{Meaning}
-use Rattle.tal_rules.specs.declared.meaning.Meaning.TheVariants as m
-use Rattle.tal_rules.specs.declared.scope.Scope.{Scope}
-use Rattle.tal_rules.specs.Files.{call_of, simple_global}
-use Rattle.tal_rules.specs.Names.{meaning_in}
-use Rattle.tal_rules.specs.Scopes.{meaning_of, is_file}
+use Rattle.tal_names.specs.declared.meaning.Meaning.{Meaning}
+use Rattle.tal_names.specs.declared.meaning.Meaning.TheVariants as m
+use Rattle.tal_names.specs.declared.scope.Scope.{Scope}
+use Rattle.tal_declarations.specs.Files.{simple_global}
+use Rattle.tal_names.specs.Systems.{call_of}
+use Rattle.tal_names.specs.Names.{meaning_in}
+use Rattle.tal_names.specs.Scopes.{meaning_of, is_file}
 
 -- a file is a simple global that no local hides, what is listed among the files is one, and no procedure has a name of the system's
 pub record SourceNames (s : Scope) : Type 0 where

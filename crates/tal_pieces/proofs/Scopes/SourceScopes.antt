@@ -2,9 +2,9 @@
 use Rattle.std.specs.Prelude.{◌≡◌, ℕ, [], ◌++◌}
 use Rattle.tal_tokens.specs.declared.token.At.{At}
 use Rattle.tal_syntax.specs.Grammar as g
-use Rattle.tal_rules.specs.declared.scope.Scope.{Scope}
-use Rattle.tal_rules.specs.Globals.{with_lines, nothing_declared}
-use Rattle.tal_rules.specs.Headings.{locals_of}
+use Rattle.tal_names.specs.declared.scope.Scope.{Scope}
+use Rattle.tal_declarations.specs.Globals.{with_lines, nothing_declared}
+use Rattle.tal_declarations.specs.Headings.{locals_of}
 use Rattle.tal_rules.specs.Texts.{faults, headed_text, files_by, scope_of, heading_locals_faults}
 use Rattle.tal_trees.specs.Programs.{tree_of, texts_of, parameters_by}
 use Rattle.tal_pieces.proofs.Scopes.Agreement.{Agreement, printed_scope}

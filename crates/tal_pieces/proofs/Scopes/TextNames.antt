@@ -6,16 +6,16 @@ use Rattle.tal_syntax.specs.Grammar as g
 use Rattle.tal_tree.specs.declared.program.Target.{Target}
 use Rattle.tal_tree.specs.declared.program.Target.TheVariants as target
 use Rattle.tal_tree.specs.declared.program.Item.{Item}
-use Rattle.tal_rules.specs.declared.meaning.Meaning.{Meaning}
-use Rattle.tal_rules.specs.declared.meaning.Meaning.TheVariants as m
-use Rattle.tal_rules.specs.declared.scope.Files.{Files}
-use Rattle.tal_rules.specs.declared.scope.Scope.{Scope}
-use Rattle.tal_rules.specs.Files.{call_of, simple_global, simple_by}
-use Rattle.tal_rules.specs.Globals.{lines_faults, with_lines, nothing_declared}
-use Rattle.tal_rules.specs.Headings.{locals_of, headings_faults}
-use Rattle.tal_rules.specs.Names.{Declarations, meaning_in}
-use Rattle.tal_rules.specs.Scopes.{or_else, is_file}
-use Rattle.tal_rules.specs.Systems.{system_of}
+use Rattle.tal_names.specs.declared.meaning.Meaning.{Meaning}
+use Rattle.tal_names.specs.declared.meaning.Meaning.TheVariants as m
+use Rattle.tal_declarations.specs.declared.table.Files.{Files}
+use Rattle.tal_names.specs.declared.scope.Scope.{Scope}
+use Rattle.tal_declarations.specs.Files.{simple_global, simple_by}
+use Rattle.tal_declarations.specs.Globals.{lines_faults, with_lines, nothing_declared}
+use Rattle.tal_declarations.specs.Headings.{locals_of, headings_faults}
+use Rattle.tal_names.specs.Names.{Declarations, meaning_in}
+use Rattle.tal_names.specs.Scopes.{or_else, is_file}
+use Rattle.tal_names.specs.Systems.{system_of, call_of}
 use Rattle.tal_rules.specs.Texts.{faults, headed_after, headed_text, files_by, bodies_faults, main_missing, heading_locals_faults}
 use Rattle.tal_trees.specs.Programs.{texts_of, parameters_by}
 use Rattle.tal_pieces.proofs.Scopes.Declared.{meaning_there}

@@ -13,8 +13,8 @@ use Rattle.tal_tokens.specs.declared.token.Token.{Token}
 use Rattle.tal_tokens.specs.declared.token.Token.TheVariants as tok
 use Rattle.tal_tokens.specs.Cursor.{at_front}
 use Rattle.tal_tokens.specs.Lexeme.{begun_of, is_blank, comment_of, decimal_begun, named, name_begun, octal_begun, string_begun, symbol_begun, run_of, word_token}
-use Rattle.tal_rules.specs.declared.system.System.{System}
-use Rattle.tal_rules.specs.declared.system.System.TheVariants as system
+use Rattle.tal_names.specs.declared.system.System.{System}
+use Rattle.tal_names.specs.declared.system.System.TheVariants as system
 use Rattle.tal_pieces.specs.declared.piece.Keyword.{Keyword}
 use Rattle.tal_pieces.specs.declared.piece.Keyword.TheVariants as word
 use Rattle.tal_pieces.specs.declared.piece.Piece.TheVariants as piece

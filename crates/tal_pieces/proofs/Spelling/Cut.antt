@@ -17,7 +17,7 @@ use Rattle.tal_pieces.specs.declared.piece.Keyword.TheVariants as word
 use Rattle.tal_pieces.specs.declared.piece.Symbol.TheVariants as sign
 use Rattle.tal_pieces.specs.declared.piece.Piece.{Piece}
 use Rattle.tal_pieces.specs.declared.piece.Piece.TheVariants as piece
-use Rattle.tal_rules.specs.declared.system.System.TheVariants as system
+use Rattle.tal_names.specs.declared.system.System.TheVariants as system
 use Rattle.tal_pieces.specs.Spelling.{Sheet, text_of, keyword_text, symbol_text, system_text, ending_of, is_end, is_tight, line_at, depth_at, depth_after, gap, laid, lay, blank, spelled}
 use Rattle.tal_pieces.specs.Cuts.{token_of, AreTokens, finished, followed, IsSpellable, AreSpellable, CutsInto}
 use Rattle.tal_pieces.proofs.Spelling.Begun.{BeginsWith, keyword_begun, system_begun, name_begun_is}

@@ -6,14 +6,14 @@ use Rattle.tal_tokens.specs.declared.token.At.{At}
 use Rattle.tal_syntax.specs.Grammar as g
 use Rattle.tal_syntax.specs.Expected.{AllAtMost}
 use Rattle.tal_syntax.specs.Nesting.{nest_argument, nest_further, nest_arguments, nest_values}
-use Rattle.tal_rules.specs.declared.meaning.Meaning.{Meaning}
-use Rattle.tal_rules.specs.declared.meaning.Meaning.TheVariants as m
-use Rattle.tal_rules.specs.declared.meaning.Need.TheVariants as need
-use Rattle.tal_rules.specs.declared.scope.Named.{Named}
-use Rattle.tal_rules.specs.declared.scope.Scope.{Scope}
+use Rattle.tal_names.specs.declared.meaning.Meaning.{Meaning}
+use Rattle.tal_names.specs.declared.meaning.Meaning.TheVariants as m
+use Rattle.tal_names.specs.declared.meaning.Need.TheVariants as need
+use Rattle.tal_names.specs.declared.scope.Named.{Named}
+use Rattle.tal_names.specs.declared.scope.Scope.{Scope}
 use Rattle.tal_rules.specs.Calls.{named_faults, values_count}
-use Rattle.tal_rules.specs.Places.{further_arguments, arguments_of}
-use Rattle.tal_rules.specs.Scopes.{meaning_of, kind_faults}
+use Rattle.tal_names.specs.Places.{further_arguments, arguments_of}
+use Rattle.tal_names.specs.Scopes.{meaning_of, kind_faults}
 use Rattle.tal_trees.specs.Calls.{value_of_argument, values_of_arguments, values_of, meaning_by, item_by, variable_by, file_by}
 use Rattle.tal_pieces.specs.declared.rank.ValueRank.TheVariants as value
 use Rattle.tal_pieces.proofs.Values.Depths.{value_depth}

@@ -5,14 +5,15 @@ use Rattle.tal_tree.specs.declared.statement.Statement.{Statement}
 use Rattle.tal_syntax.specs.Grammar as g
 use Rattle.tal_syntax.specs.Expected.{AllAtMost}
 use Rattle.tal_syntax.specs.Nesting.{nest_expr, nest_statement, nest_otherwise, nest_row}
-use Rattle.tal_rules.specs.declared.fault.Rule.TheVariants.{Limit}
-use Rattle.tal_rules.specs.declared.scope.Files.{Files}
-use Rattle.tal_rules.specs.declared.scope.Scope.{Scope}
-use Rattle.tal_rules.specs.declared.scope.Walk.{Walk}
-use Rattle.tal_rules.specs.Files.{call_of, statement_files, else_files, row_files}
-use Rattle.tal_rules.specs.Places.{arguments_of, first_of_spot, name_of_expr}
+use Rattle.tal_names.specs.declared.fault.Rule.TheVariants.{Limit}
+use Rattle.tal_declarations.specs.declared.table.Files.{Files}
+use Rattle.tal_names.specs.declared.scope.Scope.{Scope}
+use Rattle.tal_rules.specs.declared.walk.Walk.{Walk}
+use Rattle.tal_declarations.specs.Files.{statement_files, else_files, row_files}
+use Rattle.tal_names.specs.Systems.{call_of}
+use Rattle.tal_names.specs.Places.{arguments_of, first_of_spot, name_of_expr}
 use Rattle.tal_rules.specs.Statements.{stepped, after, after_else, after_row, statement_faults, else_faults, row_faults}
-use Rattle.tal_rules.specs.Scopes.{meaning_of}
+use Rattle.tal_names.specs.Scopes.{meaning_of}
 use Rattle.tal_trees.specs.Statements.{statements_of, else_statements, row_statements}
 use Rattle.tal_pieces.proofs.Scopes.Agreement.{Agreement, Extends, OpenedSoFar, printed_scope}
 use Rattle.tal_pieces.proofs.Standing.ArgumentsFit.{low_arguments}

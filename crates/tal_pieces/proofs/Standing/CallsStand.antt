@@ -5,23 +5,23 @@ use Rattle.tal_tree.specs.declared.program.Program.{Program}
 use Rattle.tal_tree.specs.declared.statement.What.TheVariants as what
 use Rattle.tal_tokens.specs.declared.token.At.{At}
 use Rattle.tal_syntax.specs.Grammar as g
-use Rattle.tal_rules.specs.declared.fault.Rule.TheVariants.{Twice, WrongKind, Prologue, Limit}
-use Rattle.tal_rules.specs.declared.meaning.Meaning.{Meaning}
-use Rattle.tal_rules.specs.declared.meaning.Need.TheVariants as need
-use Rattle.tal_rules.specs.declared.scope.Files.{Files}
-use Rattle.tal_rules.specs.declared.scope.Named.{Named}
-use Rattle.tal_rules.specs.declared.scope.Scope.{Scope}
-use Rattle.tal_rules.specs.declared.scope.Stage.{Stage}
-use Rattle.tal_rules.specs.declared.scope.Stage.TheVariants as stage
-use Rattle.tal_rules.specs.declared.scope.Walk.{Walk}
-use Rattle.tal_rules.specs.declared.system.System.{System}
-use Rattle.tal_rules.specs.declared.system.System.TheVariants as system
+use Rattle.tal_names.specs.declared.fault.Rule.TheVariants.{Twice, WrongKind, Prologue, Limit}
+use Rattle.tal_names.specs.declared.meaning.Meaning.{Meaning}
+use Rattle.tal_names.specs.declared.meaning.Need.TheVariants as need
+use Rattle.tal_declarations.specs.declared.table.Files.{Files}
+use Rattle.tal_names.specs.declared.scope.Named.{Named}
+use Rattle.tal_names.specs.declared.scope.Scope.{Scope}
+use Rattle.tal_rules.specs.declared.walk.Stage.{Stage}
+use Rattle.tal_rules.specs.declared.walk.Stage.TheVariants as stage
+use Rattle.tal_rules.specs.declared.walk.Walk.{Walk}
+use Rattle.tal_names.specs.declared.system.System.{System}
+use Rattle.tal_names.specs.declared.system.System.TheVariants as system
 use Rattle.tal_rules.specs.Calls.{name_in, named_faults, is_opened, name_opened, file_limit, string_faults, depth_faults, opens_receive, takes_open, is_start, open_faults, monitor_faults, call_faults}
-use Rattle.tal_rules.specs.Faults.{fault_at}
-use Rattle.tal_rules.specs.Files as files
-use Rattle.tal_rules.specs.Files.{opened, opened_named, call_files}
-use Rattle.tal_rules.specs.Places.{first_of_argument, name_of_argument}
-use Rattle.tal_rules.specs.Scopes.{meaning_of, kind_faults, is_file}
+use Rattle.tal_names.specs.Faults.{fault_at}
+use Rattle.tal_declarations.specs.Files as files
+use Rattle.tal_declarations.specs.Files.{opened, opened_named, call_files}
+use Rattle.tal_names.specs.Places.{first_of_argument, name_of_argument}
+use Rattle.tal_names.specs.Scopes.{meaning_of, kind_faults, is_file}
 use Rattle.tal_rules.specs.Statements.{next_number, next_file, stage_after_open, stage_after_monitor, after_call}
 use Rattle.tal_trees.specs.Calls as trees
 use Rattle.tal_trees.specs.Calls.{meaning_by, call_what}

@@ -3,14 +3,15 @@ use Rattle.std.proofs.Common.{◌≡◌, ℕ, Bool, true, false, List, [], ◌�
 use Rattle.std.specs.Prelude.{min, length, Option, Some, None}
 use Rattle.std.proofs.lemmas.List.{append-nil}
 use Rattle.tal_syntax.specs.Grammar as g
-use Rattle.tal_rules.specs.declared.scope.Files.{Files}
-use Rattle.tal_rules.specs.declared.scope.Named.{Named}
-use Rattle.tal_rules.specs.declared.scope.Scope.{Scope}
-use Rattle.tal_rules.specs.declared.system.System.{System}
-use Rattle.tal_rules.specs.declared.system.System.TheVariants as system
-use Rattle.tal_rules.specs.Files.{call_of, file_by, target_of, depth_of, depth_value, with_file, opened_as, opened_named, opened, call_files, statement_files, else_files, row_files, simple_global}
-use Rattle.tal_rules.specs.Names.{is_declared}
-use Rattle.tal_rules.specs.Places.{name_of_argument, arguments_of}
+use Rattle.tal_declarations.specs.declared.table.Files.{Files}
+use Rattle.tal_names.specs.declared.scope.Named.{Named}
+use Rattle.tal_names.specs.declared.scope.Scope.{Scope}
+use Rattle.tal_names.specs.declared.system.System.{System}
+use Rattle.tal_names.specs.declared.system.System.TheVariants as system
+use Rattle.tal_declarations.specs.Files.{file_by, target_of, depth_of, depth_value, with_file, opened_as, opened_named, opened, call_files, statement_files, else_files, row_files, simple_global}
+use Rattle.tal_names.specs.Systems.{call_of}
+use Rattle.tal_names.specs.Names.{is_declared}
+use Rattle.tal_names.specs.Places.{name_of_argument, arguments_of}
 use Rattle.tal_pieces.proofs.Scopes.Agreement.{Extends}
 
 pub extends_itself : (f : Files) → Extends f f

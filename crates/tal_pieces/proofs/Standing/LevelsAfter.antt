@@ -3,7 +3,7 @@ use Rattle.std.proofs.Common.{ℕ, suc, List, ◌∷◌}
 use Rattle.tal_syntax.specs.Grammar as g
 use Rattle.tal_syntax.specs.Expected.{AllAtMost}
 use Rattle.tal_syntax.specs.Nesting.{nest_expr, nest_spot, nest_argument, nest_further, nest_arguments, nest_values, nest_answer, nest_statement, nest_otherwise, nest_row}
-use Rattle.tal_rules.specs.declared.scope.Scope.{Scope}
+use Rattle.tal_names.specs.declared.scope.Scope.{Scope}
 use Rattle.tal_pieces.proofs.Values.Deepest.{low_expr, low_index}
 
 module _ (s : Scope) (most : ℕ) where

@@ -8,17 +8,17 @@ use Rattle.tal_tokens.specs.declared.token.At.{At}
 use Rattle.tal_syntax.specs.Grammar as g
 use Rattle.tal_syntax.specs.Expected.{AllAtMost}
 use Rattle.tal_syntax.specs.Nesting.{nest_expr, nest_spot, nest_values, nest_answer}
-use Rattle.tal_rules.specs.declared.fault.Rule.TheVariants.{WrongKind, NotBefore}
-use Rattle.tal_rules.specs.declared.meaning.Meaning.{Meaning}
-use Rattle.tal_rules.specs.declared.meaning.Meaning.TheVariants as m
-use Rattle.tal_rules.specs.declared.meaning.Need.TheVariants as need
-use Rattle.tal_rules.specs.declared.scope.Named.{Named}
-use Rattle.tal_rules.specs.declared.scope.Scope.{Scope}
-use Rattle.tal_rules.specs.declared.system.System.TheVariants as system
+use Rattle.tal_names.specs.declared.fault.Rule.TheVariants.{WrongKind, NotBefore}
+use Rattle.tal_names.specs.declared.meaning.Meaning.{Meaning}
+use Rattle.tal_names.specs.declared.meaning.Meaning.TheVariants as m
+use Rattle.tal_names.specs.declared.meaning.Need.TheVariants as need
+use Rattle.tal_names.specs.declared.scope.Named.{Named}
+use Rattle.tal_names.specs.declared.scope.Scope.{Scope}
+use Rattle.tal_names.specs.declared.system.System.TheVariants as system
 use Rattle.tal_rules.specs.Calls.{name_in, called_faults, values_count, procedure_call_faults, count_faults, read_update_faults, reply_faults, write_read_faults}
 use Rattle.tal_rules.specs.Expressions.{spot_faults}
-use Rattle.tal_rules.specs.Places.{name_of_argument}
-use Rattle.tal_rules.specs.Scopes.{meaning_of}
+use Rattle.tal_names.specs.Places.{name_of_argument}
+use Rattle.tal_names.specs.Scopes.{meaning_of}
 use Rattle.tal_rules.specs.Statements.{return_faults, right_by, right_named}
 use Rattle.tal_trees.specs.Calls.{procedure_by, values_of, values_of_arguments, meaning_by, system_what}
 use Rattle.tal_trees.specs.Expressions.{value_of_expr, target_of_spot}

@@ -6,9 +6,9 @@ use Rattle.tal_tree.specs.declared.expression.Spot.{Spot}
 use Rattle.tal_tree.specs.declared.program.Program.{Program}
 use Rattle.tal_tree.specs.declared.statement.Statement.{Statement}
 use Rattle.tal_tree.specs.declared.statement.What.{What}
-use Rattle.tal_rules.specs.declared.scope.Files.{Files}
-use Rattle.tal_rules.specs.declared.scope.Scope.{Scope}
-use Rattle.tal_rules.specs.declared.scope.Walk.{Walk}
+use Rattle.tal_declarations.specs.declared.table.Files.{Files}
+use Rattle.tal_names.specs.declared.scope.Scope.{Scope}
+use Rattle.tal_rules.specs.declared.walk.Walk.{Walk}
 use Rattle.tal_pieces.proofs.Standing.Stands.{FitsValue, FitsTest, FitsSpot, FitsArguments, Lone, assigns, assigns_call, calls, returns, gives, reads, replies, asks, keeps_nothing, keeps, stops, Stands, lone, monitors, opens, tests, loops, counts, StandsIn, empty, one, several, Row, ended, goes_on}
 
 module _ (p : Program) (locals : List (List ℕ)) (s : Scope) where

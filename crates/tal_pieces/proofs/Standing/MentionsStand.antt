@@ -6,17 +6,17 @@ use Rattle.std.proofs.lemmas.Bool.Decides.{nat_tests}
 use Rattle.tal_tree.specs.declared.program.Program.{Program}
 use Rattle.tal_tokens.specs.declared.token.At.{At}
 use Rattle.tal_syntax.specs.Grammar as g
-use Rattle.tal_rules.specs.declared.fault.Rule.TheVariants.{Twice}
-use Rattle.tal_rules.specs.declared.meaning.Meaning.{Meaning}
-use Rattle.tal_rules.specs.declared.meaning.Meaning.TheVariants as m
-use Rattle.tal_rules.specs.declared.meaning.Need.TheVariants as need
-use Rattle.tal_rules.specs.declared.scope.Named.{Named}
-use Rattle.tal_rules.specs.declared.scope.Scope.{Scope}
-use Rattle.tal_rules.specs.declared.system.System.TheVariants as system
+use Rattle.tal_names.specs.declared.fault.Rule.TheVariants.{Twice}
+use Rattle.tal_names.specs.declared.meaning.Meaning.{Meaning}
+use Rattle.tal_names.specs.declared.meaning.Meaning.TheVariants as m
+use Rattle.tal_names.specs.declared.meaning.Need.TheVariants as need
+use Rattle.tal_names.specs.declared.scope.Named.{Named}
+use Rattle.tal_names.specs.declared.scope.Scope.{Scope}
+use Rattle.tal_names.specs.declared.system.System.TheVariants as system
 use Rattle.tal_rules.specs.Calls.{checkpoint_faults, named_faults, repeated_faults, with_mention}
-use Rattle.tal_rules.specs.Names.{Declarations, same, meaning_in, is_declared, with_name}
-use Rattle.tal_rules.specs.Places.{name_of_argument}
-use Rattle.tal_rules.specs.Scopes.{meaning_of, kind_faults}
+use Rattle.tal_names.specs.Names.{Declarations, same, meaning_in, is_declared, with_name}
+use Rattle.tal_names.specs.Places.{name_of_argument}
+use Rattle.tal_names.specs.Scopes.{meaning_of, kind_faults}
 use Rattle.tal_trees.specs.Calls.{items_named, files_named, with_item, with_process, meaning_by, system_what}
 use Rattle.tal_pieces.specs.Printed.Names.{file_name}
 use Rattle.tal_pieces.proofs.Scopes.Agreement.{Agreement, printed_scope}

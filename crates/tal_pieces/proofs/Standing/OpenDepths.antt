@@ -5,16 +5,16 @@ use Rattle.std.specs.Option.{option_and_then}
 use Rattle.std.proofs.lemmas.Bool.{not-false}
 use Rattle.tal_tokens.specs.declared.token.At.{At}
 use Rattle.tal_syntax.specs.Grammar as g
-use Rattle.tal_rules.specs.declared.fault.Rule.TheVariants.{Limit}
-use Rattle.tal_rules.specs.declared.meaning.Meaning.{Meaning}
-use Rattle.tal_rules.specs.declared.meaning.Meaning.TheVariants as m
-use Rattle.tal_rules.specs.declared.scope.Scope.{Scope}
+use Rattle.tal_names.specs.declared.fault.Rule.TheVariants.{Limit}
+use Rattle.tal_names.specs.declared.meaning.Meaning.{Meaning}
+use Rattle.tal_names.specs.declared.meaning.Meaning.TheVariants as m
+use Rattle.tal_names.specs.declared.scope.Scope.{Scope}
 use Rattle.tal_rules.specs.Calls.{is_depth, depth_limit, depth_form, depth_faults}
-use Rattle.tal_rules.specs.Files.{constant_of, named_in, declared_before, depth_value, depth_of}
-use Rattle.tal_rules.specs.Globals.{atom_of, constant_value, atom_faults, literal_faults}
-use Rattle.tal_rules.specs.Names.{meaning_in}
-use Rattle.tal_rules.specs.Places.{first_of_argument}
-use Rattle.tal_rules.specs.Scopes.{or_else, meaning_of, is_file}
+use Rattle.tal_declarations.specs.Files.{named_in, declared_before, depth_value, depth_of}
+use Rattle.tal_declarations.specs.Globals.{atom_of, constant_value, atom_faults, literal_faults}
+use Rattle.tal_names.specs.Names.{meaning_in}
+use Rattle.tal_names.specs.Places.{first_of_argument, constant_of}
+use Rattle.tal_names.specs.Scopes.{or_else, meaning_of, is_file}
 use Rattle.tal_pieces.proofs.Scopes.SourceNames.{SourceNames}
 use Rattle.tal_pieces.proofs.Bodies.OpenedFiles.{depth_is}
 use Rattle.tal_pieces.proofs.Bodies.StatementsBack.{without_files}

@@ -11,17 +11,17 @@ use Rattle.tal_tree.specs.declared.program.Target.TheVariants as target
 use Rattle.tal_tree.specs.declared.statement.Statement.{Statement}
 use Rattle.tal_tree.specs.declared.statement.What.TheVariants as what
 use Rattle.tal_syntax.specs.Grammar as g
-use Rattle.tal_rules.specs.declared.meaning.Meaning.{Meaning}
-use Rattle.tal_rules.specs.declared.meaning.Meaning.TheVariants as m
-use Rattle.tal_rules.specs.declared.scope.Files.{Files}
-use Rattle.tal_rules.specs.declared.scope.Scope.{Scope}
-use Rattle.tal_rules.specs.declared.scope.Stage.TheVariants as stage
-use Rattle.tal_rules.specs.declared.scope.Walk.{Walk}
+use Rattle.tal_names.specs.declared.meaning.Meaning.{Meaning}
+use Rattle.tal_names.specs.declared.meaning.Meaning.TheVariants as m
+use Rattle.tal_declarations.specs.declared.table.Files.{Files}
+use Rattle.tal_names.specs.declared.scope.Scope.{Scope}
+use Rattle.tal_rules.specs.declared.walk.Stage.TheVariants as stage
+use Rattle.tal_rules.specs.declared.walk.Walk.{Walk}
 use Rattle.tal_rules.specs.Calls.{file_number, number_below, is_depth, string_faults}
-use Rattle.tal_rules.specs.Files as files
-use Rattle.tal_rules.specs.Files.{file_by, target_of, depth_of, depth_value, opened_as, simple_by, simple_global}
-use Rattle.tal_rules.specs.Names.{meaning_in, is_declared}
-use Rattle.tal_rules.specs.Scopes.{or_else, meaning_of}
+use Rattle.tal_declarations.specs.Files as files
+use Rattle.tal_declarations.specs.Files.{file_by, target_of, depth_of, depth_value, opened_as, simple_by, simple_global}
+use Rattle.tal_names.specs.Names.{meaning_in, is_declared}
+use Rattle.tal_names.specs.Scopes.{or_else, meaning_of}
 use Rattle.tal_rules.specs.Statements.{next_number, next_file, stage_after_open}
 use Rattle.tal_trees.specs.Calls as trees
 use Rattle.tal_pieces.specs.Printed.Names.{is_receive}

@@ -4,10 +4,10 @@ use Rattle.tal_tree.specs.declared.program.Program.{Program}
 use Rattle.tal_syntax.specs.Grammar as g
 use Rattle.tal_syntax.specs.Expected.{AllAtMost}
 use Rattle.tal_syntax.specs.Nesting.{nest_statement, nest_row}
-use Rattle.tal_rules.specs.declared.scope.Files.{Files}
-use Rattle.tal_rules.specs.declared.scope.Scope.{Scope}
-use Rattle.tal_rules.specs.declared.scope.Walk.{Walk}
-use Rattle.tal_rules.specs.Files.{statement_files, row_files}
+use Rattle.tal_declarations.specs.declared.table.Files.{Files}
+use Rattle.tal_names.specs.declared.scope.Scope.{Scope}
+use Rattle.tal_rules.specs.declared.walk.Walk.{Walk}
+use Rattle.tal_declarations.specs.Files.{statement_files, row_files}
 use Rattle.tal_rules.specs.Texts.{body_after, body_faults}
 use Rattle.tal_trees.specs.Programs.{body_statements}
 use Rattle.tal_pieces.proofs.Scopes.Agreement.{Agreement, Extends, OpenedSoFar, printed_scope}

@@ -5,13 +5,13 @@ use Rattle.tal_tree.specs.declared.program.Procedure.{Procedure}
 use Rattle.tal_tree.specs.declared.program.Program.{Program}
 use Rattle.tal_tokens.specs.declared.token.At.{At}
 use Rattle.tal_syntax.specs.Grammar as g
-use Rattle.tal_rules.specs.declared.fault.Rule.TheVariants.{Limit}
-use Rattle.tal_rules.specs.declared.scope.Headed.{Headed}
-use Rattle.tal_rules.specs.declared.scope.Progress.{Progress}
-use Rattle.tal_rules.specs.Faults.{fault_at, if_so}
-use Rattle.tal_rules.specs.Globals.{taken_faults}
-use Rattle.tal_rules.specs.Headings.{heading_of, heading_faults, headings_faults, main_faults, main_number, with_heading, with_headings, does_give, parameters_of}
-use Rattle.tal_rules.specs.Names.{Declarations}
+use Rattle.tal_names.specs.declared.fault.Rule.TheVariants.{Limit}
+use Rattle.tal_declarations.specs.declared.table.Headed.{Headed}
+use Rattle.tal_rules.specs.declared.walk.Progress.{Progress}
+use Rattle.tal_names.specs.Faults.{fault_at, if_so}
+use Rattle.tal_declarations.specs.Globals.{taken_faults}
+use Rattle.tal_declarations.specs.Headings.{heading_of, heading_faults, headings_faults, main_faults, main_number, with_heading, with_headings, does_give, parameters_of}
+use Rattle.tal_names.specs.Names.{Declarations}
 use Rattle.tal_rules.specs.Texts.{after_procedure, has_word_main}
 use Rattle.tal_trees.specs.Programs.{trees_of, tree_of_procedure}
 use Rattle.tal_pieces.specs.declared.piece.Piece.{Piece}

@@ -8,15 +8,15 @@ use Rattle.tal_tokens.specs.declared.token.Token.TheVariants as tok
 use Rattle.tal_syntax.specs.Grammar as g
 use Rattle.tal_syntax.specs.Expected.{AllAtMost}
 use Rattle.tal_syntax.specs.Nesting.{nest_procedure, nest_locals, nest_statement, nest_row}
-use Rattle.tal_rules.specs.declared.fault.Rule.TheVariants.{Prologue}
-use Rattle.tal_rules.specs.declared.scope.Files.{Files}
-use Rattle.tal_rules.specs.declared.scope.Headed.{Headed}
-use Rattle.tal_rules.specs.declared.scope.Progress.{Progress}
-use Rattle.tal_rules.specs.declared.scope.Scope.{Scope}
-use Rattle.tal_rules.specs.Faults.{fault_at, if_so}
-use Rattle.tal_rules.specs.Files.{statement_files, row_files}
-use Rattle.tal_rules.specs.Headings.{heading_of, heading_faults, with_heading, locals_of}
-use Rattle.tal_rules.specs.Names.{Declarations}
+use Rattle.tal_names.specs.declared.fault.Rule.TheVariants.{Prologue}
+use Rattle.tal_declarations.specs.declared.table.Files.{Files}
+use Rattle.tal_declarations.specs.declared.table.Headed.{Headed}
+use Rattle.tal_rules.specs.declared.walk.Progress.{Progress}
+use Rattle.tal_names.specs.declared.scope.Scope.{Scope}
+use Rattle.tal_names.specs.Faults.{fault_at, if_so}
+use Rattle.tal_declarations.specs.Files.{statement_files, row_files}
+use Rattle.tal_declarations.specs.Headings.{heading_of, heading_faults, with_heading, locals_of}
+use Rattle.tal_names.specs.Names.{Declarations}
 use Rattle.tal_rules.specs.Texts.{faults, headed_text, files_by, scope_of, entered, stage_at, next_procedure, has_word_main, name_place, lacks_monitor, heading_locals_faults, body_after, body_faults, procedure_faults, after_procedure, procedure_files}
 use Rattle.tal_trees.specs.Programs.{tree_of, tree_of_procedure, parameters_by, texts_of, body_statements}
 use Rattle.tal_pieces.specs.declared.piece.Keyword.TheVariants as word

@@ -7,13 +7,13 @@ use Rattle.tal_tokens.specs.declared.token.Token.{Token}
 use Rattle.tal_syntax.specs.Grammar as g
 use Rattle.tal_syntax.specs.Expected.{AllAtMost}
 use Rattle.tal_syntax.specs.Nesting.{nest_procedures, nest_procedure, nest_locals, nest_statement, nest_row}
-use Rattle.tal_rules.specs.declared.scope.Files.{Files}
-use Rattle.tal_rules.specs.declared.scope.Headed.{Headed}
-use Rattle.tal_rules.specs.declared.scope.Progress.{Progress}
-use Rattle.tal_rules.specs.declared.scope.Scope.{Scope}
-use Rattle.tal_rules.specs.Files.{statement_files, row_files}
-use Rattle.tal_rules.specs.Headings.{heading_faults, headings_faults, with_heading, with_headings}
-use Rattle.tal_rules.specs.Names.{Declarations}
+use Rattle.tal_declarations.specs.declared.table.Files.{Files}
+use Rattle.tal_declarations.specs.declared.table.Headed.{Headed}
+use Rattle.tal_rules.specs.declared.walk.Progress.{Progress}
+use Rattle.tal_names.specs.declared.scope.Scope.{Scope}
+use Rattle.tal_declarations.specs.Files.{statement_files, row_files}
+use Rattle.tal_declarations.specs.Headings.{heading_faults, headings_faults, with_heading, with_headings}
+use Rattle.tal_names.specs.Names.{Declarations}
 use Rattle.tal_rules.specs.Texts.{faults, next_procedure, procedure_faults, procedures_faults, after_procedure, procedure_files, files_from, scope_of}
 use Rattle.tal_trees.specs.Programs.{trees_of}
 use Rattle.tal_pieces.specs.declared.piece.Piece.{Piece}

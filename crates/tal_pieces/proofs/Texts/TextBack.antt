@@ -11,11 +11,11 @@ use Rattle.tal_tokens.specs.declared.token.Token.TheVariants as tok
 use Rattle.tal_syntax.specs.Grammar as g
 use Rattle.tal_syntax.specs.Expected.{AllAtMost}
 use Rattle.tal_syntax.specs.Nesting.{nest_text, nest_procedures}
-use Rattle.tal_rules.specs.declared.scope.Files.{Files}
-use Rattle.tal_rules.specs.declared.scope.Headed.{Headed}
-use Rattle.tal_rules.specs.declared.scope.Scope.{Scope}
-use Rattle.tal_rules.specs.Globals.{lines_faults, with_lines, nothing_declared}
-use Rattle.tal_rules.specs.Headings.{headings_faults, with_headings}
+use Rattle.tal_declarations.specs.declared.table.Files.{Files}
+use Rattle.tal_declarations.specs.declared.table.Headed.{Headed}
+use Rattle.tal_names.specs.declared.scope.Scope.{Scope}
+use Rattle.tal_declarations.specs.Globals.{lines_faults, with_lines, nothing_declared}
+use Rattle.tal_declarations.specs.Headings.{headings_faults, with_headings}
 use Rattle.tal_rules.specs.Texts.{faults, headed_after, headed_text, files_by, files_from, no_files, bodies_faults, main_missing, procedures_faults, first_progress}
 use Rattle.tal_trees.specs.Programs.{tree_of, items_with, program_by, trees_of}
 use Rattle.tal_pieces.specs.Cuts.{AreTokens, finished}

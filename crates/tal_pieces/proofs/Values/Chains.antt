@@ -6,10 +6,10 @@ use Rattle.tal_tree.specs.declared.expression.Expr.TheVariants as expr
 use Rattle.tal_tokens.specs.declared.token.Token.{Token}
 use Rattle.tal_syntax.specs.Grammar as g
 use Rattle.tal_syntax.specs.Nesting.{nest_terms, nest_product, nest_factors, nest_factor}
-use Rattle.tal_rules.specs.declared.meaning.Wanted.TheVariants.{Value}
-use Rattle.tal_rules.specs.declared.scope.Scope.{Scope}
+use Rattle.tal_names.specs.declared.meaning.Wanted.TheVariants.{Value}
+use Rattle.tal_names.specs.declared.scope.Scope.{Scope}
 use Rattle.tal_rules.specs.Expressions.{product_faults, terms_faults, factor_faults, factors_faults}
-use Rattle.tal_rules.specs.Places.{first_of_product, first_of_factor}
+use Rattle.tal_names.specs.Places.{first_of_product, first_of_factor}
 use Rattle.tal_trees.specs.Expressions.{op_of_sign, op_of_scale, value_of_terms, value_of_product, value_of_factors, value_of_factor, cond_of_sum, cond_of_product}
 use Rattle.tal_pieces.proofs.Common.Faultless.{nils, first_nil, second_nil}
 

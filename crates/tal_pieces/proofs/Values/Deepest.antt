@@ -9,10 +9,10 @@ use Rattle.tal_tree.specs.declared.expression.Expr.{Expr, Read, Minus, Two}
 use Rattle.tal_syntax.specs.Grammar as g
 use Rattle.tal_syntax.specs.Expected.{AllAtMost}
 use Rattle.tal_syntax.specs.Nesting.{nest_expr, nest_ors, nest_both, nest_ands, nest_neg, nest_compared, nest_sum, nest_terms, nest_product, nest_factors, nest_factor, nest_spot, nest_index}
-use Rattle.tal_rules.specs.declared.meaning.Meaning.{Meaning}
-use Rattle.tal_rules.specs.declared.meaning.Meaning.TheVariants as m
-use Rattle.tal_rules.specs.declared.scope.Scope.{Scope}
-use Rattle.tal_rules.specs.Scopes.{meaning_of}
+use Rattle.tal_names.specs.declared.meaning.Meaning.{Meaning}
+use Rattle.tal_names.specs.declared.meaning.Meaning.TheVariants as m
+use Rattle.tal_names.specs.declared.scope.Scope.{Scope}
+use Rattle.tal_names.specs.Scopes.{meaning_of}
 use Rattle.tal_trees.specs.Expressions.{op_of_sign, op_of_scale, read_by, value_of_expr, value_of_both, value_of_neg, value_of_sum, value_of_terms, value_of_product, value_of_factors, value_of_factor, value_of_spot, value_of_index}
 use Rattle.tal_pieces.specs.declared.rank.ValueRank.{ValueRank}
 use Rattle.tal_pieces.specs.declared.rank.ValueRank.TheVariants as value

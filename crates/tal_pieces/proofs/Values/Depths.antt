@@ -5,7 +5,7 @@ use Rattle.tal_tree.specs.declared.expression.Expr.{Expr, Number, Read', Minus',
 use Rattle.tal_syntax.specs.Grammar as g
 use Rattle.tal_syntax.specs.Expected.{AllAtMost}
 use Rattle.tal_syntax.specs.Nesting.{nest_sum}
-use Rattle.tal_rules.specs.declared.scope.Scope.{Scope}
+use Rattle.tal_names.specs.declared.scope.Scope.{Scope}
 use Rattle.tal_trees.specs.Expressions.{value_of_sum}
 use Rattle.tal_pieces.specs.declared.rank.ValueRank.{ValueRank}
 use Rattle.tal_pieces.specs.declared.rank.ValueRank.TheVariants as value

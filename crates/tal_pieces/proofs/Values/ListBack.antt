@@ -4,9 +4,9 @@ use Rattle.tal_tree.specs.declared.program.Program.{Program}
 use Rattle.tal_tokens.specs.declared.token.Token.TheVariants as tok
 use Rattle.tal_syntax.specs.Grammar as g
 use Rattle.tal_syntax.specs.Nesting.{nest_values}
-use Rattle.tal_rules.specs.declared.meaning.Wanted.TheVariants.{Value}
-use Rattle.tal_rules.specs.declared.scope.Scope.{Scope}
-use Rattle.tal_rules.specs.Places.{first_of_sum}
+use Rattle.tal_names.specs.declared.meaning.Wanted.TheVariants.{Value}
+use Rattle.tal_names.specs.declared.scope.Scope.{Scope}
+use Rattle.tal_names.specs.Places.{first_of_sum}
 use Rattle.tal_pieces.specs.Printed.Expressions.{more_values}
 use Rattle.tal_pieces.proofs.Values.ValueLists.{ListsReadBack}
 use Rattle.tal_pieces.proofs.Values.Back.{first, ends, values_read_back}

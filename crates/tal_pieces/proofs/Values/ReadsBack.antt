@@ -8,12 +8,12 @@ use Rattle.tal_tokens.specs.declared.token.Token.{Token}
 use Rattle.tal_syntax.specs.Grammar as g
 use Rattle.tal_syntax.specs.Expected.{AllAtMost}
 use Rattle.tal_syntax.specs.Nesting.{nest_sum}
-use Rattle.tal_rules.specs.declared.meaning.Meaning.{Meaning}
-use Rattle.tal_rules.specs.declared.meaning.Meaning.TheVariants as m
-use Rattle.tal_rules.specs.declared.meaning.Wanted.{Wanted}
-use Rattle.tal_rules.specs.declared.scope.Scope.{Scope}
+use Rattle.tal_names.specs.declared.meaning.Meaning.{Meaning}
+use Rattle.tal_names.specs.declared.meaning.Meaning.TheVariants as m
+use Rattle.tal_names.specs.declared.meaning.Wanted.{Wanted}
+use Rattle.tal_names.specs.declared.scope.Scope.{Scope}
 use Rattle.tal_rules.specs.Expressions.{sum_faults}
-use Rattle.tal_rules.specs.Scopes.{meaning_of}
+use Rattle.tal_names.specs.Scopes.{meaning_of}
 use Rattle.tal_trees.specs.Expressions.{value_of_sum, cond_of_sum}
 use Rattle.tal_pieces.specs.declared.piece.Piece.{Piece}
 use Rattle.tal_pieces.specs.declared.rank.ValueRank.TheVariants as value

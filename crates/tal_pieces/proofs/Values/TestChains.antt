@@ -7,8 +7,8 @@ use Rattle.tal_tokens.specs.declared.token.Token.{Token}
 use Rattle.tal_tokens.specs.declared.token.Token.TheVariants as tok
 use Rattle.tal_syntax.specs.Grammar as g
 use Rattle.tal_syntax.specs.Nesting.{nest_ors, nest_both, nest_ands, nest_neg}
-use Rattle.tal_rules.specs.declared.meaning.Wanted.TheVariants.{Condition}
-use Rattle.tal_rules.specs.declared.scope.Scope.{Scope}
+use Rattle.tal_names.specs.declared.meaning.Wanted.TheVariants.{Condition}
+use Rattle.tal_names.specs.declared.scope.Scope.{Scope}
 use Rattle.tal_rules.specs.Expressions.{expr_faults, both_faults, neg_faults, ands_faults, ors_faults}
 use Rattle.tal_trees.specs.Expressions.{cond_of_both, cond_of_neg, cond_of_ands, cond_of_ors}
 use Rattle.tal_pieces.proofs.Common.Faultless.{nils, first_nil, second_nil}

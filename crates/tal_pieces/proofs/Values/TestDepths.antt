@@ -4,7 +4,7 @@ use Rattle.tal_tree.specs.declared.expression.Cond.{Cond, Truth, Compare, Not', 
 use Rattle.tal_syntax.specs.Grammar as g
 use Rattle.tal_syntax.specs.Expected.{AllAtMost}
 use Rattle.tal_syntax.specs.Nesting.{nest_expr}
-use Rattle.tal_rules.specs.declared.scope.Scope.{Scope}
+use Rattle.tal_names.specs.declared.scope.Scope.{Scope}
 use Rattle.tal_trees.specs.Expressions.{cond_of_expr}
 use Rattle.tal_pieces.specs.declared.rank.TestRank.{TestRank}
 use Rattle.tal_pieces.specs.declared.rank.TestRank.TheVariants as test

@@ -6,8 +6,8 @@ use Rattle.tal_tokens.specs.declared.token.Token.{Token}
 use Rattle.tal_syntax.specs.Grammar as g
 use Rattle.tal_syntax.specs.Expected.{AllAtMost}
 use Rattle.tal_syntax.specs.Nesting.{nest_expr}
-use Rattle.tal_rules.specs.declared.meaning.Wanted.TheVariants.{Condition}
-use Rattle.tal_rules.specs.declared.scope.Scope.{Scope}
+use Rattle.tal_names.specs.declared.meaning.Wanted.TheVariants.{Condition}
+use Rattle.tal_names.specs.declared.scope.Scope.{Scope}
 use Rattle.tal_rules.specs.Expressions.{expr_faults}
 use Rattle.tal_trees.specs.Expressions.{cond_of_expr}
 use Rattle.tal_pieces.specs.declared.piece.Piece.{Piece}

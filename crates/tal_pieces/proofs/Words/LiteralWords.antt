@@ -2,11 +2,11 @@
 use Rattle.std.proofs.Common.{ℕ, List, [], ◌∷◌, ◌++◌}
 use Rattle.std.specs.Prelude.{Option, Some, None, FitsSigned}
 use Rattle.std.specs.Int.{w16}
-use Rattle.tal_rules.specs.declared.meaning.Meaning.{Meaning}
-use Rattle.tal_rules.specs.declared.meaning.Meaning.TheVariants as m
-use Rattle.tal_rules.specs.declared.scope.Scope.{Scope}
-use Rattle.tal_rules.specs.Names.{Declarations, same, meaning_in, is_declared, with_name}
-use Rattle.tal_rules.specs.Scopes.{or_else, meaning_of}
+use Rattle.tal_names.specs.declared.meaning.Meaning.{Meaning}
+use Rattle.tal_names.specs.declared.meaning.Meaning.TheVariants as m
+use Rattle.tal_names.specs.declared.scope.Scope.{Scope}
+use Rattle.tal_names.specs.Names.{Declarations, same, meaning_in, is_declared, with_name}
+use Rattle.tal_names.specs.Scopes.{or_else, meaning_of}
 use Rattle.tal_pieces.proofs.Spelling.SpelledTokens.{either}
 use Rattle.tal_pieces.proofs.Common.Entries.{Each, each_append}
 

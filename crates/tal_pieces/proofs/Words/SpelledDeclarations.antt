@@ -8,14 +8,14 @@ use Rattle.tal_tree.specs.declared.program.Shape.TheVariants as shape
 use Rattle.tal_tokens.specs.declared.token.Token.{Token}
 use Rattle.tal_tokens.specs.declared.token.Token.TheVariants as tok
 use Rattle.tal_syntax.specs.Grammar as g
-use Rattle.tal_rules.specs.declared.meaning.Meaning.{Meaning}
-use Rattle.tal_rules.specs.declared.meaning.Meaning.TheVariants as m
-use Rattle.tal_rules.specs.declared.scope.Declared.{Declared}
-use Rattle.tal_rules.specs.declared.scope.Extent.{Extent}
-use Rattle.tal_rules.specs.declared.scope.Named.{Named}
-use Rattle.tal_rules.specs.Globals.{atom_meaning, constant_meaning, literal_value, atom_value, negated, constant_value, bounds_by, array_by, extent_of, item_meaning, with_item, with_literal, with_items, with_literals, with_line, with_lines}
-use Rattle.tal_rules.specs.Headings.{names_of, parameters_of, local_names, locals_of}
-use Rattle.tal_rules.specs.Names.{Declarations}
+use Rattle.tal_names.specs.declared.meaning.Meaning.{Meaning}
+use Rattle.tal_names.specs.declared.meaning.Meaning.TheVariants as m
+use Rattle.tal_declarations.specs.declared.table.Declared.{Declared}
+use Rattle.tal_declarations.specs.declared.table.Extent.{Extent}
+use Rattle.tal_names.specs.declared.scope.Named.{Named}
+use Rattle.tal_declarations.specs.Globals.{atom_meaning, constant_meaning, literal_value, atom_value, negated, constant_value, bounds_by, array_by, extent_of, item_meaning, with_item, with_literal, with_items, with_literals, with_line, with_lines}
+use Rattle.tal_declarations.specs.Headings.{names_of, parameters_of, local_names, locals_of}
+use Rattle.tal_names.specs.Names.{Declarations}
 use Rattle.tal_trees.specs.Programs.{name_by, parameters_by}
 use Rattle.tal_pieces.proofs.Words.LiteralWords.{MeaningFits, FoundFits, AreFitting, found_fits, with_fits}
 use Rattle.tal_pieces.proofs.Words.SpelledSyntax.{AllSpelled, zero_fits}

@@ -8,14 +8,15 @@ use Rattle.tal_tree.specs.declared.program.Program.{Program}
 use Rattle.tal_tokens.specs.declared.token.Token.{Token}
 use Rattle.tal_tokens.specs.declared.token.Token.TheVariants as tok
 use Rattle.tal_syntax.specs.Grammar as g
-use Rattle.tal_rules.specs.declared.scope.Files.{Files}
-use Rattle.tal_rules.specs.declared.scope.Named.{Named}
-use Rattle.tal_rules.specs.declared.scope.Scope.{Scope}
-use Rattle.tal_rules.specs.declared.system.System.{System}
-use Rattle.tal_rules.specs.declared.system.System.TheVariants as system
-use Rattle.tal_rules.specs.Files.{call_of, target_of, file_by, depth_of, with_file, simple_global, depth_value, opened_as, opened_named, opened, call_files, statement_files, else_files, row_files}
-use Rattle.tal_rules.specs.Names.{is_declared}
-use Rattle.tal_rules.specs.Places.{name_of_argument, further_arguments, arguments_of}
+use Rattle.tal_declarations.specs.declared.table.Files.{Files}
+use Rattle.tal_names.specs.declared.scope.Named.{Named}
+use Rattle.tal_names.specs.declared.scope.Scope.{Scope}
+use Rattle.tal_names.specs.declared.system.System.{System}
+use Rattle.tal_names.specs.declared.system.System.TheVariants as system
+use Rattle.tal_declarations.specs.Files.{target_of, file_by, depth_of, with_file, simple_global, depth_value, opened_as, opened_named, opened, call_files, statement_files, else_files, row_files}
+use Rattle.tal_names.specs.Systems.{call_of}
+use Rattle.tal_names.specs.Names.{is_declared}
+use Rattle.tal_names.specs.Places.{name_of_argument, further_arguments, arguments_of}
 use Rattle.tal_rules.specs.Texts.{first_progress}
 use Rattle.tal_pieces.specs.Cuts.{IsSpellable}
 use Rattle.tal_pieces.specs.Printed.Names.{target_piece}

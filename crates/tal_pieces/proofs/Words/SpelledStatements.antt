@@ -7,15 +7,15 @@ use Rattle.tal_tree.specs.declared.statement.What.TheVariants as what
 use Rattle.tal_tokens.specs.declared.token.Token.{Token}
 use Rattle.tal_tokens.specs.declared.token.Token.TheVariants as tok
 use Rattle.tal_syntax.specs.Grammar as g
-use Rattle.tal_rules.specs.declared.meaning.Meaning.{Meaning}
-use Rattle.tal_rules.specs.declared.meaning.Meaning.TheVariants as m
-use Rattle.tal_rules.specs.declared.scope.Scope.{Scope}
-use Rattle.tal_rules.specs.declared.scope.Walk.{Walk}
-use Rattle.tal_rules.specs.declared.system.System.{System}
-use Rattle.tal_rules.specs.declared.system.System.TheVariants as system
-use Rattle.tal_rules.specs.Files.{call_of}
-use Rattle.tal_rules.specs.Places.{name_of_expr, further_arguments, arguments_of}
-use Rattle.tal_rules.specs.Scopes.{meaning_of}
+use Rattle.tal_names.specs.declared.meaning.Meaning.{Meaning}
+use Rattle.tal_names.specs.declared.meaning.Meaning.TheVariants as m
+use Rattle.tal_names.specs.declared.scope.Scope.{Scope}
+use Rattle.tal_rules.specs.declared.walk.Walk.{Walk}
+use Rattle.tal_names.specs.declared.system.System.{System}
+use Rattle.tal_names.specs.declared.system.System.TheVariants as system
+use Rattle.tal_names.specs.Systems.{call_of}
+use Rattle.tal_names.specs.Places.{name_of_expr, further_arguments, arguments_of}
+use Rattle.tal_names.specs.Scopes.{meaning_of}
 use Rattle.tal_rules.specs.Statements.{stepped, after}
 use Rattle.tal_trees.specs.Calls.{value_of_argument, values_of_arguments, values_of, value_at, meaning_by, meaning_at, item_by, variable_by, file_by, procedure_by, items_named, files_named, system_what, call_what}
 use Rattle.tal_trees.specs.Expressions.{value_of_expr, cond_of_expr, target_of_spot}

@@ -9,17 +9,17 @@ use Rattle.tal_tree.specs.declared.program.Item.{Item}
 use Rattle.tal_tree.specs.declared.program.Procedure.{Procedure}
 use Rattle.tal_tree.specs.declared.program.Program.{Program}
 use Rattle.tal_tree.specs.declared.program.Shape.{Shape}
-use Rattle.tal_rules.specs.declared.meaning.Meaning.TheVariants as m
-use Rattle.tal_rules.specs.declared.scope.Files.{Files}
-use Rattle.tal_rules.specs.declared.scope.Headed.{Headed}
-use Rattle.tal_rules.specs.declared.scope.Named.{Named}
-use Rattle.tal_rules.specs.declared.scope.Progress.{Progress}
-use Rattle.tal_rules.specs.declared.scope.Scope.{Scope}
-use Rattle.tal_rules.specs.declared.scope.Walk.{Walk}
+use Rattle.tal_names.specs.declared.meaning.Meaning.TheVariants as m
+use Rattle.tal_declarations.specs.declared.table.Files.{Files}
+use Rattle.tal_declarations.specs.declared.table.Headed.{Headed}
+use Rattle.tal_names.specs.declared.scope.Named.{Named}
+use Rattle.tal_rules.specs.declared.walk.Progress.{Progress}
+use Rattle.tal_names.specs.declared.scope.Scope.{Scope}
+use Rattle.tal_rules.specs.declared.walk.Walk.{Walk}
 use Rattle.tal_rules.specs.Calls.{file_number}
-use Rattle.tal_rules.specs.Globals.{with_lines, nothing_declared}
-use Rattle.tal_rules.specs.Headings.{parameters_of, locals_of, with_local, with_locals, does_give, with_heading, heading_of, with_headings}
-use Rattle.tal_rules.specs.Names.{Declarations, meaning_in}
+use Rattle.tal_declarations.specs.Globals.{with_lines, nothing_declared}
+use Rattle.tal_declarations.specs.Headings.{parameters_of, locals_of, with_local, with_locals, does_give, with_heading, heading_of, with_headings}
+use Rattle.tal_names.specs.Names.{Declarations, meaning_in}
 use Rattle.tal_rules.specs.Statements.{after}
 use Rattle.tal_rules.specs.Texts.{scope_of, locals_by, entered, next_procedure, after_procedure, first_progress, headed_after, headed_text, procedure_files, files_from, files_by, no_files}
 use Rattle.tal_trees.specs.Programs.{shape_by, items_with, texts_of, name_by, parameters_by, trees_of, tree_of}

@@ -2,9 +2,9 @@ use Rattle.std.proofs.Common.{refl}
 use Rattle.tal_syntax.specs.declared.statement.NextArgument.{NextArgument}
 use Rattle.tal_syntax.specs.Seen.{seen_further, seen_argument}
 use Rattle.tal_rules.specs.Calls.{arguments_faults}
-use Rattle.tal_rules.specs.Places.{further_arguments}
+use Rattle.tal_names.specs.Places.{further_arguments}
 use Rattle.tal_rules.specs.Calls.{argument_faults}
-use Rattle.tal_rules.proofs.Turns.{turn}
+use Rattle.tal_names.proofs.Turns.{turn}
 use Rattle.tal_rules.proofs.call.judge_further.Goals as goal
 
 pub loop-next-preserved : goal.loop-next-preserved

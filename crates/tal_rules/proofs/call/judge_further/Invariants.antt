@@ -1,7 +1,7 @@
 use Rattle.std.proofs.Common.{◌≡◌, drop}
-use Rattle.tal_rules.specs.Faults.{least}
+use Rattle.tal_names.specs.Faults.{least}
 use Rattle.tal_rules.specs.Calls.{arguments_faults}
-use Rattle.tal_rules.specs.Places.{further_arguments}
+use Rattle.tal_names.specs.Places.{further_arguments}
 use Rattle.tal_syntax.specs.Seen.{seen_further}
 use Rattle.tal_rules.proofs.call.judge_further.Given as goal
 

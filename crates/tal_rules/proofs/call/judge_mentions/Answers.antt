@@ -2,8 +2,8 @@ use Rattle.std.proofs.Common.{refl, ap, ◌∙◌}
 use Rattle.tal_syntax.specs.declared.statement.NextArgument.{NextArgument}
 use Rattle.tal_syntax.specs.Seen.{seen_argument, seen_further}
 use Rattle.tal_rules.specs.Calls.{checkpoint_faults, mention_faults, with_mention}
-use Rattle.tal_rules.specs.Places.{name_of_argument, further_arguments}
-use Rattle.tal_rules.proofs.Turns.{turn_faults}
+use Rattle.tal_names.specs.Places.{name_of_argument, further_arguments}
+use Rattle.tal_names.proofs.Turns.{turn_faults}
 use Rattle.tal_rules.proofs.call.judge_mentions.Goals as goal
 
 pub loop-next-preserved : goal.loop-next-preserved

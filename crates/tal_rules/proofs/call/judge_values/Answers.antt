@@ -3,7 +3,7 @@ use Rattle.tal_syntax.specs.declared.statement.NextValue.{NextValue}
 use Rattle.tal_syntax.specs.Seen.{seen_values, seen_expr}
 use Rattle.tal_rules.specs.Calls.{values_faults}
 use Rattle.tal_rules.specs.Expressions.{value_faults}
-use Rattle.tal_rules.proofs.Turns.{turn}
+use Rattle.tal_names.proofs.Turns.{turn}
 use Rattle.tal_rules.proofs.call.judge_values.Goals as goal
 
 pub loop-next-preserved : goal.loop-next-preserved

@@ -1,5 +1,5 @@
 use Rattle.std.proofs.Common.{◌≡◌, drop}
-use Rattle.tal_rules.specs.Faults.{least}
+use Rattle.tal_names.specs.Faults.{least}
 use Rattle.tal_rules.specs.Calls.{values_faults}
 use Rattle.tal_syntax.specs.Seen.{seen_values}
 use Rattle.tal_rules.proofs.call.judge_values.Given as goal

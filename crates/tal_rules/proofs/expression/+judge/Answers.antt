@@ -4,11 +4,11 @@ use Rattle.tal_syntax.specs.declared.expression.Term.{out-Term}
 use Rattle.tal_syntax.specs.Grammar as g
 use Rattle.tal_syntax.specs.Seen.{seen_index, seen_expr, seen_factor, seen_factors, seen_product, seen_terms, seen_neg, seen_ands, seen_both, seen_ors}
 use Rattle.tal_syntax.proofs.SeenSteps.{expr-open, both-open, sum-open, product-open, seen-not, seen-minus, seen-parens, seen-element}
-use Rattle.tal_rules.specs.declared.meaning.Wanted.TheVariants.{Condition, Value}
+use Rattle.tal_names.specs.declared.meaning.Wanted.TheVariants.{Condition, Value}
 use Rattle.tal_rules.specs.Expressions.{both_faults, ors_faults, neg_faults, ands_faults, product_faults, terms_faults, factor_faults, factors_faults}
-use Rattle.tal_rules.specs.Places.{first_of_product, first_of_factor}
-use Rattle.tal_rules.proofs.Parts.{least-append}
-use Rattle.tal_rules.proofs.Turns.{turn, ended}
+use Rattle.tal_names.specs.Places.{first_of_product, first_of_factor}
+use Rattle.tal_names.proofs.Parts.{least-append}
+use Rattle.tal_names.proofs.Turns.{turn, ended}
 use Rattle.tal_rules.proofs.expression.+judge.Goals as goal
 
 pub judge_both-loop-next-preserved : goal.judge_both-loop-next-preserved

@@ -1,6 +1,6 @@
 use Rattle.std.proofs.Common.{◌≡◌, drop}
 use Rattle.tal_rules.specs.Expressions.{ors_faults, ands_faults, terms_faults, factors_faults}
-use Rattle.tal_rules.specs.Faults.{least}
+use Rattle.tal_names.specs.Faults.{least}
 use Rattle.tal_syntax.specs.Seen.{seen_factors, seen_terms, seen_ands, seen_ors}
 use Rattle.tal_rules.proofs.expression.+judge.Given as goal
 

@@ -3,10 +3,10 @@ use Rattle.tal_syntax.specs.Grammar as g
 use Rattle.tal_syntax.specs.declared.statement.Next.{Next}
 use Rattle.tal_syntax.specs.Seen.{seen_expr, seen_statement, seen_otherwise, seen_row}
 use Rattle.tal_syntax.proofs.SeenSteps.{seen-block, seen-if, seen-while, seen-for, seen-else}
-use Rattle.tal_rules.specs.Faults.{least}
+use Rattle.tal_names.specs.Faults.{least}
 use Rattle.tal_rules.specs.Statements.{stepped, after, after_else, after_row, statement_faults, else_faults, row_faults}
 use Rattle.tal_rules.proofs.StatementSteps.{block-walk, block-least, if-walk, if-least, while-least, for-least}
-use Rattle.tal_rules.proofs.Turns.{turn_faults, turn_after}
+use Rattle.tal_names.proofs.Turns.{turn_faults, turn_after}
 use Rattle.tal_rules.proofs.statement.+statement.Goals as goal
 
 pub judge_else-returns-in-Else-clause-walk : goal.judge_else-returns-in-Else-clause-walk

@@ -1,5 +1,5 @@
 use Rattle.std.proofs.Common.{◌≡◌, drop}
-use Rattle.tal_rules.specs.Faults.{least}
+use Rattle.tal_names.specs.Faults.{least}
 use Rattle.tal_rules.specs.Statements.{after_row, row_faults}
 use Rattle.tal_syntax.specs.Seen.{seen_row}
 use Rattle.tal_rules.proofs.statement.+statement.Given as goal

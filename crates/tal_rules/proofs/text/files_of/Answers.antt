@@ -1,9 +1,9 @@
 use Rattle.std.proofs.Common.{ℕ, refl, ap, ◌∙◌}
 use Rattle.tal_syntax.specs.declared.text.Procedure.{Procedure}
 use Rattle.tal_syntax.specs.Seen.{seen_procedure, seen_procedures}
-use Rattle.tal_rules.specs.declared.scope.Files.{Files}
+use Rattle.tal_declarations.specs.declared.table.Files.{Files}
 use Rattle.tal_rules.specs.Texts.{files_from, next_procedure, procedure_files}
-use Rattle.tal_rules.proofs.Turns.{turn_after}
+use Rattle.tal_names.proofs.Turns.{turn_after}
 use Rattle.tal_rules.proofs.text.files_of.Goals as goal
 
 pub loop-procedure-preserved : goal.loop-procedure-preserved

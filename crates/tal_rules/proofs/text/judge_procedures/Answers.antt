@@ -1,9 +1,9 @@
 use Rattle.std.proofs.Common.{refl, ap₂, ◌∙◌}
 use Rattle.tal_syntax.specs.declared.text.Procedure.{Procedure}
 use Rattle.tal_syntax.specs.Seen.{seen_procedure, seen_procedures}
-use Rattle.tal_rules.specs.Faults.{least}
+use Rattle.tal_names.specs.Faults.{least}
 use Rattle.tal_rules.specs.Texts.{procedures_faults, procedure_faults, after_procedure}
-use Rattle.tal_rules.proofs.Turns.{turn_faults}
+use Rattle.tal_names.proofs.Turns.{turn_faults}
 use Rattle.tal_rules.proofs.text.judge_procedures.Goals as goal
 
 pub loop-procedure-preserved : goal.loop-procedure-preserved

@@ -1,5 +1,5 @@
 use Rattle.std.proofs.Common.{◌≡◌, drop}
-use Rattle.tal_rules.specs.Faults.{least}
+use Rattle.tal_names.specs.Faults.{least}
 use Rattle.tal_rules.specs.Texts.{procedures_faults, first_progress}
 use Rattle.tal_syntax.specs.Seen.{seen_procedures}
 use Rattle.tal_rules.proofs.text.judge_procedures.Given as goal

@@ -1,5 +1,5 @@
 use Rattle.std.proofs.Common.{◌≡◌, ◌++◌, drop}
-use Rattle.tal_rules.specs.Places.{further_arguments}
+use Rattle.tal_names.specs.Places.{further_arguments}
 use Rattle.tal_trees.specs.Calls.{values_of_arguments}
 use Rattle.tal_syntax.specs.Seen.{seen_further}
 use Rattle.tal_trees.proofs.call.push_further.Given as goal

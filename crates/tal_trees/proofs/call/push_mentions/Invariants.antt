@@ -1,5 +1,5 @@
 use Rattle.std.proofs.Common.{◌≡◌, ◌++◌, drop}
-use Rattle.tal_rules.specs.Places.{further_arguments}
+use Rattle.tal_names.specs.Places.{further_arguments}
 use Rattle.tal_trees.specs.Calls.{items_named, files_named}
 use Rattle.tal_syntax.specs.Seen.{seen_further}
 use Rattle.tal_trees.proofs.call.push_mentions.Given as goal

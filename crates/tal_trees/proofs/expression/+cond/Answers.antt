@@ -4,7 +4,7 @@ use Rattle.tal_syntax.specs.Grammar as g
 use Rattle.tal_syntax.specs.Seen.{seen_expr, seen_factor, seen_neg, seen_ors, seen_ands}
 use Rattle.tal_syntax.proofs.SeenSteps.{expr-open, both-open, sum-open, product-open, seen-not, seen-parens}
 use Rattle.tal_trees.specs.Expressions.{cond_of_ors, cond_of_ands}
-use Rattle.tal_rules.proofs.Turns.{ended_after}
+use Rattle.tal_names.proofs.Turns.{ended_after}
 use Rattle.tal_trees.proofs.expression.+cond.Goals as goal
 
 pub cond_of_expr-returns : goal.cond_of_expr-returns

@@ -3,7 +3,7 @@ use Rattle.tal_syntax.specs.Grammar as g
 use Rattle.tal_syntax.specs.Seen.{seen_index, seen_expr, seen_factor, seen_factors, seen_terms}
 use Rattle.tal_syntax.proofs.SeenSteps.{expr-open, both-open, sum-open, product-open, seen-minus, seen-parens, seen-element}
 use Rattle.tal_trees.specs.Expressions.{value_of_terms, value_of_factors}
-use Rattle.tal_rules.proofs.Turns.{ended_after}
+use Rattle.tal_names.proofs.Turns.{ended_after}
 use Rattle.tal_trees.proofs.expression.+value.Goals as goal
 
 pub value_of_expr-returns : goal.value_of_expr-returns

@@ -1,7 +1,7 @@
 use Rattle.std.proofs.Common.{sym, ap, ◌∙◌}
 use Rattle.tal_syntax.specs.Seen.{seen_lines, seen_procedures, seen_text}
 use Rattle.tal_rules.specs.Texts.{faults}
-use Rattle.tal_rules.proofs.Order.{least-is, none-least}
+use Rattle.tal_names.proofs.Order.{least-is, none-least}
 use Rattle.tal_trees.proofs.Built.{program-is}
 use Rattle.tal_trees.proofs.program.tree.Goals as goal
 

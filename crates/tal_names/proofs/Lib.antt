@@ -1,0 +1,6 @@
+pub mod Counted
+pub mod Lookups
+pub mod Opens
+pub mod Order
+pub mod Parts
+pub mod Turns

@@ -1,0 +1,44 @@
+ghost use Rattle.std.specs.Prelude.{◌≡◌};
+ghost use Rattle.tal_names.specs.Systems.{call_of, system_of};
+
+use crate::names::Names;
+use gd_words::Ident;
+
+/// The system's own calls.
+#[derive(Clone, Copy, Debug, PartialEq, Eq)]
+pub enum System {
+    CheckMonitor,
+    Checkpoint,
+    Open,
+    ReadUpdate,
+    Reply,
+    Stop,
+    WriteRead,
+}
+
+/// The system's call that has the name.
+pub fn system_of(name: Ident) -> Option<System>
+    ensures { result ≡ system_of name }
+{
+    match name.text() {
+        b"CHECKMONITOR" => Some(System::CheckMonitor),
+        b"CHECKPOINT" => Some(System::Checkpoint),
+        b"OPEN" => Some(System::Open),
+        b"READUPDATE" => Some(System::ReadUpdate),
+        b"REPLY" => Some(System::Reply),
+        b"STOP" => Some(System::Stop),
+        b"WRITEREAD" => Some(System::WriteRead),
+        _ => None,
+    }
+}
+
+/// The system's call that a name stands for, where no local hides it.
+pub fn call_of(locals: &Names, name: Ident) -> Option<System>
+    ensures { result ≡ call_of locals.now name }
+{
+    if locals.is_declared(name) {
+        None
+    } else {
+        system_of(name)
+    }
+}

@@ -1,9 +1,0 @@
-use Rattle.std.proofs.Common.{◌≡◌, [], refl}
-use Rattle.std.proofs.lemmas.List.{nil_from_length}
-use Rattle.tal_syntax.proofs.SeenSteps.{both-open}
-use Rattle.tal_rules.proofs.alone.factor_of_both.Goals as goal
-
-pub returns-in-None : goal.returns-in-None
-returns-in-None c =
-    let none : c.as_slice.result.now ≡ [] = nil_from_length c.as_slice.result.now c.in-None.ensures.cases in
-    rw (c.factor_of_neg.ensures, both-open c.args.both.now, ← c.as_slice.ensures, none) refl

@@ -1,8 +1,0 @@
-use Rattle.std.proofs.Common.{◌≡◌, ◌++◌, drop}
-use Rattle.tal_rules.specs.Headings.{locals_of}
-use Rattle.tal_syntax.specs.Seen.{seen_locals}
-use Rattle.tal_rules.proofs.heading.locals_of.Given as goal
-
--- those so far and those that are left are all
-abbrev pub invariant-loop-local : goal.invariant-loop-local
-invariant-loop-local l = l.all ++ locals_of (seen_locals (drop l.local-index l.locals)) ≡ locals_of (seen_locals l.locals)
