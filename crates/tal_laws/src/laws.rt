@@ -1,0 +1,15 @@
+ghost use Rattle.std.specs.Prelude.{ℕ, List};
+ghost use Rattle.path_semantics.specs.Ordered.{IsOrdered};
+ghost use Rattle.tal_laws.specs.Limits.{IsWithinLimits};
+ghost use Rattle.tal_reader.specs.Reads.{Reads};
+ghost use Rattle.tal_tree.specs.declared.program.Program.{Program};
+
+/// Each number of a program that a text reads as is that of one statement alone, and its procedures call only earlier ones.
+pub fn what_is_read_is_ordered()
+    ensures { (text : List ℕ) (program : Program) → Reads text program → IsOrdered program }
+{}
+
+/// A program that a text reads as keeps the limits.
+pub fn what_is_read_keeps_the_limits()
+    ensures { (text : List ℕ) (program : Program) → Reads text program → IsWithinLimits program }
+{}
