@@ -2,8 +2,8 @@
 //!
 //! Below stand `tal_syntax` for the syntax, `indexmap`, in which names are looked up, and `tal_tree` for places and faults. The
 //! layers above, which judge declarations and bodies, ask `meaning_of` and `judge_name` for names, and take from an
-//! expression or argument the one name or number that it is; `with_fault` keeps the least fault of a list that its
-//! definitions name part by part.
+//! expression or argument the one name or number that it is. They judge part after part, and `with_fault` keeps the least
+//! fault of all.
 #![tactic(auto)]
 
 pub mod alone;
