@@ -16,7 +16,7 @@ use tal_tree::{DeckFault, FileUse, Kind, ProcessSpec, Site, TalFault, Target, Te
 const MOST_BYTES: usize = 1_048_576;
 
 /// A system and the schedule of its run.
-#[derive(Debug, Drop)]
+#[derive(Drop)]
 pub struct Deck {
     pub site: Site,
     pub lines: List<Line>,

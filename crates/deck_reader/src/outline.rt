@@ -9,7 +9,7 @@ use schedule::Line;
 use std::alloc::Global;
 
 /// The line of a pair and the text of its program.
-#[derive(Debug, Drop)]
+#[derive(Drop)]
 pub struct PairLines {
     pub name: Name,
     pub primary: u8,
@@ -18,7 +18,7 @@ pub struct PairLines {
 }
 
 /// The line of a terminal and its requests.
-#[derive(Debug, Drop)]
+#[derive(Drop)]
 pub struct TerminalLines {
     pub name: Name,
     pub target: Name,
@@ -26,7 +26,7 @@ pub struct TerminalLines {
 }
 
 /// What the lines of a deck say, before names are looked up and programs are read.
-#[derive(Debug, Drop)]
+#[derive(Drop)]
 pub struct Outline {
     pub processors: u8,
     pub pairs: List<PairLines>,
@@ -35,7 +35,7 @@ pub struct Outline {
 }
 
 /// Where in the deck the next line stands, and what was said before.
-#[derive(Debug, Drop)]
+#[derive(Drop)]
 pub enum Stage {
     /// Before the line of the processors.
     Opening,

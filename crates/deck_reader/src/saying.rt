@@ -7,7 +7,7 @@ use crate::numbers::{number_of, word_of};
 use gd_words::{Name, Words};
 
 /// The word with which a line begins.
-#[derive(Clone, Copy, Debug, PartialEq, Eq)]
+#[derive(Clone, Copy, PartialEq, Eq)]
 pub enum Keyword {
     Processors,
     Pair,
@@ -19,7 +19,7 @@ pub enum Keyword {
 }
 
 /// What a line outside a program says, with its numbers as they are written.
-#[derive(Debug, Drop)]
+#[derive(Drop)]
 pub enum Saying {
     /// An empty line.
     Nothing,

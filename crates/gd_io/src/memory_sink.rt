@@ -5,7 +5,7 @@ use gd_words::{List, NoMemory};
 use std::alloc::Global;
 
 /// A sink in memory with room for a number of bytes, whose calls fail where it was told to.
-#[derive(Debug, Drop)]
+#[derive(Drop)]
 pub struct MemorySink {
     held: Vec<u8>,
     room: usize,

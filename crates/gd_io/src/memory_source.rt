@@ -4,7 +4,7 @@ use crate::source::{Source, Took};
 use gd_words::List;
 
 /// A source over bytes in memory, whose calls fail where it was told to.
-#[derive(Debug, Drop)]
+#[derive(Drop)]
 pub struct MemorySource {
     bytes: List<u8>,
     at: usize,

@@ -3,7 +3,7 @@ ghost use Rattle.gd_io.specs.Faults.{HasRisen};
 ghost use Rattle.gd_io.specs.Sink.{GivesTo, StaysSure};
 
 /// What became of a piece: this many of its first bytes are gone to the sink, or none because of a fault.
-#[derive(Clone, Copy, Debug, PartialEq, Eq)]
+#[derive(Clone, Copy, PartialEq, Eq)]
 pub enum Gave {
     Gone(usize),
     Failed,

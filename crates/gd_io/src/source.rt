@@ -4,7 +4,7 @@ ghost use Rattle.gd_io.specs.Source.{TakesInto};
 
 /// What a call for bytes gave: this many at the start of the room, none because the end is reached, or none because of a
 /// fault.
-#[derive(Clone, Copy, Debug, PartialEq, Eq)]
+#[derive(Clone, Copy, PartialEq, Eq)]
 pub enum Took {
     Got(usize),
     End,

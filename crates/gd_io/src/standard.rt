@@ -5,7 +5,7 @@ use crate::source::{Source, Took};
 use std::io::{Read, Write};
 
 /// A reader of std. It tells the bytes that the reader tells, none at a file or a stream, and may always fail.
-#[derive(Debug, Drop)]
+#[derive(Drop)]
 pub struct StdSource<R> {
     reader: R,
     faults: u64,
@@ -41,7 +41,7 @@ impl<R: Read + Drop> Source for StdSource<R> {
 }
 
 /// A writer of std. It tells the bytes that the writer tells, none at a file or a stream, and may always fail.
-#[derive(Debug, Drop)]
+#[derive(Drop)]
 pub struct StdSink<W> {
     writer: W,
     faults: u64,

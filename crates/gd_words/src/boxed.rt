@@ -5,7 +5,7 @@ use std::alloc::Global;
 use std::marker::Model;
 
 /// A value in memory of its own that contracts see as the value alone, so that two trees of equal parts are equal.
-#[derive(Debug, Drop)]
+#[derive(Drop)]
 pub struct Boxed<T> {
     inner: Box<T>,
 }

@@ -6,7 +6,7 @@ use itoa::Buffer;
 use std::marker::Model;
 
 /// A number in decimal digits, `-` before a negative one.
-#[derive(Debug, Drop)]
+#[derive(Drop)]
 pub struct Decimal {
     digits: ArrayVec<u8, 20>,
 }

@@ -2,7 +2,7 @@
 pub type Sector = [i16; 8];
 
 /// What a process does to its disc device in one step.
-#[derive(Clone, Copy, Debug, PartialEq, Eq)]
+#[derive(Clone, Copy, PartialEq, Eq)]
 pub enum DeviceCall {
     /// Nothing.
     Nothing,

@@ -6,7 +6,7 @@ use crate::spelling::kept;
 use std::marker::Model;
 
 /// A name of TAL: 1 to 31 letters, digits, `_` or `^`, the first no digit. Letters are kept in upper case.
-#[derive(Clone, Copy, Debug, PartialEq, Eq, Hash)]
+#[derive(Clone, Copy, PartialEq, Eq, Hash)]
 pub struct Ident {
     bytes: [u8; 31],
     len: usize,

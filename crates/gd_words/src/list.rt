@@ -7,7 +7,7 @@ use std::marker::Model;
 
 /// A growing list that contracts see as the list of its items, so that two lists of equal items are equal.
 /// It may stand in a type that leads back to itself through it, as a statement in the list of a statement.
-#[derive(Debug, Drop)]
+#[derive(Drop)]
 pub struct List<T> {
     items: Vec<T>,
 }

@@ -2,7 +2,7 @@ use crate::words::Words;
 
 /// A request to a process: `opener` is the requester's place among the process's openers, `number` counts that
 /// opener's requests from 1.
-#[derive(Debug, Drop)]
+#[derive(Drop)]
 pub struct Request {
     pub process: u8,
     pub opener: u16,
@@ -11,7 +11,7 @@ pub struct Request {
 }
 
 /// The reply to the request of the same process, opener and number.
-#[derive(Debug, Drop)]
+#[derive(Drop)]
 pub struct Reply {
     pub process: u8,
     pub opener: u16,

@@ -6,7 +6,7 @@ use std::marker::Model;
 
 /// The name of a process or a terminal: `$` and one to five letters or digits, of which the first is a letter.
 /// Letters are kept in upper case.
-#[derive(Clone, Copy, Debug, PartialEq, Eq, Hash)]
+#[derive(Clone, Copy, PartialEq, Eq, Hash)]
 pub struct Name {
     bytes: [u8; 6],
     len: usize,

@@ -4,7 +4,7 @@ use arrayvec::ArrayVec;
 use std::marker::Model;
 
 /// The words of a request or a reply: at most 16.
-#[derive(Debug, Drop)]
+#[derive(Drop)]
 pub struct Words {
     items: ArrayVec<i16, 16>,
 }

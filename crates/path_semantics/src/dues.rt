@@ -11,7 +11,7 @@ use tal_tree::{Spot, Variable, What};
 
 /// What is due along a path since its last CHECKPOINT: the globals that may have changed, the file of each WRITEREAD that was
 /// made, and whether a request was read.
-#[derive(Debug, Drop)]
+#[derive(Drop)]
 pub struct Dues {
     pub globals: List<u16>,
     pub asked: List<u8>,

@@ -10,7 +10,7 @@ use std::marker::Model;
 use tal_tree::Statement;
 
 /// What remains in a procedure, the next entry last.
-#[derive(Debug, Drop)]
+#[derive(Drop)]
 pub(crate) struct Frame<'a> {
     rest: Vec<Entry<'a>>,
 }

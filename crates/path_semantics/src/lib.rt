@@ -13,11 +13,7 @@ mod frame;
 pub mod laws;
 pub mod paths;
 pub mod reason;
-#[cfg(test)]
-mod samples;
 mod stand;
-#[cfg(test)]
-mod tests;
 
 pub use depth::call_depth;
 pub use dues::Dues;

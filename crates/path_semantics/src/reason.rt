@@ -1,7 +1,7 @@
 use gd_words::List;
 
 /// Why a path breaks at its last statement. Globals are named by their items' numbers, files in the order of the OPENs.
-#[derive(Clone, Copy, Debug, PartialEq, Eq)]
+#[derive(Clone, Copy, PartialEq, Eq)]
 pub enum Reason {
     /// A CHECKPOINT doesn't name this global, which may have changed.
     Data(u16),
@@ -14,7 +14,7 @@ pub enum Reason {
 }
 
 /// Why a program is refused.
-#[derive(Debug, Drop)]
+#[derive(Drop)]
 pub enum Refusal {
     /// Its calls go more than 16 procedures deep.
     TooDeep,

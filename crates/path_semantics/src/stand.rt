@@ -14,7 +14,7 @@ use std::marker::Model;
 use tal_tree::{Program, Statement, What};
 
 /// Where a path leads: a place, and what is due there.
-#[derive(Debug, Drop)]
+#[derive(Drop)]
 pub(crate) struct Stand<'a> {
     frames: Vec<Frame<'a>>,
     dues: Dues,

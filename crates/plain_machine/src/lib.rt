@@ -13,6 +13,3 @@ mod tables;
 mod wires;
 
 pub use rounds::{Played, play_rounds};
-
-#[cfg(test)]
-mod tests;

@@ -1,7 +1,7 @@
 use tal_tree::Shown;
 
 /// What became of an act that was tried.
-#[derive(Debug, Drop)]
+#[derive(Drop)]
 pub enum Outcome {
     /// It isn't possible, and nothing changed.
     Impossible,

@@ -19,7 +19,7 @@ use std::marker::Model;
 use tal_tree::{Act, ProcessSpec, Shown, Site, TerminalSpec};
 
 /// The machine of single unfailing processes: its processes, and for each terminal how many requests it has entered.
-#[derive(Debug, Drop)]
+#[derive(Drop)]
 pub struct Plain<'a> {
     processes: Vec<PlainProcess<'a>>,
     entered: Vec<u32>,

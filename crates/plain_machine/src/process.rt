@@ -14,7 +14,7 @@ use tal_tree::{Kind, OpenerSpec, ProcessSpec, Site};
 
 /// A process of the machine: its state, the place of the opener whose request is in hand, a slot for each of its openers,
 /// and the sectors of a disc.
-#[derive(Debug, Drop)]
+#[derive(Drop)]
 pub struct PlainProcess<'a> {
     process: Process<'a>,
     hand: Option<usize>,

@@ -12,7 +12,7 @@ use std::marker::Model;
 use tal_tree::{Act, Shown, Site};
 
 /// A run so far: the machine, the acts that were made, and what they show.
-#[derive(Debug, Drop)]
+#[derive(Drop)]
 pub struct Ran<'a> {
     plain: Plain<'a>,
     acts: List<Act>,

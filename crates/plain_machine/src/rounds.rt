@@ -9,7 +9,7 @@ use std::alloc::Global;
 use tal_tree::{Act, Shown, Site};
 
 /// The acts of rounds, what they show, and whether no act is possible after them.
-#[derive(Debug, Drop)]
+#[derive(Drop)]
 pub struct Played {
     pub acts: List<Act>,
     pub shown: List<Shown>,

@@ -11,7 +11,7 @@ use std::marker::Model;
 use tal_tree::Site;
 
 /// A site, with tables of where its files and terminals stand among the openers of the processes that they ask.
-#[derive(Debug, Drop)]
+#[derive(Drop)]
 pub struct Wires<'a> {
     site: &'a Site,
     files: List<List<Option<Opener>>>,

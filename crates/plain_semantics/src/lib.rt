@@ -12,6 +12,3 @@ pub mod slot;
 pub use laws::{acts_follow_acts, front_is_possible, impossible_stays, shown_begins_with_front};
 pub use opening::{files_of, narrow, opener_of, openers};
 pub use slot::{Opener, Slot};
-
-#[cfg(test)]
-mod tests;

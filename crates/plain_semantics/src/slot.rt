@@ -1,7 +1,7 @@
 use gd_words::Words;
 
 /// What a process has from one of its openers.
-#[derive(Debug, Drop)]
+#[derive(Drop)]
 pub enum Slot {
     Empty,
     /// A request waits.
@@ -13,7 +13,7 @@ pub enum Slot {
 }
 
 /// An opener of a process: the server's place in the deck, and the opener's place among the server's openers.
-#[derive(Clone, Copy, Debug, PartialEq, Eq)]
+#[derive(Clone, Copy, PartialEq, Eq)]
 pub struct Opener {
     pub server: usize,
     pub place: usize,

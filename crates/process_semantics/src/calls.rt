@@ -12,7 +12,7 @@ use tal_tree::{Expr, Statement, Variable, What};
 use tal_values::value;
 
 /// What a WRITEREAD asks: the number of its file, and the words of the request.
-#[derive(Debug, Drop)]
+#[derive(Drop)]
 pub struct Asked {
     pub file: u8,
     pub words: Words,

@@ -6,7 +6,7 @@ use gd_words::{DeviceCall, Sector, Words};
 
 /// The state of a disc process: its point, which is Take, Mark, Device or Answer, the words of the request in hand, those
 /// of its reply once the device has acted, and the number of its last write.
-#[derive(Debug, Drop)]
+#[derive(Drop)]
 pub struct DiscState {
     pub label: Point,
     pub request: Option<Words>,

@@ -1,7 +1,7 @@
 use tal_tree::Statement;
 
 /// What is to be done in a procedure.
-#[derive(Clone, Copy, Debug)]
+#[derive(Clone, Copy)]
 pub enum Entry<'a> {
     /// The statement.
     Run(&'a Statement),

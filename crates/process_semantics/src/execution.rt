@@ -14,7 +14,7 @@ use tal_tree::{Item, Procedure, Program, Shape, Statement};
 use tal_values::{Cell, Memory};
 
 /// A program that runs, one step after the other. It is plain and slow: it evaluates the trees as they stand.
-#[derive(Debug, Drop)]
+#[derive(Drop)]
 pub struct Execution<'a> {
     program: &'a Program,
     globals: Vec<List<i16>>,

@@ -10,7 +10,7 @@ use std::marker::Model;
 use tal_tree::{Procedure, Statement};
 
 /// A procedure that runs: its number, its locals, and the entries that remain, the next one last.
-#[derive(Debug, Drop)]
+#[derive(Drop)]
 pub struct Frame<'a> {
     procedure: u16,
     locals: List<i16>,
@@ -100,7 +100,7 @@ impl<'a> Frame<'a> {
 }
 
 /// The procedures that run: the one whose entries come next, and those that wait for their calls, MAIN first.
-#[derive(Debug, Drop)]
+#[derive(Drop)]
 pub struct Frames<'a> {
     pub running: Frame<'a>,
     pub callers: Vec<Frame<'a>>,

@@ -22,6 +22,3 @@ pub use execution::Execution;
 pub use frame::{Frame, Frames};
 pub use point::Point;
 pub use process::Process;
-
-#[cfg(test)]
-mod tests;

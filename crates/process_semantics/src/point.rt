@@ -1,5 +1,5 @@
 /// Where a process stands: what its next step is.
-#[derive(Clone, Copy, Debug, PartialEq, Eq)]
+#[derive(Clone, Copy, PartialEq, Eq)]
 pub enum Point {
     /// A step inside the process.
     Inner,

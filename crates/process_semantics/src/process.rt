@@ -11,7 +11,7 @@ use std::alloc::Global;
 use tal_tree::Kind;
 
 /// A process of either kind: a program that runs, or a disc of so many sectors.
-#[derive(Debug, Drop)]
+#[derive(Drop)]
 pub enum Process<'a> {
     Runs(Execution<'a>),
     Serves { sectors: u8, state: DiscState },

@@ -2,7 +2,7 @@ use crate::outcome::RunEnd;
 use tal_tree::{DeckFault, Site};
 
 /// What is due once all is decided and nothing is written yet.
-#[derive(Debug, Drop)]
+#[derive(Drop)]
 pub enum Due {
     Usage,
     ReadFault,
@@ -12,7 +12,7 @@ pub enum Due {
 }
 
 /// A run that was made: its site, what it did, and whether no act is possible after it.
-#[derive(Debug, Drop)]
+#[derive(Drop)]
 pub struct Report {
     pub site: Site,
     pub run: RunEnd,

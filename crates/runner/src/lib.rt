@@ -12,6 +12,3 @@ mod words;
 
 pub use entry::command;
 pub use outcome::{Outcome, RunEnd, Status};
-
-#[cfg(test)]
-mod tests;

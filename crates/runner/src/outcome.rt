@@ -5,7 +5,7 @@ use gd_words::List;
 use tal_tree::{Act, DeckFault, Shown};
 
 /// How a call ended, and the run, where one was made.
-#[derive(Debug, Drop)]
+#[derive(Drop)]
 pub struct Outcome {
     pub status: Status,
     pub run: Option<RunEnd>,
@@ -21,7 +21,7 @@ impl Outcome {
 }
 
 /// How a call ended.
-#[derive(Clone, Copy, Debug, PartialEq, Eq)]
+#[derive(Clone, Copy, PartialEq, Eq)]
 pub enum Status {
     /// The run ended with no act possible.
     Done,
@@ -54,7 +54,7 @@ impl Status {
 }
 
 /// What a run did: the acts that it keeps, and what they show.
-#[derive(Debug, Drop)]
+#[derive(Drop)]
 pub struct RunEnd {
     pub acts: List<Act>,
     pub shown: List<Shown>,

@@ -16,6 +16,3 @@ pub mod text;
 
 pub use stop::Stop;
 pub use text::build;
-
-#[cfg(test)]
-mod tests;

@@ -4,7 +4,7 @@ ghost use Rattle.tal_builder.specs.declared.stop.Stop.TheVariants as variants;
 use gd_words::NoMemory;
 
 /// Why no syntax is built: the tokens have none, or there is no memory.
-#[derive(Clone, Copy, Debug, PartialEq, Eq)]
+#[derive(Clone, Copy, PartialEq, Eq)]
 pub enum Stop {
     NoSyntax,
     NoMemory,

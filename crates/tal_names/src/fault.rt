@@ -1,7 +1,7 @@
 use tal_tree::Place;
 
 /// A rule that a text breaks. A limit has its number.
-#[derive(Clone, Copy, Debug, PartialEq, Eq)]
+#[derive(Clone, Copy, PartialEq, Eq)]
 pub enum Rule {
     Unknown,
     Twice,
@@ -13,7 +13,7 @@ pub enum Rule {
 }
 
 /// A rule that a text breaks, and where.
-#[derive(Clone, Copy, Debug, PartialEq, Eq)]
+#[derive(Clone, Copy, PartialEq, Eq)]
 pub struct RuleFault {
     pub place: Place,
     pub rule: Rule,

@@ -1,7 +1,7 @@
 use tal_tokens::At;
 
 /// What a name is declared as.
-#[derive(Clone, Copy, Debug, PartialEq, Eq)]
+#[derive(Clone, Copy, PartialEq, Eq)]
 pub enum Meaning {
     Local(u8),
     Simple(u16),
@@ -30,7 +30,7 @@ pub enum Meaning {
 }
 
 /// What a name has to be where it stands.
-#[derive(Clone, Copy, Debug, PartialEq, Eq)]
+#[derive(Clone, Copy, PartialEq, Eq)]
 pub enum Need {
     /// A local or a simple global.
     Variable,
@@ -49,7 +49,7 @@ pub enum Need {
 
 /// What an expression has to be where it stands: a condition, where a value may stand too, or a value that begins at a
 /// token.
-#[derive(Clone, Copy, Debug, PartialEq, Eq)]
+#[derive(Clone, Copy, PartialEq, Eq)]
 pub enum Wanted {
     Condition,
     Value(At),

@@ -5,7 +5,7 @@ use crate::names::Names;
 use gd_words::Ident;
 
 /// The system's own calls.
-#[derive(Clone, Copy, Debug, PartialEq, Eq)]
+#[derive(Clone, Copy, PartialEq, Eq)]
 pub enum System {
     CheckMonitor,
     Checkpoint,

@@ -1,5 +1,5 @@
 /// What a text ends with, as far as the layout of the next piece goes.
-#[derive(Clone, Copy, Debug, PartialEq, Eq)]
+#[derive(Clone, Copy, PartialEq, Eq)]
 pub enum Ending {
     Nothing,
     Line,

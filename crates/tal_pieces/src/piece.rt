@@ -5,7 +5,7 @@ use gd_words::{Ident, Name};
 use tal_names::System;
 
 /// A keyword that a printed text may have.
-#[derive(Clone, Copy, Debug, PartialEq, Eq)]
+#[derive(Clone, Copy, PartialEq, Eq)]
 pub enum Keyword {
     And,
     Begin,
@@ -54,7 +54,7 @@ impl Keyword {
 }
 
 /// A symbol.
-#[derive(Clone, Copy, Debug, PartialEq, Eq)]
+#[derive(Clone, Copy, PartialEq, Eq)]
 pub enum Symbol {
     Assign,
     Differs,
@@ -120,7 +120,7 @@ pub fn system_name(system: System) -> &'static [u8]
 }
 
 /// A token of a printed text, without a place. A string is `$RECEIVE` or the name of a process.
-#[derive(Clone, Copy, Debug, PartialEq, Eq)]
+#[derive(Clone, Copy, PartialEq, Eq)]
 pub enum Piece {
     Keyword(Keyword),
     Symbol(Symbol),

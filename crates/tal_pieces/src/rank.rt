@@ -1,5 +1,5 @@
 /// How far an operator between values may bind where a value stands: a sum, a product or a factor alone.
-#[derive(Clone, Copy, Debug, PartialEq, Eq)]
+#[derive(Clone, Copy, PartialEq, Eq)]
 pub enum ValueRank {
     Sum,
     Product,
@@ -7,7 +7,7 @@ pub enum ValueRank {
 }
 
 /// Which conditions may stand without parentheses in a place: a chain of OR, one of AND, or what may stand behind NOT.
-#[derive(Clone, Copy, Debug, PartialEq, Eq)]
+#[derive(Clone, Copy, PartialEq, Eq)]
 pub enum TestRank {
     Or,
     And,

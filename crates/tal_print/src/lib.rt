@@ -17,6 +17,3 @@ mod system_calls;
 mod work;
 
 pub use printer::print_program;
-
-#[cfg(test)]
-mod tests;

@@ -12,6 +12,3 @@ pub use reader::{
     a_text_is_refused_for_one_fault, a_text_reads_as_one_program, read_program,
     what_is_refused_reads_as_none,
 };
-
-#[cfg(test)]
-mod tests;

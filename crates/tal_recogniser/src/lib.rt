@@ -17,6 +17,3 @@ mod wanted_table;
 
 pub use judgement::Judgement;
 pub use recogniser::{judge, tokens_are_judged_once};
-
-#[cfg(test)]
-mod tests;

@@ -1,6 +1,6 @@
 /// What is still to come of a text. `Mark` stands where a level ends; the others are parts of the grammar, what is left of
 /// a part after its first token, and single tokens that are wanted.
-#[derive(Clone, Copy, Debug, PartialEq, Eq)]
+#[derive(Clone, Copy, PartialEq, Eq)]
 pub enum Symbol {
     Mark,
     Neg,

@@ -1,6 +1,6 @@
 /// How far the prologue of the main procedure has come: nothing stands before; CHECKMONITOR and OPENs alone; it is over, as
 /// it is in every other procedure; the body began with something else.
-#[derive(Clone, Copy, Debug, PartialEq, Eq)]
+#[derive(Clone, Copy, PartialEq, Eq)]
 pub enum Stage {
     Start,
     Opens,

@@ -11,7 +11,7 @@ use gd_words::ident::is_ident_sign;
 use tal_tree::TalFault;
 
 /// What a text begins with: so many bytes that separate tokens, a token of so many bytes, or what no token begins with.
-#[derive(Clone, Copy, Debug, PartialEq, Eq)]
+#[derive(Clone, Copy, PartialEq, Eq)]
 pub enum Begun {
     Gap(usize),
     Whole(Token, usize),

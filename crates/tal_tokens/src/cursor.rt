@@ -4,7 +4,7 @@ use crate::token::At;
 use tal_tree::Place;
 
 /// A place in a text with its offset from the text's start.
-#[derive(Clone, Copy, Debug, PartialEq, Eq)]
+#[derive(Clone, Copy, PartialEq, Eq)]
 pub struct Cursor {
     pub place: Place,
     pub offset: u32,

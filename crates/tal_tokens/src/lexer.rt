@@ -9,7 +9,7 @@ use std::alloc::Global;
 use tal_tree::TalFault;
 
 /// The tokens of a text, `Finish` last, or the tokens before the first byte that belongs to none, and the fault there.
-#[derive(Debug, Drop)]
+#[derive(Drop)]
 pub struct TokenList {
     pub list: List<Token>,
     pub fault: Option<TalFault>,

@@ -17,6 +17,3 @@ mod word;
 
 pub use lexer::{TokenList, tokens};
 pub use token::{At, Token};
-
-#[cfg(test)]
-mod tests;

@@ -2,7 +2,7 @@ use gd_words::{Ident, Name};
 use tal_tree::Place;
 
 /// Where a token stands: its place, and its bytes in the text from `start` up to, but without, `end`.
-#[derive(Clone, Copy, Debug, PartialEq, Eq)]
+#[derive(Clone, Copy, PartialEq, Eq)]
 pub struct At {
     pub place: Place,
     pub start: u32,
@@ -11,7 +11,7 @@ pub struct At {
 
 /// A token of a program text. A name is kept in upper case, and a number is the word that it stands for. A string is
 /// `$RECEIVE`, the name of a process, or another text. `Finish` stands after the last token of a whole text.
-#[derive(Clone, Copy, Debug, PartialEq, Eq)]
+#[derive(Clone, Copy, PartialEq, Eq)]
 pub enum Token {
     Name(At, Ident),
     Number(At, i16),

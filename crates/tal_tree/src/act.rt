@@ -2,7 +2,7 @@ use gd_words::{Sector, Words};
 
 /// One act of the machine of single unfailing processes. Processes, terminals and openers are named by their places in
 /// the deck, counted from 0.
-#[derive(Clone, Copy, Debug, PartialEq, Eq)]
+#[derive(Clone, Copy, PartialEq, Eq)]
 pub enum Act {
     Step(u8),
     Take { process: u8, opener: u16 },
@@ -12,7 +12,7 @@ pub enum Act {
 
 /// What can be seen from outside: a write to a disc's sector, or the reply that a terminal prints to its request of this
 /// number, from 1.
-#[derive(Debug, Drop)]
+#[derive(Drop)]
 pub enum Shown {
     Write {
         process: u8,

@@ -1,7 +1,7 @@
 use gd_words::Boxed;
 
 /// A simple variable: a local by its place in the procedure, parameters first, or a global by its item's number.
-#[derive(Clone, Copy, Debug, PartialEq, Eq)]
+#[derive(Clone, Copy, PartialEq, Eq)]
 pub enum Variable {
     Local(u8),
     Simple(u16),
@@ -10,7 +10,7 @@ pub enum Variable {
 /// What an expression reads and an assignment sets: a simple variable, or an element of a global array. The index is the
 /// program's own, which counts from the array's low bound.
 #[cycle(expression)]
-#[derive(Debug, Drop)]
+#[derive(Drop)]
 pub enum Spot {
     Local(u8),
     Simple(u16),
@@ -20,7 +20,6 @@ pub enum Spot {
 /// A value over words. Named constants stand as their numbers. A chain of operators leans to the left and may be as long
 /// as the text that spells it, so no function may recurse along left operands.
 #[cycle(expression)]
-#[derive(Debug)]
 pub enum Expr {
     Number(i16),
     Read(Boxed<Spot>),
@@ -55,7 +54,7 @@ impl Drop for Expr {
 }
 
 /// An operator on two words.
-#[derive(Clone, Copy, Debug, PartialEq, Eq)]
+#[derive(Clone, Copy, PartialEq, Eq)]
 pub enum Op {
     Add,
     Sub,
@@ -64,7 +63,6 @@ pub enum Op {
 }
 
 /// A condition. A value stands for whether it isn't 0. Chains of AND and of OR lean to the left as those of values do.
-#[derive(Debug)]
 pub enum Cond {
     Truth(Expr),
     Compare { rel: Rel, left: Expr, right: Expr },
@@ -98,7 +96,7 @@ impl Drop for Cond {
 }
 
 /// A relation of two words.
-#[derive(Clone, Copy, Debug, PartialEq, Eq)]
+#[derive(Clone, Copy, PartialEq, Eq)]
 pub enum Rel {
     Equal,
     Differs,

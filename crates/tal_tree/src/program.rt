@@ -2,7 +2,7 @@ use crate::statement::Statement;
 use gd_words::{Ident, List, Name};
 
 /// A program of one process. `main` is the number of its main procedure, counted from 0.
-#[derive(Debug, Drop)]
+#[derive(Drop)]
 pub struct Program {
     pub items: List<Item>,
     pub files: List<FileUse>,
@@ -11,14 +11,14 @@ pub struct Program {
 }
 
 /// A global.
-#[derive(Debug, Drop)]
+#[derive(Drop)]
 pub struct Item {
     pub name: Ident,
     pub shape: Shape,
 }
 
 /// What a global is: one word, an array from its low bound to its high one, or the variable of a file.
-#[derive(Clone, Copy, Debug, PartialEq, Eq)]
+#[derive(Clone, Copy, PartialEq, Eq)]
 pub enum Shape {
     Simple,
     Array { low: i16, high: i16 },
@@ -27,7 +27,7 @@ pub enum Shape {
 
 /// A file of a program, in the order of the OPENs: the item that stands for it, what it is opened to, and how many
 /// replies are kept for it.
-#[derive(Debug, Drop)]
+#[derive(Drop)]
 pub struct FileUse {
     pub item: u16,
     pub target: Target,
@@ -35,14 +35,14 @@ pub struct FileUse {
 }
 
 /// What a file is opened to.
-#[derive(Clone, Copy, Debug, PartialEq, Eq)]
+#[derive(Clone, Copy, PartialEq, Eq)]
 pub enum Target {
     Receive,
     Process(Name),
 }
 
 /// A procedure: whether it gives a value, how many parameters it has, and its locals, parameters first.
-#[derive(Debug, Drop)]
+#[derive(Drop)]
 pub struct Procedure {
     pub name: Ident,
     pub gives: bool,

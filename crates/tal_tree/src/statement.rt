@@ -3,7 +3,7 @@ use gd_words::List;
 
 /// A numbered statement: its number from 1 through the whole program, and its line in the text.
 #[cycle(statement)]
-#[derive(Debug, Drop)]
+#[derive(Drop)]
 pub struct Statement {
     pub number: u16,
     pub line: u32,
@@ -12,7 +12,7 @@ pub struct Statement {
 
 /// What a statement does. The empty statement and BEGIN .. END stand for no statement of their own.
 #[cycle(statement)]
-#[derive(Debug, Drop)]
+#[derive(Drop)]
 pub enum What {
     Assign {
         to: Spot,

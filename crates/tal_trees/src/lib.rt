@@ -12,6 +12,3 @@ pub mod program;
 pub mod statement;
 
 pub use program::tree;
-
-#[cfg(test)]
-mod tests;

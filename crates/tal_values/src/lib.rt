@@ -12,6 +12,3 @@ pub mod memory;
 pub use condition::truth;
 pub use expression::{cell, value};
 pub use memory::{Cell, Memory};
-
-#[cfg(test)]
-mod tests;

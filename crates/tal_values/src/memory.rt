@@ -15,7 +15,7 @@ pub struct Memory<'a> {
 }
 
 /// Where a word stands: a local by its place in the procedure, or a word of an item by its place in the item's list.
-#[derive(Clone, Copy, Debug, PartialEq, Eq)]
+#[derive(Clone, Copy, PartialEq, Eq)]
 pub enum Cell {
     Local(u8),
     Global { item: u16, offset: u16 },

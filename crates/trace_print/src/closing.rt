@@ -7,7 +7,7 @@ use gd_io::{Sink, WriteFault, put_all};
 
 /// How a run ended: nothing more can happen, it was cut short, a second failure came while this process had no pair, it
 /// was checked, or all its failures were tried.
-#[derive(Clone, Copy, Debug, PartialEq, Eq)]
+#[derive(Clone, Copy, PartialEq, Eq)]
 pub enum End {
     Idle,
     Cut,

@@ -16,6 +16,3 @@ pub use closing::{End, write_end, write_usage};
 pub use fault::write_fault;
 pub use report::{write_all_shown, write_report};
 pub use shown::write_shown;
-
-#[cfg(test)]
-mod tests;

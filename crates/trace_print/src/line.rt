@@ -7,7 +7,7 @@ use gd_words::decimal_of;
 use std::marker::Model;
 
 /// The bytes of a line that is being written, of at most 512.
-#[derive(Debug, Drop)]
+#[derive(Drop)]
 pub struct Line {
     bytes: ArrayVec<u8, 512>,
 }

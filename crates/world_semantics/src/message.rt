@@ -2,14 +2,14 @@ use crate::receive::ReceiveBlock;
 use gd_words::List;
 
 /// A file that a checkpoint names, and the number of the next request on it.
-#[derive(Clone, Copy, Debug, PartialEq, Eq)]
+#[derive(Clone, Copy, PartialEq, Eq)]
 pub struct FileNumber {
     pub file: u8,
     pub next: u32,
 }
 
 /// What a checkpoint carries: the words of its process's image, the files that it names, and the whole receive table.
-#[derive(Debug, Drop)]
+#[derive(Drop)]
 pub struct Image {
     pub body: List<i16>,
     pub files: List<FileNumber>,
@@ -17,7 +17,7 @@ pub struct Image {
 }
 
 /// A checkpoint of a process: the number counts those of the era from 1.
-#[derive(Debug, Drop)]
+#[derive(Drop)]
 pub struct ImageMessage {
     pub process: u8,
     pub era: u32,
@@ -26,7 +26,7 @@ pub struct ImageMessage {
 }
 
 /// The message that the checkpoint of this era and number was taken.
-#[derive(Clone, Copy, Debug, PartialEq, Eq)]
+#[derive(Clone, Copy, PartialEq, Eq)]
 pub struct TakenMessage {
     pub process: u8,
     pub era: u32,

@@ -1,7 +1,7 @@
 use gd_words::{List, Words};
 
 /// How the number of a request stands to what its process has taken from that opener.
-#[derive(Debug, Drop)]
+#[derive(Drop)]
 pub enum Standing {
     /// It is the one after the last that was taken.
     Next,
@@ -16,14 +16,14 @@ pub enum Standing {
 }
 
 /// What a process remembers of one opener: the number last taken from it, and the replies that are kept, the oldest first.
-#[derive(Debug, Drop)]
+#[derive(Drop)]
 pub struct OpenerBlock {
     pub taken: u32,
     pub kept: List<Words>,
 }
 
 /// A receive table: a block for each opener, and the place of the opener whose request is in hand.
-#[derive(Debug, Drop)]
+#[derive(Drop)]
 pub struct ReceiveBlock {
     pub openers: List<OpenerBlock>,
     pub in_hand: Option<u16>,

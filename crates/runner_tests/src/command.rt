@@ -1,0 +1,159 @@
+use runner::{RunEnd, Status, command};
+use gd_io::{MemorySink, MemorySource};
+use gd_words::List;
+use std::alloc::{AllocError, Global};
+use std::test::Fail;
+use tal_tree::{Act, DeckFault};
+
+const HEAD: &[u8] =
+    b"processors 2\npair $ADD 0 1\nINT total, got, rcv;\nINT buf[0:0];\nPROC add MAIN;\nBEGIN\n  CALL CHECKMONITOR;\n  CALL OPEN(\"$RECEIVE\", rcv, 1);\n  WHILE 1 DO\n  BEGIN\n    CALL READUPDATE(rcv, buf, 1, got);\n    total := total + buf[0]";
+
+const TAIL: &[u8] =
+    b";\n    buf[0] := total;\n    CALL CHECKPOINT(total, got, buf);\n    CALL REPLY(buf, 1);\n  END;\nEND;\n.\nterminal $T1 $ADD\n";
+
+const BOTH: &[u8] = b"send 5\nsend 7\nschedule\ndrain 4000\nEND\n";
+
+/// The adding server with `more` operators in its sum, and what comes after its terminal's line.
+fn deck(alloc: Global, more: usize, rest: &[u8]) -> Result<List<u8>, AllocError> {
+    let mut bytes = Vec::from_slice(alloc, HEAD)?;
+    for _ in 0..more {
+        bytes.extend_from_slice(b"+1")?;
+    }
+    bytes.extend_from_slice(TAIL)?;
+    bytes.extend_from_slice(rest)?;
+    Ok(List::from_vec(bytes))
+}
+
+/// What a command ended with and wrote.
+#[derive(Drop)]
+struct Ended {
+    status: Status,
+    run: Option<RunEnd>,
+    text: Vec<u8>,
+}
+
+/// Runs the words over ends in memory, of which the calls with these numbers fail. After want of memory nothing is written.
+fn run_words(
+    alloc: Global,
+    words: &[&str],
+    deck: List<u8>,
+    reads: &[u64],
+    writes: &[u64],
+) -> Result<Ended, Fail> {
+    let mut given: Vec<String> = Vec::new(alloc);
+    for word in words {
+        given.push(String::from_str(alloc, word)?)?;
+    }
+    let mut source = MemorySource::new(deck, List::from_vec(Vec::from_slice(alloc, reads)?));
+    let failing = List::from_vec(Vec::from_slice(alloc, writes)?);
+    let mut sink = MemorySink::new(alloc, 100_000, failing)?;
+    let outcome = command(alloc, given.as_slice(), &mut source, &mut sink);
+    let text = Vec::from_slice(alloc, sink.bytes())?;
+    if outcome.status == Status::NoMemory && text.is_empty() {
+        return Err(Fail::from(AllocError));
+    }
+    Ok(Ended {
+        status: outcome.status,
+        run: outcome.run,
+        text,
+    })
+}
+
+#[test]
+fn ends_as_the_ends_allow(rt: HostRuntime) -> Result<(), Fail> {
+    let never: &[u64] = &[];
+    let first: &[u64] = &[1];
+    let second: &[u64] = &[2];
+    let both = b"R $T1 1: 5\nR $T1 2: 12\nEND idle\n".as_slice();
+    let cases = [
+        (never, never, Status::Done, both),
+        (
+            never,
+            second,
+            Status::WriteFault,
+            b"R $T1 1: 5\n".as_slice(),
+        ),
+        (first, never, Status::ReadFault, b"".as_slice()),
+    ];
+    for (reads, writes, status, text) in cases {
+        let deck = deck(rt.alloc(), 0, BOTH)?;
+        let end = run_words(rt.alloc(), &["guardian", "run"], deck, reads, writes)?;
+        assert!(rt; end.status == status);
+        assert!(rt; end.text.as_slice() == text);
+    }
+    Ok(())
+}
+
+#[test]
+fn refuses_words_and_decks(rt: HostRuntime) -> Result<(), Fail> {
+    let usage = b"USAGE guardian MODE [N] [--acts] [--fail P:K]\n".as_slice();
+    let not_yet = b"DECK 0 11\n".as_slice();
+    let refused = Status::DeckRefused(DeckFault::NotYet);
+    let failing = b"send 5\nschedule\nfail 0\ndrain 4000\nEND\n".as_slice();
+    let words: [&[&str]; 4] = [
+        &["guardian"],
+        &["guardian", "run", "3"],
+        &["guardian", "check"],
+        &[],
+    ];
+    for given in words {
+        let end = run_words(rt.alloc(), given, deck(rt.alloc(), 0, BOTH)?, &[], &[])?;
+        assert!(rt; end.status == Status::Usage);
+        assert!(rt; end.text.as_slice() == usage);
+    }
+    let end = run_words(
+        rt.alloc(),
+        &["guardian", "run"],
+        deck(rt.alloc(), 0, failing)?,
+        &[],
+        &[],
+    )?;
+    assert!(rt; end.status == refused);
+    assert!(rt; end.text.as_slice() == not_yet);
+    Ok(())
+}
+
+#[test]
+fn keeps_the_acts_of_one_request(rt: HostRuntime) -> Result<(), Fail> {
+    let one = b"send 5\nschedule\ndrain 4000\nEND".as_slice();
+    let end = run_words(
+        rt.alloc(),
+        &["guardian", "run"],
+        deck(rt.alloc(), 0, one)?,
+        &[],
+        &[],
+    )?;
+    let take = Act::Take {
+        process: 0,
+        opener: 0,
+    };
+    let step = Act::Step(0);
+    let acts = [
+        Act::Enter(0),
+        step,
+        step,
+        step,
+        take,
+        step,
+        step,
+        step,
+        step,
+        Act::Print(0),
+        step,
+    ];
+    let run = end.run.ok_or("no run")?;
+    assert!(rt; run.acts.as_slice() == acts.as_slice());
+    Ok(())
+}
+
+#[test]
+fn goes_along_long_chains(rt: HostRuntime) -> Result<(), Fail> {
+    let refused = b"send 5\nschedule\nfail 0\ndrain 4000\nEND\n".as_slice();
+    let long = deck(rt.alloc(), 300_000, BOTH)?;
+    let end = run_words(rt.alloc(), &["guardian", "run"], long, &[], &[])?;
+    assert!(rt; end.text.as_slice() == b"R $T1 1: -27675\nR $T1 2: 10188\nEND idle\n".as_slice());
+    let long = deck(rt.alloc(), 300_000, refused)?;
+    let end = run_words(rt.alloc(), &["guardian", "run"], long, &[], &[])?;
+    assert!(rt; end.text.as_slice() == b"DECK 0 11\n".as_slice());
+    Ok(())
+}

@@ -1,0 +1,9 @@
+//! Tests of decks and of the top call: whole runs, refusals, reads and writes that fail.
+//!
+//! Below stand the crates that are tested; nothing stands above.
+#![tactic(auto)]
+
+#[cfg(test)]
+mod decks;
+#[cfg(test)]
+mod command;
