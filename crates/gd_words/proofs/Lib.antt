@@ -1,2 +1,3 @@
+pub mod AmongTest
 pub mod OneWord
 pub mod PaddedSteps

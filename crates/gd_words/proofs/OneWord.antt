@@ -1,8 +1,8 @@
 -- `wrap` gives the one word that differs from its number by a multiple of 65,536.
-use Rattle.std.proofs.Common.{◌≡◌, ◌+◌, ◌-◌, ◌%◌, ◌/◌, arith, ◌<◌, ◌≤◌, ◌⊎◌, ℕ, Bool, true, false, inl, inr, refl, ap}
+use Rattle.std.proofs.Common.{◌≡◌, ◌-◌, ◌%◌, ◌/◌, arith, ◌<◌, ◌≤◌, ◌⊎◌, ℕ, Bool, true, false, inl, inr, refl, ap}
 use borrow.Author.Tests.{ltb-true, ltb-false, le-ltb}
 use Rattle.std.proofs.lemmas.Int.{ints, SFits-int_wrap}
-use Rattle.std.specs.Prelude.{nat_lt, ℤ, pos, negsuc, neg_ℤ, ◌+ℤ◌, ◌*ℤ◌}
+use Rattle.std.specs.Prelude.{nat_lt, ℤ, pos, negsuc, ◌+ℤ◌, ◌*ℤ◌}
 use Rattle.std.specs.Int.{int_wrap, w16, cast_signed}
 use Rattle.gd_words.specs.Arithmetic.{wrap, IsWrapOf}
 

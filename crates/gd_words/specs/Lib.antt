@@ -1,4 +1,5 @@
 pub mod Arithmetic
+pub mod Members
 pub mod PaddedIdent
 pub mod PaddedName
 pub mod PaddedText

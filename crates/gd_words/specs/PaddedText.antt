@@ -1,5 +1,5 @@
 -- Texts in a fixed number of places, zeros after them.
-use Rattle.std.proofs.Common.{◌≡◌, ℕ, ◌+◌, ◌-◌, ◌≤◌, List, [], ◌∷◌, ◌++◌, length, take, min, refl, sym, ap, ◌∙◌, arith, replicate}
+use Rattle.std.proofs.Common.{◌≡◌, ℕ, ◌+◌, ◌-◌, ◌≤◌, List, length, take, ap, ◌∙◌, arith, replicate}
 use Rattle.std.proofs.lemmas.List.{length-take, length-replicate, length-append}
 use Rattle.gd_words.specs.Spelling.{padded}
 

@@ -11,7 +11,8 @@ use Rattle.path_semantics.specs.declared.dues.Dues.{Dues}
 use Rattle.path_semantics.specs.Dues.{with_changed, changed_by_return, after_entry}
 use Rattle.path_semantics.specs.Statements.{numbers_of}
 use Rattle.path_semantics.specs.Place.{Place, Stand, next_in, body_of, ways_of, rounds_of, ways, stand_at, settled, stands_after, successors, first_stand}
-use Rattle.path_semantics.specs.Path.{IsOneOf, number_at, Walks, Leads}
+use Rattle.gd_words.specs.Members.{IsAmong}
+use Rattle.path_semantics.specs.Path.{number_at, Walks, Leads}
 use Rattle.path_semantics.specs.Ordered.{AreDistinct, IsOrdered}
 use Rattle.path_semantics.proofs.Distinct.{distinct-apart, given-apart}
 use Rattle.path_semantics.proofs.Kept.{one-mapped, kept-led, kept-after}
@@ -23,13 +24,13 @@ use Rattle.path_semantics.proofs.Walks.{numbered}
 abbrev all_entries : Place → List Entry
 all_entries place = flat_map (λ (frame : List Entry). frame) place
 
-drop-one : (entry : Entry) (frame : List Entry) → IsOneOf entry (drop 1 frame) → IsOneOf entry frame
+drop-one : (entry : Entry) (frame : List Entry) → IsAmong entry (drop 1 frame) → IsAmong entry frame
 drop-one entry [] among = among
 drop-one entry (first ∷ rest) among = inr among
 
 -- the next entry after some is one of the frame or of a caller's
 next-later : (rest : List Entry) (callers : Place) (dues : Dues) (next : Entry) → next_in (stand_at rest callers dues).place ≡ Some next
-    → IsOneOf next rest ⊎ IsOneOf next (all_entries callers)
+    → IsAmong next rest ⊎ IsAmong next (all_entries callers)
 next-later (entry ∷ rest) callers dues next is = inl (inl (let same : next ≡ entry = cc in same))
 next-later [] [] dues next is = absurd (cc)
 next-later [] (caller ∷ callers) dues next is =
@@ -39,8 +40,8 @@ next-later [] (caller ∷ callers) dues next is =
     ])
 
 -- an entry above is of a later procedure
-above-number : (program : Program) (low : ℕ) (callers : Place) (entry : Entry) → AreLevels program low callers → IsOneOf entry (all_entries callers)
-    → (k : ℕ) × (low ≤ k) × IsOneOf (number_of entry) (numbers_of_procedure program k)
+above-number : (program : Program) (low : ℕ) (callers : Place) (entry : Entry) → AreLevels program low callers → IsAmong entry (all_entries callers)
+    → (k : ℕ) × (low ≤ k) × IsAmong (number_of entry) (numbers_of_procedure program k)
 above-number program low [] entry levels among = absurd among
 above-number program low (frame ∷ callers) entry levels among =
     elim (one-either entry frame (all_entries callers) among) [
@@ -48,30 +49,30 @@ above-number program low (frame ∷ callers) entry levels among =
       | inr above ↦ higher (above-number program (levels.0 + 1) callers entry levels.3 above)
     ]
   where
-    higher : (k : ℕ) × (levels.0 + 1 ≤ k) × IsOneOf (number_of entry) (numbers_of_procedure program k)
-        → (k : ℕ) × (low ≤ k) × IsOneOf (number_of entry) (numbers_of_procedure program k)
+    higher : (k : ℕ) × (levels.0 + 1 ≤ k) × IsAmong (number_of entry) (numbers_of_procedure program k)
+        → (k : ℕ) × (low ≤ k) × IsAmong (number_of entry) (numbers_of_procedure program k)
     higher (k, above, number) = let least : low ≤ levels.0 = levels.1 in (k, omega arith, number)
 
 -- what comes after an entry has none of its numbers
 next-apart : (program : Program) → IsOrdered program → (entry : Entry) (rest : List Entry) (callers : Place) (dues : Dues) (next : Entry)
-    → AreLevels program 0 ((entry ∷ rest) ∷ callers) → next_in (stand_at rest callers dues).place ≡ Some next → IsOneOf (number_of next) (numbers_at entry) → ⊥
+    → AreLevels program 0 ((entry ∷ rest) ∷ callers) → next_in (stand_at rest callers dues).place ≡ Some next → IsAmong (number_of next) (numbers_at entry) → ⊥
 next-apart program ordered entry rest callers dues next levels is inner =
     elim (next-later rest callers dues next is) [
       | inl later ↦ levels.2.apart.1 next later inner
       | inr above ↦ apart-above (above-number program (levels.0 + 1) callers next levels.3 above)
     ]
   where
-    apart-above : (k : ℕ) × (levels.0 + 1 ≤ k) × IsOneOf (number_of next) (numbers_of_procedure program k) → ⊥
+    apart-above : (k : ℕ) × (levels.0 + 1 ≤ k) × IsAmong (number_of next) (numbers_of_procedure program k) → ⊥
     apart-above (k, above, number) =
         given-apart (λ (procedure : Procedure). numbers_of procedure.body) program.procedures levels.0 k (number_of next) ordered.numbers (omega arith)
         ((levels.2.belong entry (inl refl)).numbers (number_of next) inner) number
 
 -- what tells the two ways of a test apart
 record AreBranches (entry : Entry) (rest : List Entry) (callers : Place) (dues : Dues) (first second : List Entry) : Type 0 where
-  in_first : (one : Entry) (more : List Entry) → first ≡ one ∷ more → IsOneOf (number_of one) (numbers_at entry)
-  in_second : (one : Entry) (more : List Entry) → second ≡ one ∷ more → IsOneOf (number_of one) (numbers_at entry)
+  in_first : (one : Entry) (more : List Entry) → first ≡ one ∷ more → IsAmong (number_of one) (numbers_at entry)
+  in_second : (one : Entry) (more : List Entry) → second ≡ one ∷ more → IsAmong (number_of one) (numbers_at entry)
   differ : (one other : Entry) (more others : List Entry) → first ≡ one ∷ more → second ≡ other ∷ others → number_of one ≡ number_of other → ⊥
-  after : (next : Entry) → next_in (stand_at rest callers dues).place ≡ Some next → IsOneOf (number_of next) (numbers_at entry) → ⊥
+  after : (next : Entry) → next_in (stand_at rest callers dues).place ≡ Some next → IsAmong (number_of next) (numbers_at entry) → ⊥
 
 number-same : (one next : Entry) (found : Option Entry) → option_map number_of found ≡ Some (number_of one) → found ≡ Some next → number_of one ≡ number_of next
 number-same one next found has is = cc (ap (option_map number_of) is)
@@ -85,13 +86,13 @@ branches-differ entry rest callers dues (one ∷ more) (other ∷ others) are sa
 branches-differ entry rest callers dues (one ∷ more) [] are same =
     let found = numbered number_of (next_in (stand_at rest callers dues).place) (number_of one) (sym same) in
     let equal : number_of one ≡ number_of found.0 = number-same one found.0 (next_in (stand_at rest callers dues).place) (sym same) found.1 in
-    absurd (are.after found.0 found.1 (subst (λ (n : ℕ). IsOneOf n (numbers_at entry)) equal (are.in_first one more refl)))
+    absurd (are.after found.0 found.1 (subst (λ (n : ℕ). IsAmong n (numbers_at entry)) equal (are.in_first one more refl)))
 branches-differ entry rest callers dues [] (other ∷ others) are same =
     let found = numbered number_of (next_in (stand_at rest callers dues).place) (number_of other) same in
     let equal : number_of other ≡ number_of found.0 = number-same other found.0 (next_in (stand_at rest callers dues).place) same found.1 in
-    absurd (are.after found.0 found.1 (subst (λ (n : ℕ). IsOneOf n (numbers_at entry)) equal (are.in_second other others refl)))
+    absurd (are.after found.0 found.1 (subst (λ (n : ℕ). IsAmong n (numbers_at entry)) equal (are.in_second other others refl)))
 
-runs-first : (part : List Statement) (one : Entry) (more : List Entry) → runs_of part ≡ one ∷ more → IsOneOf (number_of one) (numbers_of part)
+runs-first : (part : List Statement) (one : Entry) (more : List Entry) → runs_of part ≡ one ∷ more → IsAmong (number_of one) (numbers_of part)
 runs-first [] one more is = absurd (cc)
 runs-first (statement ∷ part) one more is =
     let same : one ≡ Run statement = cc in
@@ -99,7 +100,7 @@ runs-first (statement ∷ part) one more is =
 
 -- the first entry of a body that others follow
 run-first-of : (part : List Statement) (entry : Entry) (others : List Entry) (one : Entry) (more : List Entry) → runs_of part ++ entry ∷ others ≡ one ∷ more
-    → IsOneOf (number_of one) (numbers_of part) ⊎ (one ≡ entry)
+    → IsAmong (number_of one) (numbers_of part) ⊎ (one ≡ entry)
 run-first-of [] entry others one more is = inr (let same : one ≡ entry = cc in same)
 run-first-of (statement ∷ part) entry others one more is =
     let same : one ≡ Run statement = cc in
@@ -108,13 +109,13 @@ run-first-of (statement ∷ part) entry others one more is =
 abbrev Differ : Dues → Place → Place → Type 0
 Differ dues one other = number_at (settled dues one) ≡ number_at (settled dues other) → settled dues one ≡ settled dues other
 
-only-differ : (dues : Dues) (one other way : Place) → IsOneOf one (way ∷ []) → IsOneOf other (way ∷ []) → Differ dues one other
+only-differ : (dues : Dues) (one other way : Place) → IsAmong one (way ∷ []) → IsAmong other (way ∷ []) → Differ dues one other
 only-differ dues one other way (inl same) (inl equal) number = ap (settled dues) (same ∙ sym equal)
 only-differ dues one other way (inl same) (inr among) number = absurd among
 only-differ dues one other way (inr among) (inl equal) number = absurd among
 only-differ dues one other way (inr among) (inr also) number = absurd among
 
-both-differ : (dues : Dues) (one other first second : Place) → Differ dues first second → IsOneOf one (first ∷ second ∷ []) → IsOneOf other (first ∷ second ∷ [])
+both-differ : (dues : Dues) (one other first second : Place) → Differ dues first second → IsAmong one (first ∷ second ∷ []) → IsAmong other (first ∷ second ∷ [])
     → Differ dues one other
 both-differ dues one other first second differ (inl same) (inl equal) number = ap (settled dues) (same ∙ sym equal)
 both-differ dues one other first second differ (inl same) (inr (inl equal)) number =
@@ -131,8 +132,8 @@ both-differ dues one other first second differ (inr (inr among)) also number = a
 
 -- a body that comes again, or what comes after
 round-differ : (entry : Entry) (rest : List Entry) (callers : Place) (dues : Dues) (body : List Statement) (again : Entry) (more : List Entry)
-    → ((n : ℕ) → IsOneOf n (numbers_of body) → IsOneOf n (numbers_at entry)) → IsOneOf (number_of again) (numbers_at entry)
-    → ((next : Entry) → next_in (stand_at rest callers dues).place ≡ Some next → IsOneOf (number_of next) (numbers_at entry) → ⊥)
+    → ((n : ℕ) → IsAmong n (numbers_of body) → IsAmong n (numbers_at entry)) → IsAmong (number_of again) (numbers_at entry)
+    → ((next : Entry) → next_in (stand_at rest callers dues).place ≡ Some next → IsAmong (number_of next) (numbers_at entry) → ⊥)
     → Differ dues ((runs_of body ++ again ∷ (more ++ rest)) ∷ callers) (rest ∷ callers)
 round-differ entry rest callers dues body again more part own after same =
     let regroup : (runs_of body ++ again ∷ more) ++ rest ≡ runs_of body ++ again ∷ (more ++ rest) = append_assoc (runs_of body) (again ∷ more) rest in
@@ -144,13 +145,13 @@ round-differ entry rest callers dues body again more part own after same =
       after = after;
     }) (ap (λ (frame : List Entry). number_at (stand_at frame callers dues)) regroup ∙ same)
   where
-    from-body : (e : Entry) (later : List Entry) → IsOneOf (number_of e) (numbers_of body) ⊎ (e ≡ again) → IsOneOf (number_of e) (numbers_at entry)
+    from-body : (e : Entry) (later : List Entry) → IsAmong (number_of e) (numbers_of body) ⊎ (e ≡ again) → IsAmong (number_of e) (numbers_at entry)
     from-body e later (inl inner) = part (number_of e) inner
-    from-body e later (inr is) = subst (λ (f : Entry). IsOneOf (number_of f) (numbers_at entry)) (sym is) own
+    from-body e later (inr is) = subst (λ (f : Entry). IsAmong (number_of f) (numbers_at entry)) (sym is) own
 
 statement-differ : (program : Program) → IsOrdered program → (self : Statement) (rest : List Entry) (callers : Place) (dues : Dues) (one other : Place)
     (what : What-F What Statement) → out-What self.what ≡ what → AreLevels program 0 ((Run self ∷ rest) ∷ callers)
-    → IsOneOf one (ways_of program self rest callers what) → IsOneOf other (ways_of program self rest callers what) → Differ dues one other
+    → IsAmong one (ways_of program self rest callers what) → IsAmong other (ways_of program self rest callers what) → Differ dues one other
 statement-differ program ordered self rest callers dues one other (What-F.If test first second) is levels among also =
     let distinct = levels.2.apart.0 in
     let parts : AreDistinct (numbers_of first ++ numbers_of second) = if-numbers self.number first second (subst AreDistinct (ap (inside self.number) is) distinct) in
@@ -161,7 +162,7 @@ statement-differ program ordered self rest callers dues one other (What-F.If tes
       in_first = λ e more begins. in_first.numbers (number_of e) (runs-first first e more begins);
       in_second = λ e more begins. in_second.numbers (number_of e) (runs-first second e more begins);
       differ = λ e f more others begins ends equal. distinct-apart (numbers_of first) (numbers_of second) parts (number_of e) (runs-first first e more begins)
-          (subst (λ (n : ℕ). IsOneOf n (numbers_of second)) (sym equal) (runs-first second f others ends));
+          (subst (λ (n : ℕ). IsAmong n (numbers_of second)) (sym equal) (runs-first second f others ends));
       after = λ next later inner. next-apart program ordered (Run self) rest callers dues next levels later inner;
     })) among also
 statement-differ program ordered self rest callers dues one other (What-F.While test body) is levels among also =
@@ -181,17 +182,17 @@ statement-differ program ordered self rest callers dues one other _ is levels am
 
 test-differ : (program : Program) → IsOrdered program → (self : Statement) (rest : List Entry) (callers : Place) (dues : Dues) (one other : Place)
     (what : What-F What Statement) → out-What self.what ≡ what → AreLevels program 0 ((Test self ∷ rest) ∷ callers)
-    → IsOneOf one (rounds_of self rest callers what) → IsOneOf other (rounds_of self rest callers what) → Differ dues one other
+    → IsAmong one (rounds_of self rest callers what) → IsAmong other (rounds_of self rest callers what) → Differ dues one other
 test-differ program ordered self rest callers dues one other (What-F.For variable from to body last) is levels among also =
     let part = for-body self variable from to body last is levels.2.apart.0 in
     both-differ dues one other ((runs_of body ++ Last self ∷ Test self ∷ rest) ∷ callers) (rest ∷ callers)
     (round-differ (Test self) rest callers dues body (Last self) (Test self ∷ []) (λ n inner. part.numbers n inner)
-    (subst (IsOneOf (last_of (out-What self.what))) (sym (ap (inside_test self.number) is)) (inr (inl (ap last_of is))))
+    (subst (IsAmong (last_of (out-What self.what))) (sym (ap (inside_test self.number) is)) (inr (inl (ap last_of is))))
     (λ next later inner. next-apart program ordered (Test self) rest callers dues next levels later inner)) among also
 test-differ program ordered self rest callers dues one other _ is levels among also = only-differ dues one other (rest ∷ callers) among also
 
 ways-differ : (program : Program) → IsOrdered program → (entry : Entry) (rest : List Entry) (callers : Place) (dues : Dues) (one other : Place)
-    → AreLevels program 0 ((entry ∷ rest) ∷ callers) → IsOneOf one (ways program entry rest callers) → IsOneOf other (ways program entry rest callers) → Differ dues one other
+    → AreLevels program 0 ((entry ∷ rest) ∷ callers) → IsAmong one (ways program entry rest callers) → IsAmong other (ways program entry rest callers) → Differ dues one other
 ways-differ program ordered (Run self) rest callers dues one other levels among also =
     statement-differ program ordered self rest callers dues one other (out-What self.what) refl levels among also
 ways-differ program ordered (Test self) rest callers dues one other levels among also =
@@ -199,7 +200,7 @@ ways-differ program ordered (Test self) rest callers dues one other levels among
 ways-differ program ordered (Last self) rest callers dues one other levels among also = only-differ dues one other (rest ∷ callers) among also
 
 stands-differ : (program : Program) → IsOrdered program → (dues : Dues) (place : Place) (one other : Stand) → AreLevels program 0 place
-    → IsOneOf one (stands_after program dues place) → IsOneOf other (stands_after program dues place) → number_at one ≡ number_at other → one ≡ other
+    → IsAmong one (stands_after program dues place) → IsAmong other (stands_after program dues place) → number_at one ≡ number_at other → one ≡ other
 stands-differ program ordered dues [] one other levels among also same = absurd among
 stands-differ program ordered dues ([] ∷ callers) one other levels among also same = absurd among
 stands-differ program ordered dues ((entry ∷ rest) ∷ callers) one other levels among also same =
@@ -211,7 +212,7 @@ stands-differ program ordered dues ((entry ∷ rest) ∷ callers) one other leve
     ∙ sym second.2
 
 pub successors-differ : (program : Program) → IsOrdered program → (path : List ℕ) (here one other : Stand) → Leads program path here
-    → IsOneOf one (successors program here) → IsOneOf other (successors program here) → number_at one ≡ number_at other → one ≡ other
+    → IsAmong one (successors program here) → IsAmong other (successors program here) → number_at one ≡ number_at other → one ≡ other
 successors-differ program ordered path here one other walk among also same =
     stands-differ program ordered here.dues here.place one other (kept-led program (AreLevels program 0) (levels-kept program ordered) path here walk) among also same
 

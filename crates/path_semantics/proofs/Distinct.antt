@@ -1,6 +1,6 @@
 -- Lists of numbers of which none stands twice.
 use Rattle.std.proofs.Common.{inl, inr, ℕ, zero, suc, ◌<◌, arith, List, [], ◌∷◌, ◌++◌, Option, Some, None, slice_get, flat_map, subst}
-use Rattle.path_semantics.specs.Path.{IsOneOf}
+use Rattle.gd_words.specs.Members.{IsAmong}
 use Rattle.path_semantics.specs.Ordered.{AreDistinct}
 use Rattle.path_semantics.proofs.Reaching.{one-left, one-right, one-given, one-giver}
 
@@ -12,13 +12,13 @@ pub distinct-right : (xs ys : List ℕ) → AreDistinct (xs ++ ys) → AreDistin
 distinct-right [] ys distinct = distinct
 distinct-right (x ∷ xs) ys distinct = distinct-right xs ys distinct.1
 
-pub distinct-apart : (xs ys : List ℕ) → AreDistinct (xs ++ ys) → (n : ℕ) → IsOneOf n xs → IsOneOf n ys → ⊥
+pub distinct-apart : (xs ys : List ℕ) → AreDistinct (xs ++ ys) → (n : ℕ) → IsAmong n xs → IsAmong n ys → ⊥
 distinct-apart [] ys distinct n first second = first
-distinct-apart (x ∷ xs) ys distinct n (inl same) second = distinct.0 (one-right x xs ys (subst (λ (m : ℕ). IsOneOf m ys) same second))
+distinct-apart (x ∷ xs) ys distinct n (inl same) second = distinct.0 (one-right x xs ys (subst (λ (m : ℕ). IsAmong m ys) same second))
 distinct-apart (x ∷ xs) ys distinct n (inr first) second = distinct-apart xs ys distinct.1 n first second
 
 -- what some of these give is given by all of them
-pub given-part : {A : Type 0} (f : A → List ℕ) (xs ys : List A) → ((x : A) → IsOneOf x xs → IsOneOf x ys) → (n : ℕ) → IsOneOf n (flat_map f xs) → IsOneOf n (flat_map f ys)
+pub given-part : {A : Type 0} (f : A → List ℕ) (xs ys : List A) → ((x : A) → IsAmong x xs → IsAmong x ys) → (n : ℕ) → IsAmong n (flat_map f xs) → IsAmong n (flat_map f ys)
 given-part f xs ys part n among = let found = one-giver f n xs among in one-given f found.0 n ys (part found.0 found.1) found.2
 
 -- what the item at a place gives
@@ -26,14 +26,14 @@ abbrev pub given_at : {A : Type 0} → (A → List ℕ) → Option A → List �
 given_at f None = []
 given_at f (Some x) = f x
 
-pub given-all : {A : Type 0} (f : A → List ℕ) (xs : List A) (k n : ℕ) → IsOneOf n (given_at f (slice_get xs k)) → IsOneOf n (flat_map f xs)
+pub given-all : {A : Type 0} (f : A → List ℕ) (xs : List A) (k n : ℕ) → IsAmong n (given_at f (slice_get xs k)) → IsAmong n (flat_map f xs)
 given-all f [] k n among = among
 given-all f (x ∷ xs) zero n among = one-left n (f x) (flat_map f xs) among
 given-all f (x ∷ xs) (suc k) n among = one-right n (f x) (flat_map f xs) (given-all f xs k n among)
 
 -- a number that one item gives isn't given by a later one
 pub given-apart : {A : Type 0} (f : A → List ℕ) (xs : List A) (k j n : ℕ) → AreDistinct (flat_map f xs) → k < j
-    → IsOneOf n (given_at f (slice_get xs k)) → IsOneOf n (given_at f (slice_get xs j)) → ⊥
+    → IsAmong n (given_at f (slice_get xs k)) → IsAmong n (given_at f (slice_get xs j)) → ⊥
 given-apart f [] k j n distinct before first second = first
 given-apart f (x ∷ xs) k zero n distinct before first second = absurd (omega arith)
 given-apart f (x ∷ xs) zero (suc j) n distinct before first second = distinct-apart (f x) (flat_map f xs) distinct n first (given-all f xs j n second)

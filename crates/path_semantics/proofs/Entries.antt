@@ -7,7 +7,7 @@ use Rattle.tal_tree.specs.declared.statement.What.{What, What-F, out-What}
 use Rattle.process_semantics.specs.Program.{Entry, Run, Test, Last, runs_of}
 use Rattle.path_semantics.specs.Statements.{all_in, all_of}
 use Rattle.path_semantics.specs.Place.{Place, body_in, body_of, ways_of, rounds_of, ways}
-use Rattle.path_semantics.specs.Path.{IsOneOf}
+use Rattle.gd_words.specs.Members.{IsAmong}
 use Rattle.path_semantics.proofs.Kept.{IsKept}
 use Rattle.path_semantics.proofs.Reaching.{one-left, one-right}
 use Rattle.path_semantics.proofs.Within.{within_of, within-is}
@@ -18,11 +18,11 @@ statement_of (Test statement) = statement
 statement_of (Last statement) = statement
 
 abbrev pub HoldsIn : (Statement → Type 0) → List Statement → Type 0
-HoldsIn P statements = (statement : Statement) → IsOneOf statement (all_of statements) → P statement
+HoldsIn P statements = (statement : Statement) → IsAmong statement (all_of statements) → P statement
 
 -- of each entry's statement and of those that stand in it
 abbrev pub HoldsOf : (Statement → Type 0) → Entry → Type 0
-HoldsOf P entry = (statement : Statement) → IsOneOf statement (all_in (statement_of entry)) → P statement
+HoldsOf P entry = (statement : Statement) → IsAmong statement (all_in (statement_of entry)) → P statement
 
 abbrev pub HoldsFor : (Statement → Type 0) → List Entry → Type 0
 HoldsFor P [] = Unit {0}
@@ -41,38 +41,38 @@ for-runs P (first ∷ statements) rest holds later = (
 
 -- what holds of a statement's parts
 in-layer : (P : Statement → Type 0) (self : Statement) (what : What-F What Statement) → HoldsOf P (Run self) → out-What self.what ≡ what
-    → (statement : Statement) → IsOneOf statement (within_of what) → P statement
+    → (statement : Statement) → IsAmong statement (within_of what) → P statement
 in-layer P self what holds is statement among =
-    holds statement (inr (subst (IsOneOf statement) (sym (within-is self.what ∙ ap within_of is)) among))
+    holds statement (inr (subst (IsAmong statement) (sym (within-is self.what ∙ ap within_of is)) among))
 
 for-drop : (P : Statement → Type 0) (frame : List Entry) → HoldsFor P frame → HoldsFor P (drop 1 frame)
 for-drop P [] holds = tt
 for-drop P (entry ∷ rest) holds = holds.1
 
-pub only-way : {A : Type 0} (P : A → Type 0) (way one : A) → IsOneOf way (one ∷ []) → P one → P way
+pub only-way : {A : Type 0} (P : A → Type 0) (way one : A) → IsAmong way (one ∷ []) → P one → P way
 only-way P way one (inl same) holds = subst P (sym same) holds
 only-way P way one (inr among) holds = absurd among
 
-pub either-way : {A : Type 0} (P : A → Type 0) (way one other : A) → IsOneOf way (one ∷ other ∷ []) → P one → P other → P way
+pub either-way : {A : Type 0} (P : A → Type 0) (way one other : A) → IsAmong way (one ∷ other ∷ []) → P one → P other → P way
 either-way P way one other (inl same) first second = subst P (sym same) first
 either-way P way one other (inr among) first second = only-way P way other among second
 
 body-holds : (P : Statement → Type 0) (program : Program)
-    → ((procedure : Procedure) (statement : Statement) → IsOneOf procedure program.procedures → IsOneOf statement (all_of procedure.body) → P statement)
-    → (procedure : Option Procedure) → ((one : Procedure) → procedure ≡ Some one → IsOneOf one program.procedures) → HoldsFor P (body_in procedure)
+    → ((procedure : Procedure) (statement : Statement) → IsAmong procedure program.procedures → IsAmong statement (all_of procedure.body) → P statement)
+    → (procedure : Option Procedure) → ((one : Procedure) → procedure ≡ Some one → IsAmong one program.procedures) → HoldsFor P (body_in procedure)
 body-holds P program all None there = tt
 body-holds P program all (Some procedure) there =
     subst (HoldsFor P) (append-nil (runs_of procedure.body)) (for-runs P procedure.body [] (λ statement among. all procedure statement (there procedure refl) among) tt)
 
-got-is-one : {A : Type 0} (xs : List A) (k : ℕ) (x : A) → slice_get xs k ≡ Some x → IsOneOf x xs
+got-is-one : {A : Type 0} (xs : List A) (k : ℕ) (x : A) → slice_get xs k ≡ Some x → IsAmong x xs
 got-is-one [] k x got = absurd (cc)
 got-is-one (y ∷ xs) zero x got = inl (let same : x ≡ y = cc in same)
 got-is-one (y ∷ xs) (suc k) x got = inr (got-is-one xs k x got)
 
 statement-way : (P : Statement → Type 0) (program : Program)
-    → ((procedure : Procedure) (statement : Statement) → IsOneOf procedure program.procedures → IsOneOf statement (all_of procedure.body) → P statement)
+    → ((procedure : Procedure) (statement : Statement) → IsAmong procedure program.procedures → IsAmong statement (all_of procedure.body) → P statement)
     → (self : Statement) (rest : List Entry) (callers way : Place) (what : What-F What Statement) → out-What self.what ≡ what
-    → HoldsOf P (Run self) → HoldsFor P rest → HoldsAt P callers → IsOneOf way (ways_of program self rest callers what) → HoldsAt P way
+    → HoldsOf P (Run self) → HoldsFor P rest → HoldsAt P callers → IsAmong way (ways_of program self rest callers what) → HoldsAt P way
 statement-way P program all self rest callers way (What-F.If test first second) is own later above among =
     either-way (HoldsAt P) way ((runs_of first ++ rest) ∷ callers) ((runs_of second ++ rest) ∷ callers) among
     (for-runs P first rest (λ statement there. in-layer P self (What-F.If test first second) own is statement (one-left statement (all_of first) (all_of second) there)) later, above)
@@ -94,15 +94,15 @@ statement-way P program all self rest callers way What-F.Stop is own later above
 statement-way P program all self rest callers way _ is own later above among = only-way (HoldsAt P) way (rest ∷ callers) among (later, above)
 
 round-way : (P : Statement → Type 0) (self : Statement) (rest : List Entry) (callers way : Place) (what : What-F What Statement) → out-What self.what ≡ what
-    → HoldsOf P (Run self) → HoldsFor P rest → HoldsAt P callers → IsOneOf way (rounds_of self rest callers what) → HoldsAt P way
+    → HoldsOf P (Run self) → HoldsFor P rest → HoldsAt P callers → IsAmong way (rounds_of self rest callers what) → HoldsAt P way
 round-way P self rest callers way (What-F.For variable from to body last) is own later above among =
     either-way (HoldsAt P) way ((runs_of body ++ Last self ∷ Test self ∷ rest) ∷ callers) (rest ∷ callers) among
     (for-runs P body (Last self ∷ Test self ∷ rest) (in-layer P self (What-F.For variable from to body last) own is) (own, (own, later)), above) (later, above)
 round-way P self rest callers way _ is own later above among = only-way (HoldsAt P) way (rest ∷ callers) among (later, above)
 
 entry-way : (P : Statement → Type 0) (program : Program)
-    → ((procedure : Procedure) (statement : Statement) → IsOneOf procedure program.procedures → IsOneOf statement (all_of procedure.body) → P statement)
-    → (entry : Entry) (rest : List Entry) (callers way : Place) → HoldsAt P ((entry ∷ rest) ∷ callers) → IsOneOf way (ways program entry rest callers) → HoldsAt P way
+    → ((procedure : Procedure) (statement : Statement) → IsAmong procedure program.procedures → IsAmong statement (all_of procedure.body) → P statement)
+    → (entry : Entry) (rest : List Entry) (callers way : Place) → HoldsAt P ((entry ∷ rest) ∷ callers) → IsAmong way (ways program entry rest callers) → HoldsAt P way
 entry-way P program all (Run self) rest callers way holds among =
     statement-way P program all self rest callers way (out-What self.what) refl holds.0.0 holds.0.1 holds.1 among
 entry-way P program all (Test self) rest callers way holds among =
@@ -110,7 +110,7 @@ entry-way P program all (Test self) rest callers way holds among =
 entry-way P program all (Last self) rest callers way holds among = only-way (HoldsAt P) way (rest ∷ callers) among (holds.0.1, holds.1)
 
 pub entries-kept : (P : Statement → Type 0) (program : Program)
-    → ((procedure : Procedure) (statement : Statement) → IsOneOf procedure program.procedures → IsOneOf statement (all_of procedure.body) → P statement)
+    → ((procedure : Procedure) (statement : Statement) → IsAmong procedure program.procedures → IsAmong statement (all_of procedure.body) → P statement)
     → IsKept program (HoldsAt P)
 entries-kept P program all = record {
   first = (body-holds P program all (slice_get program.procedures program.main) (got-is-one program.procedures program.main), tt);

@@ -7,7 +7,7 @@ use Rattle.tal_tree.specs.declared.program.Procedure.{Procedure}
 use Rattle.tal_tree.specs.declared.statement.Statement.{Statement}
 use Rattle.path_semantics.specs.Bounds.{greatest, of_called, depth_from, size_from, in_order, depths, sizes}
 use Rattle.path_semantics.specs.Ordered.{IsOrdered}
-use Rattle.path_semantics.specs.Path.{IsOneOf}
+use Rattle.gd_words.specs.Members.{IsAmong}
 use Rattle.path_semantics.specs.Statements.{numbers_of, calls_of}
 
 get-left : (xs ys : List ℕ) (k : ℕ) → k < length xs → slice_get (xs ++ ys) k ≡ slice_get xs k
@@ -57,11 +57,11 @@ in_order-at number before (first ∷ rest) (suc k) place procedure found at =
     let more : length (before ++ number before first.body ∷ []) ≡ length before + 1 = longer before (number before first.body) in
     in_order-at number (before ++ number before first.body ∷ []) rest k place procedure found (omega arith)
 
-map-same : (f g : ℕ → ℕ) (xs : List ℕ) → ((x : ℕ) → IsOneOf x xs → f x ≡ g x) → map f xs ≡ map g xs
+map-same : (f g : ℕ → ℕ) (xs : List ℕ) → ((x : ℕ) → IsAmong x xs → f x ≡ g x) → map f xs ≡ map g xs
 map-same f g [] same = refl
 map-same f g (x ∷ xs) same = ap₂ (λ (y : ℕ) (ys : List ℕ). y ∷ ys) (same x (inl refl)) (map-same f g xs (λ y among. same y (inr among)))
 
-called-same : (early whole : List ℕ) (body : List Statement) (k : ℕ) → ((called : ℕ) → IsOneOf called (calls_of body) → called < k)
+called-same : (early whole : List ℕ) (body : List Statement) (k : ℕ) → ((called : ℕ) → IsAmong called (calls_of body) → called < k)
     → ((called : ℕ) → called < k → slice_get early called ≡ slice_get whole called) → of_called early body ≡ of_called whole body
 called-same early whole body k before agrees =
     map-same (λ called. unwrap_or (slice_get early called) 0) (λ called. unwrap_or (slice_get whole called) 0) (calls_of body)

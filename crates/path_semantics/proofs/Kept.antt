@@ -5,12 +5,13 @@ use Rattle.process_semantics.specs.Program.{Entry, first_of}
 use Rattle.path_semantics.specs.declared.dues.Dues.{Dues}
 use Rattle.path_semantics.specs.Dues.{no_dues, with_changed, changed_by_return, after_entry}
 use Rattle.path_semantics.specs.Place.{Place, Stand, body_of, ways, stand_at, settled, stands_after, first_stand}
-use Rattle.path_semantics.specs.Path.{IsOneOf, Walks, Leads}
+use Rattle.gd_words.specs.Members.{IsAmong}
+use Rattle.path_semantics.specs.Path.{Walks, Leads}
 
 -- what holds where MAIN begins, wherever an entry leads, and where a procedure is left, also while procedures still stand at their ends
 pub record IsKept (program : Program) (P : Place → Type 0) : Type 0 where
   pub first : P (body_of program program.main ∷ [])
-  pub way : (entry : Entry) (rest : List Entry) (callers way : Place) → P ((entry ∷ rest) ∷ callers) → IsOneOf way (ways program entry rest callers) → P way
+  pub way : (entry : Entry) (rest : List Entry) (callers way : Place) → P ((entry ∷ rest) ∷ callers) → IsAmong way (ways program entry rest callers) → P way
   pub leaving : (caller : List Entry) (callers : Place) → P ([] ∷ caller ∷ callers) → P (drop 1 caller ∷ callers)
   pub ended : P []
 
@@ -26,13 +27,13 @@ kept-settled program P kept dues [] holds = kept.ended
 kept-settled program P kept dues (frame ∷ callers) holds = kept-at program P kept frame callers dues holds
 
 -- one of what a function gives for some of these
-pub one-mapped : {A B : Type 0} (f : A → B) (y : B) (xs : List A) → IsOneOf y (map f xs) → (x : A) × IsOneOf x xs × (y ≡ f x)
+pub one-mapped : {A B : Type 0} (f : A → B) (y : B) (xs : List A) → IsAmong y (map f xs) → (x : A) × IsAmong x xs × (y ≡ f x)
 one-mapped f y [] among = absurd among
 one-mapped f y (x ∷ xs) (inl same) = (x, inl refl, same)
 one-mapped f y (x ∷ xs) (inr among) = let found = one-mapped f y xs among in (found.0, inr found.1, found.2)
 
 pub kept-after : (program : Program) (P : Place → Type 0) → IsKept program P → (dues : Dues) (place : Place) (there : Stand) → P place
-    → IsOneOf there (stands_after program dues place) → P there.place
+    → IsAmong there (stands_after program dues place) → P there.place
 kept-after program P kept dues [] there holds among = absurd among
 kept-after program P kept dues ([] ∷ callers) there holds among = absurd among
 kept-after program P kept dues ((entry ∷ rest) ∷ callers) there holds among =

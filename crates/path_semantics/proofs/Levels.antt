@@ -9,7 +9,7 @@ use Rattle.process_semantics.specs.Program.{Entry, Run, Test, Last, runs_of}
 use Rattle.process_semantics.specs.Image.{number_of, last_of}
 use Rattle.path_semantics.specs.Statements.{all_in, all_of, numbers_in, own_numbers, numbers_of, own_calls, calls_of}
 use Rattle.path_semantics.specs.Place.{Place, body_in}
-use Rattle.path_semantics.specs.Path.{IsOneOf}
+use Rattle.gd_words.specs.Members.{IsAmong}
 use Rattle.path_semantics.specs.Ordered.{AreDistinct, IsOrdered}
 use Rattle.path_semantics.proofs.Distinct.{distinct-left, distinct-right, distinct-apart, given-part, given_at, given-distinct}
 use Rattle.path_semantics.proofs.Entries.{statement_of}
@@ -34,15 +34,15 @@ numbers_at (Last statement) = last_of (out-What statement.what) ∷ []
 abbrev pub calls_at : Entry → List ℕ
 calls_at entry = flat_map own_calls (all_in (statement_of entry))
 
-number-in : (number : ℕ) (what : What-F What Statement) → IsOneOf number (inside number what)
+number-in : (number : ℕ) (what : What-F What Statement) → IsAmong number (inside number what)
 number-in number (What-F.For variable from to body last) = inl refl
 number-in number _ = inl refl
 
-number-in-test : (number : ℕ) (what : What-F What Statement) → IsOneOf (number + 1) (inside_test number what)
+number-in-test : (number : ℕ) (what : What-F What Statement) → IsAmong (number + 1) (inside_test number what)
 number-in-test number (What-F.For variable from to body last) = inl refl
 number-in-test number _ = inl refl
 
-pub number-own : (entry : Entry) → IsOneOf (number_of entry) (numbers_at entry)
+pub number-own : (entry : Entry) → IsAmong (number_of entry) (numbers_at entry)
 number-own (Run statement) = number-in statement.number (out-What statement.what)
 number-own (Test statement) = number-in-test statement.number (out-What statement.what)
 number-own (Last statement) = inl refl
@@ -59,18 +59,18 @@ numbers-cons statement rest =
 -- no later entry has a number of an earlier one
 abbrev pub AreApart : List Entry → Type 0
 AreApart [] = Unit {0}
-AreApart (entry ∷ rest) = AreDistinct (numbers_at entry) × ((later : Entry) → IsOneOf later rest → IsOneOf (number_of later) (numbers_at entry) → ⊥) × AreApart rest
+AreApart (entry ∷ rest) = AreDistinct (numbers_at entry) × ((later : Entry) → IsAmong later rest → IsAmong (number_of later) (numbers_at entry) → ⊥) × AreApart rest
 
 abbrev pub numbers_of_procedure : Program → ℕ → List ℕ
 numbers_of_procedure program k = given_at (λ (procedure : Procedure). numbers_of procedure.body) (slice_get program.procedures k)
 
 -- an entry is of a procedure, and calls procedures before it
 pub record BelongsTo (program : Program) (k : ℕ) (entry : Entry) : Type 0 where
-  pub numbers : (n : ℕ) → IsOneOf n (numbers_at entry) → IsOneOf n (numbers_of_procedure program k)
-  pub calls : (called : ℕ) → IsOneOf called (calls_at entry) → called < k
+  pub numbers : (n : ℕ) → IsAmong n (numbers_at entry) → IsAmong n (numbers_of_procedure program k)
+  pub calls : (called : ℕ) → IsAmong called (calls_at entry) → called < k
 
 abbrev pub BelongTo : Program → ℕ → List Entry → Type 0
-BelongTo program k entries = (entry : Entry) → IsOneOf entry entries → BelongsTo program k entry
+BelongTo program k entries = (entry : Entry) → IsAmong entry entries → BelongsTo program k entry
 
 pub record IsFrameOf (program : Program) (k : ℕ) (frame : List Entry) : Type 0 where
   pub apart : AreApart frame
@@ -81,30 +81,30 @@ abbrev pub AreLevels : Program → ℕ → Place → Type 0
 AreLevels program low [] = Unit {0}
 AreLevels program low (frame ∷ callers) = (k : ℕ) × (low ≤ k) × IsFrameOf program k frame × AreLevels program (k + 1) callers
 
-run-of : (entry : Entry) (statements : List Statement) → IsOneOf entry (runs_of statements) → (statement : Statement) × IsOneOf statement statements × (entry ≡ Run statement)
+run-of : (entry : Entry) (statements : List Statement) → IsAmong entry (runs_of statements) → (statement : Statement) × IsAmong statement statements × (entry ≡ Run statement)
 run-of entry [] among = absurd among
 run-of entry (statement ∷ rest) (inl same) = (statement, inl refl, same)
 run-of entry (statement ∷ rest) (inr among) = let found = run-of entry rest among in (found.0, inr found.1, found.2)
 
-all-one : (statement part : Statement) (statements : List Statement) → IsOneOf statement statements → IsOneOf part (all_in statement) → IsOneOf part (all_of statements)
+all-one : (statement part : Statement) (statements : List Statement) → IsAmong statement statements → IsAmong part (all_in statement) → IsAmong part (all_of statements)
 all-one statement part statements among inner = one-given all_in statement part statements among inner
 
 -- what a statement of some has, they all have
-pub run-numbers : (entry : Entry) (statements : List Statement) (n : ℕ) → IsOneOf entry (runs_of statements) → IsOneOf n (numbers_at entry) → IsOneOf n (numbers_of statements)
+pub run-numbers : (entry : Entry) (statements : List Statement) (n : ℕ) → IsAmong entry (runs_of statements) → IsAmong n (numbers_at entry) → IsAmong n (numbers_of statements)
 run-numbers entry statements n among inner =
     let found = run-of entry statements among in
-    let own : IsOneOf n (flat_map own_numbers (all_in found.0)) =
-    subst (IsOneOf n) (sym (numbers-self found.0)) (subst (λ (e : Entry). IsOneOf n (numbers_at e)) found.2 inner) in
+    let own : IsAmong n (flat_map own_numbers (all_in found.0)) =
+    subst (IsAmong n) (sym (numbers-self found.0)) (subst (λ (e : Entry). IsAmong n (numbers_at e)) found.2 inner) in
     given-part own_numbers (all_in found.0) (all_of statements) (λ part inner. all-one found.0 part statements found.1 inner) n own
 
-pub run-calls : (entry : Entry) (statements : List Statement) (n : ℕ) → IsOneOf entry (runs_of statements) → IsOneOf n (calls_at entry) → IsOneOf n (calls_of statements)
+pub run-calls : (entry : Entry) (statements : List Statement) (n : ℕ) → IsAmong entry (runs_of statements) → IsAmong n (calls_at entry) → IsAmong n (calls_of statements)
 run-calls entry statements n among inner =
     let found = run-of entry statements among in
     given-part own_calls (all_in found.0) (all_of statements) (λ part inner. all-one found.0 part statements found.1 inner) n
-    (subst (λ (e : Entry). IsOneOf n (calls_at e)) found.2 inner)
+    (subst (λ (e : Entry). IsAmong n (calls_at e)) found.2 inner)
 
 pub apart-join : (first second : List Entry) → AreApart first → AreApart second
-    → ((entry later : Entry) → IsOneOf entry first → IsOneOf later second → IsOneOf (number_of later) (numbers_at entry) → ⊥) → AreApart (first ++ second)
+    → ((entry later : Entry) → IsAmong entry first → IsAmong later second → IsAmong (number_of later) (numbers_at entry) → ⊥) → AreApart (first ++ second)
 apart-join [] second one two cross = two
 apart-join (entry ∷ first) second one two cross = (
   one.0,
@@ -126,7 +126,7 @@ apart-drop : (frame : List Entry) → AreApart frame → AreApart (drop 1 frame)
 apart-drop [] apart = tt
 apart-drop (entry ∷ rest) apart = apart.2
 
-drop-among : (entry : Entry) (frame : List Entry) → IsOneOf entry (drop 1 frame) → IsOneOf entry frame
+drop-among : (entry : Entry) (frame : List Entry) → IsAmong entry (drop 1 frame) → IsAmong entry frame
 drop-among entry [] among = among
 drop-among entry (first ∷ rest) among = inr among
 
@@ -142,7 +142,7 @@ body-frame program ordered k (Some procedure) is =
       apart = apart-runs procedure.body
           (subst AreDistinct (sym numbers) (given-distinct (λ (procedure : Procedure). numbers_of procedure.body) program.procedures k ordered.numbers));
       belong = λ entry among. record {
-        numbers = λ n inner. subst (IsOneOf n) numbers (run-numbers entry procedure.body n among inner);
+        numbers = λ n inner. subst (IsAmong n) numbers (run-numbers entry procedure.body n among inner);
         calls = λ called inner. ordered.calls k procedure is called (run-calls entry procedure.body called among inner);
       };
     }

@@ -8,7 +8,7 @@ use Rattle.process_semantics.specs.Program.{Entry, Run, Test, Last, runs_of}
 use Rattle.process_semantics.specs.Image.{number_of, last_of}
 use Rattle.path_semantics.specs.Statements.{within, all_in, all_of, own_numbers, numbers_of, call_in, own_calls, calls_of}
 use Rattle.path_semantics.specs.Place.{Place, body_of, ways_of, rounds_of, ways}
-use Rattle.path_semantics.specs.Path.{IsOneOf}
+use Rattle.gd_words.specs.Members.{IsAmong}
 use Rattle.path_semantics.specs.Ordered.{AreDistinct, IsOrdered}
 use Rattle.path_semantics.proofs.Distinct.{distinct-left, distinct-right, given-part}
 use Rattle.path_semantics.proofs.Entries.{only-way, either-way}
@@ -19,13 +19,13 @@ use Rattle.path_semantics.proofs.Within.{within_of, within-is}
 
 -- the statements of a branch or a body, within a statement of some entry
 pub record ArePartOf (entry : Entry) (part : List Statement) : Type 0 where
-  pub numbers : (n : ℕ) → IsOneOf n (numbers_of part) → IsOneOf n (numbers_at entry)
-  pub calls : (called : ℕ) → IsOneOf called (calls_of part) → IsOneOf called (calls_at entry)
+  pub numbers : (n : ℕ) → IsAmong n (numbers_of part) → IsAmong n (numbers_at entry)
+  pub calls : (called : ℕ) → IsAmong called (calls_of part) → IsAmong called (calls_at entry)
   pub distinct : AreDistinct (numbers_of part)
 
 -- the entries of a part, before others that are apart from it
 part-frame : (program : Program) (k : ℕ) (entry : Entry) (part : List Statement) (rest : List Entry) → ArePartOf entry part → BelongsTo program k entry → IsFrameOf program k rest
-    → ((later : Entry) → IsOneOf later rest → IsOneOf (number_of later) (numbers_of part) → ⊥) → IsFrameOf program k (runs_of part ++ rest)
+    → ((later : Entry) → IsAmong later rest → IsAmong (number_of later) (numbers_of part) → ⊥) → IsFrameOf program k (runs_of part ++ rest)
 part-frame program k entry part rest is belongs later cross = record {
   apart = apart-join (runs_of part) rest (apart-runs part is.distinct) later.apart
       (λ one other among there'. λ inner. cross other there' (run-numbers one part (number_of other) among inner));
@@ -43,14 +43,14 @@ tail-frame program k entry rest is = dropped program k (entry ∷ rest) is
 
 -- a frame with another first entry that has no other numbers and calls
 other-first : (program : Program) (k : ℕ) (entry other : Entry) (rest : List Entry) → IsFrameOf program k (entry ∷ rest) → AreDistinct (numbers_at other)
-    → ((n : ℕ) → IsOneOf n (numbers_at other) → IsOneOf n (numbers_at entry)) → ((n : ℕ) → IsOneOf n (calls_at other) → IsOneOf n (calls_at entry))
+    → ((n : ℕ) → IsAmong n (numbers_at other) → IsAmong n (numbers_at entry)) → ((n : ℕ) → IsAmong n (calls_at other) → IsAmong n (calls_at entry))
     → IsFrameOf program k (other ∷ rest)
 other-first program k entry other rest is distinct numbers calls = record {
   apart = (distinct, (λ later among inner. is.apart.1 later among (numbers (number_of later) inner)), is.apart.2);
   belong = λ one among. first-or-later one among;
 }
   where
-    first-or-later : (one : Entry) → IsOneOf one (other ∷ rest) → BelongsTo program k one
+    first-or-later : (one : Entry) → IsAmong one (other ∷ rest) → BelongsTo program k one
     first-or-later one (inl same) = subst (BelongsTo program k) (sym same) (record {
       numbers = λ n inner. (is.belong entry (inl refl)).numbers n (numbers n inner);
       calls = λ called inner. (is.belong entry (inl refl)).calls called (calls called inner);
@@ -60,11 +60,11 @@ other-first program k entry other rest is distinct numbers calls = record {
 -- the parts of statements
 
 part-calls : (self : Statement) (what : What-F What Statement) (part : List Statement) → out-What self.what ≡ what
-    → ((statement : Statement) → IsOneOf statement (all_of part) → IsOneOf statement (within_of what))
-    → (called : ℕ) → IsOneOf called (calls_of part) → IsOneOf called (flat_map own_calls (all_in self))
+    → ((statement : Statement) → IsAmong statement (all_of part) → IsAmong statement (within_of what))
+    → (called : ℕ) → IsAmong called (calls_of part) → IsAmong called (flat_map own_calls (all_in self))
 part-calls self what part is among called inner =
     one-right called (own_calls self) (flat_map own_calls (within self.what))
-    (subst (λ (parts : List Statement). IsOneOf called (flat_map own_calls parts)) (sym (within-is self.what ∙ ap within_of is))
+    (subst (λ (parts : List Statement). IsAmong called (flat_map own_calls parts)) (sym (within-is self.what ∙ ap within_of is))
     (given-part own_calls (all_of part) (within_of what) among called inner))
 
 pub if-numbers : (number : ℕ) (first second : List Statement) → AreDistinct (number ∷ flat_map own_numbers (all_of first ++ all_of second))
@@ -76,7 +76,7 @@ pub if-first : (self : Statement) (test : _) (first second : List Statement) →
 if-first self test first second is distinct =
     let numbers : numbers_at (Run self) ≡ inside self.number (What-F.If test first second) = ap (inside self.number) is in
     record {
-      numbers = λ n inner. subst (IsOneOf n) (sym numbers)
+      numbers = λ n inner. subst (IsAmong n) (sym numbers)
           (inr (given-part own_numbers (all_of first) (all_of first ++ all_of second) (λ s among. one-left s (all_of first) (all_of second) among) n inner));
       calls = part-calls self (What-F.If test first second) first is (λ s among. one-left s (all_of first) (all_of second) among);
       distinct = distinct-left (numbers_of first) (numbers_of second) (if-numbers self.number first second (subst AreDistinct numbers distinct));
@@ -87,7 +87,7 @@ pub if-second : (self : Statement) (test : _) (first second : List Statement) �
 if-second self test first second is distinct =
     let numbers : numbers_at (Run self) ≡ inside self.number (What-F.If test first second) = ap (inside self.number) is in
     record {
-      numbers = λ n inner. subst (IsOneOf n) (sym numbers)
+      numbers = λ n inner. subst (IsAmong n) (sym numbers)
           (inr (given-part own_numbers (all_of second) (all_of first ++ all_of second) (λ s among. one-right s (all_of first) (all_of second) among) n inner));
       calls = part-calls self (What-F.If test first second) second is (λ s among. one-right s (all_of first) (all_of second) among);
       distinct = distinct-right (numbers_of first) (numbers_of second) (if-numbers self.number first second (subst AreDistinct numbers distinct));
@@ -97,7 +97,7 @@ pub while-body : (self : Statement) (test : _) (body : List Statement) → out-W
 while-body self test body is distinct =
     let numbers : numbers_at (Run self) ≡ inside self.number (What-F.While test body) = ap (inside self.number) is in
     record {
-      numbers = λ n inner. subst (IsOneOf n) (sym numbers) (inr inner);
+      numbers = λ n inner. subst (IsAmong n) (sym numbers) (inr inner);
       calls = part-calls self (What-F.While test body) body is (λ s among. among);
       distinct = (subst AreDistinct numbers distinct).1;
     }
@@ -107,7 +107,7 @@ pub for-body : (self : Statement) (variable : _) (from to : _) (body : List Stat
 for-body self variable from to body last is distinct =
     let numbers : numbers_at (Test self) ≡ inside_test self.number (What-F.For variable from to body last) = ap (inside_test self.number) is in
     record {
-      numbers = λ n inner. subst (IsOneOf n) (sym numbers) (inr (inr inner));
+      numbers = λ n inner. subst (IsAmong n) (sym numbers) (inr (inr inner));
       calls = part-calls self (What-F.For variable from to body last) body is (λ s among. among);
       distinct = (subst AreDistinct numbers distinct).1.1;
     }
@@ -130,9 +130,9 @@ while-frame program k self test body rest is frame =
     part-frame program k (Run self) body (Run self ∷ rest) part (frame.belong (Run self) (inl refl)) frame
     (λ later among inner. apart-from later among inner part distinct)
   where
-    apart-from : (later : Entry) → IsOneOf later (Run self ∷ rest) → IsOneOf (number_of later) (numbers_of body) → ArePartOf (Run self) body
+    apart-from : (later : Entry) → IsAmong later (Run self ∷ rest) → IsAmong (number_of later) (numbers_of body) → ArePartOf (Run self) body
         → AreDistinct (self.number ∷ numbers_of body) → ⊥
-    apart-from later (inl same) inner part distinct = distinct.0 (subst (λ (e : Entry). IsOneOf (number_of e) (numbers_of body)) same inner)
+    apart-from later (inl same) inner part distinct = distinct.0 (subst (λ (e : Entry). IsAmong (number_of e) (numbers_of body)) same inner)
     apart-from later (inr among) inner part distinct = frame.apart.1 later among (part.numbers (number_of later) inner)
 
 for-frame : (program : Program) (k : ℕ) (self : Statement) (variable : _) (from to : _) (body : List Statement) (last : ℕ) (rest : List Entry)
@@ -141,7 +141,7 @@ for-frame program k self variable from to body last rest is frame =
     let whole : numbers_at (Run self) ≡ inside self.number (What-F.For variable from to body last) = ap (inside self.number) is in
     let test : numbers_at (Test self) ≡ inside_test self.number (What-F.For variable from to body last) = ap (inside_test self.number) is in
     other-first program k (Run self) (Test self) rest frame (subst AreDistinct (sym test) (subst AreDistinct whole frame.apart.0).1)
-    (λ n inner. subst (IsOneOf n) (sym whole) (inr (subst (IsOneOf n) test inner))) (λ n inner. inner)
+    (λ n inner. subst (IsAmong n) (sym whole) (inr (subst (IsAmong n) test inner))) (λ n inner. inner)
 
 -- the frame inside a FOR, whose last assignment and test come again
 round-frame : (program : Program) (k : ℕ) (self : Statement) (variable : _) (from to : _) (body : List Statement) (last : ℕ) (rest : List Entry)
@@ -159,20 +159,20 @@ round-frame program k self variable from to body last rest is frame =
     part-frame program k (Test self) body (Last self ∷ Test self ∷ rest) part (frame.belong (Test self) (inl refl)) again
     (λ later among inner. apart-from later among inner part distinct count)
   where
-    last-apart : (later : Entry) → IsOneOf later (Test self ∷ rest) → IsOneOf (number_of later) (last_of (out-What self.what) ∷ [])
+    last-apart : (later : Entry) → IsAmong later (Test self ∷ rest) → IsAmong (number_of later) (last_of (out-What self.what) ∷ [])
         → numbers_at (Test self) ≡ (self.number + 1) ∷ last ∷ numbers_of body → AreDistinct ((self.number + 1) ∷ last ∷ numbers_of body) → last_of (out-What self.what) ≡ last → ⊥
     last-apart later (inl same) (inl equal) test distinct count = distinct.0 (inl (sym (ap number_of same) ∙ equal ∙ count))
     last-apart later (inl same) (inr among) test distinct count = among
     last-apart later (inr there') (inl equal) test distinct count =
-        frame.apart.1 later there' (subst (IsOneOf (number_of later)) (sym test) (inr (inl (equal ∙ count))))
+        frame.apart.1 later there' (subst (IsAmong (number_of later)) (sym test) (inr (inl (equal ∙ count))))
     last-apart later (inr there') (inr among) test distinct count = among
 
-    in-test : (n : ℕ) → IsOneOf n (last_of (out-What self.what) ∷ []) → numbers_at (Test self) ≡ (self.number + 1) ∷ last ∷ numbers_of body
-        → last_of (out-What self.what) ≡ last → IsOneOf n (numbers_at (Test self))
-    in-test n (inl equal) test count = subst (IsOneOf n) (sym test) (inr (inl (equal ∙ count)))
+    in-test : (n : ℕ) → IsAmong n (last_of (out-What self.what) ∷ []) → numbers_at (Test self) ≡ (self.number + 1) ∷ last ∷ numbers_of body
+        → last_of (out-What self.what) ≡ last → IsAmong n (numbers_at (Test self))
+    in-test n (inl equal) test count = subst (IsAmong n) (sym test) (inr (inl (equal ∙ count)))
     in-test n (inr among) test count = absurd among
 
-    last-or-later : (one : Entry) → IsOneOf one (Last self ∷ Test self ∷ rest) → numbers_at (Test self) ≡ (self.number + 1) ∷ last ∷ numbers_of body
+    last-or-later : (one : Entry) → IsAmong one (Last self ∷ Test self ∷ rest) → numbers_at (Test self) ≡ (self.number + 1) ∷ last ∷ numbers_of body
         → last_of (out-What self.what) ≡ last → BelongsTo program k one
     last-or-later one (inl same) test count = subst (BelongsTo program k) (sym same) (record {
       numbers = λ n inner. (frame.belong (Test self) (inl refl)).numbers n (in-test n inner test count);
@@ -180,16 +180,16 @@ round-frame program k self variable from to body last rest is frame =
     })
     last-or-later one (inr among) test count = frame.belong one among
 
-    apart-from : (later : Entry) → IsOneOf later (Last self ∷ Test self ∷ rest) → IsOneOf (number_of later) (numbers_of body) → ArePartOf (Test self) body
+    apart-from : (later : Entry) → IsAmong later (Last self ∷ Test self ∷ rest) → IsAmong (number_of later) (numbers_of body) → ArePartOf (Test self) body
         → AreDistinct ((self.number + 1) ∷ last ∷ numbers_of body) → last_of (out-What self.what) ≡ last → ⊥
     apart-from later (inl same) inner part distinct count =
-        distinct.1.0 (subst (λ (n : ℕ). IsOneOf n (numbers_of body)) (ap number_of same ∙ count) inner)
+        distinct.1.0 (subst (λ (n : ℕ). IsAmong n (numbers_of body)) (ap number_of same ∙ count) inner)
     apart-from later (inr (inl same)) inner part distinct count =
-        distinct.0 (inr (subst (λ (n : ℕ). IsOneOf n (numbers_of body)) (ap number_of same) inner))
+        distinct.0 (inr (subst (λ (n : ℕ). IsAmong n (numbers_of body)) (ap number_of same) inner))
     apart-from later (inr (inr among)) inner part distinct count = frame.apart.1 later among (part.numbers (number_of later) inner)
 
 statement-levels : (program : Program) → IsOrdered program → (self : Statement) (rest : List Entry) (callers way : Place) (what : What-F What Statement) → out-What self.what ≡ what
-    → (k : ℕ) → IsFrameOf program k (Run self ∷ rest) → AreLevels program (k + 1) callers → IsOneOf way (ways_of program self rest callers what) → AreLevels program 0 way
+    → (k : ℕ) → IsFrameOf program k (Run self ∷ rest) → AreLevels program (k + 1) callers → IsAmong way (ways_of program self rest callers what) → AreLevels program 0 way
 statement-levels program ordered self rest callers way (What-F.If test first second) is k frame above among =
     either-way (AreLevels program 0) way ((runs_of first ++ rest) ∷ callers) ((runs_of second ++ rest) ∷ callers) among
     (k, omega arith, branch-frame program k (Run self) first rest (if-first self test first second is frame.apart.0) frame, above)
@@ -204,15 +204,15 @@ statement-levels program ordered self rest callers way (What-F.AssignCall to pro
     only-way (AreLevels program 0) way (body_of program procedure ∷ (Run self ∷ rest) ∷ callers) among
     (procedure, omega arith, body-frame program ordered procedure (slice_get program.procedures procedure) refl, (k, omega arith, frame, above))
   where
-    inl-call : own_calls self ≡ procedure ∷ [] → IsOneOf procedure (calls_at (Run self))
-    inl-call equal = one-left procedure (own_calls self) (flat_map own_calls (within self.what)) (subst (IsOneOf procedure) (sym equal) (inl refl))
+    inl-call : own_calls self ≡ procedure ∷ [] → IsAmong procedure (calls_at (Run self))
+    inl-call equal = one-left procedure (own_calls self) (flat_map own_calls (within self.what)) (subst (IsAmong procedure) (sym equal) (inl refl))
 statement-levels program ordered self rest callers way (What-F.Call procedure arguments) is k frame above among =
     let before : procedure < k = (frame.belong (Run self) (inl refl)).calls procedure (inl-call (ap call_in is)) in
     only-way (AreLevels program 0) way (body_of program procedure ∷ (Run self ∷ rest) ∷ callers) among
     (procedure, omega arith, body-frame program ordered procedure (slice_get program.procedures procedure) refl, (k, omega arith, frame, above))
   where
-    inl-call : own_calls self ≡ procedure ∷ [] → IsOneOf procedure (calls_at (Run self))
-    inl-call equal = one-left procedure (own_calls self) (flat_map own_calls (within self.what)) (subst (IsOneOf procedure) (sym equal) (inl refl))
+    inl-call : own_calls self ≡ procedure ∷ [] → IsAmong procedure (calls_at (Run self))
+    inl-call equal = one-left procedure (own_calls self) (flat_map own_calls (within self.what)) (subst (IsAmong procedure) (sym equal) (inl refl))
 statement-levels program ordered self rest callers way (What-F.Return value) is k frame above among =
     only-way (AreLevels program 0) way ([] ∷ callers) among
     (k, omega arith, record { apart = tt; belong = λ entry there'. absurd there' }, above)
@@ -221,7 +221,7 @@ statement-levels program ordered self rest callers way _ is k frame above among 
     only-way (AreLevels program 0) way (rest ∷ callers) among (k, omega arith, tail-frame program k (Run self) rest frame, above)
 
 round-levels : (program : Program) (self : Statement) (rest : List Entry) (callers way : Place) (what : What-F What Statement) → out-What self.what ≡ what
-    → (k : ℕ) → IsFrameOf program k (Test self ∷ rest) → AreLevels program (k + 1) callers → IsOneOf way (rounds_of self rest callers what) → AreLevels program 0 way
+    → (k : ℕ) → IsFrameOf program k (Test self ∷ rest) → AreLevels program (k + 1) callers → IsAmong way (rounds_of self rest callers what) → AreLevels program 0 way
 round-levels program self rest callers way (What-F.For variable from to body last) is k frame above among =
     either-way (AreLevels program 0) way ((runs_of body ++ Last self ∷ Test self ∷ rest) ∷ callers) (rest ∷ callers) among
     (k, omega arith, round-frame program k self variable from to body last rest is frame, above) (k, omega arith, tail-frame program k (Test self) rest frame, above)
@@ -229,7 +229,7 @@ round-levels program self rest callers way _ is k frame above among =
     only-way (AreLevels program 0) way (rest ∷ callers) among (k, omega arith, tail-frame program k (Test self) rest frame, above)
 
 way-levels : (program : Program) → IsOrdered program → (entry : Entry) (rest : List Entry) (callers way : Place) → AreLevels program 0 ((entry ∷ rest) ∷ callers)
-    → IsOneOf way (ways program entry rest callers) → AreLevels program 0 way
+    → IsAmong way (ways program entry rest callers) → AreLevels program 0 way
 way-levels program ordered (Run self) rest callers way levels among =
     statement-levels program ordered self rest callers way (out-What self.what) refl levels.0 levels.2 levels.3 among
 way-levels program ordered (Test self) rest callers way levels among =

@@ -7,37 +7,38 @@ use Rattle.std.specs.List.{list_any}
 use Rattle.tal_tree.specs.declared.program.Program.{Program}
 use Rattle.path_semantics.specs.declared.reason.Reason.{Reason}
 use Rattle.path_semantics.specs.Place.{Stand, successors, first_stand}
-use Rattle.path_semantics.specs.Path.{IsOneOf, number_at, Steps, Walks, Leads, IsPath}
+use Rattle.gd_words.specs.Members.{IsAmong}
+use Rattle.path_semantics.specs.Path.{number_at, Steps, Walks, Leads, IsPath}
 use Rattle.path_semantics.specs.Break.{Breaks, breaks_at}
 use Rattle.path_semantics.specs.Reached.{is_number, is_next, stepped, reached_from, reached, breaks_next}
 
-pub one-left : {A : Type 0} (x : A) (xs ys : List A) → IsOneOf x xs → IsOneOf x (xs ++ ys)
+pub one-left : {A : Type 0} (x : A) (xs ys : List A) → IsAmong x xs → IsAmong x (xs ++ ys)
 one-left x [] ys among = absurd among
 one-left x (y ∷ xs) ys (inl same) = inl same
 one-left x (y ∷ xs) ys (inr among) = inr (one-left x xs ys among)
 
-pub one-right : {A : Type 0} (x : A) (xs ys : List A) → IsOneOf x ys → IsOneOf x (xs ++ ys)
+pub one-right : {A : Type 0} (x : A) (xs ys : List A) → IsAmong x ys → IsAmong x (xs ++ ys)
 one-right x [] ys among = among
 one-right x (y ∷ xs) ys among = inr (one-right x xs ys among)
 
-pub one-either : {A : Type 0} (x : A) (xs ys : List A) → IsOneOf x (xs ++ ys) → IsOneOf x xs ⊎ IsOneOf x ys
+pub one-either : {A : Type 0} (x : A) (xs ys : List A) → IsAmong x (xs ++ ys) → IsAmong x xs ⊎ IsAmong x ys
 one-either x [] ys among = inr among
 one-either x (y ∷ xs) ys (inl same) = inl (inl same)
 one-either x (y ∷ xs) ys (inr among) = elim (one-either x xs ys among) [ inl left ↦ inl (inr left) | inr right ↦ inr right ]
 
 -- one of those that a list's items give
-pub one-given : {A B : Type 0} (f : A → List B) (x : A) (y : B) (xs : List A) → IsOneOf x xs → IsOneOf y (f x) → IsOneOf y (flat_map f xs)
+pub one-given : {A B : Type 0} (f : A → List B) (x : A) (y : B) (xs : List A) → IsAmong x xs → IsAmong y (f x) → IsAmong y (flat_map f xs)
 one-given f x y [] among given = absurd among
-one-given f x y (z ∷ xs) (inl same) given = one-left y (f z) (flat_map f xs) (subst (λ w. IsOneOf y (f w)) same given)
+one-given f x y (z ∷ xs) (inl same) given = one-left y (f z) (flat_map f xs) (subst (λ w. IsAmong y (f w)) same given)
 one-given f x y (z ∷ xs) (inr among) given = one-right y (f z) (flat_map f xs) (one-given f x y xs among given)
 
-giver-more : {A B : Type 0} (f : A → List B) (y : B) (z : A) (xs : List A) → IsOneOf y (f z) ⊎ IsOneOf y (flat_map f xs)
-    → (IsOneOf y (flat_map f xs) → (x : A) × IsOneOf x xs × IsOneOf y (f x)) → (x : A) × IsOneOf x (z ∷ xs) × IsOneOf y (f x)
+giver-more : {A B : Type 0} (f : A → List B) (y : B) (z : A) (xs : List A) → IsAmong y (f z) ⊎ IsAmong y (flat_map f xs)
+    → (IsAmong y (flat_map f xs) → (x : A) × IsAmong x xs × IsAmong y (f x)) → (x : A) × IsAmong x (z ∷ xs) × IsAmong y (f x)
 giver-more f y z xs (inl given) later = (z, inl refl, given)
 giver-more f y z xs (inr among) later = let found = later among in (found.0, inr found.1, found.2)
 
 -- which item gives it
-pub one-giver : {A B : Type 0} (f : A → List B) (y : B) (xs : List A) → IsOneOf y (flat_map f xs) → (x : A) × IsOneOf x xs × IsOneOf y (f x)
+pub one-giver : {A B : Type 0} (f : A → List B) (y : B) (xs : List A) → IsAmong y (flat_map f xs) → (x : A) × IsAmong x xs × IsAmong y (f x)
 one-giver f y [] among = absurd among
 one-giver f y (z ∷ xs) among = giver-more f y z xs (one-either y (f z) (flat_map f xs) among) (λ later. one-giver f y xs later)
 
@@ -50,50 +51,50 @@ is-number number None is = absurd (cc)
 is-number number (Some next) is = eq-eqb next number (let same : next ≡ number = cc in same)
 
 step-if : (program : Program) (number : ℕ) (here there : Stand) (b : Bool) → is_next number here ≡ b
-    → IsOneOf there (if b then successors program here else []) → Steps program here number there
+    → IsAmong there (if b then successors program here else []) → Steps program here number there
 step-if program number here there true is among = record { next = number-is number (number_at here) is; leads = among }
 step-if program number here there false is among = absurd among
 
-step-is : (program : Program) (number : ℕ) (here there : Stand) → IsOneOf there (stepped program number here) → Steps program here number there
+step-is : (program : Program) (number : ℕ) (here there : Stand) → IsAmong there (stepped program number here) → Steps program here number there
 step-is program number here there among = step-if program number here there (is_next number here) refl among
 
-is-step : (program : Program) (number : ℕ) (here there : Stand) → Steps program here number there → IsOneOf there (stepped program number here)
+is-step : (program : Program) (number : ℕ) (here there : Stand) → Steps program here number there → IsAmong there (stepped program number here)
 is-step program number here there step =
-    subst (λ (b : Bool). IsOneOf there (if b then successors program here else [])) (sym (is-number number (number_at here) step.next)) step.leads
+    subst (λ (b : Bool). IsAmong there (if b then successors program here else [])) (sym (is-number number (number_at here) step.next)) step.leads
 
 -- what is reached from stands is where a walk from one of them comes
-pub reached-walks : (program : Program) (path : List ℕ) (stands : List Stand) (there : Stand) → IsOneOf there (reached_from program stands path)
-    → (here : Stand) × IsOneOf here stands × Walks program here path there
+pub reached-walks : (program : Program) (path : List ℕ) (stands : List Stand) (there : Stand) → IsAmong there (reached_from program stands path)
+    → (here : Stand) × IsAmong here stands × Walks program here path there
 reached-walks program [] stands there among = (there, among, refl)
 reached-walks program (number ∷ path) stands there among =
     let later = reached-walks program path (flat_map (stepped program number) stands) there among in
     let found = one-giver (stepped program number) later.0 stands later.1 in
     (found.0, found.1, (later.0, step-is program number found.0 later.0 found.2, later.2))
 
-pub walks-reached : (program : Program) (path : List ℕ) (stands : List Stand) (here there : Stand) → IsOneOf here stands → Walks program here path there
-    → IsOneOf there (reached_from program stands path)
-walks-reached program [] stands here there among same = subst (λ (s : Stand). IsOneOf s stands) same among
+pub walks-reached : (program : Program) (path : List ℕ) (stands : List Stand) (here there : Stand) → IsAmong here stands → Walks program here path there
+    → IsAmong there (reached_from program stands path)
+walks-reached program [] stands here there among same = subst (λ (s : Stand). IsAmong s stands) same among
 walks-reached program (number ∷ path) stands here there among walk =
     walks-reached program path (flat_map (stepped program number) stands) walk.0 there
     (one-given (stepped program number) here walk.0 stands among (is-step program number here walk.0 walk.1)) walk.2
 
-first-only : {A : Type 0} (x y : A) → IsOneOf x (y ∷ []) → x ≡ y
+first-only : {A : Type 0} (x y : A) → IsAmong x (y ∷ []) → x ≡ y
 first-only x y (inl same) = same
 first-only x y (inr among) = absurd among
 
-pub reached-leads : (program : Program) (path : List ℕ) (there : Stand) → IsOneOf there (reached program path) → Leads program path there
+pub reached-leads : (program : Program) (path : List ℕ) (there : Stand) → IsAmong there (reached program path) → Leads program path there
 reached-leads program path there among =
     let found = reached-walks program path (first_stand program ∷ []) there among in
     subst (λ (s : Stand). Walks program s path there) (first-only found.0 (first_stand program) found.1) found.2
 
-pub leads-reached : (program : Program) (path : List ℕ) (there : Stand) → Leads program path there → IsOneOf there (reached program path)
+pub leads-reached : (program : Program) (path : List ℕ) (there : Stand) → Leads program path there → IsAmong there (reached program path)
 leads-reached program path there walk = walks-reached program path (first_stand program ∷ []) (first_stand program) there (inl refl) walk
 
-some-first : {A : Type 0} (xs : List A) → not (length xs == 0) ≡ true → (x : A) × IsOneOf x xs
+some-first : {A : Type 0} (xs : List A) → not (length xs == 0) ≡ true → (x : A) × IsAmong x xs
 some-first [] filled = absurd (cc)
 some-first (x ∷ xs) filled = (x, inl refl)
 
-first-some : {A : Type 0} (x : A) (xs : List A) → IsOneOf x xs → not (length xs == 0) ≡ true
+first-some : {A : Type 0} (x : A) (xs : List A) → IsAmong x xs → not (length xs == 0) ≡ true
 first-some x [] among = absurd among
 first-some x (y ∷ xs) among = ap not (eqb-suc-zero (length xs))
 
@@ -104,11 +105,11 @@ path-if program path = (
 )
 
 any-more : {A : Type 0} (p : A → Bool) (x : A) (xs : List A) (b : Bool) → p x ≡ b → (b || list_any p xs) ≡ true
-    → (list_any p xs ≡ true → (y : A) × IsOneOf y xs × (p y ≡ true)) → (y : A) × IsOneOf y (x ∷ xs) × (p y ≡ true)
+    → (list_any p xs ≡ true → (y : A) × IsAmong y xs × (p y ≡ true)) → (y : A) × IsAmong y (x ∷ xs) × (p y ≡ true)
 any-more p x xs true is any later = (x, inl refl, is)
 any-more p x xs false is any later = let found = later any in (found.0, inr found.1, found.2)
 
-any-one : {A : Type 0} (p : A → Bool) (xs : List A) → list_any p xs ≡ true → (x : A) × IsOneOf x xs × (p x ≡ true)
+any-one : {A : Type 0} (p : A → Bool) (xs : List A) → list_any p xs ≡ true → (x : A) × IsAmong x xs × (p x ≡ true)
 any-one p [] any = absurd (cc)
 any-one p (x ∷ xs) any = any-more p x xs (p x) refl any (λ later. any-one p xs later)
 
@@ -116,7 +117,7 @@ or-right : (a b : Bool) → b ≡ true → (a || b) ≡ true
 or-right true b is = refl
 or-right false b is = is
 
-one-any : {A : Type 0} (p : A → Bool) (x : A) (xs : List A) → IsOneOf x xs → p x ≡ true → list_any p xs ≡ true
+one-any : {A : Type 0} (p : A → Bool) (x : A) (xs : List A) → IsAmong x xs → p x ≡ true → list_any p xs ≡ true
 one-any p x [] among is = absurd among
 one-any p x (y ∷ xs) (inl same) is = ap (λ b. b || list_any p xs) (ap p (sym same) ∙ is)
 one-any p x (y ∷ xs) (inr among) is = or-right (p y) (list_any p xs) (one-any p x xs among is)

@@ -10,7 +10,8 @@ use Rattle.process_semantics.specs.Image.{number_of}
 use Rattle.path_semantics.specs.declared.dues.Dues.{Dues}
 use Rattle.path_semantics.specs.Dues.{after_entry}
 use Rattle.path_semantics.specs.Place.{Place, Stand, next_in, ways_of, rounds_of, ways, settled, stands_after, first_stand}
-use Rattle.path_semantics.specs.Path.{IsOneOf, number_at, Steps, Walks, Leads, IsPath}
+use Rattle.gd_words.specs.Members.{IsAmong}
+use Rattle.path_semantics.specs.Path.{number_at, Steps, Walks, Leads, IsPath}
 use Rattle.path_semantics.specs.Break.{Breaks, breaks_entry, breaks_at}
 use Rattle.path_semantics.specs.Accepted.{IsAccepted}
 
@@ -63,13 +64,13 @@ first-of-ways program (Test statement) rest callers = first-round statement rest
 first-of-ways program (Last statement) rest callers = record { one = rest ∷ callers; rest = []; split = refl }
 
 -- where there is a next entry it leads somewhere
-goes-on : (program : Program) (dues : Dues) (place : Place) (entry : Entry) → next_in place ≡ Some entry → (there : Stand) × IsOneOf there (stands_after program dues place)
+goes-on : (program : Program) (dues : Dues) (place : Place) (entry : Entry) → next_in place ≡ Some entry → (there : Stand) × IsAmong there (stands_after program dues place)
 goes-on program dues [] entry next = absurd (cc)
 goes-on program dues ([] ∷ callers) entry next = absurd (cc)
 goes-on program dues ((first ∷ rest) ∷ callers) entry next =
     let found = first-of-ways program first rest callers in (
       settled (after_entry dues first) found.one,
-      subst (λ (places : List Place). IsOneOf (settled (after_entry dues first) found.one) (map (settled (after_entry dues first)) places)) (sym found.split) (inl refl),
+      subst (λ (places : List Place). IsAmong (settled (after_entry dues first) found.one) (map (settled (after_entry dues first)) places)) (sym found.split) (inl refl),
     )
 
 pub numbered : (f : Entry → ℕ) (entry : Option Entry) (number : ℕ) → option_map f entry ≡ Some number → (next : Entry) × (entry ≡ Some next)

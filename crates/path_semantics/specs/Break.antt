@@ -1,7 +1,7 @@
 -- What breaks the discipline: the last statement of a path, with the dues before it. Sync depth and the data of a checkpoint are GUARDIAN's; these exact
 -- rules are our own.
 use Rattle.std.specs.Prelude.{◌≡◌, ℕ, ◌==◌, Bool, false, not, ◌&&◌, nat_le, IsTrue, List, [], ◌∷◌, ◌++◌, count_by, slice_get, Option, Some, None}
-use Rattle.std.specs.List.{list_any}
+use Rattle.gd_words.specs.Members.{is_among}
 use Rattle.tal_tree.specs.declared.program.FileUse.{FileUse}
 use Rattle.tal_tree.specs.declared.program.Program.{Program}
 use Rattle.tal_tree.specs.declared.statement.Statement.{Statement}
@@ -13,10 +13,6 @@ use Rattle.path_semantics.specs.declared.dues.Dues.{Dues}
 use Rattle.path_semantics.specs.Place.{Stand, next_entry}
 use Rattle.path_semantics.specs.Path.{Leads, number_at}
 
--- whether a number is one of these
-abbrev pub has : ℕ → List ℕ → Bool
-has n ns = list_any (λ m. m == n) ns
-
 -- how many WRITEREADs on a file are due
 abbrev pub asked_count : ℕ → Dues → ℕ
 asked_count file dues = count_by (λ asked. asked == file) dues.asked
@@ -27,12 +23,12 @@ is_reached (Some file) count = nat_le file.depth count
 
 -- Data: a CHECKPOINT that doesn't name a global that is due
 abbrev pub breaks_data : ℕ → Dues → What-F What Statement → Bool
-breaks_data item dues (What-F.Checkpoint items files) = has item dues.globals && not (has item items)
+breaks_data item dues (What-F.Checkpoint items files) = is_among item dues.globals && not (is_among item items)
 breaks_data item dues _ = false
 
 -- SyncBlock: a CHECKPOINT that doesn't name a file that was asked
 abbrev pub breaks_sync : ℕ → Dues → What-F What Statement → Bool
-breaks_sync file dues (What-F.Checkpoint items files) = has file dues.asked && not (has file files)
+breaks_sync file dues (What-F.Checkpoint items files) = is_among file dues.asked && not (is_among file files)
 breaks_sync file dues _ = false
 
 -- Input: a WRITEREAD or REPLY after a request was read

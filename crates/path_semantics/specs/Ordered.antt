@@ -2,13 +2,13 @@
 use Rattle.std.specs.Prelude.{◌≡◌, ℕ, ◌<◌, List, [], ◌∷◌, flat_map, slice_get, Some}
 use Rattle.tal_tree.specs.declared.program.Program.{Program}
 use Rattle.tal_tree.specs.declared.program.Procedure.{Procedure}
-use Rattle.path_semantics.specs.Path.{IsOneOf}
+use Rattle.gd_words.specs.Members.{IsAmong}
 use Rattle.path_semantics.specs.Statements.{numbers_of, calls_of}
 
 -- no number stands twice
 abbrev pub AreDistinct : List ℕ → Type 0
 AreDistinct [] = Unit {0}
-AreDistinct (n ∷ ns) = (IsOneOf n ns → ⊥) × AreDistinct ns
+AreDistinct (n ∷ ns) = (IsAmong n ns → ⊥) × AreDistinct ns
 
 -- the numbers of a program's statements
 abbrev pub numbers_in_all : List Procedure → List ℕ
@@ -17,4 +17,4 @@ numbers_in_all procedures = flat_map (λ procedure. numbers_of procedure.body) p
 -- each number of a program is that of one statement alone, and its procedures call only procedures that stand before them
 pub record IsOrdered (program : Program) : Type 0 where
   pub numbers : AreDistinct (numbers_in_all program.procedures)
-  pub calls : (k : ℕ) (procedure : Procedure) → slice_get program.procedures k ≡ Some procedure → (called : ℕ) → IsOneOf called (calls_of procedure.body) → called < k
+  pub calls : (k : ℕ) (procedure : Procedure) → slice_get program.procedures k ≡ Some procedure → (called : ℕ) → IsAmong called (calls_of procedure.body) → called < k

@@ -1,13 +1,9 @@
 -- Paths: the lists of statement numbers as MAIN may execute them from its first statement on.
-use Rattle.std.specs.Prelude.{◌≡◌, ◌⊎◌, ℕ, List, [], ◌∷◌, Option, Some, option_map}
+use Rattle.std.specs.Prelude.{◌≡◌, ℕ, List, [], ◌∷◌, Option, Some, option_map}
+use Rattle.gd_words.specs.Members.{IsAmong}
 use Rattle.tal_tree.specs.declared.program.Program.{Program}
 use Rattle.process_semantics.specs.Image.{number_of}
 use Rattle.path_semantics.specs.Place.{Stand, next_entry, successors, first_stand}
-
--- one of these
-abbrev pub IsOneOf : {A : Type 0} → A → List A → Type 0
-IsOneOf x [] = ⊥
-IsOneOf x (y ∷ ys) = (x ≡ y) ⊎ IsOneOf x ys
 
 -- the number of the next entry: its statement's, and for a FOR's test and last assignment one of their own; none where the program has ended
 abbrev pub number_at : Stand → Option ℕ
@@ -16,7 +12,7 @@ number_at stand = option_map number_of (next_entry stand)
 -- a step: the next entry has this number, and it leads there
 pub record Steps (program : Program) (here : Stand) (number : ℕ) (there : Stand) : Type 0 where
   pub next : number_at here ≡ Some number
-  pub leads : IsOneOf there (successors program here)
+  pub leads : IsAmong there (successors program here)
 
 -- a walk by these numbers: one step after the other
 abbrev pub Walks : Program → Stand → List ℕ → Stand → Type 0

@@ -3,7 +3,7 @@ use Rattle.tal_tree.specs.declared.program.Program.{Program}
 use Rattle.tal_tree.specs.declared.program.Procedure.{Procedure}
 use Rattle.tal_tree.specs.declared.statement.Statement.{Statement}
 use Rattle.tal_tree.specs.declared.statement.What.{What, What-F, out-What}
-use Rattle.path_semantics.specs.Path.{IsOneOf}
+use Rattle.gd_words.specs.Members.{IsAmong}
 use Rattle.path_semantics.specs.Statements.{all_of}
 
 -- any statement but CHECKPOINT, READUPDATE, WRITEREAD and REPLY
@@ -16,5 +16,5 @@ IsQuietStatement _ = Unit {0}
 
 -- a program that has none of these four
 abbrev pub IsQuiet : Program → Type 0
-IsQuiet program = (procedure : Procedure) (statement : Statement) → IsOneOf procedure program.procedures → IsOneOf statement (all_of procedure.body)
+IsQuiet program = (procedure : Procedure) (statement : Statement) → IsAmong procedure program.procedures → IsAmong statement (all_of procedure.body)
     → IsQuietStatement (out-What statement.what)

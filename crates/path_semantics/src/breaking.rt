@@ -1,7 +1,8 @@
 ghost use Rattle.std.specs.Prelude.{◌≡◌, ◌==◌, count_by};
 ghost use Rattle.std.specs.Option.{option_copied};
 ghost use Rattle.tal_tree.specs.declared.statement.What.{out-What};
-ghost use Rattle.path_semantics.specs.Break.{has, asked_count, is_reached, breaks_data, breaks_sync, breaks_input, breaks_depth, breaks_by, breaks_at};
+ghost use Rattle.gd_words.specs.Members.{is_among};
+ghost use Rattle.path_semantics.specs.Break.{asked_count, is_reached, breaks_data, breaks_sync, breaks_input, breaks_depth, breaks_by, breaks_at};
 
 use crate::dues::Dues;
 use crate::reason::Reason;
@@ -97,13 +98,13 @@ fn breaks_depth(program: &Program, file: u8, dues: &Dues, what: &What) -> bool
 }
 
 fn has_item(items: &[u16], item: u16) -> bool
-    ensures { result ≡ has item items.now }
+    ensures { result ≡ is_among item items.now }
 {
     items.contains(&item)
 }
 
 fn has_file(files: &[u8], file: u8) -> bool
-    ensures { result ≡ has file files.now }
+    ensures { result ≡ is_among file files.now }
 {
     files.contains(&file)
 }

@@ -8,7 +8,8 @@ ghost use Rattle.path_semantics.specs.declared.dues.Dues.{Dues};
 ghost use Rattle.path_semantics.specs.declared.reason.Reason.{Reason};
 ghost use Rattle.path_semantics.specs.Dues.{no_dues};
 ghost use Rattle.path_semantics.specs.Place.{Place, Stand, successors, stand_at};
-ghost use Rattle.path_semantics.specs.Path.{IsOneOf, number_at, Leads, IsPath};
+ghost use Rattle.gd_words.specs.Members.{IsAmong};
+ghost use Rattle.path_semantics.specs.Path.{number_at, Leads, IsPath};
 ghost use Rattle.path_semantics.specs.Break.{Breaks, breaks_at};
 ghost use Rattle.path_semantics.specs.Bounds.{depth_from, size_from, depths, sizes, IsWithinBounds};
 ghost use Rattle.path_semantics.specs.Ordered.{IsOrdered};
@@ -22,7 +23,7 @@ pub fn front_is_path()
 
 /// Where a path leads, the next entry leads to stands whose next entries have different numbers, or to one stand.
 pub fn successors_differ()
-    ensures { (program : Program) (path : List ℕ) (here one other : Stand) → IsOrdered program → Leads program path here → IsOneOf one (successors program here) → IsOneOf other (successors program here) → number_at one ≡ number_at other → one ≡ other }
+    ensures { (program : Program) (path : List ℕ) (here one other : Stand) → IsOrdered program → Leads program path here → IsAmong one (successors program here) → IsAmong other (successors program here) → number_at one ≡ number_at other → one ≡ other }
 {}
 
 /// A path fixes the place and the dues at each of its entries: where its front leads and its next number stands.

@@ -13,7 +13,8 @@ use Rattle.plain_semantics.specs.declared.slot.Slot.{Slot}
 use Rattle.plain_semantics.specs.declared.slot.Slot.TheVariants.{Empty, Waiting, Taken, Answered}
 use Rattle.plain_semantics.specs.Openers.{opener_of}
 use Rattle.plain_semantics.specs.Machine.{Plain, PlainProcess, Made, with_process, with_slot, slot_put, slot_of, own_opener, got_made, answered_by, step_at, step_made, take_slot, take_at, take_made, entered_at, next_request, enter_request, enter_made, print_made, made}
-use Rattle.plain_semantics.specs.Concerns.{IsIn, server_in, asked_at, asked_by, concerned, terminals_in, AreApart}
+use Rattle.gd_words.specs.Members.{IsAmong}
+use Rattle.plain_semantics.specs.Concerns.{server_in, asked_at, asked_by, concerned, terminals_in, AreApart}
 
 set-other : {A : Type 0} (xs : List A) (i j : ℕ) (x : A) → (j ≡ i → ⊥) → slice_get (slice_set xs i x) j ≡ slice_get xs j
 set-other [] i j x ne = refl
@@ -31,7 +32,7 @@ put-other : (opener : Opener) (slot : Slot) (plain : Plain) (server : Option Pla
 put-other opener slot plain None p ne = refl
 put-other opener slot plain (Some server) p ne = set-other plain.processes opener.server p (record server { slots = slice_set server.slots opener.place slot }) ne
 
-slot-other : (opener : Option Opener) (slot : Slot) (plain : Plain) (p : ℕ) → (IsIn p (server_in opener) → ⊥) → Same plain (with_slot opener slot plain) p
+slot-other : (opener : Option Opener) (slot : Slot) (plain : Plain) (p : ℕ) → (IsAmong p (server_in opener) → ⊥) → Same plain (with_slot opener slot plain) p
 slot-other None slot plain p out = refl
 slot-other (Some opener) slot plain p out = put-other opener slot plain (slice_get plain.processes opener.server) p (λ e. out (inl e))
 
@@ -40,7 +41,7 @@ process-other number changed plain p ne = set-other plain.processes number p cha
 
 -- a slot and a process
 both-other : (number : ℕ) (changed : PlainProcess) (opener : Option Opener) (slot : Slot) (plain : Plain) (p : ℕ)
-    → (p ≡ number → ⊥) → (IsIn p (server_in opener) → ⊥) → Same plain (with_slot opener slot (with_process number changed plain)) p
+    → (p ≡ number → ⊥) → (IsAmong p (server_in opener) → ⊥) → Same plain (with_slot opener slot (with_process number changed plain)) p
 both-other number changed opener slot plain p ne out =
     slot-other opener slot (with_process number changed plain) p out ∙ process-other number changed plain p ne
 
@@ -48,7 +49,7 @@ some-made : (a b : Made) → ◌≡◌ {A = Option Made} (Some a) (Some b) → a
 some-made a b same = cc
 
 got-other : (number : ℕ) (one : PlainProcess) (opener : Option Opener) (plain : Plain) (slot : Option Slot) (m : Made) (p : ℕ)
-    → got_made number one opener plain slot ≡ Some m → (p ≡ number → ⊥) → (IsIn p (server_in opener) → ⊥) → Same plain m.plain p
+    → got_made number one opener plain slot ≡ Some m → (p ≡ number → ⊥) → (IsAmong p (server_in opener) → ⊥) → Same plain m.plain p
 got-other number one opener plain None m p came ne out = absurd (cc)
 got-other number one opener plain (Some Empty) m p came ne out = absurd (cc)
 got-other number one opener plain (Some (Waiting words)) m p came ne out = absurd (cc)
@@ -57,13 +58,13 @@ got-other number one opener plain (Some (Answered words)) m p came ne out =
     ap (λ (m : Made). slice_get m.plain.processes p) (sym (some-made _ m came))
     ∙ both-other number (record one { state = process.after_got one.state words }) opener Empty plain p ne out
 
-answer-other : (number : ℕ) (hand : Option ℕ) (p : ℕ) → (p ≡ number → ⊥) → IsIn p (server_in (answered_by number hand)) → ⊥
+answer-other : (number : ℕ) (hand : Option ℕ) (p : ℕ) → (p ≡ number → ⊥) → IsAmong p (server_in (answered_by number hand)) → ⊥
 answer-other number None p ne found = found
 answer-other number (Some place) p ne (inl e) = ne e
 answer-other number (Some place) p ne (inr found) = found
 
 step-other : (site : Site) (number : ℕ) (one : PlainProcess) (plain : Plain) (stands : Point) (m : Made) (p : ℕ) → step_at site number one plain stands ≡ Some m
-    → (p ≡ number → ⊥) → (IsIn p (asked_at site number one stands) → ⊥) → Same plain m.plain p
+    → (p ≡ number → ⊥) → (IsAmong p (asked_at site number one stands) → ⊥) → Same plain m.plain p
 step-other site number one plain point.Inner m p came ne out =
     ap (λ (m : Made). slice_get m.plain.processes p) (sym (some-made _ m came)) ∙ process-other number (record one { state = process.after_inner one.state }) plain p ne
 step-other site number one plain point.Ask m p came ne out =
@@ -104,13 +105,13 @@ take-other number place one plain point.Device m p came ne = absurd (cc)
 take-other number place one plain point.Ended m p came ne = absurd (cc)
 
 request-other : (terminal : ℕ) (opener : Option Opener) (plain : Plain) (request : Option (List _)) (m : Made) (p : ℕ) → enter_request terminal opener plain request ≡ Some m
-    → (IsIn p (server_in opener) → ⊥) → Same plain m.plain p
+    → (IsAmong p (server_in opener) → ⊥) → Same plain m.plain p
 request-other terminal opener plain None m p came out = absurd (cc)
 request-other terminal opener plain (Some words) m p came out =
     ap (λ (m : Made). slice_get m.plain.processes p) (sym (some-made _ m came)) ∙ slot-other opener (Waiting words) _ p out
 
 enter-other : (site : Site) (terminal : ℕ) (opener : Option Opener) (plain : Plain) (slot : Option Slot) (m : Made) (p : ℕ)
-    → enter_made site terminal opener plain slot ≡ Some m → (IsIn p (server_in opener) → ⊥) → Same plain m.plain p
+    → enter_made site terminal opener plain slot ≡ Some m → (IsAmong p (server_in opener) → ⊥) → Same plain m.plain p
 enter-other site terminal opener plain None m p came out = absurd (cc)
 enter-other site terminal opener plain (Some Empty) m p came out =
     request-other terminal opener plain (next_request site terminal (entered_at plain terminal)) m p came out
@@ -119,7 +120,7 @@ enter-other site terminal opener plain (Some Taken) m p came out = absurd (cc)
 enter-other site terminal opener plain (Some (Answered words)) m p came out = absurd (cc)
 
 print-other : (terminal : ℕ) (opener : Option Opener) (plain : Plain) (slot : Option Slot) (m : Made) (p : ℕ)
-    → print_made terminal opener plain slot ≡ Some m → (IsIn p (server_in opener) → ⊥) → Same plain m.plain p
+    → print_made terminal opener plain slot ≡ Some m → (IsAmong p (server_in opener) → ⊥) → Same plain m.plain p
 print-other terminal opener plain None m p came out = absurd (cc)
 print-other terminal opener plain (Some Empty) m p came out = absurd (cc)
 print-other terminal opener plain (Some (Waiting words)) m p came out = absurd (cc)
@@ -128,7 +129,7 @@ print-other terminal opener plain (Some (Answered words)) m p came out =
     ap (λ (m : Made). slice_get m.plain.processes p) (sym (some-made _ m came)) ∙ slot-other opener Empty plain p out
 
 stepped-other : (site : Site) (number : ℕ) (plain : Plain) (one : Option PlainProcess) (m : Made) (p : ℕ) → step_made site number plain one ≡ Some m
-    → (IsIn p (number ∷ asked_by site number one) → ⊥) → Same plain m.plain p
+    → (IsAmong p (number ∷ asked_by site number one) → ⊥) → Same plain m.plain p
 stepped-other site number plain None m p came out = absurd (cc)
 stepped-other site number plain (Some one) m p came out =
     step-other site number one plain (process.point one.state) m p came (λ e. out (inl e)) (λ found. out (inr found))
@@ -139,7 +140,7 @@ taken-other number place plain None m p came ne = absurd (cc)
 taken-other number place plain (Some one) m p came ne = take-other number place one plain (process.point one.state) m p came ne
 
 -- a process that an act doesn't concern is as before
-pub made-other : (site : Site) (plain : Plain) (act : Act) (m : Made) (p : ℕ) → made site plain act ≡ Some m → (IsIn p (concerned site plain act) → ⊥)
+pub made-other : (site : Site) (plain : Plain) (act : Act) (m : Made) (p : ℕ) → made site plain act ≡ Some m → (IsAmong p (concerned site plain act) → ⊥)
     → Same plain m.plain p
 made-other site plain (Step number) m p came out = stepped-other site number plain (slice_get plain.processes number) m p came out
 made-other site plain (Take number place) m p came out = taken-other number place plain (slice_get plain.processes number) m p came (λ e. out (inl e))
@@ -238,7 +239,7 @@ at-terminal : (first second : Plain) (t : ℕ) → second.entered ≡ first.ente
 at-terminal first second t same = ap (λ entered. unwrap_or (slice_get entered t) 0) same
 
 -- a terminal that an act isn't of has entered as many requests as before
-pub made-entered : (site : Site) (plain : Plain) (act : Act) (m : Made) (t : ℕ) → made site plain act ≡ Some m → (IsIn t (terminals_in act) → ⊥)
+pub made-entered : (site : Site) (plain : Plain) (act : Act) (m : Made) (t : ℕ) → made site plain act ≡ Some m → (IsAmong t (terminals_in act) → ⊥)
     → entered_at m.plain t ≡ entered_at plain t
 made-entered site plain (Step number) m t came out = at-terminal plain m.plain t (stepped-entered site number plain (slice_get plain.processes number) m came)
 made-entered site plain (Take number place) m t came out = at-terminal plain m.plain t (taken-entered number place plain (slice_get plain.processes number) m came)
@@ -249,7 +250,7 @@ made-entered site plain (Print terminal) m t came out =
 
 -- What an act reads
 
-slot-same : (first second : Plain) (opener : Option Opener) → ((p : ℕ) → IsIn p (server_in opener) → Same first second p) → slot_of second opener ≡ slot_of first opener
+slot-same : (first second : Plain) (opener : Option Opener) → ((p : ℕ) → IsAmong p (server_in opener) → Same first second p) → slot_of second opener ≡ slot_of first opener
 slot-same first second None same = refl
 slot-same first second (Some opener) same =
     ap (λ server. option_and_then (λ (server : PlainProcess). slice_get server.slots opener.place) server) (same opener.server (inl refl))
@@ -263,7 +264,7 @@ got-still number one opener first second (Some Taken) none = refl
 got-still number one opener first second (Some (Answered words)) none = absurd (cc)
 
 step-still : (site : Site) (number : ℕ) (one : PlainProcess) (first second : Plain) (stands : Point)
-    → ((p : ℕ) → IsIn p (asked_at site number one stands) → Same first second p) → step_at site number one first stands ≡ None → step_at site number one second stands ≡ None
+    → ((p : ℕ) → IsAmong p (asked_at site number one stands) → Same first second p) → step_at site number one first stands ≡ None → step_at site number one second stands ≡ None
 step-still site number one first second point.Inner same none = absurd (cc)
 step-still site number one first second point.Ask same none = absurd (cc)
 step-still site number one first second point.Await same none =
@@ -276,7 +277,7 @@ step-still site number one first second point.Take same none = refl
 step-still site number one first second point.Ended same none = refl
 
 stepped-still : (site : Site) (number : ℕ) (first second : Plain) (one : Option PlainProcess)
-    → ((p : ℕ) → IsIn p (number ∷ asked_by site number one) → Same first second p) → step_made site number first one ≡ None → step_made site number second one ≡ None
+    → ((p : ℕ) → IsAmong p (number ∷ asked_by site number one) → Same first second p) → step_made site number first one ≡ None → step_made site number second one ≡ None
 stepped-still site number first second None same none = refl
 stepped-still site number first second (Some one) same none =
     step-still site number one first second (process.point one.state) (λ p found. same p (inr found)) none
@@ -328,8 +329,8 @@ print-still terminal opener first second (Some (Waiting words)) none = refl
 print-still terminal opener first second (Some Taken) none = refl
 print-still terminal opener first second (Some (Answered words)) none = absurd (cc)
 
-made-still : (site : Site) (first second : Plain) (act : Act) → ((p : ℕ) → IsIn p (concerned site first act) → Same first second p)
-    → ((t : ℕ) → IsIn t (terminals_in act) → entered_at second t ≡ entered_at first t) → made site first act ≡ None → made site second act ≡ None
+made-still : (site : Site) (first second : Plain) (act : Act) → ((p : ℕ) → IsAmong p (concerned site first act) → Same first second p)
+    → ((t : ℕ) → IsAmong t (terminals_in act) → entered_at second t ≡ entered_at first t) → made site first act ≡ None → made site second act ≡ None
 made-still site first second (Step number) same entered none =
     ap (step_made site number second) (same number (inl refl)) ∙ stepped-still site number first second (slice_get first.processes number) same none
 made-still site first second (Take number place) same entered none =

@@ -1,5 +1,6 @@
 -- Which processes an act concerns: those whose state or slots it reads or changes.
 use Rattle.std.specs.Prelude.{◌≡◌, ◌⊎◌, ℕ, List, [], ◌∷◌, slice_get, Option, Some, None}
+use Rattle.gd_words.specs.Members.{IsAmong}
 use Rattle.tal_tree.specs.declared.act.Act.{Act}
 use Rattle.tal_tree.specs.declared.act.Act.TheVariants.{Step, Take, Enter, Print}
 use Rattle.tal_tree.specs.declared.site.Site.{Site}
@@ -10,11 +11,6 @@ use Rattle.process_semantics.specs.Process as process
 use Rattle.plain_semantics.specs.declared.slot.Opener.{Opener}
 use Rattle.plain_semantics.specs.Openers.{opener_of}
 use Rattle.plain_semantics.specs.Machine.{Plain, PlainProcess, own_opener}
-
--- a number is in a list
-abbrev pub IsIn : ℕ → List ℕ → Type 0
-IsIn n [] = ⊥
-IsIn n (m ∷ rest) = (n ≡ m) ⊎ IsIn n rest
 
 -- an opener's server, if there is an opener
 abbrev pub server_in : Option Opener → List ℕ
@@ -47,5 +43,5 @@ terminals_in _ = []
 
 -- two acts that concern different processes, and aren't of one terminal
 pub record AreApart (site : Site) (plain : Plain) (first second : Act) : Type 0 where
-  pub processes : (number : ℕ) → IsIn number (concerned site plain first) → IsIn number (concerned site plain second) → ⊥
-  pub terminals : (terminal : ℕ) → IsIn terminal (terminals_in first) → IsIn terminal (terminals_in second) → ⊥
+  pub processes : (number : ℕ) → IsAmong number (concerned site plain first) → IsAmong number (concerned site plain second) → ⊥
+  pub terminals : (terminal : ℕ) → IsAmong terminal (terminals_in first) → IsAmong terminal (terminals_in second) → ⊥

@@ -3,6 +3,7 @@ use Rattle.std.specs.Prelude.{ℕ, zero, suc, ◌+◌, ◌-◌, ◌*◌, ◌/◌
 use Rattle.std.specs.Option.{option_map, option_and_then}
 use Rattle.std.specs.List.{flat_map}
 use Rattle.gd_words.specs.Arithmetic.{wrap}
+use Rattle.gd_words.specs.Members.{is_among}
 use Rattle.tal_tree.specs.declared.program.Program.{Program}
 use Rattle.tal_tree.specs.declared.program.Procedure.{Procedure}
 use Rattle.tal_tree.specs.declared.program.Item.{Item}
@@ -208,15 +209,10 @@ abbrev pub has_words : Shape → Bool
 has_words (shape.File file) = false
 has_words _ = true
 
--- whether a list of items names one
-abbrev pub names : ℕ → List ℕ → Bool
-names item [] = false
-names item (named ∷ rest) = (item == named) || names item rest
-
 -- a global that may be listed and wasn't named before: its words
 abbrev pub item_in : List ℕ → ℕ → Option Item → List ℤ → Taken (List ℤ)
 item_in named number None words = None
-item_in named number (Some item) words = if has_words item.shape && not (names number named) then words_in (width item.shape) words else None
+item_in named number (Some item) words = if has_words item.shape && not (is_among number named) then words_in (width item.shape) words else None
 
 -- so many globals, put over those that a state has
 abbrev pub items_in : Program → ℕ → List ℕ → List (List ℤ) → List ℤ → Taken (List (List ℤ))

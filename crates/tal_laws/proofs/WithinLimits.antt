@@ -15,7 +15,7 @@ use Rattle.tal_rules.specs.Texts.{faults, headed_after, headed_text, files_by, m
 use Rattle.tal_trees.specs.Programs.{items_with, tree_of, trees_of, tree_of_procedure, body_statements}
 use Rattle.tal_reader.specs.Reads.{Reads}
 use Rattle.path_semantics.specs.Ordered.{numbers_in_all}
-use Rattle.path_semantics.specs.Path.{IsOneOf}
+use Rattle.gd_words.specs.Members.{IsAmong}
 use Rattle.tal_pieces.proofs.Common.Faultless.{split, no_fault}
 use Rattle.tal_laws.specs.Limits.{IsProcedureWithinLimits, IsWithinLimits}
 use Rattle.tal_laws.proofs.Between.{AreBetween}
@@ -59,7 +59,7 @@ module _ (globals files : Declarations) where
       locals_within h outer inner (body_statements (scope_of globals files p.count h inner) (entered p h) first more) front.0
 
   procedures_within : (p : Progress) (ps : g.Procedures) → procedures_faults globals files p ps ≡ []
-      → (procedure : Procedure) → IsOneOf procedure (trees_of globals files p ps) → IsProcedureWithinLimits procedure
+      → (procedure : Procedure) → IsAmong procedure (trees_of globals files p ps) → IsProcedureWithinLimits procedure
   procedures_within p g.no_procedures fine procedure among = absurd among
   procedures_within p (g.more_procedures q rest) fine procedure (inl same) =
       let parts = split fine in subst IsProcedureWithinLimits (sym same) (procedure_within p q parts.0)

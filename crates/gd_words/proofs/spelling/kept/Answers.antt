@@ -1,4 +1,4 @@
-use Rattle.std.proofs.Common.{◌≡◌, ap, ◌∙◌, arith, set}
+use Rattle.std.proofs.Common.{ap, ◌∙◌, set}
 use Rattle.gd_words.proofs.PaddedSteps.{padded_more}
 use Rattle.gd_words.proofs.spelling.kept.Goals as goal
 
