@@ -1,5 +1,5 @@
 -- The words of an image, by which a process that watches gets the state of one that acts, and the state that such words restore.
-use Rattle.std.specs.Prelude.{ℕ, zero, suc, ◌+◌, ◌-◌, ◌*◌, ◌/◌, ◌%◌, ◌==◌, ℤ, pos, negsuc, Bool, true, false, not, ◌&&◌, ◌||◌, if◌then◌else◌, nat_le, List, [], ◌∷◌, ◌++◌, length, reverse, take, drop, slice_get, slice_set, Option, Some, None}
+use Rattle.std.specs.Prelude.{ℕ, zero, suc, ◌+◌, ◌-◌, ◌*◌, ◌/◌, ◌%◌, ◌==◌, ℤ, pos, negsuc, Bool, true, false, not, ◌&&◌, if◌then◌else◌, nat_le, List, [], ◌∷◌, ◌++◌, length, reverse, take, drop, slice_get, slice_set, Option, Some, None}
 use Rattle.std.specs.Option.{option_map, option_and_then}
 use Rattle.std.specs.List.{flat_map}
 use Rattle.gd_words.specs.Arithmetic.{wrap}
@@ -10,7 +10,7 @@ use Rattle.tal_tree.specs.declared.program.Item.{Item}
 use Rattle.tal_tree.specs.declared.program.Shape.{Shape}
 use Rattle.tal_tree.specs.declared.program.Shape.TheVariants as shape
 use Rattle.tal_tree.specs.declared.statement.Statement.{Statement}
-use Rattle.tal_tree.specs.declared.statement.What.{What, What-F, out-What, If', While', For', Row_of-Statement, end_of-Statement, more_of-Statement}
+use Rattle.tal_tree.specs.declared.statement.What.{What, What-F, out-What, Assign, AssignCall, If', While', For', Call, Return, ReadUpdate, Reply, WriteRead, Checkpoint, CheckMonitor, Open, Stop, Row_of-Statement, end_of-Statement, more_of-Statement}
 use Rattle.process_semantics.specs.declared.point.Point.{Point}
 use Rattle.process_semantics.specs.declared.point.Point.TheVariants.{Take, Answer, Mark, Device}
 use Rattle.process_semantics.specs.declared.disc.DiscState.{DiscState}
@@ -130,7 +130,17 @@ abbrev mutual
   rests_in (While' test _ body) self after = rests_row body (Run self ∷ after)
   rests_in (For' variable from to _ body last) self after =
       (Test self ∷ after) ∷ rests_row body (Last self ∷ Test self ∷ after) ++ (Last self ∷ Test self ∷ after) ∷ []
-  rests_in _ self after = []
+  rests_in (Assign to value) self after = []
+  rests_in (AssignCall to procedure arguments) self after = []
+  rests_in (Call procedure arguments) self after = []
+  rests_in (Return value) self after = []
+  rests_in CheckMonitor self after = []
+  rests_in (Open file) self after = []
+  rests_in Stop self after = []
+  rests_in (ReadUpdate buffer most got) self after = []
+  rests_in (Reply buffer count) self after = []
+  rests_in (WriteRead file buffer send room got) self after = []
+  rests_in (Checkpoint items files) self after = []
 
 -- what remains from each entry of a procedure's body on
 abbrev pub rests_of : List Statement → List (List Entry)
@@ -150,35 +160,35 @@ rest_from body number = if number == 0 then Some [] else rest_among number (rest
 -- Restoring. Each part takes its words from the front and leaves the others
 
 -- what words begin with, and the words after it
-abbrev pub Taken : Type 0 → Type 0
-Taken A = Option (A × List ℤ)
+abbrev pub Front : Type 0 → Type 0
+Front A = Option (A × List ℤ)
 
 -- a count or a number that isn't below 0
-abbrev pub count_in : List ℤ → Taken ℕ
+abbrev pub count_in : List ℤ → Front ℕ
 count_in (pos n ∷ words) = Some (n, words)
 count_in _ = None
 
 -- so many words
-abbrev pub words_in : ℕ → List ℤ → Taken (List ℤ)
+abbrev pub words_in : ℕ → List ℤ → Front (List ℤ)
 words_in n words = if nat_le n (length words) then Some (take n words, drop n words) else None
 
 -- a frame, where what remains and the locals are there
-abbrev pub frame_with : ℕ → Option (List Entry) → Taken (List ℤ) → Taken Frame
+abbrev pub frame_with : ℕ → Option (List Entry) → Front (List ℤ) → Front Frame
 frame_with procedure (Some rest) (Some (locals, left)) = Some (record { procedure = procedure; locals = locals; rest = rest }, left)
 frame_with procedure _ _ = None
 
 -- a frame of this procedure
-abbrev pub frame_of_words : ℕ → Option Procedure → Taken ℕ → Taken Frame
+abbrev pub frame_of_words : ℕ → Option Procedure → Front ℕ → Front Frame
 frame_of_words number (Some procedure) (Some (next, left)) =
     frame_with number (rest_from procedure.body next) (words_in (length procedure.locals) left)
 frame_of_words number _ _ = None
 
 -- a frame: its procedure is one of the program's, and the number stands in the procedure
-abbrev pub frame_in : Program → List ℤ → Taken Frame
+abbrev pub frame_in : Program → List ℤ → Front Frame
 frame_in program words = option_and_then (λ (number, left). frame_of_words number (slice_get program.procedures number) (count_in left)) (count_in words)
 
 -- frames from MAIN up
-abbrev pub frames_in : Program → ℕ → List ℤ → Taken (List Frame)
+abbrev pub frames_in : Program → ℕ → List ℤ → Front (List Frame)
 frames_in program zero words = Some ([], words)
 frames_in program (suc n) words =
     option_and_then (λ (frame, left). option_map (λ (frames, rest). (frame ∷ frames, rest)) (frames_in program n left)) (frame_in program words)
@@ -187,7 +197,18 @@ frames_in program (suc n) words =
 abbrev pub called_in : What-F What Statement → Option ℕ
 called_in (What-F.Call procedure arguments) = Some procedure
 called_in (What-F.AssignCall to procedure arguments) = Some procedure
-called_in _ = None
+called_in (What-F.Assign to value) = None
+called_in (What-F.If test first second) = None
+called_in (What-F.While test body) = None
+called_in (What-F.For variable from to body last) = None
+called_in (What-F.Return value) = None
+called_in What-F.CheckMonitor = None
+called_in (What-F.Open file) = None
+called_in What-F.Stop = None
+called_in (What-F.ReadUpdate buffer most got) = None
+called_in (What-F.Reply buffer count) = None
+called_in (What-F.WriteRead file buffer send room got) = None
+called_in (What-F.Checkpoint items files) = None
 
 -- the procedure that a frame has called: that of the call that stands first in it
 abbrev pub called_by : List Entry → Option ℕ
@@ -210,12 +231,12 @@ has_words (shape.File file) = false
 has_words _ = true
 
 -- a global that may be listed and wasn't named before: its words
-abbrev pub item_in : List ℕ → ℕ → Option Item → List ℤ → Taken (List ℤ)
+abbrev pub item_in : List ℕ → ℕ → Option Item → List ℤ → Front (List ℤ)
 item_in named number None words = None
 item_in named number (Some item) words = if has_words item.shape && not (is_among number named) then words_in (width item.shape) words else None
 
 -- so many globals, put over those that a state has
-abbrev pub items_in : Program → ℕ → List ℕ → List (List ℤ) → List ℤ → Taken (List (List ℤ))
+abbrev pub items_in : Program → ℕ → List ℕ → List (List ℤ) → List ℤ → Front (List (List ℤ))
 items_in program zero named globals words = Some (globals, words)
 items_in program (suc n) named globals words =
     option_and_then
@@ -224,7 +245,7 @@ items_in program (suc n) named globals words =
     (count_in words)
 
 -- nothing is left
-abbrev pub whole : {A : Type 0} → Taken A → Option A
+abbrev pub whole : {A : Type 0} → Front A → Option A
 whole (Some (found, [])) = Some found
 whole _ = None
 
@@ -263,12 +284,12 @@ half_of (pos n) = n
 half_of (negsuc n) = 65535 - n
 
 -- a number of 32 bits
-abbrev pub long_in : List ℤ → Taken ℕ
+abbrev pub long_in : List ℤ → Front ℕ
 long_in (high ∷ low ∷ words) = Some (half_of high * 65536 + half_of low, words)
 long_in _ = None
 
 -- how many, at most 16, and the words
-abbrev pub counted_in : List ℤ → Taken (List ℤ)
+abbrev pub counted_in : List ℤ → Front (List ℤ)
 counted_in words = option_and_then (λ (n, left). if nat_le n 16 then words_in n left else None) (count_in words)
 
 -- the disc with this request, number and reply: with nothing in hand it is at Take, without a reply at Device, and else at Answer

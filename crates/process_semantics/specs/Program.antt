@@ -145,7 +145,16 @@ point_in program s (What-F.WriteRead file buffer send room got) =
     if s.awaits then Await else where_both_good Ask (count_of program s buffer send) (count_of program s buffer room)
 point_in program s (What-F.Reply buffer count) = if s.in_hand then where_good Answer (count_of program s buffer count) else Inner
 point_in program s (What-F.Checkpoint items files) = Mark
-point_in program s _ = Inner
+point_in program s (What-F.Assign to value) = Inner
+point_in program s (What-F.AssignCall to procedure arguments) = Inner
+point_in program s (What-F.If test first second) = Inner
+point_in program s (What-F.While test body) = Inner
+point_in program s (What-F.For variable from to body last) = Inner
+point_in program s (What-F.Call procedure arguments) = Inner
+point_in program s (What-F.Return value) = Inner
+point_in program s What-F.CheckMonitor = Inner
+point_in program s (What-F.Open file) = Inner
+point_in program s What-F.Stop = Inner
 
 -- the point of the entry that comes next
 abbrev pub point_at : Program → ProgramState → Option Entry → Point
@@ -290,7 +299,10 @@ inner_in program s statement (What-F.Return value) = returned program s (result_
 inner_in program s statement What-F.CheckMonitor = Some (done s)
 inner_in program s statement (What-F.Open file) = Some (done s)
 inner_in program s statement What-F.Stop = Some (ends s)
-inner_in program s statement _ = None
+inner_in program s statement (What-F.ReadUpdate buffer most got) = None
+inner_in program s statement (What-F.Reply buffer count) = None
+inner_in program s statement (What-F.WriteRead file buffer send room got) = None
+inner_in program s statement (What-F.Checkpoint items files) = None
 
 -- whether a FOR goes round once more
 abbrev pub goes_round : Option ℤ → Option ℤ → Option Bool

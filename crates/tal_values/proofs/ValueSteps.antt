@@ -1,6 +1,7 @@
 -- The value of one more layer, and of a chain of operators from its first operand on.
 use Rattle.std.proofs.Common.{◌≡◌, ◌<◌, ◌≤◌, List, [], ◌∷◌, ◌++◌, ap, sym, ◌∙◌, arith}
 use Rattle.std.specs.Prelude.{ℤ, neg_ℤ, Option, option_map}
+use Rattle.std.specs.Option.{option_and_then}
 use Rattle.gd_words.specs.Arithmetic.{wrap}
 use Rattle.tal_tree.specs.Rows.{read-is, minus-is, two-is}
 use Rattle.tal_tree.specs.declared.expression.Op.{Op}
@@ -9,10 +10,10 @@ use Rattle.tal_tree.specs.declared.expression.Expr.{Expr, Read, Minus, Two, size
 use Rattle.tal_tree.specs.declared.expression.Expr.TheViews.{sized-Two}
 use Rattle.tal_values.specs.declared.chain.Tail.{Tail}
 use Rattle.tal_values.specs.Chain.{chained}
-use Rattle.tal_values.specs.Value.{Memory, value_of, spot_value, both, result_of}
+use Rattle.tal_values.specs.Value.{Memory, value_of, cell_of, word_at, both, result_of}
 use Rattle.tal_values.proofs.ChainSteps.{chained-push}
 
-pub value-read : (m : Memory) (spot : Spot) → value_of m (Read spot) ≡ spot_value m spot
+pub value-read : (m : Memory) (spot : Spot) → value_of m (Read spot) ≡ option_and_then (word_at m) (cell_of m spot)
 value-read m spot = ap (value_of m) (read-is spot)
 
 pub value-minus : (m : Memory) (inner : Expr) → value_of m (Minus inner) ≡ option_map (λ x. wrap (neg_ℤ x)) (value_of m inner)

@@ -70,10 +70,6 @@ abbrev mutual
   value_in m end_of-Expr = None
   value_in m (more_of-Expr expr _) = value_of m expr
 
--- the word at a spot
-abbrev pub spot_value : Memory → Spot → Option ℤ
-spot_value m spot = option_and_then (word_at m) (cell_of m spot)
-
 -- whether a relation holds of two words
 abbrev pub holds : Rel → ℤ → ℤ → Bool
 holds Equal x y = int_eq x y
