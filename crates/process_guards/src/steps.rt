@@ -1,0 +1,44 @@
+ghost use Rattle.std.specs.Prelude.{◌≡◌, pos, negsuc, [], ◌∷◌, Some, None};
+ghost use Rattle.tal_tree.specs.declared.statement.What.{Assign, AssignCall, If, While, For, Call, Return, ReadUpdate, Stop};
+ghost use Rattle.tal_tree.specs.declared.expression.Cond.{Truth};
+ghost use Rattle.tal_tree.specs.declared.expression.Expr.{Two};
+ghost use Rattle.tal_tree.specs.declared.expression.Op.TheVariants.{Div};
+ghost use Rattle.tal_tree.specs.declared.expression.Spot as spot;
+ghost use Rattle.tal_tree.specs.declared.expression.Variable.TheVariants.{Simple};
+ghost use Rattle.process_semantics.specs.Program.{Run, Test, Last, inner, after_took};
+ghost use Rattle.process_guards.specs.States.{code, word, does, at_statement, standing, with_frames, main_with, function_with, over};
+
+/// A WHILE whose test holds comes again after its body; else it is gone.
+pub fn a_while_comes_again()
+    ensures holds { inner code (at_statement (While (Truth (word (pos 1))) (does Stop ∷ []))) ≡ standing (pos 0) (Run (does Stop) ∷ Run (does (While (Truth (word (pos 1))) (does Stop ∷ []))) ∷ []) }
+    ensures fails { inner code (at_statement (While (Truth (word (pos 0))) (does Stop ∷ []))) ≡ standing (pos 0) [] }
+{}
+
+/// A FOR sets its variable, tests it before each round, goes round at its limit still, and adds 1, which wraps.
+pub fn a_for_goes_round_at_its_limit()
+    ensures first { inner code (at_statement (For (Simple 0) (word (pos 3)) (word (pos 3)) (does Stop ∷ []) 9)) ≡ standing (pos 3) (Test (does (For (Simple 0) (word (pos 3)) (word (pos 3)) (does Stop ∷ []) 9)) ∷ []) }
+    ensures round { inner code (standing (pos 3) (Test (does (For (Simple 0) (word (pos 3)) (word (pos 3)) (does Stop ∷ []) 9)) ∷ []))
+        ≡ standing (pos 3) (Run (does Stop) ∷ Last (does (For (Simple 0) (word (pos 3)) (word (pos 3)) (does Stop ∷ []) 9)) ∷ Test (does (For (Simple 0) (word (pos 3)) (word (pos 3)) (does Stop ∷ []) 9)) ∷ []) }
+    ensures past { inner code (standing (pos 4) (Test (does (For (Simple 0) (word (pos 3)) (word (pos 3)) (does Stop ∷ []) 9)) ∷ [])) ≡ standing (pos 4) [] }
+    ensures wraps { inner code (standing (pos 32767) (Last (does (For (Simple 0) (word (pos 3)) (word (pos 3)) (does Stop ∷ []) 9)) ∷ [])) ≡ standing (negsuc 32767) [] }
+{}
+
+/// A call's arguments are the first locals of its frame, and the other locals are 0; the call stays first until its procedure returns.
+pub fn a_call_enters_its_procedure()
+    ensures { inner code (at_statement (AssignCall (spot.Simple 0) 0 (word (pos 5) ∷ [])))
+        ≡ with_frames (pos 0) (function_with (pos 5) (pos 0) [] ∷ main_with (Run (does (AssignCall (spot.Simple 0) 0 (word (pos 5) ∷ []))) ∷ []) ∷ []) }
+{}
+
+/// RETURN gives its word to the target of the call, and a procedure's end gives 0; CALL keeps no word.
+pub fn a_return_gives_its_word()
+    ensures given { inner code (with_frames (pos 2) (function_with (pos 5) (pos 0) (Run (does (Return (Some (word (pos 9))))) ∷ Run (does Stop) ∷ []) ∷ main_with (Run (does (AssignCall (spot.Simple 0) 0 (word (pos 5) ∷ []))) ∷ []) ∷ [])) ≡ standing (pos 9) [] }
+    ensures at_the_end { inner code (with_frames (pos 2) (function_with (pos 5) (pos 0) [] ∷ main_with (Run (does (AssignCall (spot.Simple 0) 0 (word (pos 5) ∷ []))) ∷ []) ∷ [])) ≡ standing (pos 0) [] }
+    ensures not_kept { inner code (with_frames (pos 2) (function_with (pos 5) (pos 0) (Run (does (Return (Some (word (pos 9))))) ∷ []) ∷ main_with (Run (does (Call 0 (word (pos 5) ∷ []))) ∷ []) ∷ [])) ≡ standing (pos 2) [] }
+{}
+
+/// STOP, a trap and MAIN's end each end the process, and change nothing else.
+pub fn a_process_ends()
+    ensures stop { inner code (standing (pos 6) (Run (does Stop) ∷ [])) ≡ over (pos 6) }
+    ensures trap { inner code (standing (pos 6) (Run (does (Assign (spot.Simple 0) (Two Div (word (pos 1)) (word (pos 0))))) ∷ [])) ≡ over (pos 6) }
+    ensures at_the_end { inner code (standing (pos 6) []) ≡ over (pos 6) }
+{}
