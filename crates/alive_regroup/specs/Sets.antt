@@ -1,0 +1,12 @@
+-- Sets of processors.
+use Rattle.std.specs.Prelude.{ℕ, Bool, false, replicate, slice_get}
+use Rattle.std.specs.Option.{unwrap_or}
+use Rattle.alive_regroup.specs.declared.set.ProcessorSet.{ProcessorSet}
+
+-- whether a processor is a member
+abbrev pub has : ProcessorSet → ℕ → Bool
+has set processor = unwrap_or (slice_get set.members processor) false
+
+-- the set without members
+abbrev pub nobody : ProcessorSet
+nobody = record { members = replicate 16 false }

@@ -1,0 +1,14 @@
+//! Silence and agreement: what a node knows of the processors of its site from their alive packets and reports, and when it
+//! pulls the hold line of one.
+//!
+//! Below stands nothing but std. The layers above use that each call of a `Watch` changes what the node knows as
+//! `specs/Watching.antt` says, and that `decide` names the first processor of which all agree that it is silent.
+#![tactic(auto)]
+
+pub mod neighbour;
+pub mod set;
+pub mod watch;
+
+pub use neighbour::{Missed, Neighbour};
+pub use set::ProcessorSet;
+pub use watch::Watch;

@@ -1,0 +1,184 @@
+ghost use Rattle.std.specs.Prelude.{◌≡◌};
+ghost use Rattle.alive_regroup.specs.Watching.{risen, is_more, checked, heard, is_silent, is_up, is_down, reported, agrees, marked};
+
+use crate::set::ProcessorSet;
+
+/// At how many checks in a row no alive packet had come: none, one, or two and more.
+#[derive(Clone, Copy)]
+pub enum Missed {
+    None,
+    One,
+    More,
+}
+
+/// What a node knows of a number up to 15: it is no other processor of the site; it is one, of which an alive packet came since
+/// the last check or not, with the checks missed and the silent set that it reported last; or it is marked down.
+#[derive(Clone, Copy)]
+pub enum Neighbour {
+    Absent,
+    Up {
+        heard: bool,
+        missed: Missed,
+        report: ProcessorSet,
+    },
+    Down,
+}
+
+impl Neighbour {
+    /// After an alive packet from it.
+    pub fn heard(&self) -> Neighbour
+        ensures { result ≡ heard self.now }
+    {
+        match self {
+            Neighbour::Absent => Neighbour::Absent,
+            Neighbour::Up {
+                heard: _,
+                missed,
+                report,
+            } => Neighbour::Up {
+                heard: true,
+                missed: *missed,
+                report: *report,
+            },
+            Neighbour::Down => Neighbour::Down,
+        }
+    }
+
+    /// After a check.
+    pub fn checked(&self) -> Neighbour
+        ensures { result ≡ checked self.now }
+    {
+        match self {
+            Neighbour::Absent => Neighbour::Absent,
+            Neighbour::Up {
+                heard,
+                missed,
+                report,
+            } => {
+                let missed = if *heard { Missed::None } else { missed.risen() };
+                Neighbour::Up {
+                    heard: false,
+                    missed,
+                    report: *report,
+                }
+            }
+            Neighbour::Down => Neighbour::Down,
+        }
+    }
+
+    /// After a report from it.
+    pub fn reported(&self, set: ProcessorSet) -> Neighbour
+        ensures { result ≡ reported set self.now }
+    {
+        match self {
+            Neighbour::Absent => Neighbour::Absent,
+            Neighbour::Up {
+                heard,
+                missed,
+                report: _,
+            } => Neighbour::Up {
+                heard: *heard,
+                missed: *missed,
+                report: set,
+            },
+            Neighbour::Down => Neighbour::Down,
+        }
+    }
+
+    /// After the node has marked it down.
+    pub fn marked(&self) -> Neighbour
+        ensures { result ≡ marked self.now }
+    {
+        match self {
+            Neighbour::Absent => Neighbour::Absent,
+            Neighbour::Up {
+                heard: _,
+                missed: _,
+                report: _,
+            } => Neighbour::Down,
+            Neighbour::Down => Neighbour::Down,
+        }
+    }
+
+    /// Whether it is another processor that isn't marked down.
+    pub fn is_up(&self) -> bool
+        ensures { result ≡ is_up self.now }
+    {
+        match self {
+            Neighbour::Absent => false,
+            Neighbour::Up {
+                heard: _,
+                missed: _,
+                report: _,
+            } => true,
+            Neighbour::Down => false,
+        }
+    }
+
+    /// Whether the node has marked it down.
+    pub fn is_down(&self) -> bool
+        ensures { result ≡ is_down self.now }
+    {
+        match self {
+            Neighbour::Absent => false,
+            Neighbour::Up {
+                heard: _,
+                missed: _,
+                report: _,
+            } => false,
+            Neighbour::Down => true,
+        }
+    }
+
+    /// Whether two or more checks missed it, and it isn't marked down.
+    pub fn is_silent(&self) -> bool
+        ensures { result ≡ is_silent self.now }
+    {
+        match self {
+            Neighbour::Absent => false,
+            Neighbour::Up {
+                heard: _,
+                missed,
+                report: _,
+            } => missed.is_more(),
+            Neighbour::Down => false,
+        }
+    }
+
+    /// Whether its last report has this processor; one that isn't up has no say.
+    pub fn agrees(&self, processor: u8) -> bool
+        ensures { result ≡ agrees processor self.now }
+    {
+        match self {
+            Neighbour::Absent => true,
+            Neighbour::Up {
+                heard: _,
+                missed: _,
+                report,
+            } => report.has(processor),
+            Neighbour::Down => true,
+        }
+    }
+}
+
+impl Missed {
+    fn risen(&self) -> Missed
+        ensures { result ≡ risen self.now }
+    {
+        match self {
+            Missed::None => Missed::One,
+            Missed::One => Missed::More,
+            Missed::More => Missed::More,
+        }
+    }
+
+    fn is_more(&self) -> bool
+        ensures { result ≡ is_more self.now }
+    {
+        match self {
+            Missed::None => false,
+            Missed::One => false,
+            Missed::More => true,
+        }
+    }
+}

@@ -1,0 +1,237 @@
+ghost use Rattle.std.specs.Prelude.{◌≡◌, ◌≤◌, ◌<◌, ◌+◌, ℕ, take, drop, true, false, map, not, length, IfSome, IfNone};
+ghost use Rattle.std.specs.List.{list_all};
+ghost use Rattle.alive_regroup.specs.Sets.{has};
+ghost use Rattle.alive_regroup.specs.Watching.{Watching, heard, reported, marked, is_down, is_up, is_silent, changed_at, checked, is_marked, after_tick, told_by_tick, is_coordinator, is_held, all_but, agrees, begun, at_first, is_silent_at};
+
+use crate::neighbour::{Missed, Neighbour};
+use crate::set::ProcessorSet;
+use std::marker::Model;
+
+/// The numbers of processors.
+const PLACES: [u8; 16] = [0, 1, 2, 3, 4, 5, 6, 7, 8, 9, 10, 11, 12, 13, 14, 15];
+
+/// What a node knows of the processors of its site. No call takes memory.
+#[derive(Clone, Copy)]
+pub struct Watch {
+    me: u8,
+    checks: bool,
+    neighbours: [Neighbour; 16],
+    told: ProcessorSet,
+}
+
+impl Model for Watch {
+    ghost use Rattle.alive_regroup.specs.Watching.{Watching};
+
+    ghost Value = { Watching };
+
+    ghost view = { λ watch. record { me = watch.me; checks = watch.checks; neighbours = watch.neighbours; told = watch.told } };
+
+    ghost inverse = { λ w. record { me = w.me; checks = w.checks; neighbours = w.neighbours; told = w.told } };
+}
+
+impl Watch {
+    /// What node `me`, a processor or 16, knows at the beginning of a site of so many processors: all others are up, and none
+    /// was missed.
+    pub fn new(me: u8, processors: u8) -> Watch
+        ensures { result ≡ begun me processors }
+    {
+        let neighbours = PLACES.map(|place| at_first(me, processors, place));
+        Watch {
+            me,
+            checks: false,
+            neighbours,
+            told: ProcessorSet::nobody(),
+        }
+    }
+
+    /// An alive packet came from a processor.
+    pub fn heard(&mut self, from: u8)
+        ensures { self.new ≡ changed_at from heard self.old }
+    {
+        let place = usize::from(from);
+        if let Some(neighbour) = self.neighbours.get(place) {
+            self.neighbours[place] = neighbour.heard();
+        }
+    }
+
+    /// A report came from a processor.
+    pub fn on_report(&mut self, from: u8, set: ProcessorSet)
+        ensures { self.new ≡ changed_at from (reported set) self.old }
+    {
+        let place = usize::from(from);
+        if let Some(neighbour) = self.neighbours.get(place) {
+            self.neighbours[place] = neighbour.reported(set);
+        }
+    }
+
+    /// The node has marked a processor down.
+    pub fn on_down(&mut self, processor: u8)
+        ensures { self.new ≡ changed_at processor marked self.old }
+    {
+        let place = usize::from(processor);
+        if let Some(neighbour) = self.neighbours.get(place) {
+            self.neighbours[place] = neighbour.marked();
+        }
+    }
+
+    /// Whether the node has marked a processor down.
+    pub fn marked(&self, processor: u8) -> bool
+        ensures { result ≡ is_marked processor self.now }
+    {
+        match self.neighbours.get(usize::from(processor)) {
+            Some(neighbour) => neighbour.is_down(),
+            None => false,
+        }
+    }
+
+    /// The node's tick: the silent set to report, where a check changed it.
+    pub fn tick(&mut self) -> Option<ProcessorSet>
+        ensures told { result ≡ told_by_tick self.old }
+        ensures after { self.new ≡ after_tick self.old }
+    {
+        if self.me >= 16 || !self.checks {
+            self.checks = true;
+            return None;
+        }
+        self.checks = false;
+        let neighbours = all_checked(&self.neighbours);
+        let silent = ProcessorSet {
+            members: silent_members(&neighbours),
+        };
+        self.neighbours = neighbours;
+        let before = self.told;
+        self.told = silent;
+        if before == silent { None } else { Some(silent) }
+    }
+
+    /// The processor whose hold line the node pulls: the first of which all agree that it is silent, where the node is the
+    /// coordinator.
+    pub fn decide(&self) -> Option<u8>
+        ensures held { IfSome result (λ processor. is_held processor self.now ≡ true) }
+        ensures first { IfSome result (λ processor. (lower : ℕ) → lower < processor → is_held lower self.now ≡ false) }
+        ensures none { IfNone result ((processor : ℕ) → processor < 16 → is_held processor self.now ≡ false) }
+    {
+        for processor in 0..16 {
+            if self.holds(processor) {
+                return Some(processor);
+            }
+        }
+        None
+    }
+
+    /// The processor that `decide` would name after a tick made now.
+    pub fn would_decide(&self) -> Option<u8>
+        ensures held { IfSome result (λ processor. is_held processor (after_tick self.now) ≡ true) }
+        ensures first { IfSome result (λ processor. (lower : ℕ) → lower < processor → is_held lower (after_tick self.now) ≡ false) }
+        ensures none { IfNone result ((processor : ℕ) → processor < 16 → is_held processor (after_tick self.now) ≡ false) }
+    {
+        let mut later = *self;
+        later.tick();
+        later.decide()
+    }
+
+    fn holds(&self, processor: u8) -> bool
+        ensures { result ≡ is_held processor self.now }
+    {
+        self.me < 16
+            && self.is_silent_at(processor)
+            && self.is_coordinator(processor)
+            && all_but_agree(self.neighbours.as_slice(), processor)
+    }
+
+    fn is_silent_at(&self, processor: u8) -> bool
+        ensures { result ≡ is_silent_at processor self.now }
+    {
+        match self.neighbours.get(usize::from(processor)) {
+            Some(neighbour) => neighbour.is_silent(),
+            None => false,
+        }
+    }
+
+    fn is_coordinator(&self, processor: u8) -> bool
+        ensures { result ≡ is_coordinator processor self.now }
+    {
+        let place = usize::from(processor);
+        let neighbours = self.neighbours.as_slice();
+        let lower = front_of(neighbours, usize::from(self.me));
+        none_up(front_of(lower, place)) && none_up(behind(lower, place))
+    }
+}
+
+/// The items before a place.
+fn front_of(neighbours: &[Neighbour], place: usize) -> &[Neighbour]
+    ensures { result.now ≡ take place neighbours.now }
+{
+    if place < neighbours.len() {
+        let (front, _) = neighbours.split_at(place);
+        front
+    } else {
+        neighbours
+    }
+}
+
+/// The items behind a place.
+fn behind(neighbours: &[Neighbour], place: usize) -> &[Neighbour]
+    ensures { result.now ≡ drop (place + 1) neighbours.now }
+{
+    if place < neighbours.len() {
+        let (_, back) = neighbours.split_at(place + 1);
+        back
+    } else {
+        &[]
+    }
+}
+
+fn all_but_agree(neighbours: &[Neighbour], processor: u8) -> bool
+    ensures { result ≡ all_but processor (agrees processor) neighbours.now }
+{
+    let place = usize::from(processor);
+    all_agree(front_of(neighbours, place), processor)
+        && all_agree(behind(neighbours, place), processor)
+}
+
+fn at_first(me: u8, processors: u8, place: u8) -> Neighbour
+    ensures { result ≡ at_first me processors place }
+{
+    if place < processors && place != me {
+        Neighbour::Up {
+            heard: false,
+            missed: Missed::None,
+            report: ProcessorSet::nobody(),
+        }
+    } else {
+        Neighbour::Absent
+    }
+}
+
+fn all_checked(neighbours: &[Neighbour; 16]) -> [Neighbour; 16]
+    ensures { result ≡ map checked neighbours.now }
+{
+    let mut after = [Neighbour::Absent; 16];
+    for (place, one) in neighbours.iter().enumerate() {
+        after[place] = one.checked();
+    }
+    after
+}
+
+fn silent_members(neighbours: &[Neighbour; 16]) -> [bool; 16]
+    ensures { result ≡ map is_silent neighbours.now }
+{
+    let mut members = [false; 16];
+    for (place, one) in neighbours.iter().enumerate() {
+        members[place] = one.is_silent();
+    }
+    members
+}
+
+fn all_agree(neighbours: &[Neighbour], processor: u8) -> bool
+    ensures { result ≡ list_all (agrees processor) neighbours.now }
+{
+    neighbours.iter().all(|one| one.agrees(processor))
+}
+
+fn none_up(neighbours: &[Neighbour]) -> bool
+    ensures { result ≡ list_all (λ one. not (is_up one)) neighbours.now }
+{
+    neighbours.iter().all(|one| !one.is_up())
+}
