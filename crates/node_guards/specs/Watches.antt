@@ -1,0 +1,17 @@
+-- Watches that the guards name.
+use Rattle.std.specs.Prelude.{ℕ, zero, suc, false, Bool, ◌∷◌, replicate}
+use Rattle.alive_regroup.specs.declared.set.ProcessorSet.{ProcessorSet}
+use Rattle.alive_regroup.specs.Watching.{Watching, begun, after_tick, changed_at, reported}
+
+-- after so many ticks with nothing heard
+abbrev pub after_ticks : ℕ → Watching → Watching
+after_ticks zero w = w
+after_ticks (suc n) w = after_ticks n (after_tick w)
+
+-- the set of one of the first three processors
+abbrev pub only : Bool → Bool → Bool → ProcessorSet
+only first second third = record { members = first ∷ second ∷ third ∷ replicate 13 false }
+
+-- a node of three processors to which one of the others reported this set, after so many ticks with nothing heard
+abbrev pub told_by : ℕ → ProcessorSet → ℕ → ℕ → Watching
+told_by from set ticks me = changed_at from (reported set) (after_ticks ticks (begun me 3))
