@@ -2,6 +2,7 @@
 -- its process.
 use Rattle.std.proofs.Common.{◌≡◌, ◌⊎◌, inl, inr, ℕ, ℤ, Bool, true, false, not, if◌then◌else◌, List, [], ◌∷◌, ◌++◌, Option, Some, None, is_some, slice_get, refl, subst, sym, ap, ◌∙◌}
 use Rattle.std.specs.List.{filter}
+use Rattle.gd_words.specs.Members.{IsAmong}
 use Rattle.gd_words.specs.declared.message.Request.{Request}
 use Rattle.gd_words.specs.declared.message.Reply.{Reply}
 use Rattle.tal_tree.specs.declared.act.Act.{Act}
@@ -16,7 +17,7 @@ use Rattle.world_semantics.specs.declared.receive.OpenerBlock.{OpenerBlock}
 use Rattle.world_semantics.specs.declared.receive.ReceiveBlock.{ReceiveBlock}
 use Rattle.world_semantics.specs.Receive.{after_answering, Chosen, chosen, chosen_by, chosen_after, is_next, standing, is_waiting, is_outdone, is_same_opener, waits, came, still_waiting}
 use Rattle.world_semantics.specs.Core.{Core, Deed, Took, Answered, Advances, goes, takes, asks, gets, answers, acts, put_in, with_files, after_passing, core_at_boot}
-use Rattle.world_semantics.specs.World.{Copy, Stored, Pair, Mark, World, Which, First, Second, copy_of, with_copy, IsAmong, is_first, is_later}
+use Rattle.world_semantics.specs.World.{Copy, Stored, Pair, Mark, World, Which, First, Second, copy_of, with_copy}
 use Rattle.world_semantics.specs.Messages.{Message, Sending, Cause}
 use Rattle.world_semantics.specs.Own.{Around, Causes, by_inner, by_take, by_ask, by_answer, by_device, by_write, by_reply}
 use Rattle.world_semantics.specs.Passes.{Passes, by_send, by_pass_again, by_pass, by_apply, by_acknowledge}
@@ -24,8 +25,8 @@ use Rattle.world_semantics.specs.Rules.{Change, by_own, by_checkpoint, by_reques
 use Rattle.world_semantics.specs.Follows.{IsRun}
 use Rattle.world_semantics.specs.Laws.{HasGrown}
 use Rattle.world_semantics.proofs.Beginning.{all-begin}
-use Rattle.world_semantics.proofs.Lists.{some-same, set-all, map-all, among-cons}
-use Rattle.world_semantics.proofs.Members.{among-none, among-append, among-filter}
+use Rattle.world_semantics.proofs.Lists.{some-same, set-all, map-all}
+use Rattle.world_semantics.proofs.Members.{among-append, among-filter}
 use Rattle.world_semantics.proofs.Runs.{holds-on}
 use Rattle.world_semantics.proofs.Growing.{causes-grow}
 use Rattle.world_semantics.proofs.Hands.{Stands, start-free, start-hand, take-hand, took-stands, inner-stands, asked-stands, got-stands, answered-stands, mark-stands, device-stands, restored-stands, map-some}
@@ -79,15 +80,15 @@ chosen-rest table (first ∷ rest) found request e i =
   where
     later : ((o : Chosen) → chosen table rest ≡ Some o → IsAmong request o.rest → IsAmong request rest) → (o : Chosen) → chosen table rest ≡ Some o
         → chosen_after first o ≡ found → IsAmong request (first ∷ rest)
-    later deeper o there same = by-cons (among-cons (subst (λ (c : Chosen). IsAmong request c.rest) (sym same) i))
+    later deeper o there same = by-cons (subst (λ (c : Chosen). IsAmong request c.rest) (sym same) i)
       where
         by-cons : (request ≡ first) ⊎ IsAmong request o.rest → IsAmong request (first ∷ rest)
-        by-cons (inl s) = rw s is_first
-        by-cons (inr j) = is_later (deeper o there j)
+        by-cons (inl s) = inl s
+        by-cons (inr j) = inr (deeper o there j)
 
     by-test : ((o : Chosen) → chosen table rest ≡ Some o → IsAmong request o.rest → IsAmong request rest) → (next : Bool) (o : Option Chosen)
         → chosen table rest ≡ o → chosen_by next first rest o ≡ Some found → IsAmong request (first ∷ rest)
-    by-test deeper true o there e = is_later (subst (λ (c : Chosen). IsAmong request c.rest) (sym (some-same e)) i)
+    by-test deeper true o there e = inr (subst (λ (c : Chosen). IsAmong request c.rest) (sym (some-same e)) i)
     by-test deeper false None there e = absurd (cc)
     by-test deeper false (Some o) there e = later deeper o there (some-same e)
 
@@ -95,16 +96,13 @@ waits-to : (number : ℕ) (waiting : List Request) (request : Request) → reque
 waits-to number waiting request to ok other i = by-test (is_outdone request waiting) i
   where
     by-append : IsAmong other (filter (λ o. not (is_same_opener request o)) waiting) ⊎ IsAmong other (request ∷ []) → other.process ≡ number
-    by-append (inl j) = ok other (among-filter (λ o. not (is_same_opener request o)) waiting j)
-    by-append (inr j) = last (among-cons j)
-      where
-        last : (other ≡ request) ⊎ IsAmong other [] → other.process ≡ number
-        last (inl same) = ap (λ (r : Request). r.process) same ∙ to
-        last (inr none) = among-none none
+    by-append (inl j) = ok other (among-filter other (λ o. not (is_same_opener request o)) waiting j).0
+    by-append (inr (inl same)) = ap (λ (r : Request). r.process) same ∙ to
+    by-append (inr (inr none)) = absurd none
 
     by-test : (out : Bool) → IsAmong other (if out then waiting else filter (λ o. not (is_same_opener request o)) waiting ++ request ∷ []) → other.process ≡ number
     by-test true j = ok other j
-    by-test false j = by-append (among-append (filter (λ o. not (is_same_opener request o)) waiting) (request ∷ []) j)
+    by-test false j = by-append (among-append other (filter (λ o. not (is_same_opener request o)) waiting) (request ∷ []) j)
 
 came-to : (number : ℕ) (table : ReceiveBlock) (waiting : List Request) (request : Request) → request.process ≡ number → AreTo number waiting
     → AreTo number (came table waiting request)
@@ -185,11 +183,8 @@ passed-fair number replies core waiting ok =
 sent-kept : (number : ℕ) (replies : List Reply) (new : ImageMessage) (sent : List ImageMessage) → KeptSent number replies new.image.receive
     → ((message : ImageMessage) → IsAmong message sent → KeptSent number replies message.image.receive) → (message : ImageMessage) → IsAmong message (new ∷ sent)
     → KeptSent number replies message.image.receive
-sent-kept number replies new sent k ok message i = by-cons (among-cons i)
-  where
-    by-cons : (message ≡ new) ⊎ IsAmong message sent → KeptSent number replies message.image.receive
-    by-cons (inl same) = subst (λ (m : ImageMessage). KeptSent number replies m.image.receive) (sym same) k
-    by-cons (inr j) = ok message j
+sent-kept number replies new sent k ok message (inl same) = subst (λ (m : ImageMessage). KeptSent number replies m.image.receive) (sym same) k
+sent-kept number replies new sent k ok message (inr j) = ok message j
 
 passes-fair : {number : ℕ} {marks : List Mark} {kept after : List Act} {pair next : Pair} {cause : Cause} {sendings : List Sending} (replies : List Reply)
     → Passes number marks kept pair cause sendings next after → FairPair number replies pair → FairPair number replies next
@@ -228,7 +223,7 @@ waiting-fair number replies Second pair waiting to ok =
     record { first = ok.first; second = record { core = ok.second.core; waiting = to }; checkpoints = ok.checkpoints }
 
 still-to : (number : ℕ) (table : ReceiveBlock) (waiting : List Request) → AreTo number waiting → AreTo number (still_waiting table waiting)
-still-to number table waiting ok request i = ok request (among-filter (λ r. is_waiting (standing table r)) waiting i)
+still-to number table waiting ok request i = ok request (among-filter request (λ r. is_waiting (standing table r)) waiting i).0
 
 marking-fair : (number : ℕ) (replies : List Reply) (k : Option Which) (pair : Pair) → FairPair number replies pair → FairPair number replies (after_marking k pair)
 marking-fair number replies None pair ok = ok
@@ -276,12 +271,12 @@ change-fair w next cause sendings (by_mark m x s r n) ok =
 begin-fair : (site : Site) (from number : ℕ) (spec : ProcessSpec) → FairCopy number [] (core_at_boot site from spec) []
 begin-fair site from number spec = record {
   core = record { stands = record { hand = start-hand spec.what; free = start-free spec.what }; kept = kept-begin number (openers_of site from) };
-  waiting = λ request i. among-none i;
+  waiting = λ request i. absurd i;
 }
 
 pub run-fair : {site : Site} {events : _} {w : World} → IsRun site events w → AllFair w
 run-fair {site = site} run = holds-on AllFair change-fair run (all-begin (λ number pair. FairPair number [] pair) site (λ number from spec. record {
   first = begin-fair site from number spec;
   second = begin-fair site from number spec;
-  checkpoints = λ message i. among-none i;
+  checkpoints = λ message i. absurd i;
 }))

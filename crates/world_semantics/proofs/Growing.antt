@@ -1,16 +1,17 @@
 -- What only grows.
 use Rattle.std.proofs.Common.{◌≡◌, ◌⊎◌, inl, inr, ℕ, zero, suc, Bool, true, List, [], ◌∷◌, Some, slice_get, slice_set, refl, ap, ◌∙◌}
+use Rattle.gd_words.specs.Members.{IsAmong}
 use Rattle.tal_tree.specs.declared.act.Act.{Act}
 use Rattle.tal_tree.specs.declared.site.Site.{Site}
 use Rattle.world_semantics.specs.Core.{Core, Deed}
-use Rattle.world_semantics.specs.World.{Copy, Pair, Mark, World, IsAmong}
+use Rattle.world_semantics.specs.World.{Copy, Pair, Mark, World}
 use Rattle.world_semantics.specs.Kept.{Enters, holds_on, repeats, begins, keeps}
 use Rattle.world_semantics.specs.Messages.{Message, Sending, Cause}
 use Rattle.world_semantics.specs.Own.{Around, Causes, by_inner, by_take, by_ask, by_answer, by_device, by_write, by_reply}
 use Rattle.world_semantics.specs.Passes.{Passes, by_send, by_pass_again, by_pass, by_apply, by_acknowledge}
 use Rattle.world_semantics.specs.Rules.{Change, by_own, by_checkpoint, by_request, by_early_request, by_enter, by_print, by_stop, by_mark}
 use Rattle.world_semantics.specs.Laws.{HasGrown}
-use Rattle.world_semantics.proofs.Lists.{among-cons, grown-none, grown-one, grown-more, grown-by, grown-both}
+use Rattle.world_semantics.proofs.Lists.{grown-none, grown-one, grown-more, grown-by, grown-both}
 use Rattle.world_semantics.proofs.Runs.{IsKept}
 
 -- processors that have stopped stay so
@@ -134,7 +135,7 @@ change-marks w next cause sendings (by_early_request request k pair i there r) o
 change-marks w next cause sendings (by_enter number terminal opener t e r o) ok = ok
 change-marks w next cause sendings (by_print number terminal reply t e i o n) ok = ok
 change-marks w next cause sendings (by_stop processor r) ok = λ m i. stop-stays w.stopped processor m.down (ok m i)
-change-marks w next cause sendings (by_mark node processor s r n) ok = λ m i. added m (among-cons i)
+change-marks w next cause sendings (by_mark node processor s r n) ok = added
   where
     added : (m : Mark) → (m ≡ record { node = node; down = processor }) ⊎ IsAmong m w.marks → slice_get w.stopped m.down ≡ Some true
     added m (inl same) = ap (λ (x : Mark). slice_get w.stopped x.down) same ∙ s

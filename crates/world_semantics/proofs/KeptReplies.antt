@@ -1,7 +1,8 @@
 -- The replies that a receive table keeps were sent.
-use Rattle.std.proofs.Common.{◌≡◌, ◌≤◌, ℕ, zero, suc, ◌+◌, ◌-◌, ◌==◌, ℤ, Bool, true, false, if◌then◌else◌, nat_le, nat_lt, ◌&&◌, ◌⊎◌, inl, inr, List, [], ◌∷◌, ◌++◌, map, length, take, drop, reverse, Option, Some, None, slice_get, slice_set, refl, subst, sym, ap, ◌∙◌, arith}
+use Rattle.std.proofs.Common.{◌≡◌, ◌≤◌, ℕ, zero, suc, ◌+◌, ◌-◌, ◌==◌, ℤ, Bool, true, false, if◌then◌else◌, nat_le, nat_lt, ◌&&◌, ◌⊎◌, inl, inr, List, [], ◌∷◌, ◌++◌, map, length, take, drop, reverse, Option, Some, None, slice_get, refl, subst, sym, ap, ◌∙◌, arith}
 use Rattle.std.proofs.lemmas.Bool.{eq-eqb, eqb-true, le-leb, leb-true}
 use Rattle.std.proofs.lemmas.List.{reverse-append, take-append-drop}
+use Rattle.gd_words.specs.Members.{IsAmong}
 use Rattle.gd_words.specs.declared.message.Request.{Request}
 use Rattle.gd_words.specs.declared.message.Reply.{Reply}
 use Rattle.tal_tree.specs.declared.site.OpenerSpec.{OpenerSpec}
@@ -10,9 +11,9 @@ use Rattle.world_semantics.specs.declared.receive.ReceiveBlock.{ReceiveBlock}
 use Rattle.world_semantics.specs.declared.receive.Standing.{Standing}
 use Rattle.world_semantics.specs.declared.receive.Standing.TheVariants.{Next, InHand, Kept, Old, Ahead}
 use Rattle.world_semantics.specs.Receive.{is_place, holds, answered, reply_kept, kept_or_old, standing_in, standing_by, standing, after_taking, after_answering, last_ones, repeated_by, repeated}
-use Rattle.world_semantics.specs.World.{IsAmong, is_first, is_later}
 use Rattle.world_semantics.specs.Laws.{HasGrown}
-use Rattle.world_semantics.proofs.Lists.{some-same, among-cons}
+use Rattle.world_semantics.proofs.Lists.{some-same, Changed, is_new, is_same, changed}
+use Rattle.world_semantics.proofs.Members.{among-right}
 
 -- the replies that one block of a table keeps, where its opener's request is in hand or not, were sent
 abbrev BlockSent : ℕ → List Reply → ℕ → Bool → OpenerBlock → Type 0
@@ -25,14 +26,10 @@ abbrev pub KeptSent : ℕ → List Reply → ReceiveBlock → Type 0
 KeptSent number replies table =
     (place : ℕ) (block : OpenerBlock) → slice_get table.openers place ≡ Some block → BlockSent number replies place (holds table place) block
 
-pub among-grown : {A : Type 0} {x : A} (more xs : List A) → IsAmong x xs → IsAmong x (more ++ xs)
-among-grown [] xs i = i
-among-grown (y ∷ more) xs i = is_later (among-grown more xs i)
-
 pub kept-more : (number : ℕ) (replies more : List Reply) (table : ReceiveBlock) → HasGrown replies more → KeptSent number replies table → KeptSent number more table
 kept-more number replies more table grown ok place block there n words e =
     subst (λ all. IsAmong (record { process = number; opener = place; number = n; words = words }) all) (sym grown.1)
-    (among-grown grown.0 replies (ok place block there n words e))
+    (among-right _ grown.0 replies (ok place block there n words e))
 
 -- Beginning
 
@@ -58,24 +55,6 @@ begin-kept (opener ∷ openers) (suc place) block e = begin-kept openers place b
 pub kept-begin : (number : ℕ) (openers : List OpenerSpec)
     → KeptSent number [] (record { openers = map (λ opener. record { taken = 0; kept = [] }) openers; in_hand = None })
 kept-begin number openers place block there = begin-block number place block (begin-kept openers place block there)
-
--- Changed blocks
-
-data Changed (blocks : List OpenerBlock) (place : ℕ) (new : OpenerBlock) (at : ℕ) (block : OpenerBlock) : Type 0 where
-  is_new : place ≡ at → block ≡ new → Changed blocks place new at block
-  is_same : (place ≡ at → ⊥) → slice_get blocks at ≡ Some block → Changed blocks place new at block
-
-changed : (blocks : List OpenerBlock) (place : ℕ) (new : OpenerBlock) (at : ℕ) (block : OpenerBlock) → slice_get (slice_set blocks place new) at ≡ Some block
-    → Changed blocks place new at block
-changed [] place new at block e = absurd (cc)
-changed (b ∷ blocks) zero new zero block e = is_new refl (sym (some-same e))
-changed (b ∷ blocks) zero new (suc at) block e = is_same (λ s. absurd (cc)) e
-changed (b ∷ blocks) (suc place) new zero block e = is_same (λ s. absurd (cc)) e
-changed (b ∷ blocks) (suc place) new (suc at) block e = up (changed blocks place new at block e)
-  where
-    up : Changed blocks place new at block → Changed (b ∷ blocks) (suc place) new (suc at) block
-    up (is_new same is) = is_new (ap suc same) is
-    up (is_same n there) = is_same (λ s. let t : place ≡ at = omega (arith, s) in n t) there
 
 other-held : (place at : ℕ) → (place ≡ at → ⊥) → is_place (Some place) at ≡ false
 other-held place at n = by-test (place == at) refl
@@ -142,11 +121,11 @@ answered-block number replies place depth block words sent n found e =
     at zero i e l =
         let same : n ≡ block.taken = omega (arith, i, l) in
         let is : words ≡ found = some-same e in
-        rw (same, sym is) is_first
+        inl (rw (same, sym is) refl)
     at (suc j) i e l =
         let less : n ≤ block.taken - 1 = omega (arith, i) in
         let back : (block.taken - 1) - n ≡ j = omega (arith, i) in
-        is_later (sent n found (kept-of (block.taken - 1) n block.kept found less (rw back e)))
+        inr (sent n found (kept-of (block.taken - 1) n block.kept found less (rw back e)))
 
 pub kept-answering : (number : ℕ) (replies : List Reply) (place depth : ℕ) (block : OpenerBlock) (words : List ℤ) (table : ReceiveBlock)
     → table.in_hand ≡ Some place → slice_get table.openers place ≡ Some block → KeptSent number replies table
@@ -163,7 +142,7 @@ kept-answering number replies place depth block words table held there ok at new
         let mine : BlockSent number replies place true block = subst (λ h. BlockSent number replies place h block) (eq-eqb place place refl) (before place block there) in
         rw is (subst (λ p. BlockSent number (record { process = number; opener = place; number = block.taken; words = words } ∷ replies) p false (record block { kept = last_ones depth (block.kept ++ words ∷ []) })) here
         (answered-block number replies place depth block words mine))
-    of (is_same n old) = λ m found k. is_later (subst (λ h. BlockSent number replies at h new) (other-held place at n) (before at new old) m found k)
+    of (is_same n old) = λ m found k. inr (subst (λ h. BlockSent number replies at h new) (other-held place at n) (before at new old) m found k)
 
 -- Sent again
 
@@ -196,11 +175,11 @@ repeated-sent replies table request reply ok i = by-standing (standing table req
     one words e (inl same) =
         let b = block-kept (holds table request.opener) (slice_get table.openers request.opener) request.number words e in
         rw same (ok request.opener b.0 b.1 request.number words b.2)
-    one words e (inr i) = elim i [ ]
+    one words e (inr i) = absurd i
 
     by-standing : (s : Standing) → standing table request ≡ s → IsAmong reply (repeated_by request s) → IsAmong reply replies
-    by-standing (Kept words) e i = one words e (among-cons i)
-    by-standing Next e i = elim i [ ]
-    by-standing InHand e i = elim i [ ]
-    by-standing Old e i = elim i [ ]
-    by-standing Ahead e i = elim i [ ]
+    by-standing (Kept words) e i = one words e i
+    by-standing Next e i = absurd i
+    by-standing InHand e i = absurd i
+    by-standing Old e i = absurd i
+    by-standing Ahead e i = absurd i

@@ -1,43 +1,40 @@
 -- Members of lists that are made of others.
-use Rattle.std.proofs.Common.{◌≡◌, ◌⊎◌, inl, inr, ℕ, zero, suc, Bool, true, false, cond, List, [], ◌∷◌, ◌++◌, map, Some, slice_get, slice_set, refl}
+use Rattle.std.proofs.Common.{◌≡◌, ◌⊎◌, inl, inr, ℕ, zero, suc, Bool, true, false, cond, List, [], ◌∷◌, ◌++◌, map, Some, slice_get, refl, sym}
 use Rattle.std.specs.List.{filter, flat_map}
-use Rattle.world_semantics.specs.World.{IsAmong, is_first, is_later}
-use Rattle.world_semantics.proofs.Lists.{among-cons}
+use Rattle.gd_words.specs.Members.{IsAmong}
+use Rattle.world_semantics.proofs.Lists.{some-same}
 
-pub among-none : {A B : Type 0} {x : A} → IsAmong x [] → B
-among-none i = elim i [ ]
+pub among-left : {A : Type 0} (x : A) (xs ys : List A) → IsAmong x xs → IsAmong x (xs ++ ys)
+among-left x [] ys i = absurd i
+among-left x (y ∷ xs) ys (inl same) = inl same
+among-left x (y ∷ xs) ys (inr i) = inr (among-left x xs ys i)
 
-pub among-left : {A : Type 0} {x : A} (xs ys : List A) → IsAmong x xs → IsAmong x (xs ++ ys)
-among-left [] ys i = among-none i
-among-left {x = x} (y ∷ xs) ys i = by-cons (among-left xs ys) (among-cons i)
-  where
-    by-cons : (IsAmong x xs → IsAmong x (xs ++ ys)) → (x ≡ y) ⊎ IsAmong x xs → IsAmong x (y ∷ (xs ++ ys))
-    by-cons rest (inl same) = rw same is_first
-    by-cons rest (inr j) = is_later (rest j)
+pub among-right : {A : Type 0} (x : A) (xs ys : List A) → IsAmong x ys → IsAmong x (xs ++ ys)
+among-right x [] ys i = i
+among-right x (y ∷ xs) ys i = inr (among-right x xs ys i)
 
-pub among-append : {A : Type 0} {x : A} (xs ys : List A) → IsAmong x (xs ++ ys) → IsAmong x xs ⊎ IsAmong x ys
-among-append [] ys i = inr i
-among-append {x = x} (y ∷ xs) ys i = by-cons (among-append xs ys) (among-cons i)
+pub among-append : {A : Type 0} (x : A) (xs ys : List A) → IsAmong x (xs ++ ys) → IsAmong x xs ⊎ IsAmong x ys
+among-append x [] ys i = inr i
+among-append x (y ∷ xs) ys (inl same) = inl (inl same)
+among-append x (y ∷ xs) ys (inr i) = up (among-append x xs ys i)
   where
     up : IsAmong x xs ⊎ IsAmong x ys → IsAmong x (y ∷ xs) ⊎ IsAmong x ys
-    up (inl j) = inl (is_later j)
+    up (inl j) = inl (inr j)
     up (inr j) = inr j
 
-    by-cons : (IsAmong x (xs ++ ys) → IsAmong x xs ⊎ IsAmong x ys) → (x ≡ y) ⊎ IsAmong x (xs ++ ys) → IsAmong x (y ∷ xs) ⊎ IsAmong x ys
-    by-cons rest (inl same) = inl (rw same is_first)
-    by-cons rest (inr j) = up (rest j)
-
-pub among-filter : {A : Type 0} {x : A} (test : A → Bool) (xs : List A) → IsAmong x (filter test xs) → IsAmong x xs
-among-filter test [] i = among-none i
-among-filter {x = x} test (y ∷ xs) i = by-test (among-filter test xs) (test y) i
+-- a member of the items that pass a test is one of them, and passes it
+pub among-filter : {A : Type 0} (x : A) (test : A → Bool) (xs : List A) → IsAmong x (filter test xs) → IsAmong x xs × (test x ≡ true)
+among-filter x test [] i = absurd i
+among-filter x test (y ∷ xs) i = by-test (among-filter x test xs) (test y) refl i
   where
-    by-cons : (IsAmong x (filter test xs) → IsAmong x xs) → (x ≡ y) ⊎ IsAmong x (filter test xs) → IsAmong x (y ∷ xs)
-    by-cons rest (inl same) = rw same is_first
-    by-cons rest (inr j) = is_later (rest j)
+    up : IsAmong x xs × (test x ≡ true) → IsAmong x (y ∷ xs) × (test x ≡ true)
+    up (j, passes) = (inr j, passes)
 
-    by-test : (IsAmong x (filter test xs) → IsAmong x xs) → (b : Bool) → IsAmong x (cond b (y ∷ filter test xs) (filter test xs)) → IsAmong x (y ∷ xs)
-    by-test rest true j = by-cons rest (among-cons j)
-    by-test rest false j = is_later (rest j)
+    by-test : (IsAmong x (filter test xs) → IsAmong x xs × (test x ≡ true)) → (b : Bool) → test y ≡ b
+        → IsAmong x (cond b (y ∷ filter test xs) (filter test xs)) → IsAmong x (y ∷ xs) × (test x ≡ true)
+    by-test rest true e (inl same) = (inl same, rw same e)
+    by-test rest true e (inr j) = up (rest j)
+    by-test rest false e j = up (rest j)
 
 -- where a member of a mapped list comes from
 pub record IsFrom {A B : Type 0} (f : A → B) (xs : List A) (y : B) : Type 0 where
@@ -46,15 +43,12 @@ pub record IsFrom {A B : Type 0} (f : A → B) (xs : List A) (y : B) : Type 0 wh
   pub same : y ≡ f item
 
 pub among-map : {A B : Type 0} (f : A → B) (xs : List A) (y : B) → IsAmong y (map f xs) → IsFrom f xs y
-among-map f [] y i = among-none i
-among-map f (x ∷ xs) y i = by-cons (among-map f xs y) (among-cons i)
+among-map f [] y i = absurd i
+among-map f (x ∷ xs) y (inl same) = record { item = x; among = inl refl; same = same }
+among-map f (x ∷ xs) y (inr i) = up (among-map f xs y i)
   where
     up : IsFrom f xs y → IsFrom f (x ∷ xs) y
-    up from = record { item = from.item; among = is_later from.among; same = from.same }
-
-    by-cons : (IsAmong y (map f xs) → IsFrom f xs y) → (y ≡ f x) ⊎ IsAmong y (map f xs) → IsFrom f (x ∷ xs) y
-    by-cons rest (inl same) = record { item = x; among = is_first; same = same }
-    by-cons rest (inr j) = up (rest j)
+    up from = record { item = from.item; among = inr from.among; same = from.same }
 
 -- where a member of joined lists comes from
 pub record IsOf {A B : Type 0} (f : A → List B) (xs : List A) (y : B) : Type 0 where
@@ -65,17 +59,18 @@ pub record IsOf {A B : Type 0} (f : A → List B) (xs : List A) (y : B) : Type 0
   pub within : IsAmong y (f item)
 
 pub among-flat_map : {A B : Type 0} (f : A → List B) (xs : List A) (y : B) → IsAmong y (flat_map f xs) → IsOf f xs y
-among-flat_map f [] y i = among-none i
-among-flat_map f (x ∷ xs) y i = by-append (among-flat_map f xs y) (among-append (f x) (flat_map f xs) i)
+among-flat_map f [] y i = absurd i
+among-flat_map f (x ∷ xs) y i = by-append (among-flat_map f xs y) (among-append y (f x) (flat_map f xs) i)
   where
     up : IsOf f xs y → IsOf f (x ∷ xs) y
-    up of = record { place = suc of.place; item = of.item; there = of.there; among = is_later of.among; within = of.within }
+    up of = record { place = suc of.place; item = of.item; there = of.there; among = inr of.among; within = of.within }
 
     by-append : (IsAmong y (flat_map f xs) → IsOf f xs y) → IsAmong y (f x) ⊎ IsAmong y (flat_map f xs) → IsOf f (x ∷ xs) y
-    by-append rest (inl j) = record { place = zero; item = x; there = refl; among = is_first; within = j }
+    by-append rest (inl j) = record { place = zero; item = x; there = refl; among = inl refl; within = j }
     by-append rest (inr j) = up (rest j)
 
-pub set-there : {A : Type 0} (xs : List A) (i : ℕ) (x y : A) → slice_get xs i ≡ Some x → slice_get (slice_set xs i y) i ≡ Some y
-set-there [] i x y e = absurd (cc)
-set-there (u ∷ xs) zero x y e = refl
-set-there (u ∷ xs) (suc i) x y e = set-there xs i x y e
+-- what stands at a place is a member
+pub at-place : {A : Type 0} (xs : List A) (k : ℕ) (x : A) → slice_get xs k ≡ Some x → IsAmong x xs
+at-place [] k x e = absurd (cc)
+at-place (y ∷ xs) zero x e = inl (sym (some-same e))
+at-place (y ∷ xs) (suc k) x e = inr (at-place xs k x e)

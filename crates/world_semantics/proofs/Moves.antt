@@ -1,6 +1,7 @@
 -- Runs that are computed from moves: each move says which change an event makes. The examples are played by it.
-use Rattle.std.proofs.Common.{◌≡◌, ℕ, zero, suc, ◌+◌, ◌==◌, ◌&&◌, Bool, true, false, List, [], ◌∷◌, map, Option, Some, None, slice_get, refl, subst, ap, ◌∙◌}
+use Rattle.std.proofs.Common.{◌≡◌, ℕ, ◌+◌, ◌==◌, ◌&&◌, Bool, true, false, List, [], ◌∷◌, map, Option, Some, None, slice_get, refl, ap, ◌∙◌}
 use Rattle.std.proofs.lemmas.Bool.{eqb-true}
+use Rattle.gd_words.specs.Members.{IsAmong}
 use Rattle.gd_words.specs.declared.message.Request.{Request}
 use Rattle.gd_words.specs.declared.message.Reply.{Reply}
 use Rattle.tal_tree.specs.declared.act.Act.TheVariants as act
@@ -19,14 +20,14 @@ use Rattle.world_semantics.specs.declared.message.TakenMessage.{TakenMessage}
 use Rattle.world_semantics.specs.declared.role.Role.{Role}
 use Rattle.world_semantics.specs.declared.role.Role.TheVariants.{Acting, Watching, Gone}
 use Rattle.world_semantics.specs.Core.{put_in, next_on, gets}
-use Rattle.world_semantics.specs.World.{Pair, World, is_running, has_marked, Which, copy_of, IsAmong, is_first, is_later}
+use Rattle.world_semantics.specs.World.{Pair, World, is_running, has_marked, Which, copy_of}
 use Rattle.world_semantics.specs.Messages.{Sending}
 use Rattle.world_semantics.specs.Passes.{by_apply, by_acknowledge}
 use Rattle.world_semantics.specs.Own.{by_reply}
 use Rattle.world_semantics.specs.Rules.{by_own, by_checkpoint, by_request, by_early_request, by_enter, by_print, by_stop, by_mark}
 use Rattle.world_semantics.specs.Follows.{marks_none, marks_one, Follows, runs, enters, delivers, ticks, fails, Leads, stays, goes_on}
 use Rattle.world_semantics.specs.Running.{run_done}
-use Rattle.world_semantics.proofs.Lists.{some-same}
+use Rattle.world_semantics.proofs.Members.{at-place}
 use Rattle.world_semantics.proofs.Running.{enters-as}
 use Rattle.world_semantics.proofs.Roles.{both-true}
 use Rattle.world_semantics.proofs.Ran.{run-may}
@@ -71,12 +72,6 @@ pub record Permitted (site : Site) (w : World) (event : Event) : Type 0 where
 
 abbrev pub Perhaps : Site → World → Event → Type 0
 Perhaps site w event = Option (Permitted site w event)
-
--- what is among others at a place
-pub at-place : {A : Type 0} (xs : List A) (k : ℕ) (x : A) → slice_get xs k ≡ Some x → IsAmong x xs
-at-place [] k x e = absurd (cc)
-at-place (y ∷ xs) zero x e = subst (λ z. IsAmong z (y ∷ xs)) (some-same e) is_first
-at-place (y ∷ xs) (suc k) x e = is_later (at-place xs k x e)
 
 -- a value with the reason for it
 abbrev pub with_reason : {A B : Type 0} (o : Option A) → ((x : A) → o ≡ Some x → Option B) → Option B

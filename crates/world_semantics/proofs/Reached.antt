@@ -1,9 +1,9 @@
 -- What holds of each world that a run reaches.
-use Rattle.std.proofs.Common.{◌≡◌, ◌↔◌, subst, ℕ, true, List, [], Some, slice_get, sym, ◌∙◌}
+use Rattle.std.proofs.Common.{◌≡◌, ◌↔◌, subst, ℕ, true, List, Some, slice_get, sym, ◌∙◌}
 use Rattle.tal_tree.specs.declared.site.Site.{Site}
 use Rattle.schedule.specs.declared.event.Event.{Event}
 use Rattle.world_semantics.specs.declared.role.Role.TheVariants.{Acting, Gone}
-use Rattle.world_semantics.specs.World.{Pair, Mark, Terminal, World, Which, First, Second, copy_of, IsAmong}
+use Rattle.world_semantics.specs.World.{Pair, Terminal, World, Which, First, Second, copy_of}
 use Rattle.world_semantics.specs.Follows.{Leads, IsRun}
 use Rattle.world_semantics.specs.Laws.{IsLater, IsLaterPair, IsLaterTerminal}
 use Rattle.world_semantics.proofs.Lists.{some-same}
@@ -14,10 +14,7 @@ use Rattle.world_semantics.proofs.Positions.{AllBounds, bounds-begin, change-bou
 use Rattle.world_semantics.proofs.Later.{pairs-go-on, terminals-go-on}
 
 pub run-marks : {site : Site} {events : List Event} {w : World} → IsRun site events w → AreStopped w
-run-marks run = holds-on AreStopped change-marks run (λ m i. none-there i)
-  where
-    none-there : {m : Mark} {A : Type 0} → IsAmong m [] → A
-    none-there i = elim i [ ]
+run-marks run = holds-on AreStopped change-marks run (λ m i. absurd i)
 
 pub run-roles : {site : Site} {events : List Event} {w : World} → IsRun site events w → AllRoles w
 run-roles {site = site} run = holds-on AllRoles change-roles run (roles-begin site)

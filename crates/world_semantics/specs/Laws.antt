@@ -1,6 +1,7 @@
 -- Words for the laws of runs.
 use Rattle.std.specs.Prelude.{◌≡◌, ◌≤◌, ℕ, List, ◌++◌, slice_get, Some}
-use Rattle.world_semantics.specs.World.{Copy, Pair, Terminal, World, IsAmong}
+use Rattle.gd_words.specs.Members.{IsAmong}
+use Rattle.world_semantics.specs.World.{Copy, Pair, Terminal, World}
 use Rattle.world_semantics.specs.Messages.{Message, Asking, Replying, Checkpointing, Taking}
 
 -- a copy as it is later: its era didn't fall, and neither did the number of its checkpoints while the era stayed

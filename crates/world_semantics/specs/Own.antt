@@ -1,5 +1,6 @@
 -- What lets a copy do an act of its own, and what that changes around it.
 use Rattle.std.specs.Prelude.{◌≡◌, ℕ, ◌+◌, ◌==◌, ℤ, Bool, true, false, not, List, [], ◌∷◌, ◌++◌, map, slice_get, slice_set, Option, Some, None}
+use Rattle.gd_words.specs.Members.{IsAmong}
 use Rattle.gd_words.specs.declared.device.DeviceCall.{DeviceCall}
 use Rattle.gd_words.specs.declared.device.DeviceCall.TheVariants.{Write}
 use Rattle.gd_words.specs.declared.message.Request.{Request}
@@ -16,7 +17,7 @@ use Rattle.plain_semantics.specs.Machine.{found_by}
 use Rattle.world_semantics.specs.declared.receive.OpenerBlock.{OpenerBlock}
 use Rattle.world_semantics.specs.Receive.{Chosen, chosen}
 use Rattle.world_semantics.specs.Core.{Core, Deed, Went, Took, Asked, Got, Answered, Acted, next_on}
-use Rattle.world_semantics.specs.World.{Copy, Stored, Pair, World, IsAmong}
+use Rattle.world_semantics.specs.World.{Copy, Stored, Pair, World}
 use Rattle.world_semantics.specs.Messages.{Message, Asking, Replying, Cause, Running, Handing}
 
 -- what an act of a copy finds around the copy's core, and leaves there

@@ -1,5 +1,6 @@
 -- How a checkpoint goes from one copy of a process to the other: Bartlett's checkpoint, applied whole. That era and number choose it is our own rule.
 use Rattle.std.specs.Prelude.{◌≡◌, ◌≤◌, ◌<◌, ℕ, ◌+◌, true, false, List, [], ◌∷◌, ◌++◌, Some}
+use Rattle.gd_words.specs.Members.{IsAmong}
 use Rattle.tal_tree.specs.declared.act.Act.{Act}
 use Rattle.tal_tree.specs.declared.act.Act.TheVariants.{Step}
 use Rattle.process_semantics.specs.declared.point.Point.TheVariants as point
@@ -8,7 +9,7 @@ use Rattle.world_semantics.specs.declared.message.ImageMessage.{ImageMessage}
 use Rattle.world_semantics.specs.declared.message.TakenMessage.{TakenMessage}
 use Rattle.world_semantics.specs.declared.role.Role.TheVariants.{Acting, Watching}
 use Rattle.world_semantics.specs.Core.{Core, after_passing, carried, put_in}
-use Rattle.world_semantics.specs.World.{Copy, Pair, Mark, has_marked, Which, other_of, copy_of, with_copy, may_pass, IsAmong}
+use Rattle.world_semantics.specs.World.{Copy, Pair, Mark, has_marked, Which, other_of, copy_of, with_copy, may_pass}
 use Rattle.world_semantics.specs.Kept.{own_acts}
 use Rattle.world_semantics.specs.Messages.{Checkpointing, Taking, Sending, sent_at, Cause, Running, Handing}
 

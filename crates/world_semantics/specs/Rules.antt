@@ -5,6 +5,7 @@ use Rattle.std.specs.Prelude.{◌≡◌, ℕ, ◌+◌, ◌==◌, ◌&&◌, ℤ, 
 use Rattle.std.specs.List.{flat_map}
 use Rattle.gd_words.specs.declared.message.Request.{Request}
 use Rattle.gd_words.specs.declared.message.Reply.{Reply}
+use Rattle.gd_words.specs.Members.{IsAmong}
 use Rattle.tal_tree.specs.declared.act.Act.{Act}
 use Rattle.tal_tree.specs.declared.act.Act.TheVariants as act
 use Rattle.tal_tree.specs.declared.act.Shown.TheVariants as shown
@@ -17,7 +18,7 @@ use Rattle.world_semantics.specs.declared.role.Role.{Role}
 use Rattle.world_semantics.specs.declared.role.Role.TheVariants.{Acting, Watching, Gone}
 use Rattle.world_semantics.specs.Receive.{waits, came, repeated, still_waiting, all_repeated}
 use Rattle.world_semantics.specs.Core.{Core, Deed, Advances}
-use Rattle.world_semantics.specs.World.{Copy, Pair, Terminal, World, terminal_node, is_running, has_marked, Which, First, Second, other_of, copy_of, with_copy, with_pair, IsAmong}
+use Rattle.world_semantics.specs.World.{Copy, Pair, Terminal, World, terminal_node, is_running, has_marked, Which, First, Second, other_of, copy_of, with_copy, with_pair}
 use Rattle.world_semantics.specs.Kept.{Enters}
 use Rattle.world_semantics.specs.Messages.{Message, Asking, Replying, Sending, sent_at, Cause, Entering, Handing, Stopping, Marking}
 use Rattle.world_semantics.specs.Own.{Around, around, Causes}

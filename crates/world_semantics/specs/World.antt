@@ -162,10 +162,3 @@ may_pass marks k pair =
 -- the world with a process changed
 abbrev pub with_pair : ℕ → Pair → World → World
 with_pair number pair w = record w { processes = slice_set w.processes number pair }
-
--- Membership
-
--- an element is among those of a list
-pub data IsAmong {A : Type 0} (item : A) : List A → Type 0 where
-  is_first : {items : List A} → IsAmong item (item ∷ items)
-  is_later : {other : A} {items : List A} → IsAmong item items → IsAmong item (other ∷ items)

@@ -1,10 +1,11 @@
 ghost use Rattle.std.specs.Prelude.{◌≡◌, ◌≤◌, ◌↔◌, ℕ, List, slice_get, Some, None, is_some, true};
+ghost use Rattle.gd_words.specs.Members.{IsAmong};
 ghost use Rattle.tal_tree.specs.declared.site.Site.{Site};
 ghost use Rattle.schedule.specs.declared.event.Event.{Event};
 ghost use Rattle.schedule.specs.declared.event.Event.TheVariants.{Run};
 ghost use Rattle.process_semantics.specs.Process.{in_hand};
 ghost use Rattle.world_semantics.specs.declared.role.Role.TheVariants.{Acting, Gone};
-ghost use Rattle.world_semantics.specs.World.{Pair, Mark, Terminal, World, Which, copy_of, IsAmong};
+ghost use Rattle.world_semantics.specs.World.{Pair, Mark, Terminal, World, Which, copy_of};
 ghost use Rattle.world_semantics.specs.Kept.{own_acts};
 ghost use Rattle.world_semantics.specs.Follows.{Follows, IsIdleFor, Leads, IsRun};
 ghost use Rattle.world_semantics.specs.Messages.{Message, Cause, Sending, Running, Handing};
