@@ -15,7 +15,7 @@ use Rattle.world_semantics.specs.declared.message.ImageMessage.{ImageMessage}
 use Rattle.world_semantics.specs.declared.message.Image.{Image}
 use Rattle.world_semantics.specs.declared.receive.OpenerBlock.{OpenerBlock}
 use Rattle.world_semantics.specs.declared.receive.ReceiveBlock.{ReceiveBlock}
-use Rattle.world_semantics.specs.Receive.{after_answering, Chosen, chosen, chosen_by, chosen_after, is_next, standing, is_waiting, is_outdone, is_same_opener, waits, came, still_waiting}
+use Rattle.world_semantics.specs.Receive.{after_answering, standing, is_waiting, is_outdone, is_same_opener, waits, came, still_waiting}
 use Rattle.world_semantics.specs.Core.{Core, Deed, Took, Answered, Advances, goes, takes, asks, gets, answers, acts, put_in, with_files, after_passing, core_at_boot}
 use Rattle.world_semantics.specs.World.{Copy, Stored, Pair, Mark, World, Which, First, Second, copy_of, with_copy}
 use Rattle.world_semantics.specs.Messages.{Message, Sending, Cause}
@@ -28,6 +28,7 @@ use Rattle.world_semantics.proofs.Beginning.{all-begin}
 use Rattle.world_semantics.proofs.Lists.{some-same, set-all, map-all}
 use Rattle.world_semantics.proofs.Members.{among-append, among-filter}
 use Rattle.world_semantics.proofs.Runs.{holds-on}
+use Rattle.world_semantics.proofs.Waiting.{chosen-rest}
 use Rattle.world_semantics.proofs.Growing.{causes-grow}
 use Rattle.world_semantics.proofs.Hands.{Stands, start-free, start-hand, take-hand, took-stands, inner-stands, asked-stands, got-stands, answered-stands, mark-stands, device-stands, restored-stands, map-some}
 use Rattle.world_semantics.proofs.KeptReplies.{KeptSent, kept-more, kept-begin, kept-taking, kept-answering}
@@ -71,26 +72,6 @@ pair-more {number = n} {replies = r} {more = m} g ok = record {
 }
 
 -- Waiting
-
-chosen-rest : (table : ReceiveBlock) (waiting : List Request) (found : Chosen) (request : Request) → chosen table waiting ≡ Some found → IsAmong request found.rest
-    → IsAmong request waiting
-chosen-rest table [] found request e i = absurd (cc)
-chosen-rest table (first ∷ rest) found request e i =
-    by-test (λ o there j. chosen-rest table rest o request there j) (is_next (standing table first)) (chosen table rest) refl e
-  where
-    later : ((o : Chosen) → chosen table rest ≡ Some o → IsAmong request o.rest → IsAmong request rest) → (o : Chosen) → chosen table rest ≡ Some o
-        → chosen_after first o ≡ found → IsAmong request (first ∷ rest)
-    later deeper o there same = by-cons (subst (λ (c : Chosen). IsAmong request c.rest) (sym same) i)
-      where
-        by-cons : (request ≡ first) ⊎ IsAmong request o.rest → IsAmong request (first ∷ rest)
-        by-cons (inl s) = inl s
-        by-cons (inr j) = inr (deeper o there j)
-
-    by-test : ((o : Chosen) → chosen table rest ≡ Some o → IsAmong request o.rest → IsAmong request rest) → (next : Bool) (o : Option Chosen)
-        → chosen table rest ≡ o → chosen_by next first rest o ≡ Some found → IsAmong request (first ∷ rest)
-    by-test deeper true o there e = inr (subst (λ (c : Chosen). IsAmong request c.rest) (sym (some-same e)) i)
-    by-test deeper false None there e = absurd (cc)
-    by-test deeper false (Some o) there e = later deeper o there (some-same e)
 
 waits-to : (number : ℕ) (waiting : List Request) (request : Request) → request.process ≡ number → AreTo number waiting → AreTo number (waits waiting request)
 waits-to number waiting request to ok other i = by-test (is_outdone request waiting) i

@@ -1,6 +1,8 @@
+pub mod Becoming
 pub mod Beginning
 pub mod Coming
 pub mod Counting
+pub mod Exact
 pub mod Fair
 pub mod Growing
 pub mod Hands
@@ -18,4 +20,8 @@ pub mod Roles
 pub mod Running
 pub mod Runs
 pub mod Sendings
+pub mod Sent
 pub mod Settled
+pub mod Terminals
+pub mod Tidy
+pub mod Waiting

@@ -1,5 +1,5 @@
 -- The worked examples, played.
-use Rattle.std.proofs.Common.{◌≡◌, pos, List, [], ◌∷◌, Option, Some, None, reverse, refl, ap}
+use Rattle.std.proofs.Common.{◌≡◌, pos, List, [], ◌∷◌, map, Option, Some, None, reverse, refl, ap}
 use Rattle.std.specs.Int.{int_wrap}
 use denote.Hole.Carrier.{shown, out}
 use Rattle.tal_tree.specs.declared.statement.What.{out-What}
@@ -9,9 +9,14 @@ use Rattle.tal_tree.specs.declared.act.Shown.{Shown}
 use Rattle.tal_tree.specs.declared.site.Site.{Site}
 use Rattle.schedule.specs.declared.event.Event.{Event}
 use Rattle.plain_semantics.specs.Machine.{IsPossible, shown_by}
-use Rattle.world_semantics.specs.World.{World, First, Second, boot}
+use Rattle.world_semantics.specs.declared.receive.Standing.{Standing}
+use Rattle.world_semantics.specs.declared.receive.Standing.TheVariants.{Ahead}
+use Rattle.world_semantics.specs.declared.role.Role.{Role}
+use Rattle.world_semantics.specs.declared.role.Role.TheVariants.{Acting}
+use Rattle.world_semantics.specs.World.{Pair, World, First, Second, boot}
 use Rattle.world_semantics.specs.Kept.{closed}
-use Rattle.world_semantics.specs.Examples.{adder_for, disc_site, takeover_events, takeover_acts, takeover_shown, lost_take_events, lost_take_acts, lost_take_shown, disc_events, disc_acts, disc_shown, bank_site, repeat_events, repeat_acts, repeat_shown, CanKeep}
+use Rattle.world_semantics.specs.Follows.{IsRun}
+use Rattle.world_semantics.specs.Examples.{adder_for, disc_site, takeover_events, takeover_acts, takeover_shown, lost_take_events, lost_take_acts, lost_take_shown, disc_events, disc_acts, disc_shown, bank_site, repeat_events, repeat_acts, repeat_shown, echo_site, ahead_events, standings, CanKeep}
 use Rattle.world_semantics.proofs.Lists.{some-same}
 use Rattle.world_semantics.proofs.Moves.{Move, Runs, Enters, Brings, Prints, Gets, Applies, Tells, Fails, Ticks, Played, played}
 
@@ -67,6 +72,35 @@ repeat_moves =
 pub repeated : CanKeep bank_site repeat_events repeat_acts repeat_shown
 unfolding out-What shown-the_row-Statement-0 shown out int_wrap
 repeated = can-keep repeat_acts repeat_shown (played bank_site repeat_moves (boot bank_site)) refl
+
+-- how what waits stands
+
+record Stand : Type 0 where
+  pub roles : List Role
+  pub waits : List (List Standing)
+
+abbrev stand : {site : Site} {w : World} {events : List Event} → Option (Played site w events) → Option Stand
+stand None = None
+stand (Some p) = Some (record { roles = map (λ (pair : Pair). pair.second.role) p.world.processes; waits = map (λ (pair : Pair). standings pair.second) p.world.processes })
+
+-- a run of these events can leave second copies in these roles, and what waits at them so
+abbrev CanStand : Site → List Event → List Role → List (List Standing) → Type 0
+CanStand site events roles waits =
+    (w : World) × IsRun site events w × (map (λ (pair : Pair). pair.second.role) w.processes ≡ roles)
+    × (map (λ (pair : Pair). standings pair.second) w.processes ≡ waits)
+
+can-stand : {site : Site} {events : List Event} (roles : List Role) (waits : List (List Standing)) (p : Option (Played site (boot site) events))
+    → stand p ≡ Some (record { roles = roles; waits = waits }) → CanStand site events roles waits
+can-stand roles waits None e = absurd (cc)
+can-stand roles waits (Some p) e = let s = some-same e in (p.world, p.leads, ap (λ (x : Stand). x.roles) s, ap (λ (x : Stand). x.waits) s)
+
+abbrev ahead_moves : List Move
+ahead_moves =
+    Enters 0 ∷ Runs 0 ∷ Runs 0 ∷ Runs 0 ∷ Brings 0 First ∷ Runs 0 ∷ Runs 0 ∷ Prints 0 0 ∷ Enters 0 ∷ Fails 0 ∷ Ticks 1 0 ∷ Brings 0 Second ∷ []
+
+pub ahead : CanStand echo_site ahead_events (Acting ∷ []) ((Ahead ∷ []) ∷ [])
+unfolding out-What shown-the_row-Statement-0 shown out int_wrap
+ahead = can-stand (Acting ∷ []) ((Ahead ∷ []) ∷ []) (played echo_site ahead_moves (boot echo_site)) refl
 
 -- The same on the machine of single unfailing processes
 

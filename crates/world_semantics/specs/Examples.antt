@@ -20,7 +20,9 @@ use Rattle.tal_tree.specs.declared.site.Site.{Site}
 use Rattle.tal_tree.specs.declared.site.Kind.TheVariants as kind
 use Rattle.schedule.specs.declared.event.Event.{Event}
 use Rattle.schedule.specs.declared.event.Event.TheVariants as event
-use Rattle.world_semantics.specs.World.{World}
+use Rattle.world_semantics.specs.declared.receive.Standing.{Standing}
+use Rattle.world_semantics.specs.Receive.{standing}
+use Rattle.world_semantics.specs.World.{Copy, World}
 use Rattle.world_semantics.specs.Kept.{closed}
 use Rattle.world_semantics.specs.Follows.{IsRun}
 
@@ -49,9 +51,9 @@ adding =
     ∷ line 8 (what.Reply 3 (Number (pos 1)))
     ∷ []
 
--- the program of the adder: its total, the count that it got, `$RECEIVE`, and a buffer of one word
-abbrev pub adder : Program
-adder = record {
+-- a program that serves by these statements: its total, the count that it got, `$RECEIVE`, and a buffer of one word
+abbrev pub server : List Statement → Program
+server serving = record {
   items =
       record { name = codes "TOTAL"; shape = shape.Simple }
       ∷ record { name = codes "GOT"; shape = shape.Simple }
@@ -65,11 +67,14 @@ adder = record {
         gives = false;
         parameters = 0;
         locals = [];
-        body = line 1 what.CheckMonitor ∷ line 2 (what.Open 0) ∷ line 3 (what.While' (Truth (Number (pos 1))) (places adding) (rows adding)) ∷ [];
+        body = line 1 what.CheckMonitor ∷ line 2 (what.Open 0) ∷ line 3 (what.While' (Truth (Number (pos 1))) (places serving) (rows serving)) ∷ [];
       }
       ∷ [];
   main = 0;
 }
+
+abbrev pub adder : Program
+adder = server adding
 
 -- the adder as a pair in the processors 0 and 1, and terminals that send one word each
 abbrev pub adder_for : List ℤ → Site
@@ -225,6 +230,29 @@ repeat_acts =
 -- what it shows, the newest first
 abbrev pub repeat_shown : List Shown
 repeat_shown = reply 0 (pos 5) ∷ shown.Write 0 0 (pos 5 ∷ pos 0 ∷ pos 0 ∷ pos 0 ∷ pos 0 ∷ pos 0 ∷ pos 0 ∷ pos 0 ∷ []) ∷ []
+
+-- The request ahead: an echo takes a request and answers it with no checkpoint between. Its first copy is lost when the reply to the first request is printed
+-- and the second request entered. The second copy takes over at the beginning, where the first request is the next one, and the second comes
+
+abbrev pub echoing : List Statement
+echoing = line 4 (what.ReadUpdate 3 (Number (pos 1)) (variable.Simple 1)) ∷ line 5 (what.Reply 3 (Number (pos 1))) ∷ []
+
+-- the echo in the processors 0 and 1, and a terminal that sends 5 and then 7
+abbrev pub echo_site : Site
+echo_site = record {
+  processors = 2;
+  processes = record { name = codes "$ECHO"; primary = 0; backup = 1; what = kind.Pair (server echoing) } ∷ [];
+  terminals = record { name = codes "$T"; target = 0; requests = (pos 5 ∷ []) ∷ (pos 7 ∷ []) ∷ [] } ∷ [];
+}
+
+-- the events of the request ahead
+abbrev pub ahead_events : List Event
+ahead_events =
+    event.Enter 0 ∷ run ∷ run ∷ run ∷ delivery ∷ run ∷ run ∷ delivery ∷ event.Enter 0 ∷ event.Fail 0 ∷ event.Tick 1 ∷ delivery ∷ []
+
+-- how what waits at a copy stands to it
+abbrev pub standings : Copy → List Standing
+standings copy = map (standing copy.core.receive) copy.waiting
 
 -- a run of these events can keep these acts, the oldest first, and shows this, the newest first
 abbrev pub CanKeep : Site → List Event → List Act → List Shown → Type 0

@@ -1,6 +1,17 @@
 -- Words for the laws of runs.
-use Rattle.std.specs.Prelude.{◌≡◌, ◌≤◌, ℕ, List, ◌++◌, slice_get, Some}
+use Rattle.std.specs.Prelude.{◌≡◌, ◌≤◌, ℕ, ◌+◌, ◌==◌, if◌then◌else◌, true, List, [], ◌∷◌, ◌++◌, slice_get, Some}
 use Rattle.gd_words.specs.Members.{IsAmong}
+use Rattle.gd_words.specs.declared.message.Request.{Request}
+use Rattle.gd_words.specs.declared.message.Reply.{Reply}
+use Rattle.tal_tree.specs.declared.site.Site.{Site}
+use Rattle.tal_tree.specs.declared.site.Who.TheVariants as who
+use Rattle.process_semantics.specs.declared.point.Point.TheVariants as point
+use Rattle.process_semantics.specs.Process as process
+use Rattle.plain_semantics.specs.Openers.{opener_of}
+use Rattle.world_semantics.specs.declared.message.ImageMessage.{ImageMessage}
+use Rattle.world_semantics.specs.declared.message.TakenMessage.{TakenMessage}
+use Rattle.world_semantics.specs.declared.role.Role.TheVariants.{Acting}
+use Rattle.world_semantics.specs.Core.{next_on, carried, put_in}
 use Rattle.world_semantics.specs.World.{Copy, Pair, Terminal, World}
 use Rattle.world_semantics.specs.Messages.{Message, Asking, Replying, Checkpointing, Taking}
 
@@ -31,3 +42,56 @@ WasSent w (Asking request) = IsAmong request w.requests
 WasSent w (Replying reply) = IsAmong reply w.replies
 WasSent w (Checkpointing message) = (number : ℕ) × (pair : Pair) × (slice_get w.processes number ≡ Some pair) × IsAmong message pair.checkpoints
 WasSent w (Taking taken) = (number : ℕ) × (pair : Pair) × (slice_get w.processes number ≡ Some pair) × IsAmong taken pair.takens
+
+-- Checkpoints
+
+-- a copy has what it had, and in one era the number of its last checkpoint
+pub record HasStayed (before after : Copy) : Type 0 where
+  pub core : after.core ≡ before.core
+  pub number : after.era ≡ before.era → after.number ≡ before.number
+
+-- a checkpoint is the next one for a copy: of the copy's own era, and of the number next to its own
+pub record IsNextFor (copy : Copy) (message : ImageMessage) : Type 0 where
+  pub era : message.era ≡ copy.era
+  pub number : message.number ≡ copy.number + 1
+
+-- a copy after it applied a checkpoint: it has what that carries put into what it had, and its number
+pub record HasApplied (before : Copy) (message : ImageMessage) (after : Copy) : Type 0 where
+  pub core : put_in before.core message.image ≡ Some after.core
+  pub number : after.number ≡ message.number
+
+-- what a copy that acts has sent was taken: the message names the copy's era and the number of its last checkpoint
+pub record Acknowledges (copy : Copy) (taken : TakenMessage) : Type 0 where
+  pub acting : copy.role ≡ Acting
+  pub sent : copy.sent ≡ true
+  pub era : taken.era ≡ copy.era
+  pub number : taken.number ≡ copy.number
+
+-- the checkpoint that a copy of a process sent last: it has the copy's era and number, and carries what the copy has
+abbrev pub last_checkpoint : ℕ → Copy → ImageMessage
+last_checkpoint number copy = record { process = number; era = copy.era; number = copy.number; image = carried copy.core }
+
+-- Replies
+
+-- a copy of a process awaits a reply: it acts and stands where a reply to what it asked comes, the file on which it asked is open to the reply's server at the
+-- reply's place, and the reply's number is that of the request asked last on this file
+pub record Awaits (site : Site) (number : ℕ) (copy : Copy) (reply : Reply) : Type 0 where
+  pub acting : copy.role ≡ Acting
+  pub stands : process.point copy.core.state ≡ point.Await
+  pub file : opener_of site (who.File number (process.asked_file copy.core.state)) ≡ Some (record { server = reply.process; place = reply.opener })
+  pub last : next_on copy.core (process.asked_file copy.core.state) ≡ reply.number + 1
+
+-- a terminal awaits a reply: it is to the terminal's own server and place, and its number is that of the request entered last, which isn't printed yet
+pub record AwaitsAt (site : Site) (w : World) (number : ℕ) (reply : Reply) : Type 0 where
+  pub terminal : Terminal
+  pub there : slice_get w.terminals number ≡ Some terminal
+  pub opens : opener_of site (who.Terminal number) ≡ Some (record { server = reply.process; place = reply.opener })
+  pub last : reply.number ≡ terminal.entered
+  pub unprinted : terminal.entered ≡ terminal.printed + 1
+
+-- Requests
+
+-- how many of the waiting requests are of the opener at a place
+abbrev pub waiting_of : ℕ → List Request → ℕ
+waiting_of opener [] = 0
+waiting_of opener (request ∷ waiting) = (if request.opener == opener then 1 else 0) + waiting_of opener waiting

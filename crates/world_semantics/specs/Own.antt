@@ -2,7 +2,7 @@
 use Rattle.std.specs.Prelude.{◌≡◌, ℕ, ◌+◌, ◌==◌, ℤ, Bool, true, false, not, List, [], ◌∷◌, ◌++◌, map, slice_get, slice_set, Option, Some, None}
 use Rattle.gd_words.specs.Members.{IsAmong}
 use Rattle.gd_words.specs.declared.device.DeviceCall.{DeviceCall}
-use Rattle.gd_words.specs.declared.device.DeviceCall.TheVariants.{Write}
+use Rattle.gd_words.specs.declared.device.DeviceCall.TheVariants.{Nothing, Read, Write}
 use Rattle.gd_words.specs.declared.message.Request.{Request}
 use Rattle.gd_words.specs.declared.message.Reply.{Reply}
 use Rattle.tal_tree.specs.declared.act.Act.{Act}
@@ -47,7 +47,8 @@ is_numbered number (Some stored) = stored.number == number
 -- whether a call of the device is a write whose number doesn't stand on its sector
 abbrev pub is_new_write : List Stored → DeviceCall → Bool
 is_new_write sectors (Write sector words number) = not (is_numbered number (slice_get sectors sector))
-is_new_write sectors _ = false
+is_new_write sectors Nothing = false
+is_new_write sectors (Read sector) = false
 
 -- the words that a call of the device finds
 abbrev pub found_on : List Stored → DeviceCall → List ℤ

@@ -37,7 +37,8 @@ stopped_pair processor pair = record pair { first = stopped_copy processor pair.
 
 abbrev pub is_watching : Role → Bool
 is_watching Watching = true
-is_watching _ = false
+is_watching Acting = false
+is_watching Gone = false
 
 -- whether a copy takes over when a node marks a processor: it watches on that node, and the other copy's processor is the one that is marked
 abbrev pub takes_over : ℕ → ℕ → Which → Pair → Bool

@@ -14,7 +14,7 @@ use Rattle.process_semantics.specs.Process as process
 use Rattle.plain_semantics.specs.Openers.{openers_of}
 use Rattle.world_semantics.specs.declared.receive.OpenerBlock.{OpenerBlock}
 use Rattle.world_semantics.specs.declared.role.Role.{Role}
-use Rattle.world_semantics.specs.declared.role.Role.TheVariants.{Acting}
+use Rattle.world_semantics.specs.declared.role.Role.TheVariants.{Acting, Watching, Gone}
 use Rattle.world_semantics.specs.Receive.{Chosen, chosen, after_taking, after_answering}
 use Rattle.world_semantics.specs.Core.{Core, next_on}
 use Rattle.world_semantics.specs.World.{Copy, Pair, World, Which, First, Second, copy_of, with_copy, may_pass, with_pair}
@@ -126,7 +126,9 @@ own_at site number core before point.Ask =
     Some (own_ask site number core before (process.asked_file core.state) (process.asked_words core.state))
 own_at site number core before point.Answer = own_answer site number core before core.receive.in_hand
 own_at site number core before point.Device = Some (own_device number core before (process.call_of core.state))
-own_at site number core before _ = None
+own_at site number core before point.Await = None
+own_at site number core before point.Mark = None
+own_at site number core before point.Ended = None
 
 -- Runs
 
@@ -177,7 +179,8 @@ run_at site number k pair w stands =
 
 abbrev pub run_as : Site → ℕ → Which → Pair → World → Role → Option Done
 run_as site number k pair w Acting = run_at site number k pair w (process.point (copy_of k pair).core.state)
-run_as site number k pair w _ = None
+run_as site number k pair w Watching = None
+run_as site number k pair w Gone = None
 
 -- the change that one copy of a process makes where it runs; none where it can't
 abbrev pub run_copy : Site → ℕ → Pair → World → Which → Option Done

@@ -9,12 +9,13 @@
 pub mod examples;
 pub mod laws;
 pub mod message;
+pub mod message_laws;
 pub mod receive;
 pub mod role;
 
 pub use examples::{
     a_disc_finds_its_write_done, a_lost_take_is_replaced, a_repeated_request_is_answered_once,
-    an_adder_is_taken_over,
+    a_request_can_wait_ahead, an_adder_is_taken_over,
 };
 pub use laws::{
     a_run_has_one_outcome, a_run_is_computed, copies_go_with_their_processor, hands_agree,
@@ -23,5 +24,10 @@ pub use laws::{
     what_comes_was_sent, what_is_sent_stays,
 };
 pub use message::{FileNumber, Image, ImageMessage, TakenMessage};
+pub use message_laws::{
+    a_copy_has_sent_what_it_has, a_terminal_awaits_one_reply, checkpoints_are_applied_in_order,
+    one_request_of_an_opener_waits, only_a_sent_checkpoint_is_acknowledged,
+    only_the_awaited_reply_is_got, only_the_awaited_reply_is_printed, what_was_taken_does_not_wait,
+};
 pub use receive::{OpenerBlock, ReceiveBlock, Standing};
 pub use role::Role;

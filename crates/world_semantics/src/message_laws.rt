@@ -1,0 +1,89 @@
+//! Laws of the messages that come: what may be applied, acknowledged, got and printed, and what waits.
+ghost use Rattle.std.specs.Prelude.{◌≡◌, ◌≤◌, ◌⊎◌, ℕ, ◌+◌, ℤ, List, ◌++◌, slice_get, Some, true, false};
+ghost use Rattle.gd_words.specs.Members.{IsAmong};
+ghost use Rattle.gd_words.specs.declared.message.Request.{Request};
+ghost use Rattle.gd_words.specs.declared.message.Reply.{Reply};
+ghost use Rattle.tal_tree.specs.declared.act.Shown.{Shown};
+ghost use Rattle.tal_tree.specs.declared.act.Shown.TheVariants as shown;
+ghost use Rattle.tal_tree.specs.declared.site.Site.{Site};
+ghost use Rattle.schedule.specs.declared.event.Event.{Event};
+ghost use Rattle.process_semantics.specs.declared.point.Point.TheVariants.{Mark};
+ghost use Rattle.process_semantics.specs.Process.{point, after_got};
+ghost use Rattle.world_semantics.specs.declared.message.ImageMessage.{ImageMessage};
+ghost use Rattle.world_semantics.specs.declared.message.TakenMessage.{TakenMessage};
+ghost use Rattle.world_semantics.specs.declared.receive.Standing.TheVariants.{Next, Ahead};
+ghost use Rattle.world_semantics.specs.declared.role.Role.TheVariants.{Acting, Watching};
+ghost use Rattle.world_semantics.specs.World.{Pair, Terminal, World, Which, copy_of, terminal_node};
+ghost use Rattle.world_semantics.specs.Receive.{standing};
+ghost use Rattle.world_semantics.specs.Follows.{IsRun};
+ghost use Rattle.world_semantics.specs.Messages.{Replying, Checkpointing, Taking, Cause, Sending, Handing};
+ghost use Rattle.world_semantics.specs.Rules.{Change};
+ghost use Rattle.world_semantics.specs.Laws.{HasStayed, IsNextFor, HasApplied, Acknowledges, last_checkpoint, Awaits, AwaitsAt, waiting_of};
+
+/// A checkpoint of another era, or of another number than the next, is never applied: what a copy that watches has, and the number
+/// of its last checkpoint, change only by a checkpoint of its process that comes to it, is of its own era and has the number next
+/// to its own. A checkpoint that comes changes no other copy's.
+pub fn checkpoints_are_applied_in_order()
+    ensures watching { (site : Site) (w next : World) (cause : Cause) (sendings : List Sending) (number : ℕ) (before after : Pair) (k : Which)
+        → Change site w cause sendings next → slice_get w.processes number ≡ Some before → slice_get next.processes number ≡ Some after → (copy_of k before).role ≡ Watching
+        → HasStayed (copy_of k before) (copy_of k after)
+        ⊎ ((message : ImageMessage) × (cause ≡ Handing (copy_of k before).processor (Checkpointing message)) × IsAmong message before.checkpoints
+        × IsNextFor (copy_of k before) message × HasApplied (copy_of k before) message (copy_of k after)) }
+    ensures others { (site : Site) (w next : World) (node : ℕ) (message : ImageMessage) (sendings : List Sending) (number : ℕ) (before after : Pair) (k : Which)
+        → Change site w (Handing node (Checkpointing message)) sendings next → slice_get w.processes number ≡ Some before → slice_get next.processes number ≡ Some after
+        → ((copy_of k before).role ≡ Watching → ⊥) → HasStayed (copy_of k before) (copy_of k after) }
+{}
+
+/// A copy's checkpoint becomes acknowledged only where the copy acts and has sent it, and a message comes that the checkpoint of just
+/// this era and number was taken.
+pub fn only_a_sent_checkpoint_is_acknowledged()
+    ensures { (site : Site) (w next : World) (cause : Cause) (sendings : List Sending) (number : ℕ) (before after : Pair) (k : Which)
+        → Change site w cause sendings next → slice_get w.processes number ≡ Some before → slice_get next.processes number ≡ Some after
+        → (copy_of k before).acknowledged ≡ false → (copy_of k after).acknowledged ≡ true
+        → (taken : TakenMessage) × (cause ≡ Handing (copy_of k before).processor (Taking taken)) × IsAmong taken before.takens × Acknowledges (copy_of k before) taken }
+{}
+
+/// In a run a copy that acts and has sent stands at its mark, and its last checkpoint, with all that it has, is among those sent.
+pub fn a_copy_has_sent_what_it_has()
+    ensures { (site : Site) (events : List Event) (w : World) (number : ℕ) (pair : Pair) (k : Which) → IsRun site events w → slice_get w.processes number ≡ Some pair
+        → (copy_of k pair).role ≡ Acting → (copy_of k pair).sent ≡ true
+        → (point (copy_of k pair).core.state ≡ Mark) × IsAmong (last_checkpoint number (copy_of k pair)) pair.checkpoints }
+{}
+
+/// A reply that comes changes what a copy has only where it comes to a copy that acts and awaits the reply of this number on the file on
+/// which it asked, and gives it the reply's words.
+pub fn only_the_awaited_reply_is_got()
+    ensures { (site : Site) (w next : World) (node : ℕ) (reply : Reply) (sendings : List Sending) (number : ℕ) (before after : Pair) (k : Which)
+        → Change site w (Handing node (Replying reply)) sendings next → slice_get w.processes number ≡ Some before → slice_get next.processes number ≡ Some after
+        → ((copy_of k after).core ≡ (copy_of k before).core)
+        ⊎ (((copy_of k before).processor ≡ node) × Awaits site number (copy_of k before) reply
+        × ((copy_of k after).core.state ≡ after_got (copy_of k before).core.state reply.words)) }
+{}
+
+/// A reply is shown only where it comes to a terminal that awaits the reply of this number from its own server, and the terminal then awaits
+/// it no more.
+pub fn only_the_awaited_reply_is_printed()
+    ensures { (site : Site) (w next : World) (cause : Cause) (sendings : List Sending) (more : List Shown) (terminal number : ℕ) (words : List ℤ)
+        → Change site w cause sendings next → next.shown ≡ more ++ w.shown → IsAmong (shown.Reply terminal number words) more
+        → (reply : Reply) × (cause ≡ Handing terminal_node (Replying reply)) × (number ≡ reply.number) × (words ≡ reply.words) × AwaitsAt site w terminal reply
+        × (AwaitsAt site next terminal reply → ⊥) }
+{}
+
+/// In a run of one opener at most one request waits at a copy.
+pub fn one_request_of_an_opener_waits()
+    ensures { (site : Site) (events : List Event) (w : World) (number opener : ℕ) (pair : Pair) (k : Which) → IsRun site events w
+        → slice_get w.processes number ≡ Some pair → waiting_of opener (copy_of k pair).waiting ≤ 1 }
+{}
+
+/// In a run what waits at a copy that acts stands next, or is ahead of the next: what was taken doesn't wait.
+pub fn what_was_taken_does_not_wait()
+    ensures { (site : Site) (events : List Event) (w : World) (number : ℕ) (pair : Pair) (k : Which) (request : Request) → IsRun site events w
+        → slice_get w.processes number ≡ Some pair → (copy_of k pair).role ≡ Acting → IsAmong request (copy_of k pair).waiting
+        → (standing (copy_of k pair).core.receive request ≡ Next) ⊎ (standing (copy_of k pair).core.receive request ≡ Ahead) }
+{}
+
+/// In a run a terminal awaits at most one reply: it has printed as many replies as it has entered requests, or one less.
+pub fn a_terminal_awaits_one_reply()
+    ensures { (site : Site) (events : List Event) (w : World) (number : ℕ) (terminal : Terminal) → IsRun site events w
+        → slice_get w.terminals number ≡ Some terminal → (terminal.printed ≤ terminal.entered) × (terminal.entered ≤ terminal.printed + 1) }
+{}
