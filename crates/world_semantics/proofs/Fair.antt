@@ -1,7 +1,6 @@
 -- What a copy keeps and what waits at it: its kept replies were sent, its table and its state agree on the request in hand, and its waiting requests are to
 -- its process.
-use Rattle.std.proofs.Common.{◌≡◌, ◌⊎◌, inl, inr, ℕ, ℤ, Bool, true, false, not, if◌then◌else◌, List, [], ◌∷◌, ◌++◌, Option, Some, None, is_some, slice_get, refl, subst, sym, ap, ◌∙◌}
-use Rattle.std.specs.List.{filter}
+use Rattle.std.proofs.Common.{◌≡◌, inl, inr, ℕ, ℤ, Bool, true, false, if◌then◌else◌, List, [], ◌∷◌, Option, Some, None, is_some, slice_get, refl, subst, sym, ◌∙◌}
 use Rattle.gd_words.specs.Members.{IsAmong}
 use Rattle.gd_words.specs.declared.message.Request.{Request}
 use Rattle.gd_words.specs.declared.message.Reply.{Reply}
@@ -15,7 +14,7 @@ use Rattle.world_semantics.specs.declared.message.ImageMessage.{ImageMessage}
 use Rattle.world_semantics.specs.declared.message.Image.{Image}
 use Rattle.world_semantics.specs.declared.receive.OpenerBlock.{OpenerBlock}
 use Rattle.world_semantics.specs.declared.receive.ReceiveBlock.{ReceiveBlock}
-use Rattle.world_semantics.specs.Receive.{after_answering, standing, is_waiting, is_outdone, is_same_opener, waits, came, still_waiting}
+use Rattle.world_semantics.specs.Receive.{after_answering, standing, is_waiting, waits, came, still_waiting}
 use Rattle.world_semantics.specs.Core.{Core, Deed, Took, Answered, Advances, goes, takes, asks, gets, answers, acts, put_in, with_files, after_passing, core_at_boot}
 use Rattle.world_semantics.specs.World.{Copy, Stored, Pair, Mark, World, Which, First, Second, copy_of, with_copy}
 use Rattle.world_semantics.specs.Messages.{Message, Sending, Cause}
@@ -26,9 +25,9 @@ use Rattle.world_semantics.specs.Follows.{IsRun}
 use Rattle.world_semantics.specs.Laws.{HasGrown}
 use Rattle.world_semantics.proofs.Beginning.{all-begin}
 use Rattle.world_semantics.proofs.Lists.{some-same, set-all, map-all}
-use Rattle.world_semantics.proofs.Members.{among-append, among-filter}
+use Rattle.world_semantics.proofs.Members.{among-filter}
 use Rattle.world_semantics.proofs.Runs.{holds-on}
-use Rattle.world_semantics.proofs.Waiting.{chosen-rest}
+use Rattle.world_semantics.proofs.Waiting.{chosen-rest, waits-all}
 use Rattle.world_semantics.proofs.Growing.{causes-grow}
 use Rattle.world_semantics.proofs.Hands.{Stands, start-free, start-hand, take-hand, took-stands, inner-stands, asked-stands, got-stands, answered-stands, mark-stands, device-stands, restored-stands, map-some}
 use Rattle.world_semantics.proofs.KeptReplies.{KeptSent, kept-more, kept-begin, kept-taking, kept-answering}
@@ -74,16 +73,7 @@ pair-more {number = n} {replies = r} {more = m} g ok = record {
 -- Waiting
 
 waits-to : (number : ℕ) (waiting : List Request) (request : Request) → request.process ≡ number → AreTo number waiting → AreTo number (waits waiting request)
-waits-to number waiting request to ok other i = by-test (is_outdone request waiting) i
-  where
-    by-append : IsAmong other (filter (λ o. not (is_same_opener request o)) waiting) ⊎ IsAmong other (request ∷ []) → other.process ≡ number
-    by-append (inl j) = ok other (among-filter other (λ o. not (is_same_opener request o)) waiting j).0
-    by-append (inr (inl same)) = ap (λ (r : Request). r.process) same ∙ to
-    by-append (inr (inr none)) = absurd none
-
-    by-test : (out : Bool) → IsAmong other (if out then waiting else filter (λ o. not (is_same_opener request o)) waiting ++ request ∷ []) → other.process ≡ number
-    by-test true j = ok other j
-    by-test false j = by-append (among-append other (filter (λ o. not (is_same_opener request o)) waiting) (request ∷ []) j)
+waits-to number waiting request to ok = waits-all (λ one. one.process ≡ number) waiting request to ok
 
 came-to : (number : ℕ) (table : ReceiveBlock) (waiting : List Request) (request : Request) → request.process ≡ number → AreTo number waiting
     → AreTo number (came table waiting request)

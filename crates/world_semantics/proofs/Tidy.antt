@@ -1,7 +1,6 @@
 -- What waits: of one opener at most one request, and at a copy that acts none that was taken.
-use Rattle.std.proofs.Common.{◌≡◌, ◌<◌, ◌⊎◌, inl, inr, ℕ, ◌+◌, ◌==◌, ◌&&◌, nat_lt, ℤ, Bool, true, false, not, if◌then◌else◌, List, [], ◌∷◌, ◌++◌, Option, Some, None, slice_get, slice_set, refl, subst, sym, ◌∙◌, arith}
+use Rattle.std.proofs.Common.{◌≡◌, ◌<◌, ◌⊎◌, inl, inr, ℕ, ◌+◌, ◌==◌, ◌&&◌, nat_lt, ℤ, Bool, true, false, if◌then◌else◌, List, [], ◌∷◌, ◌++◌, Option, Some, None, slice_get, slice_set, refl, subst, sym, ◌∙◌, arith}
 use Rattle.std.proofs.lemmas.Bool.{eq-eqb, eqb-true, lt-ltb, ltb-true}
-use Rattle.std.specs.List.{filter}
 use Rattle.gd_words.specs.Members.{IsAmong}
 use Rattle.gd_words.specs.declared.message.Request.{Request}
 use Rattle.tal_tree.specs.declared.act.Act.{Act}
@@ -16,7 +15,7 @@ use Rattle.world_semantics.specs.declared.receive.ReceiveBlock.{ReceiveBlock}
 use Rattle.world_semantics.specs.declared.receive.Standing.TheVariants.{Next, InHand, Ahead}
 use Rattle.world_semantics.specs.declared.role.Role.{Role}
 use Rattle.world_semantics.specs.declared.role.Role.TheVariants.{Acting, Watching, Gone}
-use Rattle.world_semantics.specs.Receive.{holds, answered, reply_kept, kept_or_old, standing_in, standing_by, standing, after_taking, after_answering, last_ones, Chosen, chosen, is_waiting, is_outdone, is_same_opener, waits, came, still_waiting}
+use Rattle.world_semantics.specs.Receive.{holds, answered, reply_kept, kept_or_old, standing_in, standing_by, standing, after_taking, after_answering, last_ones, Chosen, chosen, is_waiting, waits, came, still_waiting}
 use Rattle.world_semantics.specs.Core.{Core, Deed, Took, Answered, Advances, goes, takes, asks, gets, answers, acts}
 use Rattle.world_semantics.specs.World.{Copy, Pair, World, Which, First, Second, copy_of, pair_at_boot, boot}
 use Rattle.world_semantics.specs.Kept.{Enters, holds_on, repeats, begins, keeps}
@@ -26,9 +25,9 @@ use Rattle.world_semantics.specs.Rules.{Change}
 use Rattle.world_semantics.specs.Follows.{IsRun}
 use Rattle.world_semantics.proofs.Beginning.{all-begin}
 use Rattle.world_semantics.proofs.Lists.{some-same, set-there, set-other}
-use Rattle.world_semantics.proofs.Members.{among-append, among-filter}
+use Rattle.world_semantics.proofs.Members.{among-filter}
 use Rattle.world_semantics.proofs.Runs.{holds-on}
-use Rattle.world_semantics.proofs.Waiting.{AreSingle, waits-single, came-single, still-single, chosen-rest, taken-single, taken-alone}
+use Rattle.world_semantics.proofs.Waiting.{AreSingle, waits-all, waits-single, came-single, still-single, chosen-rest, taken-single, taken-alone}
 use Rattle.world_semantics.proofs.Becoming as becoming
 use Rattle.world_semantics.proofs.Becoming.{Becomes, change-was}
 
@@ -81,24 +80,11 @@ untaken-stands table request u = rw u.there (by-test (request.number == u.block.
 abbrev pub AreUntaken : ReceiveBlock → List Request → Type 0
 AreUntaken table waiting = (request : Request) → IsAmong request waiting → IsUntaken table request
 
-waits-untaken : (table : ReceiveBlock) (waiting : List Request) (request : Request) → IsUntaken table request → AreUntaken table waiting
-    → AreUntaken table (waits waiting request)
-waits-untaken table waiting request new ok other i = by-out (is_outdone request waiting) i
-  where
-    by-append : IsAmong other (filter (λ o. not (is_same_opener request o)) waiting) ⊎ IsAmong other (request ∷ []) → IsUntaken table other
-    by-append (inl j) = ok other (among-filter other (λ o. not (is_same_opener request o)) waiting j).0
-    by-append (inr (inl same)) = subst (IsUntaken table) (sym same) new
-    by-append (inr (inr none)) = absurd none
-
-    by-out : (out : Bool) → IsAmong other (if out then waiting else filter (λ o. not (is_same_opener request o)) waiting ++ request ∷ []) → IsUntaken table other
-    by-out true j = ok other j
-    by-out false j = by-append (among-append other (filter (λ o. not (is_same_opener request o)) waiting) (request ∷ []) j)
-
 came-untaken : (table : ReceiveBlock) (waiting : List Request) (request : Request) → AreUntaken table waiting → AreUntaken table (came table waiting request)
 came-untaken table waiting request ok = by-test (is_waiting (standing table request)) refl
   where
     by-test : (wait : Bool) → is_waiting (standing table request) ≡ wait → AreUntaken table (if wait then waits waiting request else waiting)
-    by-test true e = waits-untaken table waiting request (waiting-untaken table request e) ok
+    by-test true e = waits-all (IsUntaken table) waiting request (waiting-untaken table request e) ok
     by-test false e = ok
 
 still-untaken : (table : ReceiveBlock) (waiting : List Request) → AreUntaken table (still_waiting table waiting)

@@ -8,6 +8,7 @@ use Rattle.world_semantics.specs.declared.receive.ReceiveBlock.{ReceiveBlock}
 use Rattle.world_semantics.specs.Receive.{Chosen, chosen, chosen_by, chosen_after, is_next, standing, is_waiting, is_outdone, is_same_opener, waits, came, still_waiting}
 use Rattle.world_semantics.specs.Laws.{waiting_of}
 use Rattle.world_semantics.proofs.Lists.{some-same}
+use Rattle.world_semantics.proofs.Members.{among-append, among-filter}
 
 -- of each opener at most one of these requests is
 pub record AreSingle (waiting : List Request) : Type 0 where
@@ -83,6 +84,20 @@ of-among opener request [] e i = absurd i
 of-among opener request (x ∷ xs) e (inl same) =
     let t : (x.opener == opener) ≡ true = subst (λ (r : Request). (r.opener == opener) ≡ true) same (eq-eqb request.opener opener e) in rw t (omega arith)
 of-among opener request (x ∷ xs) e (inr i) = let more = of-among opener request xs e i in omega (arith, more)
+
+-- what holds of all that waited and of one more holds of all that waits then
+pub waits-all : (P : Request → Type 0) (waiting : List Request) (request : Request) → P request → ((one : Request) → IsAmong one waiting → P one)
+    → (one : Request) → IsAmong one (waits waiting request) → P one
+waits-all P waiting request new ok one i = by-out (is_outdone request waiting) i
+  where
+    by-append : IsAmong one (filter (λ other. not (is_same_opener request other)) waiting) ⊎ IsAmong one (request ∷ []) → P one
+    by-append (inl j) = ok one (among-filter one (λ other. not (is_same_opener request other)) waiting j).0
+    by-append (inr (inl same)) = subst P (sym same) new
+    by-append (inr (inr none)) = absurd none
+
+    by-out : (out : Bool) → IsAmong one (if out then waiting else filter (λ other. not (is_same_opener request other)) waiting ++ request ∷ []) → P one
+    by-out true j = ok one j
+    by-out false j = by-append (among-append one (filter (λ other. not (is_same_opener request other)) waiting) (request ∷ []) j)
 
 -- Taking
 
