@@ -13,7 +13,7 @@ use Rattle.world_semantics.specs.declared.role.Role.TheVariants.{Acting, Watchin
 use Rattle.world_semantics.specs.Receive.{waits, came}
 use Rattle.world_semantics.specs.Core.{Core, Deed, Advances, put_in}
 use Rattle.world_semantics.specs.World.{Copy, Pair, World, Which, First, Second, copy_of, with_copy}
-use Rattle.world_semantics.specs.Kept.{Enters}
+use Rattle.world_semantics.specs.Kept.{Enters, holds_on, repeats, begins, keeps}
 use Rattle.world_semantics.specs.Messages.{Message, Asking, Checkpointing, Taking, Sending, Cause, Running, Handing, Stopping, Marking}
 use Rattle.world_semantics.specs.Own.{Around, around, Causes}
 use Rattle.world_semantics.specs.Passes.{Passes, by_send, by_pass_again, by_pass, by_apply, by_acknowledge, checkpoint_of, after_sending, after_mark}
@@ -52,6 +52,18 @@ pub data Becomes (site : Site) (w : World) (number : ℕ) (pair : Pair) (sent : 
   stops : (processor : ℕ) → Becomes site w number pair sent k (Stopping processor) (stopped_copy processor (copy_of k pair))
   takes_over : (node processor : ℕ) → (copy_of k pair).role ≡ Watching
       → Becomes site w number pair sent k (Marking node processor) (taken_over pair.base (copy_of k pair))
+
+-- what an act leaves of a copy as it was, however the act enters the kept acts
+pub record IsEntered (copy entered : Copy) : Type 0 where
+  pub role : entered.role ≡ copy.role
+  pub sent : entered.sent ≡ copy.sent
+  pub acknowledged : entered.acknowledged ≡ copy.acknowledged
+
+pub entered-same : {number : ℕ} {done : Act} {kept after : List Act} {copy entered : Copy} → Enters number done kept copy entered after → IsEntered copy entered
+entered-same (holds_on e) = record { role = refl; sent = refl; acknowledged = refl }
+entered-same (repeats e l) = record { role = refl; sent = refl; acknowledged = refl }
+entered-same (begins e l t) = record { role = refl; sent = refl; acknowledged = refl }
+entered-same (keeps e l t) = record { role = refl; sent = refl; acknowledged = refl }
 
 -- what a process was before a change, and what each of its copies becomes
 pub record Was (site : Site) (w : World) (number : ℕ) (cause : Cause) (after : Pair) : Type 0 where

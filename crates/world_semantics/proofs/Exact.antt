@@ -14,14 +14,13 @@ use Rattle.world_semantics.specs.declared.message.TakenMessage.{TakenMessage}
 use Rattle.world_semantics.specs.declared.role.Role.TheVariants.{Acting, Watching}
 use Rattle.world_semantics.specs.Core.{Core, Deed, Advances, gets}
 use Rattle.world_semantics.specs.World.{Copy, Pair, Terminal, World, Which, copy_of, terminal_node}
-use Rattle.world_semantics.specs.Kept.{Enters, holds_on, repeats, begins, keeps}
 use Rattle.world_semantics.specs.Messages.{Message, Replying, Checkpointing, Taking, Sending, Cause, Handing}
 use Rattle.world_semantics.specs.Own.{Around, Causes, by_inner, by_take, by_ask, by_answer, by_device, by_write, by_reply}
 use Rattle.world_semantics.specs.Rules.{Change, by_own, by_checkpoint, by_request, by_early_request, by_enter, by_print, by_stop, by_mark}
 use Rattle.world_semantics.specs.Laws.{HasStayed, IsNextFor, HasApplied, Acknowledges, Awaits, AwaitsAt}
 use Rattle.world_semantics.proofs.Lists.{some-same, set-there}
 use Rattle.world_semantics.proofs.Becoming as becoming
-use Rattle.world_semantics.proofs.Becoming.{Becomes}
+use Rattle.world_semantics.proofs.Becoming.{Becomes, entered-same}
 
 -- Checkpoints
 
@@ -76,17 +75,10 @@ abbrev pub IsToldOf : Pair → Copy → Cause → Type 0
 IsToldOf pair before cause =
     (taken : TakenMessage) × (cause ≡ Handing before.processor (Taking taken)) × IsAmong taken pair.takens × Acknowledges before taken
 
-entered-acknowledged : {number : ℕ} {done : Act} {kept after : List Act} {copy entered : Copy} → Enters number done kept copy entered after
-    → entered.acknowledged ≡ copy.acknowledged
-entered-acknowledged (holds_on e) = refl
-entered-acknowledged (repeats e l) = refl
-entered-acknowledged (begins e l t) = refl
-entered-acknowledged (keeps e l t) = refl
-
 pub only-told : {site : Site} {w : World} {number : ℕ} {pair : Pair} {sent : List ImageMessage} {k : Which} {cause : Cause} {after : Copy} → Becomes site w number pair sent k cause after
     → (copy_of k pair).acknowledged ≡ false → after.acknowledged ≡ true → IsToldOf pair (copy_of k pair) cause
 only-told becoming.stays was now = absurd (cc)
-only-told (becoming.acts r c a e) was now = let same = entered-acknowledged e in absurd (cc)
+only-told (becoming.acts r c a e) was now = let same = (entered-same e).acknowledged in absurd (cc)
 only-told (becoming.sends r p i) was now = absurd (cc)
 only-told (becoming.passes r) was now = absurd (cc)
 only-told (becoming.applies message r i e n a) was now = absurd (cc)

@@ -1,5 +1,6 @@
 pub mod Becoming
 pub mod Beginning
+pub mod Behind
 pub mod Coming
 pub mod Counting
 pub mod Exact

@@ -13,7 +13,6 @@ use Rattle.world_semantics.specs.declared.role.Role.{Role}
 use Rattle.world_semantics.specs.declared.role.Role.TheVariants.{Acting, Watching, Gone}
 use Rattle.world_semantics.specs.Core.{Core, Deed, Marked, Advances, goes, marks, takes, asks, gets, answers, acts}
 use Rattle.world_semantics.specs.World.{Copy, Pair, World, Which, First, Second, copy_of, pair_at_boot, boot}
-use Rattle.world_semantics.specs.Kept.{Enters, holds_on, repeats, begins, keeps}
 use Rattle.world_semantics.specs.Messages.{Message, Sending, Cause}
 use Rattle.world_semantics.specs.Own.{Around, Causes, by_inner, by_take, by_ask, by_answer, by_device, by_write, by_reply}
 use Rattle.world_semantics.specs.Rules.{Change}
@@ -25,7 +24,7 @@ use Rattle.world_semantics.proofs.Members.{among-right}
 use Rattle.world_semantics.proofs.Runs.{holds-on}
 use Rattle.world_semantics.proofs.Later.{change-later}
 use Rattle.world_semantics.proofs.Becoming as becoming
-use Rattle.world_semantics.proofs.Becoming.{Becomes, change-was}
+use Rattle.world_semantics.proofs.Becoming.{Becomes, entered-same, change-was}
 
 -- what a copy that has sent has, where these are the checkpoints that were sent
 abbrev IsAtMark : ℕ → List ImageMessage → Copy → Type 0
@@ -57,16 +56,6 @@ not-marked (by_answer s) e = cc
 not-marked (by_device n) e = cc
 not-marked (by_write n) e = cc
 not-marked (by_reply i o n u) e = cc
-
-record Entered (copy entered : Copy) : Type 0 where
-  pub role : entered.role ≡ copy.role
-  pub sent : entered.sent ≡ copy.sent
-
-entered-same : {number : ℕ} {done : Act} {kept after : List Act} {copy entered : Copy} → Enters number done kept copy entered after → Entered copy entered
-entered-same (holds_on e) = record { role = refl; sent = refl }
-entered-same (repeats e l) = record { role = refl; sent = refl }
-entered-same (begins e l t) = record { role = refl; sent = refl }
-entered-same (keeps e l t) = record { role = refl; sent = refl }
 
 was-role : (gone : Bool) (role wanted : Role) → (wanted ≡ Gone → ⊥) → (if gone then Gone else role) ≡ wanted → role ≡ wanted
 was-role true role wanted other e = absurd (other (sym e))

@@ -18,7 +18,6 @@ use Rattle.world_semantics.specs.declared.role.Role.TheVariants.{Acting, Watchin
 use Rattle.world_semantics.specs.Receive.{holds, answered, reply_kept, kept_or_old, standing_in, standing_by, standing, after_taking, after_answering, last_ones, Chosen, chosen, is_waiting, waits, came, still_waiting}
 use Rattle.world_semantics.specs.Core.{Core, Deed, Took, Answered, Advances, goes, takes, asks, gets, answers, acts}
 use Rattle.world_semantics.specs.World.{Copy, Pair, World, Which, First, Second, copy_of, pair_at_boot, boot}
-use Rattle.world_semantics.specs.Kept.{Enters, holds_on, repeats, begins, keeps}
 use Rattle.world_semantics.specs.Messages.{Message, Sending, Cause}
 use Rattle.world_semantics.specs.Own.{Around, Causes, by_inner, by_take, by_ask, by_answer, by_device, by_write, by_reply}
 use Rattle.world_semantics.specs.Rules.{Change}
@@ -29,7 +28,7 @@ use Rattle.world_semantics.proofs.Members.{among-filter}
 use Rattle.world_semantics.proofs.Runs.{holds-on}
 use Rattle.world_semantics.proofs.Waiting.{AreSingle, waits-all, waits-single, came-single, still-single, chosen-rest, taken-single, taken-alone}
 use Rattle.world_semantics.proofs.Becoming as becoming
-use Rattle.world_semantics.proofs.Becoming.{Becomes, change-was}
+use Rattle.world_semantics.proofs.Becoming.{Becomes, entered-same, change-was}
 
 -- Standing
 
@@ -160,16 +159,10 @@ own-tidy (by_reply i o n u) (gets p f) ok = ok
 abbrev pub IsTidy : Copy → Type 0
 IsTidy copy = Tidy copy.role copy.core.receive copy.waiting
 
-entered-role : {number : ℕ} {done : Act} {kept after : List Act} {copy entered : Copy} → Enters number done kept copy entered after → copy.role ≡ entered.role
-entered-role (holds_on e) = refl
-entered-role (repeats e l) = refl
-entered-role (begins e l t) = refl
-entered-role (keeps e l t) = refl
-
 becomes-tidy : {site : Site} {w : World} {number : ℕ} {pair : Pair} {sent : List ImageMessage} {k : Which} {cause : Cause} {after : Copy} → Becomes site w number pair sent k cause after
     → IsTidy (copy_of k pair) → IsTidy after
 becomes-tidy becoming.stays ok = ok
-becomes-tidy (becoming.acts {after = after} {core = core} r c a e) ok = subst (λ role. Tidy role core.receive after.waiting) (entered-role e) (own-tidy c a ok)
+becomes-tidy (becoming.acts {after = after} {core = core} r c a e) ok = subst (λ role. Tidy role core.receive after.waiting) (sym (entered-same e).role) (own-tidy c a ok)
 becomes-tidy (becoming.sends r p i) ok = ok
 becomes-tidy (becoming.passes r) ok = ok
 becomes-tidy (becoming.applies message r i e n a) ok = record { single = ok.single; untaken = λ acting. absurd (cc) }

@@ -67,6 +67,14 @@ pub record Acknowledges (copy : Copy) (taken : TakenMessage) : Type 0 where
   pub era : taken.era ≡ copy.era
   pub number : taken.number ≡ copy.number
 
+-- a copy that watches keeps up with the other one: it is of the same era and at most one checkpoint behind, and not behind where the other's last one is
+-- acknowledged
+pub record KeepsUp (copy other : Copy) : Type 0 where
+  pub era : copy.era ≡ other.era
+  pub not_past : copy.number ≤ other.number
+  pub one_behind : other.number ≤ copy.number + 1
+  pub acknowledged : other.acknowledged ≡ true → copy.number ≡ other.number
+
 -- the checkpoint that a copy of a process sent last: it has the copy's era and number, and carries what the copy has
 abbrev pub last_checkpoint : ℕ → Copy → ImageMessage
 last_checkpoint number copy = record { process = number; era = copy.era; number = copy.number; image = carried copy.core }

@@ -13,12 +13,12 @@ ghost use Rattle.world_semantics.specs.declared.message.ImageMessage.{ImageMessa
 ghost use Rattle.world_semantics.specs.declared.message.TakenMessage.{TakenMessage};
 ghost use Rattle.world_semantics.specs.declared.receive.Standing.TheVariants.{Next, Ahead};
 ghost use Rattle.world_semantics.specs.declared.role.Role.TheVariants.{Acting, Watching};
-ghost use Rattle.world_semantics.specs.World.{Pair, Terminal, World, Which, copy_of, terminal_node};
+ghost use Rattle.world_semantics.specs.World.{Pair, Terminal, World, Which, copy_of, other_of, terminal_node};
 ghost use Rattle.world_semantics.specs.Receive.{standing};
 ghost use Rattle.world_semantics.specs.Follows.{IsRun};
 ghost use Rattle.world_semantics.specs.Messages.{Replying, Checkpointing, Taking, Cause, Sending, Handing};
 ghost use Rattle.world_semantics.specs.Rules.{Change};
-ghost use Rattle.world_semantics.specs.Laws.{HasStayed, IsNextFor, HasApplied, Acknowledges, last_checkpoint, Awaits, AwaitsAt, waiting_of};
+ghost use Rattle.world_semantics.specs.Laws.{HasStayed, IsNextFor, HasApplied, Acknowledges, KeepsUp, last_checkpoint, Awaits, AwaitsAt, waiting_of};
 
 /// A checkpoint of another era, or of another number than the next, is never applied: what a copy that watches has, and the number
 /// of its last checkpoint, change only by a checkpoint of its process that comes to it, is of its own era and has the number next
@@ -48,6 +48,12 @@ pub fn a_copy_has_sent_what_it_has()
     ensures { (site : Site) (events : List Event) (w : World) (number : ℕ) (pair : Pair) (k : Which) → IsRun site events w → slice_get w.processes number ≡ Some pair
         → (copy_of k pair).role ≡ Acting → (copy_of k pair).sent ≡ true
         → (point (copy_of k pair).core.state ≡ Mark) × IsAmong (last_checkpoint number (copy_of k pair)) pair.checkpoints }
+{}
+
+/// In a run a copy that watches is at most one checkpoint behind the other copy of its process, and has applied what is acknowledged.
+pub fn a_watching_copy_keeps_up()
+    ensures { (site : Site) (events : List Event) (w : World) (number : ℕ) (pair : Pair) (k : Which) → IsRun site events w → slice_get w.processes number ≡ Some pair
+        → (copy_of k pair).role ≡ Watching → KeepsUp (copy_of k pair) (copy_of (other_of k) pair) }
 {}
 
 /// A reply that comes changes what a copy has only where it comes to a copy that acts and awaits the reply of this number on the file on
