@@ -1,7 +1,8 @@
 -- What a message that comes may change: only what awaits just this message.
-use Rattle.std.proofs.Common.{◌≡◌, ◌⊎◌, inl, inr, ℕ, ◌+◌, ℤ, true, false, List, [], ◌∷◌, ◌++◌, slice_get, refl, subst, sym, ap, ◌∙◌, arith}
+use Rattle.std.proofs.Common.{◌≡◌, ◌⊎◌, inl, inr, ℕ, ◌+◌, ℤ, true, false, List, [], ◌∷◌, ◌++◌, map, Some, slice_get, refl, subst, sym, ap, ◌∙◌, arith}
 use Rattle.std.proofs.lemmas.List.{append_cancel_right}
 use Rattle.gd_words.specs.Members.{IsAmong}
+use Rattle.gd_words.specs.declared.message.Request.{Request}
 use Rattle.gd_words.specs.declared.message.Reply.{Reply}
 use Rattle.tal_tree.specs.declared.act.Act.{Act}
 use Rattle.tal_tree.specs.declared.act.Shown.{Shown}
@@ -11,13 +12,17 @@ use Rattle.process_semantics.specs.Process as process
 use Rattle.plain_semantics.specs.Openers.{openers_of}
 use Rattle.world_semantics.specs.declared.message.ImageMessage.{ImageMessage}
 use Rattle.world_semantics.specs.declared.message.TakenMessage.{TakenMessage}
+use Rattle.world_semantics.specs.declared.receive.Standing.{Standing}
+use Rattle.world_semantics.specs.declared.receive.Standing.TheVariants.{Next, InHand, Kept, Old, Ahead}
 use Rattle.world_semantics.specs.declared.role.Role.TheVariants.{Acting, Watching}
+use Rattle.world_semantics.specs.Receive.{standing, reply_to, repeated_by, repeated}
 use Rattle.world_semantics.specs.Core.{Core, Deed, Advances, gets}
-use Rattle.world_semantics.specs.World.{Copy, Pair, Terminal, World, Which, copy_of, terminal_node}
-use Rattle.world_semantics.specs.Messages.{Message, Replying, Checkpointing, Taking, Sending, Cause, Handing}
+use Rattle.world_semantics.specs.World.{Copy, Pair, Mark, Terminal, World, Which, copy_of, terminal_node}
+use Rattle.world_semantics.specs.Messages.{Message, Asking, Replying, Checkpointing, Taking, Sending, sent_at, Cause, Handing}
 use Rattle.world_semantics.specs.Own.{Around, Causes, by_inner, by_take, by_ask, by_answer, by_device, by_write, by_reply}
+use Rattle.world_semantics.specs.Passes.{Passes, by_send, by_pass_again, by_pass, by_apply, by_acknowledge}
 use Rattle.world_semantics.specs.Rules.{Change, by_own, by_checkpoint, by_request, by_early_request, by_enter, by_print, by_stop, by_mark}
-use Rattle.world_semantics.specs.Laws.{HasStayed, IsNextFor, HasApplied, Acknowledges, Awaits, AwaitsAt}
+use Rattle.world_semantics.specs.Laws.{HasStayed, IsNextFor, HasApplied, Acknowledges, Awaits, AwaitsAt, KeepsReplyTo}
 use Rattle.world_semantics.proofs.Lists.{some-same, set-there}
 use Rattle.world_semantics.proofs.Becoming as becoming
 use Rattle.world_semantics.proofs.Becoming.{Becomes, entered-same}
@@ -45,21 +50,21 @@ watching-applies (becoming.hears_early request r) role = inl (record { core = re
 watching-applies (becoming.stops processor) role = inl (record { core = refl; number = λ _. refl })
 watching-applies (becoming.takes_over node processor r) role = inl (record { core = refl; number = λ same. absurd (omega (arith, same)) })
 
-not-replying : {site : Site} {number node at : ℕ} {core : Core} {before after : Around} {cause : Cause} {deed : Deed} {done : Act} {messages : List Message} {message : ImageMessage}
+not-checkpointing : {site : Site} {number node at : ℕ} {core : Core} {before after : Around} {cause : Cause} {deed : Deed} {done : Act} {messages : List Message} {message : ImageMessage}
     → Causes site number node core before cause deed done messages after → cause ≡ Handing at (Checkpointing message) → ⊥
-not-replying by_inner e = cc
-not-replying (by_take c) e = cc
-not-replying by_ask e = cc
-not-replying (by_answer s) e = cc
-not-replying (by_device n) e = cc
-not-replying (by_write n) e = cc
-not-replying (by_reply i o n u) e = cc
+not-checkpointing by_inner e = cc
+not-checkpointing (by_take c) e = cc
+not-checkpointing by_ask e = cc
+not-checkpointing (by_answer s) e = cc
+not-checkpointing (by_device n) e = cc
+not-checkpointing (by_write n) e = cc
+not-checkpointing (by_reply i o n u) e = cc
 
 pub others-stand : {site : Site} {w : World} {number node : ℕ} {pair : Pair} {sent : List ImageMessage} {k : Which} {cause : Cause} {after : Copy} {message : ImageMessage}
     → Becomes site w number pair sent k cause after → cause ≡ Handing node (Checkpointing message) → ((copy_of k pair).role ≡ Watching → ⊥)
     → HasStayed (copy_of k pair) after
 others-stand becoming.stays e other = record { core = refl; number = λ _. refl }
-others-stand (becoming.acts r c a enters) e other = absurd (not-replying c e)
+others-stand (becoming.acts r c a enters) e other = absurd (not-checkpointing c e)
 others-stand (becoming.sends r p i) e other = absurd (cc)
 others-stand (becoming.passes r) e other = absurd (cc)
 others-stand (becoming.applies message r i era n a) e other = absurd (other r)
@@ -191,3 +196,60 @@ only-printed w next cause sendings more terminal n words (by_print number t repl
     )
 only-printed w next cause sendings more terminal n words (by_stop x s) e i = absurd (nothing-more w.shown more _ e i)
 only-printed w next cause sendings more terminal n words (by_mark node x s q m) e i = absurd (nothing-more w.shown more _ e i)
+
+-- Requests
+
+-- what is sent again is a reply that is kept
+abbrev pub SendsKept : World → ℕ → Request → Sending → Type 0
+SendsKept w node request sending =
+    (words : List ℤ) × KeepsReplyTo w node request words
+    × (sending ≡ record { node = node; message = Replying (reply_to request words) })
+
+repeats-kept : (w : World) (node : ℕ) (request : Request) (k : Which) (pair : Pair) → slice_get w.processes request.process ≡ Some pair → (copy_of k pair).role ≡ Acting
+    → (copy_of k pair).processor ≡ node → (sending : Sending)
+    → IsAmong sending (sent_at (copy_of k pair).processor (map Replying (repeated (copy_of k pair).core.receive request))) → SendsKept w node request sending
+repeats-kept w node request k pair there acting here sending i = by-standing (standing (copy_of k pair).core.receive request) refl i
+  where
+    by-standing : (s : Standing) → standing (copy_of k pair).core.receive request ≡ s
+        → IsAmong sending (sent_at (copy_of k pair).processor (map Replying (repeated_by request s))) → SendsKept w node request sending
+    by-standing (Kept words) e (inl same) =
+        (words, record { pair = pair; k = k; there = there; here = here; acting = acting; kept = e }, same ∙ ap (λ n. record { node = n; message = Replying (reply_to request words) }) here)
+    by-standing (Kept words) e (inr none) = absurd none
+    by-standing Next e none = absurd none
+    by-standing InHand e none = absurd none
+    by-standing Old e none = absurd none
+    by-standing Ahead e none = absurd none
+
+same-request : {node at : ℕ} {came request : Request} → Handing node (Asking came) ≡ Handing at (Asking request) → (node ≡ at) × (came ≡ request)
+same-request e = (cc, cc)
+
+not-asking : {site : Site} {number node at : ℕ} {core : Core} {before after : Around} {cause : Cause} {deed : Deed} {done : Act} {messages : List Message} {request : Request}
+    → Causes site number node core before cause deed done messages after → cause ≡ Handing at (Asking request) → ⊥
+not-asking by_inner e = cc
+not-asking (by_take c) e = cc
+not-asking by_ask e = cc
+not-asking (by_answer s) e = cc
+not-asking (by_device n) e = cc
+not-asking (by_write n) e = cc
+not-asking (by_reply i o n u) e = cc
+
+passes-no-request : {number at : ℕ} {marks : List Mark} {kept after : List Act} {pair next : Pair} {cause : Cause} {sendings : List Sending} {request : Request}
+    → Passes number marks kept pair cause sendings next after → cause ≡ Handing at (Asking request) → ⊥
+passes-no-request (by_send k r p s m) e = cc
+passes-no-request (by_pass_again k r p m l) e = cc
+passes-no-request (by_pass k r p m l) e = cc
+passes-no-request (by_apply k message applied r i era n a) e = cc
+passes-no-request (by_acknowledge k taken r s i era n) e = cc
+
+pub only-kept : {site : Site} (w next : World) (node : ℕ) (request : Request) (cause : Cause) (sendings : List Sending) (sending : Sending)
+    → cause ≡ Handing node (Asking request) → Change site w cause sendings next → IsAmong sending sendings → SendsKept w node request sending
+only-kept w next node request cause sendings sending e (by_own number k pair there r c a enters) i = absurd (not-asking c e)
+only-kept w next node request cause sendings sending e (by_checkpoint number pair there p) i = absurd (passes-no-request p e)
+only-kept w next node request cause sendings sending e (by_request came k pair j there r) i =
+    let is = same-request e in
+    subst (λ one. SendsKept w node one sending) is.1 (repeats-kept w node came k pair there r is.0 sending i)
+only-kept w next node request cause sendings sending e (by_early_request came k pair j there r) i = absurd i
+only-kept w next node request cause sendings sending e (by_enter number terminal opener t f q o) i = absurd (cc)
+only-kept w next node request cause sendings sending e (by_print number terminal reply t f j o n) i = absurd i
+only-kept w next node request cause sendings sending e (by_stop x s) i = absurd i
+only-kept w next node request cause sendings sending e (by_mark m x s q n) i = absurd (cc)

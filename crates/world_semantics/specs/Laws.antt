@@ -1,5 +1,5 @@
 -- Words for the laws of runs.
-use Rattle.std.specs.Prelude.{◌≡◌, ◌≤◌, ℕ, ◌+◌, ◌==◌, if◌then◌else◌, true, List, [], ◌∷◌, ◌++◌, slice_get, Some}
+use Rattle.std.specs.Prelude.{◌≡◌, ◌≤◌, ℕ, ◌+◌, ◌==◌, ℤ, if◌then◌else◌, true, List, [], ◌∷◌, ◌++◌, slice_get, Some}
 use Rattle.gd_words.specs.Members.{IsAmong}
 use Rattle.gd_words.specs.declared.message.Request.{Request}
 use Rattle.gd_words.specs.declared.message.Reply.{Reply}
@@ -8,11 +8,14 @@ use Rattle.tal_tree.specs.declared.site.Who.TheVariants as who
 use Rattle.process_semantics.specs.declared.point.Point.TheVariants as point
 use Rattle.process_semantics.specs.Process as process
 use Rattle.plain_semantics.specs.Openers.{opener_of}
+use Rattle.plain_semantics.specs.Machine.{next_request}
 use Rattle.world_semantics.specs.declared.message.ImageMessage.{ImageMessage}
 use Rattle.world_semantics.specs.declared.message.TakenMessage.{TakenMessage}
+use Rattle.world_semantics.specs.declared.receive.Standing.TheVariants.{Kept}
 use Rattle.world_semantics.specs.declared.role.Role.TheVariants.{Acting}
+use Rattle.world_semantics.specs.Receive.{standing}
 use Rattle.world_semantics.specs.Core.{next_on, carried, put_in}
-use Rattle.world_semantics.specs.World.{Copy, Pair, Terminal, World}
+use Rattle.world_semantics.specs.World.{Copy, Pair, Terminal, World, Which, copy_of}
 use Rattle.world_semantics.specs.Messages.{Message, Asking, Replying, Checkpointing, Taking}
 
 -- a copy as it is later: its era didn't fall, and neither did the number of its checkpoints while the era stayed
@@ -98,6 +101,21 @@ pub record AwaitsAt (site : Site) (w : World) (number : ℕ) (reply : Reply) : T
   pub unprinted : terminal.entered ≡ terminal.printed + 1
 
 -- Requests
+
+-- a copy of a request's process at a node acts, and keeps a reply of these words to the request
+pub record KeepsReplyTo (w : World) (node : ℕ) (request : Request) (words : List ℤ) : Type 0 where
+  pub pair : Pair
+  pub k : Which
+  pub there : slice_get w.processes request.process ≡ Some pair
+  pub here : (copy_of k pair).processor ≡ node
+  pub acting : (copy_of k pair).role ≡ Acting
+  pub kept : standing (copy_of k pair).core.receive request ≡ Kept words
+
+-- a request is the next one of a terminal: to its own server and place, numbered next to the one that was entered last, and with the words that come next
+pub record IsNextOf (site : Site) (number : ℕ) (terminal : Terminal) (request : Request) : Type 0 where
+  pub opens : opener_of site (who.Terminal number) ≡ Some (record { server = request.process; place = request.opener })
+  pub next : request.number ≡ terminal.entered + 1
+  pub words : next_request site number terminal.entered ≡ Some request.words
 
 -- how many of the waiting requests are of the opener at a place
 abbrev pub waiting_of : ℕ → List Request → ℕ

@@ -93,8 +93,12 @@ is_waiting _ = false
 abbrev pub came : ReceiveBlock → List Request → Request → List Request
 came table waiting request = if is_waiting (standing table request) then waits waiting request else waiting
 
+-- the reply of these words to a request
+abbrev pub reply_to : Request → List ℤ → Reply
+reply_to request words = record { process = request.process; opener = request.opener; number = request.number; words = words }
+
 abbrev pub repeated_by : Request → Standing → List Reply
-repeated_by request (Kept words) = record { process = request.process; opener = request.opener; number = request.number; words = words } ∷ []
+repeated_by request (Kept words) = reply_to request words ∷ []
 repeated_by request _ = []
 
 -- the reply that is sent again when a request came to a copy that acts: the one that is kept

@@ -14,11 +14,11 @@ ghost use Rattle.world_semantics.specs.declared.message.TakenMessage.{TakenMessa
 ghost use Rattle.world_semantics.specs.declared.receive.Standing.TheVariants.{Next, Ahead};
 ghost use Rattle.world_semantics.specs.declared.role.Role.TheVariants.{Acting, Watching};
 ghost use Rattle.world_semantics.specs.World.{Pair, Terminal, World, Which, copy_of, other_of, terminal_node};
-ghost use Rattle.world_semantics.specs.Receive.{standing};
+ghost use Rattle.world_semantics.specs.Receive.{standing, reply_to};
 ghost use Rattle.world_semantics.specs.Follows.{IsRun};
-ghost use Rattle.world_semantics.specs.Messages.{Replying, Checkpointing, Taking, Cause, Sending, Handing};
+ghost use Rattle.world_semantics.specs.Messages.{Asking, Replying, Checkpointing, Taking, Cause, Sending, Entering, Handing};
 ghost use Rattle.world_semantics.specs.Rules.{Change};
-ghost use Rattle.world_semantics.specs.Laws.{HasStayed, IsNextFor, HasApplied, Acknowledges, KeepsUp, last_checkpoint, Awaits, AwaitsAt, waiting_of};
+ghost use Rattle.world_semantics.specs.Laws.{HasStayed, IsNextFor, HasApplied, Acknowledges, KeepsUp, last_checkpoint, Awaits, AwaitsAt, KeepsReplyTo, IsNextOf, waiting_of};
 
 /// A checkpoint of another era, or of another number than the next, is never applied: what a copy that watches has, and the number
 /// of its last checkpoint, change only by a checkpoint of its process that comes to it, is of its own era and has the number next
@@ -73,6 +73,21 @@ pub fn only_the_awaited_reply_is_printed()
         → Change site w cause sendings next → next.shown ≡ more ++ w.shown → IsAmong (shown.Reply terminal number words) more
         → (reply : Reply) × (cause ≡ Handing terminal_node (Replying reply)) × (number ≡ reply.number) × (words ≡ reply.words) × AwaitsAt site w terminal reply
         × (AwaitsAt site next terminal reply → ⊥) }
+{}
+
+/// What is sent where a request comes is the reply to just this request which a copy that acts there keeps.
+pub fn only_a_kept_reply_is_sent_again()
+    ensures { (site : Site) (w next : World) (node : ℕ) (request : Request) (sendings : List Sending) (sending : Sending)
+        → Change site w (Handing node (Asking request)) sendings next → IsAmong sending sendings
+        → (words : List ℤ) × KeepsReplyTo w node request words
+        × (sending ≡ record { node = node; message = Replying (reply_to request words) }) }
+{}
+
+/// What a terminal enters is its next request.
+pub fn a_terminal_enters_its_next_request()
+    ensures { (site : Site) (w next : World) (number : ℕ) (terminal : Terminal) (sendings : List Sending) (sending : Sending) → Change site w (Entering number) sendings next
+        → slice_get w.terminals number ≡ Some terminal → IsAmong sending sendings
+        → (request : Request) × (sending ≡ record { node = terminal_node; message = Asking request }) × IsNextOf site number terminal request }
 {}
 
 /// In a run of one opener at most one request waits at a copy.
