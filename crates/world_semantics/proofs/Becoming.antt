@@ -1,5 +1,5 @@
 -- What a change does to each copy of a process.
-use Rattle.std.proofs.Common.{◌≡◌, inl, ℕ, ◌+◌, true, List, [], map, Option, Some, None, slice_get, slice_set, refl, subst, sym, ◌∙◌}
+use Rattle.std.proofs.Common.{◌≡◌, inl, ℕ, ◌+◌, Bool, true, false, if◌then◌else◌, List, [], map, Option, Some, None, slice_get, slice_set, refl, subst, sym, ◌∙◌}
 use Rattle.gd_words.specs.Members.{IsAmong}
 use Rattle.gd_words.specs.declared.message.Request.{Request}
 use Rattle.tal_tree.specs.declared.act.Act.{Act}
@@ -9,7 +9,8 @@ use Rattle.process_semantics.specs.Process as process
 use Rattle.plain_semantics.specs.Openers.{openers_of}
 use Rattle.world_semantics.specs.declared.message.ImageMessage.{ImageMessage}
 use Rattle.world_semantics.specs.declared.message.TakenMessage.{TakenMessage}
-use Rattle.world_semantics.specs.declared.role.Role.TheVariants.{Acting, Watching}
+use Rattle.world_semantics.specs.declared.role.Role.{Role}
+use Rattle.world_semantics.specs.declared.role.Role.TheVariants.{Acting, Watching, Gone}
 use Rattle.world_semantics.specs.Receive.{waits, came}
 use Rattle.world_semantics.specs.Core.{Core, Deed, Advances, put_in}
 use Rattle.world_semantics.specs.World.{Copy, Pair, World, Which, First, Second, copy_of, with_copy}
@@ -19,7 +20,7 @@ use Rattle.world_semantics.specs.Own.{Around, around, Causes}
 use Rattle.world_semantics.specs.Passes.{Passes, by_send, by_pass_again, by_pass, by_apply, by_acknowledge, checkpoint_of, after_sending, after_mark}
 use Rattle.world_semantics.specs.Rules.{Change, by_own, by_checkpoint, by_request, by_early_request, by_enter, by_print, by_stop, by_mark, stopped_copy, stopped_pair, taken_over, taker, after_marking, marked_pair}
 use Rattle.world_semantics.proofs.Lists.{some-same, Changed, is_new, is_same, changed, mapped}
-use Rattle.world_semantics.proofs.Roles.{taker-is}
+use Rattle.world_semantics.proofs.Roles.{Takes, taker-is}
 
 -- what one copy of a process is after a change, where these are the checkpoints that were sent by then: it is as before, acts, sends its checkpoint or passes its mark; it applies a checkpoint, or is told that one was
 -- taken; what it held is kept or dropped; a request comes to it; its processor stops; or it takes over
@@ -50,7 +51,7 @@ pub data Becomes (site : Site) (w : World) (number : ℕ) (pair : Pair) (sent : 
       → Becomes site w number pair sent k (Handing (copy_of k pair).processor (Asking request))
       (record (copy_of k pair) { waiting = waits (copy_of k pair).waiting request })
   stops : (processor : ℕ) → Becomes site w number pair sent k (Stopping processor) (stopped_copy processor (copy_of k pair))
-  takes_over : (node processor : ℕ) → (copy_of k pair).role ≡ Watching
+  takes_over : (node processor : ℕ) → Takes node processor k pair
       → Becomes site w number pair sent k (Marking node processor) (taken_over pair.base (copy_of k pair))
 
 -- what an act leaves of a copy as it was, however the act enters the kept acts
@@ -64,6 +65,11 @@ entered-same (holds_on e) = record { role = refl; sent = refl; acknowledged = re
 entered-same (repeats e l) = record { role = refl; sent = refl; acknowledged = refl }
 entered-same (begins e l t) = record { role = refl; sent = refl; acknowledged = refl }
 entered-same (keeps e l t) = record { role = refl; sent = refl; acknowledged = refl }
+
+-- the role that a copy has had where it has this one after a stop
+pub was-role : (gone : Bool) (role wanted : Role) → (wanted ≡ Gone → ⊥) → (if gone then Gone else role) ≡ wanted → role ≡ wanted
+was-role true role wanted other e = absurd (other (sym e))
+was-role false role wanted other e = e
 
 -- what a process was before a change, and what each of its copies becomes
 pub record Was (site : Site) (w : World) (number : ℕ) (cause : Cause) (after : Pair) : Type 0 where
@@ -130,17 +136,17 @@ stop-copies processor pair Second = stops processor
 mark-copies : {site : Site} {w : World} {number : ℕ} (node processor : ℕ) (pair : Pair) (k : Option Which) → taker node processor pair ≡ k
     → BothBecome site w number pair (Marking node processor) (after_marking k pair)
 mark-copies node processor pair None e j = stays
-mark-copies node processor pair (Some First) e First = takes_over node processor (taker-is node processor pair First e).watching
+mark-copies node processor pair (Some First) e First = takes_over node processor (taker-is node processor pair First e)
 mark-copies node processor pair (Some First) e Second = is_freed
 mark-copies node processor pair (Some Second) e First = is_freed
-mark-copies node processor pair (Some Second) e Second = takes_over node processor (taker-is node processor pair Second e).watching
+mark-copies node processor pair (Some Second) e Second = takes_over node processor (taker-is node processor pair Second e)
 
 same-was : {site : Site} {w : World} {cause : Cause} (number : ℕ) (after : Pair) → slice_get w.processes number ≡ Some after → Was site w number cause after
 same-was number after there = record { before = after; there = there; copies = λ k. stays }
 
 set-was : {site : Site} {w : World} {cause : Cause} (n : ℕ) (pair next : Pair) → slice_get w.processes n ≡ Some pair → BothBecome site w n pair cause next
     → (number : ℕ) (after : Pair) → slice_get (slice_set w.processes n next) number ≡ Some after → Was site w number cause after
-set-was {site = site} {w = w} {cause = cause} n pair next there copies number after then = of (changed w.processes n next number after then)
+set-was {site = site} {w = w} {cause = cause} n pair next there copies number after now = of (changed w.processes n next number after now)
   where
     of : Changed w.processes n next number after → Was site w number cause after
     of (is_new here is) =
@@ -150,8 +156,8 @@ set-was {site = site} {w = w} {cause = cause} n pair next there copies number af
 
 map-was : {site : Site} {w : World} {cause : Cause} (f : Pair → Pair) → ((number : ℕ) (pair : Pair) → BothBecome site w number pair cause (f pair))
     → (number : ℕ) (after : Pair) → slice_get (map f w.processes) number ≡ Some after → Was site w number cause after
-map-was {site = site} {w = w} {cause = cause} f copies number after then =
-    let was = mapped f w.processes number after then in
+map-was {site = site} {w = w} {cause = cause} f copies number after now =
+    let was = mapped f w.processes number after now in
     record { before = was.0; there = was.1; copies = subst (BothBecome site w number was.0 cause) (sym was.2) (copies number was.0) }
 
 -- what a process was before a change
@@ -170,6 +176,6 @@ change-was w next cause sendings (by_mark m x s q n) = map-was (marked_pair m x)
 pub change-copy : {site : Site} (w next : World) (cause : Cause) (sendings : List Sending) (number : ℕ) (before after : Pair) (k : Which)
     → Change site w cause sendings next → slice_get w.processes number ≡ Some before → slice_get next.processes number ≡ Some after
     → Becomes site w number before after.checkpoints k cause (copy_of k after)
-change-copy {site = site} w next cause sendings number before after k c there then =
-    let was = change-was w next cause sendings c number after then in
+change-copy {site = site} w next cause sendings number before after k c there now =
+    let was = change-was w next cause sendings c number after now in
     subst (λ p. Becomes site w number p after.checkpoints k cause (copy_of k after)) (some-same (sym was.there ∙ there)) (was.copies k)

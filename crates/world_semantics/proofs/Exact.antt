@@ -1,5 +1,5 @@
 -- What a message that comes may change: only what awaits just this message.
-use Rattle.std.proofs.Common.{◌≡◌, ◌⊎◌, inl, inr, ℕ, ◌+◌, ℤ, true, false, List, [], ◌∷◌, ◌++◌, map, Some, slice_get, refl, subst, sym, ap, ◌∙◌, arith}
+use Rattle.std.proofs.Common.{◌≡◌, ◌⊎◌, inl, inr, ℕ, ◌+◌, ◌==◌, ℤ, true, false, List, [], ◌∷◌, ◌++◌, map, Some, slice_get, refl, subst, sym, ap, ◌∙◌, arith}
 use Rattle.std.proofs.lemmas.List.{append_cancel_right}
 use Rattle.gd_words.specs.Members.{IsAmong}
 use Rattle.gd_words.specs.declared.message.Request.{Request}
@@ -17,15 +17,15 @@ use Rattle.world_semantics.specs.declared.receive.Standing.TheVariants.{Next, In
 use Rattle.world_semantics.specs.declared.role.Role.TheVariants.{Acting, Watching}
 use Rattle.world_semantics.specs.Receive.{standing, reply_to, repeated_by, repeated}
 use Rattle.world_semantics.specs.Core.{Core, Deed, Advances, gets}
-use Rattle.world_semantics.specs.World.{Copy, Pair, Mark, Terminal, World, Which, copy_of, terminal_node}
-use Rattle.world_semantics.specs.Messages.{Message, Asking, Replying, Checkpointing, Taking, Sending, sent_at, Cause, Handing}
+use Rattle.world_semantics.specs.World.{Copy, Pair, Mark, Terminal, World, Which, copy_of, other_of, terminal_node}
+use Rattle.world_semantics.specs.Messages.{Message, Asking, Replying, Checkpointing, Taking, Sending, sent_at, Cause, Handing, Marking}
 use Rattle.world_semantics.specs.Own.{Around, Causes, by_inner, by_take, by_ask, by_answer, by_device, by_write, by_reply}
 use Rattle.world_semantics.specs.Passes.{Passes, by_send, by_pass_again, by_pass, by_apply, by_acknowledge}
 use Rattle.world_semantics.specs.Rules.{Change, by_own, by_checkpoint, by_request, by_early_request, by_enter, by_print, by_stop, by_mark}
-use Rattle.world_semantics.specs.Laws.{HasStayed, IsNextFor, HasApplied, Acknowledges, Awaits, AwaitsAt, KeepsReplyTo}
+use Rattle.world_semantics.specs.Laws.{HasStayed, IsNextFor, HasApplied, Acknowledges, HasTakenOver, Awaits, AwaitsAt, KeepsReplyTo}
 use Rattle.world_semantics.proofs.Lists.{some-same, set-there}
 use Rattle.world_semantics.proofs.Becoming as becoming
-use Rattle.world_semantics.proofs.Becoming.{Becomes, entered-same}
+use Rattle.world_semantics.proofs.Becoming.{Becomes, entered-same, was-role}
 
 -- Checkpoints
 
@@ -48,7 +48,7 @@ watching-applies becoming.is_freed role = inl (record { core = refl; number = λ
 watching-applies (becoming.hears request r) role = absurd (cc)
 watching-applies (becoming.hears_early request r) role = inl (record { core = refl; number = λ _. refl })
 watching-applies (becoming.stops processor) role = inl (record { core = refl; number = λ _. refl })
-watching-applies (becoming.takes_over node processor r) role = inl (record { core = refl; number = λ same. absurd (omega (arith, same)) })
+watching-applies (becoming.takes_over node processor t) role = inl (record { core = refl; number = λ same. absurd (omega (arith, same)) })
 
 not-checkpointing : {site : Site} {number node at : ℕ} {core : Core} {before after : Around} {cause : Cause} {deed : Deed} {done : Act} {messages : List Message} {message : ImageMessage}
     → Causes site number node core before cause deed done messages after → cause ≡ Handing at (Checkpointing message) → ⊥
@@ -73,7 +73,7 @@ others-stand becoming.is_freed e other = record { core = refl; number = λ _. re
 others-stand (becoming.hears request r) e other = record { core = refl; number = λ _. refl }
 others-stand (becoming.hears_early request r) e other = record { core = refl; number = λ _. refl }
 others-stand (becoming.stops processor) e other = record { core = refl; number = λ _. refl }
-others-stand (becoming.takes_over m processor r) e other = absurd (cc)
+others-stand (becoming.takes_over m processor t) e other = absurd (cc)
 
 -- a copy is told that the checkpoint which it sent was taken
 abbrev pub IsToldOf : Pair → Copy → Cause → Type 0
@@ -92,7 +92,30 @@ only-told becoming.is_freed was now = absurd (cc)
 only-told (becoming.hears request r) was now = absurd (cc)
 only-told (becoming.hears_early request r) was now = absurd (cc)
 only-told (becoming.stops processor) was now = absurd (cc)
-only-told (becoming.takes_over node processor r) was now = absurd (cc)
+only-told (becoming.takes_over node processor t) was now = absurd (cc)
+
+-- Takeovers
+
+-- a copy takes over for one whose processor its node marks
+abbrev pub TakesOver : Pair → Which → Cause → Copy → Type 0
+TakesOver pair k cause after =
+    (cause ≡ Marking (copy_of k pair).processor (copy_of (other_of k) pair).processor) × HasTakenOver pair.base (copy_of k pair) after
+
+pub only-taken-over : {site : Site} {w : World} {number : ℕ} {pair : Pair} {sent : List ImageMessage} {k : Which} {cause : Cause} {after : Copy}
+    → Becomes site w number pair sent k cause after → (copy_of k pair).role ≡ Watching → after.role ≡ Acting → TakesOver pair k cause after
+only-taken-over becoming.stays was now = absurd (cc)
+only-taken-over (becoming.acts r c a e) was now = absurd (cc)
+only-taken-over (becoming.sends r p i) was now = absurd (cc)
+only-taken-over (becoming.passes r) was now = absurd (cc)
+only-taken-over (becoming.applies message r i e n a) was now = absurd (cc)
+only-taken-over (becoming.is_told taken r s i e n) was now = absurd (cc)
+only-taken-over becoming.is_freed was now = absurd (cc)
+only-taken-over (becoming.hears request r) was now = absurd (cc)
+only-taken-over (becoming.hears_early request r) was now = absurd (cc)
+only-taken-over {pair = pair} {k = k} (becoming.stops processor) was now =
+    let acts = was-role ((copy_of k pair).processor == processor) (copy_of k pair).role Acting (λ e. cc) now in absurd (cc)
+only-taken-over (becoming.takes_over node processor t) was now =
+    (rw (t.there, t.lost) refl, record { era = refl; number = refl; position = refl; held = refl; core = refl })
 
 -- Replies
 
@@ -134,7 +157,7 @@ only-got becoming.is_freed e = inl refl
 only-got (becoming.hears request r) e = absurd (cc)
 only-got (becoming.hears_early request r) e = absurd (cc)
 only-got (becoming.stops processor) e = absurd (cc)
-only-got (becoming.takes_over m processor r) e = absurd (cc)
+only-got (becoming.takes_over m processor t) e = absurd (cc)
 
 -- Printing
 

@@ -15,8 +15,7 @@ use Rattle.world_semantics.specs.declared.role.Role.{Role}
 use Rattle.world_semantics.specs.declared.role.Role.TheVariants.{Acting}
 use Rattle.world_semantics.specs.World.{Pair, World, First, Second, boot}
 use Rattle.world_semantics.specs.Kept.{closed}
-use Rattle.world_semantics.specs.Follows.{IsRun}
-use Rattle.world_semantics.specs.Examples.{adder_for, disc_site, takeover_events, takeover_acts, takeover_shown, lost_take_events, lost_take_acts, lost_take_shown, disc_events, disc_acts, disc_shown, bank_site, repeat_events, repeat_acts, repeat_shown, echo_site, ahead_events, standings, CanKeep}
+use Rattle.world_semantics.specs.Examples.{adder_for, disc_site, takeover_events, takeover_acts, takeover_shown, lost_take_events, lost_take_acts, lost_take_shown, disc_events, disc_acts, disc_shown, bank_site, repeat_events, repeat_acts, repeat_shown, echo_site, ahead_events, ahead_acts, standings, CanKeep, CanLeave}
 use Rattle.world_semantics.proofs.Lists.{some-same}
 use Rattle.world_semantics.proofs.Moves.{Move, Runs, Enters, Brings, Prints, Gets, Applies, Tells, Fails, Ticks, Played, played}
 
@@ -73,34 +72,38 @@ pub repeated : CanKeep bank_site repeat_events repeat_acts repeat_shown
 unfolding out-What shown-the_row-Statement-0 shown out int_wrap
 repeated = can-keep repeat_acts repeat_shown (played bank_site repeat_moves (boot bank_site)) refl
 
--- how what waits stands
+-- The request ahead
 
-record Stand : Type 0 where
+record Left : Type 0 where
+  pub acts : List Act
   pub roles : List Role
   pub waits : List (List Standing)
 
-abbrev stand : {site : Site} {w : World} {events : List Event} → Option (Played site w events) → Option Stand
-stand None = None
-stand (Some p) = Some (record { roles = map (λ (pair : Pair). pair.second.role) p.world.processes; waits = map (λ (pair : Pair). standings pair.second) p.world.processes })
+abbrev left_by : World → Left
+left_by w = record {
+  acts = closed w;
+  roles = map (λ (pair : Pair). pair.second.role) w.processes;
+  waits = map (λ (pair : Pair). standings pair.second) w.processes;
+}
 
--- a run of these events can leave second copies in these roles, and what waits at them so
-abbrev CanStand : Site → List Event → List Role → List (List Standing) → Type 0
-CanStand site events roles waits =
-    (w : World) × IsRun site events w × (map (λ (pair : Pair). pair.second.role) w.processes ≡ roles)
-    × (map (λ (pair : Pair). standings pair.second) w.processes ≡ waits)
+abbrev left : {site : Site} {w : World} {events : List Event} → Option (Played site w events) → Option Left
+left None = None
+left (Some p) = Some (left_by p.world)
 
-can-stand : {site : Site} {events : List Event} (roles : List Role) (waits : List (List Standing)) (p : Option (Played site (boot site) events))
-    → stand p ≡ Some (record { roles = roles; waits = waits }) → CanStand site events roles waits
-can-stand roles waits None e = absurd (cc)
-can-stand roles waits (Some p) e = let s = some-same e in (p.world, p.leads, ap (λ (x : Stand). x.roles) s, ap (λ (x : Stand). x.waits) s)
+can-leave : {site : Site} {events : List Event} (acts : List Act) (roles : List Role) (waits : List (List Standing)) (p : Option (Played site (boot site) events))
+    → left p ≡ Some (record { acts = acts; roles = roles; waits = waits }) → CanLeave site events acts roles waits
+can-leave acts roles waits None e = absurd (cc)
+can-leave acts roles waits (Some p) e =
+    let s = some-same e in
+    (p.world, p.leads, ap (λ (x : Left). x.acts) s, ap (λ (x : Left). x.roles) s, ap (λ (x : Left). x.waits) s)
 
 abbrev ahead_moves : List Move
 ahead_moves =
     Enters 0 ∷ Runs 0 ∷ Runs 0 ∷ Runs 0 ∷ Brings 0 First ∷ Runs 0 ∷ Runs 0 ∷ Prints 0 0 ∷ Enters 0 ∷ Fails 0 ∷ Ticks 1 0 ∷ Brings 0 Second ∷ []
 
-pub ahead : CanStand echo_site ahead_events (Acting ∷ []) ((Ahead ∷ []) ∷ [])
+pub ahead : CanLeave echo_site ahead_events ahead_acts (Acting ∷ []) ((Ahead ∷ []) ∷ [])
 unfolding out-What shown-the_row-Statement-0 shown out int_wrap
-ahead = can-stand (Acting ∷ []) ((Ahead ∷ []) ∷ []) (played echo_site ahead_moves (boot echo_site)) refl
+ahead = can-leave ahead_acts (Acting ∷ []) ((Ahead ∷ []) ∷ []) (played echo_site ahead_moves (boot echo_site)) refl
 
 -- The same on the machine of single unfailing processes
 
@@ -135,3 +138,7 @@ repeated-possible = refl
 pub repeated-shows : shown_by bank_site repeat_acts ≡ reverse repeat_shown
 unfolding out-What shown-the_row-Statement-0 shown out int_wrap
 repeated-shows = refl
+
+pub ahead-impossible : IsPossible echo_site ahead_acts → ⊥
+unfolding out-What shown-the_row-Statement-0 shown out int_wrap
+ahead-impossible e = cc

@@ -1,5 +1,5 @@
 -- A copy that has sent its checkpoint stands at its mark, and the checkpoint carries what it has.
-use Rattle.std.proofs.Common.{◌≡◌, ◌==◌, ℕ, Bool, true, false, if◌then◌else◌, List, [], Some, slice_get, refl, subst, sym, ◌∙◌}
+use Rattle.std.proofs.Common.{◌≡◌, ◌==◌, ℕ, true, false, List, [], Some, slice_get, refl, subst, sym, ◌∙◌}
 use Rattle.gd_words.specs.Members.{IsAmong}
 use Rattle.tal_tree.specs.declared.act.Act.{Act}
 use Rattle.tal_tree.specs.declared.site.Site.{Site}
@@ -9,8 +9,7 @@ use Rattle.schedule.specs.declared.event.Event.{Event}
 use Rattle.process_semantics.specs.declared.point.Point.TheVariants as point
 use Rattle.process_semantics.specs.Process as process
 use Rattle.world_semantics.specs.declared.message.ImageMessage.{ImageMessage}
-use Rattle.world_semantics.specs.declared.role.Role.{Role}
-use Rattle.world_semantics.specs.declared.role.Role.TheVariants.{Acting, Watching, Gone}
+use Rattle.world_semantics.specs.declared.role.Role.TheVariants.{Acting, Watching}
 use Rattle.world_semantics.specs.Core.{Core, Deed, Marked, Advances, goes, marks, takes, asks, gets, answers, acts}
 use Rattle.world_semantics.specs.World.{Copy, Pair, World, Which, First, Second, copy_of, pair_at_boot, boot}
 use Rattle.world_semantics.specs.Messages.{Message, Sending, Cause}
@@ -24,7 +23,7 @@ use Rattle.world_semantics.proofs.Members.{among-right}
 use Rattle.world_semantics.proofs.Runs.{holds-on}
 use Rattle.world_semantics.proofs.Later.{change-later}
 use Rattle.world_semantics.proofs.Becoming as becoming
-use Rattle.world_semantics.proofs.Becoming.{Becomes, entered-same, change-was}
+use Rattle.world_semantics.proofs.Becoming.{Becomes, entered-same, was-role, change-was}
 
 -- what a copy that has sent has, where these are the checkpoints that were sent
 abbrev IsAtMark : ℕ → List ImageMessage → Copy → Type 0
@@ -57,10 +56,6 @@ not-marked (by_device n) e = cc
 not-marked (by_write n) e = cc
 not-marked (by_reply i o n u) e = cc
 
-was-role : (gone : Bool) (role wanted : Role) → (wanted ≡ Gone → ⊥) → (if gone then Gone else role) ≡ wanted → role ≡ wanted
-was-role true role wanted other e = absurd (other (sym e))
-was-role false role wanted other e = e
-
 becomes-sent : {site : Site} {w : World} {number : ℕ} {pair : Pair} {sent : List ImageMessage} {k : Which} {cause : Cause} {after : Copy}
     → Becomes site w number pair sent k cause after → HasGrown pair.checkpoints sent → HasSent number pair.checkpoints (copy_of k pair) → HasSent number sent after
 becomes-sent becoming.stays g ok =
@@ -88,8 +83,8 @@ becomes-sent {pair = pair} {k = k} (becoming.stops processor) g ok =
       watching = λ r. ok.watching (role Watching (λ e. cc) r);
       acting = λ r s. let at = ok.acting (role Acting (λ e. cc) r) s in (at.0, among-more _ g at.1);
     }
-becomes-sent (becoming.takes_over node processor r) g ok =
-    record { watching = λ w. absurd (cc); acting = λ _ s. let none = ok.watching r in absurd (cc) }
+becomes-sent (becoming.takes_over node processor t) g ok =
+    record { watching = λ w. absurd (cc); acting = λ _ s. let none = ok.watching t.watching in absurd (cc) }
 
 -- of both copies of all processes
 abbrev pub AllSent : World → Type 0

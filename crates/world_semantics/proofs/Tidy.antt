@@ -14,7 +14,7 @@ use Rattle.world_semantics.specs.declared.receive.OpenerBlock.{OpenerBlock}
 use Rattle.world_semantics.specs.declared.receive.ReceiveBlock.{ReceiveBlock}
 use Rattle.world_semantics.specs.declared.receive.Standing.TheVariants.{Next, InHand, Ahead}
 use Rattle.world_semantics.specs.declared.role.Role.{Role}
-use Rattle.world_semantics.specs.declared.role.Role.TheVariants.{Acting, Watching, Gone}
+use Rattle.world_semantics.specs.declared.role.Role.TheVariants.{Acting, Watching}
 use Rattle.world_semantics.specs.Receive.{holds, answered, reply_kept, kept_or_old, standing_in, standing_by, standing, after_taking, after_answering, last_ones, Chosen, chosen, is_waiting, waits, came, still_waiting}
 use Rattle.world_semantics.specs.Core.{Core, Deed, Took, Answered, Advances, goes, takes, asks, gets, answers, acts}
 use Rattle.world_semantics.specs.World.{Copy, Pair, World, Which, First, Second, copy_of, pair_at_boot, boot}
@@ -28,7 +28,7 @@ use Rattle.world_semantics.proofs.Members.{among-filter}
 use Rattle.world_semantics.proofs.Runs.{holds-on}
 use Rattle.world_semantics.proofs.Waiting.{AreSingle, waits-all, waits-single, came-single, still-single, chosen-rest, taken-single, taken-alone}
 use Rattle.world_semantics.proofs.Becoming as becoming
-use Rattle.world_semantics.proofs.Becoming.{Becomes, entered-same, change-was}
+use Rattle.world_semantics.proofs.Becoming.{Becomes, entered-same, was-role, change-was}
 
 -- Standing
 
@@ -178,13 +178,9 @@ becomes-tidy {pair = pair} {k = k} (becoming.hears_early request r) ok = record 
 }
 becomes-tidy {pair = pair} {k = k} (becoming.stops processor) ok = record {
   single = ok.single;
-  untaken = λ acting. ok.untaken (still-acting ((copy_of k pair).processor == processor) (copy_of k pair).role acting);
+  untaken = λ acting. ok.untaken (was-role ((copy_of k pair).processor == processor) (copy_of k pair).role Acting (λ e. cc) acting);
 }
-  where
-    still-acting : (gone : Bool) (role : Role) → (if gone then Gone else role) ≡ Acting → role ≡ Acting
-    still-acting true role e = absurd (cc)
-    still-acting false role e = e
-becomes-tidy {pair = pair} {k = k} (becoming.takes_over node processor r) ok = record {
+becomes-tidy {pair = pair} {k = k} (becoming.takes_over node processor t) ok = record {
   single = still-single (copy_of k pair).core.receive (copy_of k pair).waiting ok.single;
   untaken = λ acting. still-untaken (copy_of k pair).core.receive (copy_of k pair).waiting;
 }

@@ -21,6 +21,7 @@ use Rattle.tal_tree.specs.declared.site.Kind.TheVariants as kind
 use Rattle.schedule.specs.declared.event.Event.{Event}
 use Rattle.schedule.specs.declared.event.Event.TheVariants as event
 use Rattle.world_semantics.specs.declared.receive.Standing.{Standing}
+use Rattle.world_semantics.specs.declared.role.Role.{Role}
 use Rattle.world_semantics.specs.Receive.{standing}
 use Rattle.world_semantics.specs.World.{Copy, World}
 use Rattle.world_semantics.specs.Kept.{closed}
@@ -250,6 +251,10 @@ abbrev pub ahead_events : List Event
 ahead_events =
     event.Enter 0 ∷ run ∷ run ∷ run ∷ delivery ∷ run ∷ run ∷ delivery ∷ event.Enter 0 ∷ event.Fail 0 ∷ event.Tick 1 ∷ delivery ∷ []
 
+-- what the request ahead keeps: that a reply was printed to a request which nothing took
+abbrev pub ahead_acts : List Act
+ahead_acts = act.Enter 0 ∷ act.Step 0 ∷ act.Step 0 ∷ act.Step 0 ∷ act.Print 0 ∷ act.Enter 0 ∷ []
+
 -- how what waits at a copy stands to it
 abbrev pub standings : Copy → List Standing
 standings copy = map (standing copy.core.receive) copy.waiting
@@ -257,3 +262,9 @@ standings copy = map (standing copy.core.receive) copy.waiting
 -- a run of these events can keep these acts, the oldest first, and shows this, the newest first
 abbrev pub CanKeep : Site → List Event → List Act → List Shown → Type 0
 CanKeep site events acts shown = (w : World) × IsRun site events w × (closed w ≡ acts) × (w.shown ≡ shown)
+
+-- a run of these events can keep these acts, the oldest first, and leave the second copies of the processes in these roles, with what waits at them standing so
+abbrev pub CanLeave : Site → List Event → List Act → List Role → List (List Standing) → Type 0
+CanLeave site events acts roles waits =
+    (w : World) × IsRun site events w × (closed w ≡ acts) × (map (λ pair. pair.second.role) w.processes ≡ roles)
+    × (map (λ pair. standings pair.second) w.processes ≡ waits)

@@ -82,6 +82,14 @@ pub record KeepsUp (copy other : Copy) : Type 0 where
 abbrev pub last_checkpoint : ℕ → Copy → ImageMessage
 last_checkpoint number copy = record { process = number; era = copy.era; number = copy.number; image = carried copy.core }
 
+-- a copy after it took over: it has the core that it had, is in the next era, with checkpoint number 0, stands at the base of its process, and holds nothing
+pub record HasTakenOver (base : ℕ) (before after : Copy) : Type 0 where
+  pub core : after.core ≡ before.core
+  pub era : after.era ≡ before.era + 1
+  pub number : after.number ≡ 0
+  pub position : after.position ≡ base
+  pub held : after.held ≡ []
+
 -- Replies
 
 -- a copy of a process awaits a reply: it acts and stands where a reply to what it asked comes, the file on which it asked is open to the reply's server at the

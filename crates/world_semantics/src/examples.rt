@@ -1,10 +1,8 @@
-ghost use Rattle.std.specs.Prelude.{◌≡◌, pos, [], ◌∷◌, map, reverse};
+ghost use Rattle.std.specs.Prelude.{◌≡◌, pos, [], ◌∷◌, reverse};
 ghost use Rattle.plain_semantics.specs.Machine.{IsPossible, shown_by};
-ghost use Rattle.world_semantics.specs.Examples.{adder_for, disc_site, takeover_events, takeover_acts, takeover_shown, lost_take_events, lost_take_acts, lost_take_shown, disc_events, disc_acts, disc_shown, bank_site, repeat_events, repeat_acts, repeat_shown, echo_site, ahead_events, standings, CanKeep};
+ghost use Rattle.world_semantics.specs.Examples.{adder_for, disc_site, takeover_events, takeover_acts, takeover_shown, lost_take_events, lost_take_acts, lost_take_shown, disc_events, disc_acts, disc_shown, bank_site, repeat_events, repeat_acts, repeat_shown, echo_site, ahead_events, ahead_acts, CanKeep, CanLeave};
 ghost use Rattle.world_semantics.specs.declared.receive.Standing.TheVariants.{Ahead};
 ghost use Rattle.world_semantics.specs.declared.role.Role.TheVariants.{Acting};
-ghost use Rattle.world_semantics.specs.World.{World};
-ghost use Rattle.world_semantics.specs.Follows.{IsRun};
 
 /// The adder's first copy is lost when it has answered. The second takes over behind the checkpoint and answers anew, and the
 /// acts that are kept are those of one process that doesn't fail.
@@ -36,8 +34,9 @@ pub fn a_repeated_request_is_answered_once()
 {}
 
 /// A request can wait ahead of the next: an echo that answers without a checkpoint is lost, and with it that it took the first
-/// request. The second request waits at the copy that takes over, for which the first is the next one.
+/// request. The second request waits at the copy that takes over, for which the first is the next one, and no process that doesn't
+/// fail has the acts that are kept.
 pub fn a_request_can_wait_ahead()
-    ensures { (w : World) × IsRun echo_site ahead_events w × (map (λ pair. pair.second.role) w.processes ≡ Acting ∷ [])
-        × (map (λ pair. standings pair.second) w.processes ≡ (Ahead ∷ []) ∷ []) }
+    ensures run { CanLeave echo_site ahead_events ahead_acts (Acting ∷ []) ((Ahead ∷ []) ∷ []) }
+    ensures impossible { IsPossible echo_site ahead_acts → ⊥ }
 {}

@@ -25,10 +25,11 @@ pub use laws::{
 };
 pub use message::{FileNumber, Image, ImageMessage, TakenMessage};
 pub use message_laws::{
-    a_copy_has_sent_what_it_has, a_terminal_awaits_one_reply, a_terminal_enters_its_next_request,
-    a_watching_copy_keeps_up, checkpoints_are_applied_in_order, one_request_of_an_opener_waits,
-    only_a_kept_reply_is_sent_again, only_a_sent_checkpoint_is_acknowledged,
-    only_the_awaited_reply_is_got, only_the_awaited_reply_is_printed, what_was_taken_does_not_wait,
+    a_copy_has_sent_what_it_has, a_takeover_begins_an_era, a_terminal_awaits_one_reply,
+    a_terminal_enters_its_next_request, a_watching_copy_keeps_up, checkpoints_are_applied_in_order,
+    one_request_of_an_opener_waits, only_a_kept_reply_is_sent_again,
+    only_a_sent_checkpoint_is_acknowledged, only_the_awaited_reply_is_got,
+    only_the_awaited_reply_is_printed, what_was_taken_does_not_wait,
 };
 pub use receive::{OpenerBlock, ReceiveBlock, Standing};
 pub use role::Role;

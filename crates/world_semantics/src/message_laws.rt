@@ -16,9 +16,9 @@ ghost use Rattle.world_semantics.specs.declared.role.Role.TheVariants.{Acting, W
 ghost use Rattle.world_semantics.specs.World.{Pair, Terminal, World, Which, copy_of, other_of, terminal_node};
 ghost use Rattle.world_semantics.specs.Receive.{standing, reply_to};
 ghost use Rattle.world_semantics.specs.Follows.{IsRun};
-ghost use Rattle.world_semantics.specs.Messages.{Asking, Replying, Checkpointing, Taking, Cause, Sending, Entering, Handing};
+ghost use Rattle.world_semantics.specs.Messages.{Asking, Replying, Checkpointing, Taking, Cause, Sending, Entering, Handing, Marking};
 ghost use Rattle.world_semantics.specs.Rules.{Change};
-ghost use Rattle.world_semantics.specs.Laws.{HasStayed, IsNextFor, HasApplied, Acknowledges, KeepsUp, last_checkpoint, Awaits, AwaitsAt, KeepsReplyTo, IsNextOf, waiting_of};
+ghost use Rattle.world_semantics.specs.Laws.{HasStayed, IsNextFor, HasApplied, Acknowledges, KeepsUp, HasTakenOver, last_checkpoint, Awaits, AwaitsAt, KeepsReplyTo, IsNextOf, waiting_of};
 
 /// A checkpoint of another era, or of another number than the next, is never applied: what a copy that watches has, and the number
 /// of its last checkpoint, change only by a checkpoint of its process that comes to it, is of its own era and has the number next
@@ -54,6 +54,16 @@ pub fn a_copy_has_sent_what_it_has()
 pub fn a_watching_copy_keeps_up()
     ensures { (site : Site) (events : List Event) (w : World) (number : ℕ) (pair : Pair) (k : Which) → IsRun site events w → slice_get w.processes number ≡ Some pair
         → (copy_of k pair).role ≡ Watching → KeepsUp (copy_of k pair) (copy_of (other_of k) pair) }
+{}
+
+/// A copy that watches acts only where its node marks the other copy's processor: in the next era, with checkpoint number 0, from the
+/// base on, and with nothing held.
+pub fn a_takeover_begins_an_era()
+    ensures { (site : Site) (w next : World) (cause : Cause) (sendings : List Sending) (number : ℕ) (before after : Pair) (k : Which)
+        → Change site w cause sendings next → slice_get w.processes number ≡ Some before → slice_get next.processes number ≡ Some after
+        → (copy_of k before).role ≡ Watching → (copy_of k after).role ≡ Acting
+        → (cause ≡ Marking (copy_of k before).processor (copy_of (other_of k) before).processor)
+        × HasTakenOver before.base (copy_of k before) (copy_of k after) }
 {}
 
 /// A reply that comes changes what a copy has only where it comes to a copy that acts and awaits the reply of this number on the file on
