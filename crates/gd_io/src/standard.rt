@@ -67,7 +67,7 @@ impl<W: Write + Drop> Sink for StdSink<W> {
     fn put(&mut self, piece: &[u8]) -> Gave {
         match self.writer.write(piece) {
             Ok(n) if n > 0 || piece.is_empty() => Gave::Gone(n),
-            _ => {
+            Ok(_) | Err(_) => {
                 self.faults = self.faults.saturating_add(1);
                 Gave::Failed
             }
