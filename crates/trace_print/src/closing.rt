@@ -21,16 +21,14 @@ pub fn write_end<K: Sink>(sink: &mut K, end: End) -> Result<(), WriteFault>
     ensures { Puts K.held K.faults K.sure sink.old sink.new (end_line end) result }
 {
     let line = end_text(end);
-    put_all(sink, line.bytes())?;
-    Ok(())
+    put_all(sink, line.bytes())
 }
 
 /// Writes the line that says how the program is called. It takes no memory.
 pub fn write_usage<K: Sink>(sink: &mut K) -> Result<(), WriteFault>
     ensures { Puts K.held K.faults K.sure sink.old sink.new usage_line result }
 {
-    put_all(sink, b"USAGE guardian MODE [N] [--acts] [--fail P:K]\n")?;
-    Ok(())
+    put_all(sink, b"USAGE guardian MODE [N] [--acts] [--fail P:K]\n")
 }
 
 fn end_text(end: End) -> Line

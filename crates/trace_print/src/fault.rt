@@ -17,8 +17,7 @@ pub fn write_fault<K: Sink>(sink: &mut K, fault: &DeckFault) -> Result<(), Write
     line.push(b"DECK");
     push_fault(&mut line, fault);
     line.push(b"\n");
-    put_all(sink, line.bytes())?;
-    Ok(())
+    put_all(sink, line.bytes())
 }
 
 fn push_fault(line: &mut Line, fault: &DeckFault)

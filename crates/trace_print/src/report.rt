@@ -18,8 +18,7 @@ pub fn write_report<K: Sink>(
     ensures { Puts K.held K.faults K.sure sink.old sink.new (shown_lines site.now shown.now ++ end_line end) result }
 {
     write_all_shown(sink, site, shown)?;
-    write_end(sink, end)?;
-    Ok(())
+    write_end(sink, end)
 }
 
 /// Writes the lines of all that a run shows, in order. It takes no memory.

@@ -13,8 +13,7 @@ pub fn write_shown<K: Sink>(sink: &mut K, site: &Site, shown: &Shown) -> Result<
     ensures { Puts K.held K.faults K.sure sink.old sink.new (shown_line site.now shown.now) result }
 {
     let line = shown_text(site, shown);
-    put_all(sink, line.bytes())?;
-    Ok(())
+    put_all(sink, line.bytes())
 }
 
 fn shown_text(site: &Site, shown: &Shown) -> Line

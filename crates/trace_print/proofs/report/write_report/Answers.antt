@@ -9,14 +9,7 @@ returns-in_err-write_all_shown g c =
     (puts_part g.K.Sink.held g.K.Sink.faults g.K.Sink.sure _ _ (shown_lines c.args.site.now c.args.shown.now) (end_line c.args.end) _
     c.in_err-write_all_shown.ensures)
 
-pub returns-in_err-write_end : goal.returns-in_err-write_end
-returns-in_err-write_end g c =
-    puts_passed_on g.K.Sink.held g.K.Sink.faults g.K.Sink.sure _ _ _ _ c.from_residual-in_err-write_end.result
-    c.from_residual-in_err-write_end.ensures.0
-    (puts_both g.K.Sink.held g.K.Sink.faults g.K.Sink.sure _ _ _ (shown_lines c.args.site.now c.args.shown.now) (end_line c.args.end) _
-    c.in_ok-write_all_shown.ensures c.in_err-write_end.ensures)
-
 pub returns : goal.returns
 returns g c =
     puts_both g.K.Sink.held g.K.Sink.faults g.K.Sink.sure _ _ _ (shown_lines c.args.site.now c.args.shown.now) (end_line c.args.end) _
-    c.in_ok-write_all_shown.ensures c.in_ok-write_end.ensures
+    c.in_ok-write_all_shown.ensures c.write_end.ensures
