@@ -1,4 +1,5 @@
-ghost use Rattle.std.specs.Prelude.{◌≡◌, ◌≢◌, ◌≤◌};
+ghost use Rattle.std.specs.Prelude.{◌≡◌, ◌≢◌, ◌≤◌, OnOk};
+ghost use Rattle.std.specs.Io.KnownBytes.{IsAtEnd};
 ghost use Rattle.gd_io.specs.Faults.{HasRisen};
 ghost use Rattle.gd_io.specs.Reads.{ReadsFrom};
 
@@ -28,6 +29,7 @@ pub fn read_all<S: Source>(
     most: usize,
 ) -> Result<List<u8>, ReadRefusal>
     ensures bytes { ReadsFrom most (S.left source.old) (S.left source.new) result }
+    ensures end { OnOk result (IsAtEnd (S.left source.new)) }
     ensures later { S.faults source.old ≤ S.faults source.new }
     ensures cause { result ≡ Err ReadRefusal.Failed → HasRisen (S.faults source.old) (S.faults source.new) }
     ensures still { S.sure source.old → S.sure source.new × (S.faults source.new ≡ S.faults source.old) }
