@@ -1,5 +1,5 @@
 -- What a line of a deck outside a program says.
-use Rattle.std.specs.Prelude.{ℕ, Bool, ◌&&◌, nat_le, List, [], ◌∷◌, length, codes, Option, Some, None, option_map, option_and_then, if◌then◌else◌, ℤ}
+use Rattle.std.specs.Prelude.{ℕ, nat_le, List, [], ◌∷◌, length, codes, Option, Some, None, option_map, option_and_then, if◌then◌else◌, ℤ}
 use Rattle.std.specs.Str.{bytes_eq}
 use Rattle.gd_words.specs.Spelling.{name_of}
 use Rattle.deck_reader.specs.Lines.{words_of, is_blank, is_printable, one_word, two_words, three_words}

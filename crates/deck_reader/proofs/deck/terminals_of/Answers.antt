@@ -1,4 +1,4 @@
-use Rattle.std.proofs.Common.{◌≡◌, List, ◌∷◌, ◌++◌, [], subst, sym}
+use Rattle.std.proofs.Common.{List, subst, sym}
 use Rattle.std.specs.Vec.Iter.{into_iter_items}
 use Rattle.tal_tree.specs.declared.site.TerminalSpec.{TerminalSpec}
 use Rattle.deck_reader.specs.Decks.{AreTerminalsOf, IsTerminalOf}

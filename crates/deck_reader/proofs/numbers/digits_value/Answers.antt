@@ -1,4 +1,4 @@
-use Rattle.std.proofs.Common.{◌<◌, arith}
+use Rattle.std.proofs.Common.{arith}
 use Rattle.deck_reader.proofs.NumberLemmas.{eight_digits}
 use Rattle.deck_reader.proofs.numbers.digits_value.Goals as goal
 

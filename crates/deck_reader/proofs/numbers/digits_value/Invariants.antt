@@ -1,4 +1,4 @@
-use Rattle.std.proofs.Common.{◌≡◌, ◌<◌, ◌^◌, drop, take}
+use Rattle.std.proofs.Common.{◌≡◌, ◌<◌, ◌^◌, drop}
 use Rattle.deck_reader.specs.Numbers.{digits_from, digits_value}
 use Rattle.deck_reader.proofs.numbers.digits_value.Given as goal
 
