@@ -1,9 +1,58 @@
--- What is decided of a source, and what the outcome tells of it.
-use Rattle.std.proofs.Common.{ℕ, List, Option, Some, None}
+-- What is decided, and what the outcome tells of it.
+use Rattle.std.proofs.Common.{◌≡◌, ℕ, Bool, true, false, List, [], ◌∷◌, Option, Some, None, Result, Ok, Err, sym, ap, ◌∙◌, refl}
+use Rattle.std.specs.Prelude.{⊤, IsErr, IfSome, codes, if◌then◌else◌}
 use Rattle.gd_io.specs.Reads.{Leaves}
+use Rattle.gd_io.specs.declared.writing.WriteFault.{WriteFault}
 use Rattle.runner.specs.Decided.{IsTold}
+use Rattle.runner.specs.Words.{asks_run}
+use Rattle.runner.specs.Written.{outcome_of}
+use Rattle.runner.specs.declared.due.Due.{Due}
+use Rattle.runner.specs.declared.due.Due.TheVariants as due
+use Rattle.runner.specs.declared.outcome.Outcome.{Outcome}
+use Rattle.runner.specs.declared.outcome.Status.TheVariants as status
 
 -- the bytes that were read are those that were told
 pub told : (left now : Option (List ℕ)) (bytes rest : List ℕ) → Leaves left now bytes rest → IsTold left bytes
 told None now bytes rest h = tt
 told (Some xs) now bytes rest h = h.0
+
+-- there are words of which it was answered right whether they ask for a run, and they are the told ones
+pub words_of : (told : Option (List (List ℕ))) (answer : Bool) → IfSome told (λ words. answer ≡ asks_run words)
+    → (words : List (List ℕ)) × IsTold told words × (asks_run words ≡ answer)
+words_of None true h = (codes "run" ∷ [], tt, refl)
+words_of None false h = ([], tt, refl)
+words_of (Some words) answer h = (words, refl, sym h)
+
+-- a read fault is the status of no other decision
+read_fault_only : (decided : Due) (result : Result ⊤ WriteFault) → (outcome_of decided result).status ≡ status.ReadFault → decided ≡ due.ReadFault
+read_fault_only due.Usage (Ok done) e = absurd (cc)
+read_fault_only due.ReadFault (Ok done) e = refl
+read_fault_only due.NoMemory (Ok done) e = absurd (cc)
+read_fault_only (due.Refused fault) (Ok done) e = absurd (cc)
+read_fault_only (due.Report report) (Ok done) e = absurd (run_ended report.idle e)
+  where
+    run_ended : (idle : Bool) → (if idle then status.Done else status.Cut) ≡ status.ReadFault → ⊥
+    run_ended true e = cc
+    run_ended false e = cc
+read_fault_only decided (Err fault) e = absurd (cc)
+
+pub read_fault_is_due : (decided : Due) (result : Result ⊤ WriteFault) (outcome : Outcome) → outcome ≡ outcome_of decided result
+    → outcome.status ≡ status.ReadFault → decided ≡ due.ReadFault
+read_fault_is_due decided result outcome is e = read_fault_only decided result (sym (ap (λ o. o.status) is) ∙ e)
+
+-- a write fault is the status where writing failed, and nowhere else
+write_fault_only : (decided : Due) (result : Result ⊤ WriteFault) → (outcome_of decided result).status ≡ status.WriteFault → IsErr result
+write_fault_only due.Usage (Ok done) e = absurd (cc)
+write_fault_only due.ReadFault (Ok done) e = absurd (cc)
+write_fault_only due.NoMemory (Ok done) e = absurd (cc)
+write_fault_only (due.Refused fault) (Ok done) e = absurd (cc)
+write_fault_only (due.Report report) (Ok done) e = absurd (run_ended report.idle e)
+  where
+    run_ended : (idle : Bool) → (if idle then status.Done else status.Cut) ≡ status.WriteFault → ⊥
+    run_ended true e = cc
+    run_ended false e = cc
+write_fault_only decided (Err fault) e = refl
+
+pub writing_failed : (decided : Due) (result : Result ⊤ WriteFault) (outcome : Outcome) → outcome ≡ outcome_of decided result
+    → outcome.status ≡ status.WriteFault → IsErr result
+writing_failed decided result outcome is e = write_fault_only decided result (sym (ap (λ o. o.status) is) ∙ e)

@@ -47,10 +47,10 @@ IsDueOfBytes bytes (due.Report report) = (deck : Deck) × Decks bytes deck × Is
 IsDueOfBytes bytes due.NoMemory = Unit {0}
 IsDueOfBytes bytes _ = ⊥
 
--- the bytes are those that a source had left, where it told them
-abbrev pub IsTold : Option (List ℕ) → List ℕ → Type 0
-IsTold None bytes = Unit {0}
-IsTold (Some left) bytes = left ≡ bytes
+-- what there is is what was told, where it was told
+abbrev pub IsTold : {X : Type 0} → Option X → X → Type 0
+IsTold None there = Unit {0}
+IsTold (Some told) there = told ≡ there
 
 -- what is due of a source, whose count of faults stood and stands so
 abbrev pub IsDueOfSource : Option (List ℕ) → ℕ → ℕ → Due → Type 0
@@ -62,8 +62,15 @@ IsDueOfSource left before now (due.Report report) = (bytes : List ℕ) × IsTold
 
 abbrev pub IsDueOn : Bool → Option (List ℕ) → ℕ → ℕ → Due → Type 0
 IsDueOn true left before now decided = IsDueOfSource left before now decided
-IsDueOn false left before now decided = (decided ≡ due.Usage) × (now ≡ before)
+IsDueOn false left before now decided = decided ≡ due.Usage
 
 -- what is due: Usage where the words are no command, and else what is due of the source
 abbrev pub IsDue : List (List ℕ) → Option (List ℕ) → ℕ → ℕ → Due → Type 0
 IsDue words left before now decided = IsDueOn (asks_run words) left before now decided
+
+-- what is due only once the deck was read to its end: a report, or a refusal for what the deck says
+abbrev pub IsOfWholeDeck : Due → Type 0
+IsOfWholeDeck (due.Report report) = Unit {0}
+IsOfWholeDeck (due.Refused TooLong) = ⊥
+IsOfWholeDeck (due.Refused fault) = Unit {0}
+IsOfWholeDeck _ = ⊥

@@ -1,4 +1,5 @@
 pub mod Decided
+pub mod Ends
 pub mod Numbers
 pub mod Words
 pub mod Written

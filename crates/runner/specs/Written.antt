@@ -1,5 +1,5 @@
 -- What a command writes.
-use Rattle.std.specs.Prelude.{◌≡◌, ◌≢◌, ℕ, Bool, List, [], ◌++◌, Option, Some, None, Result, Ok, Err, ⊤, if◌then◌else◌}
+use Rattle.std.specs.Prelude.{◌≡◌, ℕ, List, [], ◌++◌, Option, Some, None, Result, Ok, Err, ⊤, if◌then◌else◌}
 use Rattle.gd_io.specs.Puts.{Puts}
 use Rattle.gd_io.specs.declared.writing.WriteFault.{WriteFault}
 use Rattle.trace_print.specs.EndLine.{end_line, usage_line}

@@ -1,14 +1,15 @@
-ghost use Rattle.std.specs.Prelude.{◌≡◌, ◌≢◌, map};
-ghost use Rattle.std.specs.String.{string_bytes};
+ghost use Rattle.std.specs.Prelude.{◌≡◌, ◌≢◌, ℕ, List};
+ghost use Rattle.std.specs.Io.KnownBytes.{IsAtEnd};
 ghost use Rattle.gd_io.specs.Faults.{HasRisen};
 ghost use Rattle.runner.specs.Written.{CanBeWritten};
-ghost use Rattle.runner.specs.Decided.{IsDue, IsDueOfSource, IsDueOfBytes, IsDueOfDeck, rounds_of};
+ghost use Rattle.runner.specs.Decided.{IsTold, IsDue, IsDueOfSource, IsDueOfBytes, IsDueOfDeck, IsOfWholeDeck, rounds_of};
 
 use crate::due::{Due, Report};
 use crate::outcome::RunEnd;
 use crate::words::asks_run;
 use deck_reader::{Deck, read_deck};
-use gd_io::{ReadRefusal, Source, read_all};
+use gd_io::{CommandLine, ReadRefusal, Source, read_all};
+use gd_words::NoMemory;
 use plain_machine::{Played, play_rounds};
 use schedule::Line;
 use std::alloc::Global;
@@ -18,12 +19,16 @@ use tal_tree::DeckFault;
 const MOST_BYTES: usize = 1_048_576;
 
 /// What is due: by the words, then by reading, then by the deck, then by the run. All memory is taken here.
-pub fn decide<S: Source>(alloc: Global, words: &[String], source: &mut S) -> Due
-    ensures due { IsDue (map string_bytes words.now) (S.left source.old) (S.faults source.old) (S.faults source.new) result }
+pub fn decide<L: CommandLine, S: Source>(alloc: Global, line: &L, source: &mut S) -> Due
+    ensures due { (words : List (List ℕ)) × IsTold (L.words line.now) words
+        × IsDue words (S.left source.old) (S.faults source.old) (S.faults source.new) result }
     ensures written { CanBeWritten result }
+    ensures cause { result ≡ Due.ReadFault → HasRisen (S.faults source.old) (S.faults source.new) }
     ensures unfailing { S.sure source.old → result ≢ Due.ReadFault }
+    ensures unread { result ≡ Due.Usage → source.new ≡ source.old }
+    ensures read_whole { IsOfWholeDeck result → IsAtEnd (S.left source.new) }
 {
-    if asks_run(words) {
+    if asks_run(line) {
         due_of_source(alloc, source)
     } else {
         Due::Usage
@@ -33,7 +38,10 @@ pub fn decide<S: Source>(alloc: Global, words: &[String], source: &mut S) -> Due
 fn due_of_source<S: Source>(alloc: Global, source: &mut S) -> Due
     ensures due { IsDueOfSource (S.left source.old) (S.faults source.old) (S.faults source.new) result }
     ensures written { CanBeWritten result }
+    ensures cause { result ≡ Due.ReadFault → HasRisen (S.faults source.old) (S.faults source.new) }
     ensures unfailing { S.sure source.old → result ≢ Due.ReadFault }
+    ensures read { result ≢ Due.Usage }
+    ensures read_whole { IsOfWholeDeck result → IsAtEnd (S.left source.new) }
 {
     match read_all(alloc, source, MOST_BYTES) {
         Ok(bytes) => due_of_bytes(alloc, bytes.as_slice()),
@@ -51,8 +59,8 @@ fn due_of_bytes(alloc: Global, bytes: &[u8]) -> Due
         Ok(deck) => due_of_deck(alloc, deck),
         Err(DeckFault::TooLong) => Due::Refused(DeckFault::TooLong),
         Err(DeckFault::NotYet) => Due::Refused(DeckFault::NotYet),
-        // Today no other fault is answered but want of memory.
-        Err(_) => Due::NoMemory,
+        Err(DeckFault::NoMemory) => Due::NoMemory,
+        Err(_) => unreachable!(),
     }
 }
 
@@ -62,7 +70,7 @@ fn due_of_deck(alloc: Global, deck: Deck) -> Due
 {
     let Deck { site, lines } = deck;
     match play_rounds(alloc, &site, rounds_of(lines.as_slice())) {
-        Err(_) => Due::NoMemory,
+        Err(NoMemory) => Due::NoMemory,
         Ok(played) => {
             let Played { acts, shown, idle } = played;
             let run = RunEnd { acts, shown };

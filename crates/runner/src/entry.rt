@@ -1,38 +1,46 @@
-ghost use Rattle.std.specs.Prelude.{◌≡◌, map, Ok, Err, if◌then◌else◌};
-ghost use Rattle.std.specs.String.{string_bytes};
-ghost use Rattle.gd_io.specs.Faults.{HasRisen};
+ghost use Rattle.std.specs.Prelude.{◌≡◌, ℕ, List, Ok, if◌then◌else◌};
 ghost use Rattle.gd_io.specs.Puts.{Puts};
-ghost use Rattle.runner.specs.Decided.{IsDue};
-ghost use Rattle.runner.specs.Written.{text_of, outcome_of, IsWritten, CanBeWritten};
-ghost use Rattle.runner.specs.declared.due.Due.{Due};
-ghost use Rattle.gd_io.specs.declared.writing.WriteFault.{WriteFault};
+ghost use Rattle.runner.specs.Decided.{IsTold};
+ghost use Rattle.runner.specs.Ends.{Ends};
+ghost use Rattle.runner.specs.Numbers.{number_of};
+ghost use Rattle.runner.specs.Written.{text_of, run_of, outcome_of, CanBeWritten};
+ghost use Rattle.runner.specs.declared.outcome.Outcome.{Outcome};
 
 use crate::decide::decide;
 use crate::due::Due;
 use crate::outcome::{Outcome, Status};
-use gd_io::{Sink, Source, WriteFault};
+use gd_io::{CommandLine, Sink, Source, WriteFault};
 use std::alloc::Global;
 use trace_print::{End, write_fault, write_report, write_usage};
 
-/// Runs one command. `words` are those of the command line, the program's name first. Today the one command is `run`: it
-/// reads a deck from the source to its end, plays it and writes the report to the sink.
-pub fn command<S: Source, K: Sink>(
+/// Runs one command as `command` does, and answers the number of its status, with which the program ends.
+pub fn exit_number<L: CommandLine, S: Source, K: Sink>(
     alloc: Global,
-    words: &[String],
+    line: &L,
+    source: &mut S,
+    sink: &mut K,
+) -> u8
+    ensures { (words : List (List ℕ)) × IsTold (L.words line.now) words × (outcome : Outcome)
+        × Ends S.left S.faults S.sure K.held K.faults K.sure words source.old source.new sink.old sink.new outcome
+        × (result ≡ number_of outcome.status) }
+{
+    command(alloc, line, source, sink).status.number()
+}
+
+/// Runs one command. Today the one command is the one word `run`: it reads a deck from the source to its end, plays it and
+/// writes the report to the sink. Words of any other bytes give the usage.
+pub fn command<L: CommandLine, S: Source, K: Sink>(
+    alloc: Global,
+    line: &L,
     source: &mut S,
     sink: &mut K,
 ) -> Outcome
-    // The words, the bytes read and the deck decide what is due; it is written whole, or a write fault comes after a part.
-    ensures answer { (due : Due) × IsDue (map string_bytes words.now) (S.left source.old) (S.faults source.old) (S.faults source.new) due
-        × IsWritten K.held K.faults K.sure sink.old sink.new due result }
-    ensures read { result.status ≡ Status.ReadFault → HasRisen (S.faults source.old) (S.faults source.new) }
-    ensures write { result.status ≡ Status.WriteFault → HasRisen (K.faults sink.old) (K.faults sink.new) }
+    ensures { (words : List (List ℕ)) × IsTold (L.words line.now) words
+        × Ends S.left S.faults S.sure K.held K.faults K.sure words source.old source.new sink.old sink.new result }
 {
-    let due = decide(alloc, words, source);
-    match write_due(sink, &due) {
-        Ok(()) => done(due),
-        Err(WriteFault) => cut_off(due),
-    }
+    let due = decide(alloc, line, source);
+    let written = write_due(sink, &due);
+    outcome_of(due, written)
 }
 
 fn write_due<K: Sink>(sink: &mut K, due: &Due) -> Result<(), WriteFault>
@@ -55,6 +63,16 @@ fn end_of(idle: bool) -> End
     ensures { result ≡ (if idle then End.Idle else End.Cut) }
 {
     if idle { End::Idle } else { End::Cut }
+}
+
+/// The outcome, by whether the text that is due went out whole.
+fn outcome_of(due: Due, written: Result<(), WriteFault>) -> Outcome
+    ensures { result ≡ outcome_of due written }
+{
+    match written {
+        Ok(()) => done(due),
+        Err(WriteFault) => cut_off(due),
+    }
 }
 
 /// The outcome of what is written whole.
@@ -82,11 +100,14 @@ fn done(due: Due) -> Outcome
 
 /// The outcome where a write failed.
 fn cut_off(due: Due) -> Outcome
-    ensures { (fault : WriteFault) → result ≡ outcome_of due (Err fault) }
+    ensures { result ≡ record { status = Status.WriteFault; run = run_of due } }
 {
     let run = match due {
         Due::Report(report) => Some(report.run),
-        _ => None,
+        Due::Usage => None,
+        Due::ReadFault => None,
+        Due::NoMemory => None,
+        Due::Refused(_) => None,
     };
     Outcome {
         status: Status::WriteFault,

@@ -1,7 +1,8 @@
-//! The top call: words of a command line, a source and a sink in, an outcome out.
+//! The top call: the words of a command line, a source and a sink in, the number out with which the program ends.
 //!
 //! Below stand `deck_reader`, `plain_machine`, `trace_print` and `gd_io`. `command` decides first: it reads, plays and takes
-//! all memory that is needed; only then it writes. The program `guardian` uses its clauses.
+//! all memory that is needed; only then it writes. The program `guardian` is the one call of `exit_number`, whose contract
+//! is that of `command` and the number of its status.
 #![tactic(auto)]
 
 mod decide;
@@ -10,5 +11,5 @@ pub mod entry;
 pub mod outcome;
 mod words;
 
-pub use entry::command;
+pub use entry::{command, exit_number};
 pub use outcome::{Outcome, RunEnd, Status};

@@ -1,7 +1,9 @@
-use runner::{RunEnd, Status, command};
-use gd_io::{MemorySink, MemorySource};
+use gd_io::{MemorySink, MemorySource, StdCommandLine};
 use gd_words::List;
+use runner::{RunEnd, Status, command, exit_number};
 use std::alloc::{AllocError, Global};
+use std::env::FillError;
+use std::rt::Env;
 use std::test::Fail;
 use tal_tree::{Act, DeckFault};
 
@@ -24,6 +26,32 @@ fn deck(alloc: Global, more: usize, rest: &[u8]) -> Result<List<u8>, AllocError>
     Ok(List::from_vec(bytes))
 }
 
+/// What the operating system calls a program with: these words, the program's name first.
+#[derive(Clone, Copy)]
+struct Called<'a> {
+    words: &'a [&'a [u8]],
+}
+
+impl<'a> Env for Called<'a> {
+    fn arg(&self, number: usize, room: &mut [u8]) -> Result<usize, FillError> {
+        let word = self.words.get(number).ok_or(FillError::NotPresent)?;
+        if word.len() > room.len() {
+            return Err(FillError::TooLong);
+        }
+        let (start, _) = room.split_at_mut(word.len());
+        start.copy_from_slice(word);
+        Ok(word.len())
+    }
+
+    fn var(&self, _name: &str, _room: &mut [u8]) -> Result<usize, FillError> {
+        Err(FillError::NotPresent)
+    }
+
+    fn var_at(&self, _number: usize, _room: &mut [u8]) -> Result<usize, FillError> {
+        Err(FillError::NotPresent)
+    }
+}
+
 /// What a command ended with and wrote.
 #[derive(Drop)]
 struct Ended {
@@ -35,19 +63,17 @@ struct Ended {
 /// Runs the words over ends in memory, of which the calls with these numbers fail. After want of memory nothing is written.
 fn run_words(
     alloc: Global,
-    words: &[&str],
+    words: &[&[u8]],
     deck: List<u8>,
     reads: &[u64],
     writes: &[u64],
 ) -> Result<Ended, Fail> {
-    let mut given: Vec<String> = Vec::new(alloc);
-    for word in words {
-        given.push(String::from_str(alloc, word)?)?;
-    }
+    let called = Called { words };
+    let line = StdCommandLine::new(&called);
     let mut source = MemorySource::new(deck, List::from_vec(Vec::from_slice(alloc, reads)?));
     let failing = List::from_vec(Vec::from_slice(alloc, writes)?);
     let mut sink = MemorySink::new(alloc, 100_000, failing)?;
-    let outcome = command(alloc, given.as_slice(), &mut source, &mut sink);
+    let outcome = command(alloc, &line, &mut source, &mut sink);
     let text = Vec::from_slice(alloc, sink.bytes())?;
     if outcome.status == Status::NoMemory && text.is_empty() {
         return Err(Fail::from(AllocError));
@@ -77,7 +103,7 @@ fn ends_as_the_ends_allow(rt: HostRuntime) -> Result<(), Fail> {
     ];
     for (reads, writes, status, text) in cases {
         let deck = deck(rt.alloc(), 0, BOTH)?;
-        let end = run_words(rt.alloc(), &["guardian", "run"], deck, reads, writes)?;
+        let end = run_words(rt.alloc(), &[b"guardian", b"run"], deck, reads, writes)?;
         assert!(rt; end.status == status);
         assert!(rt; end.text.as_slice() == text);
     }
@@ -90,10 +116,15 @@ fn refuses_words_and_decks(rt: HostRuntime) -> Result<(), Fail> {
     let not_yet = b"DECK 0 11\n".as_slice();
     let refused = Status::DeckRefused(DeckFault::NotYet);
     let failing = b"send 5\nschedule\nfail 0\ndrain 4000\nEND\n".as_slice();
-    let words: [&[&str]; 4] = [
-        &["guardian"],
-        &["guardian", "run", "3"],
-        &["guardian", "check"],
+    let words: [&[&[u8]]; 9] = [
+        &[b"guardian"],
+        &[b"guardian", b"run", b"3"],
+        &[b"guardian", b"run", b""],
+        &[b"guardian", b"run", b"\xff\xfe"],
+        &[b"guardian", b"\xff\xfe"],
+        &[b"guardian", b"run\xff"],
+        &[b"guardian", b"check"],
+        &[b"guardian", b"ru"],
         &[],
     ];
     for given in words {
@@ -103,7 +134,7 @@ fn refuses_words_and_decks(rt: HostRuntime) -> Result<(), Fail> {
     }
     let end = run_words(
         rt.alloc(),
-        &["guardian", "run"],
+        &[b"guardian", b"run"],
         deck(rt.alloc(), 0, failing)?,
         &[],
         &[],
@@ -114,11 +145,25 @@ fn refuses_words_and_decks(rt: HostRuntime) -> Result<(), Fail> {
 }
 
 #[test]
+fn takes_a_name_of_any_bytes(rt: HostRuntime) -> Result<(), Fail> {
+    let called = Called {
+        words: &[b"/home/\xff/guardian", b"run"],
+    };
+    let mut source = MemorySource::new(deck(rt.alloc(), 0, BOTH)?, List::new(rt.alloc()));
+    let mut sink = MemorySink::new(rt.alloc(), 100, List::new(rt.alloc()))?;
+    let line = StdCommandLine::new(&called);
+    let number = exit_number(rt.alloc(), &line, &mut source, &mut sink);
+    assert!(rt; number == 0);
+    assert!(rt; sink.bytes() == b"R $T1 1: 5\nR $T1 2: 12\nEND idle\n".as_slice());
+    Ok(())
+}
+
+#[test]
 fn keeps_the_acts_of_one_request(rt: HostRuntime) -> Result<(), Fail> {
     let one = b"send 5\nschedule\ndrain 4000\nEND".as_slice();
     let end = run_words(
         rt.alloc(),
-        &["guardian", "run"],
+        &[b"guardian", b"run"],
         deck(rt.alloc(), 0, one)?,
         &[],
         &[],
@@ -150,10 +195,10 @@ fn keeps_the_acts_of_one_request(rt: HostRuntime) -> Result<(), Fail> {
 fn goes_along_long_chains(rt: HostRuntime) -> Result<(), Fail> {
     let refused = b"send 5\nschedule\nfail 0\ndrain 4000\nEND\n".as_slice();
     let long = deck(rt.alloc(), 300_000, BOTH)?;
-    let end = run_words(rt.alloc(), &["guardian", "run"], long, &[], &[])?;
+    let end = run_words(rt.alloc(), &[b"guardian", b"run"], long, &[], &[])?;
     assert!(rt; end.text.as_slice() == b"R $T1 1: -27675\nR $T1 2: 10188\nEND idle\n".as_slice());
     let long = deck(rt.alloc(), 300_000, refused)?;
-    let end = run_words(rt.alloc(), &["guardian", "run"], long, &[], &[])?;
+    let end = run_words(rt.alloc(), &[b"guardian", b"run"], long, &[], &[])?;
     assert!(rt; end.text.as_slice() == b"DECK 0 11\n".as_slice());
     Ok(())
 }

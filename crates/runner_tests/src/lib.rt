@@ -4,6 +4,6 @@
 #![tactic(auto)]
 
 #[cfg(test)]
-mod decks;
-#[cfg(test)]
 mod command;
+#[cfg(test)]
+mod decks;

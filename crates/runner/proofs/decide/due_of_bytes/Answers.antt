@@ -1,4 +1,4 @@
-use Rattle.std.proofs.Common.{◌≡◌, Err, ap}
+use Rattle.std.proofs.Common.{Err, ap}
 use Rattle.runner.proofs.decide.due_of_bytes.Goals as goal
 
 pub returns-in-Err-NotYet-clause-due : goal.returns-in-Err-NotYet-clause-due

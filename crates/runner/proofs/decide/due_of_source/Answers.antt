@@ -1,4 +1,3 @@
-use Rattle.std.proofs.Common.{◌<◌, length}
 use Rattle.runner.proofs.DecidedLemmas.{told}
 use Rattle.runner.proofs.decide.due_of_source.Goals as goal
 
