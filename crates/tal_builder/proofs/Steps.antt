@@ -1,15 +1,15 @@
 -- What is found of a part from what is found of its parts.
-use Rattle.std.proofs.Common.{◌≡◌, ℕ, Bool, true, cond, suc, List, [], ◌∷◌, Some, refl, ap, ◌∙◌}
+use Rattle.std.proofs.Common.{◌≡◌, ℕ, Bool, true, cond, suc, List, [], ◌∷◌, Some, None, refl, ap, ◌∙◌}
 use Rattle.std.specs.Prelude.{option_map}
 use Rattle.std.specs.Option.{option_and_then}
 use Rattle.tal_tokens.specs.declared.token.At.{At}
 use Rattle.tal_tokens.specs.declared.token.Token.{Token}
 use Rattle.tal_tokens.specs.declared.token.Token.TheVariants as tok
 use Rattle.tal_syntax.specs.Grammar as g
-use Rattle.tal_builder.specs.First.{name_of}
+use Rattle.tal_builder.specs.First.{name_of, rel_of}
 use Rattle.tal_builder.specs.Marks.{mark_of}
 use Rattle.tal_builder.specs.declared.mark.Mark.TheVariants as mark
-use Rattle.tal_builder.specs.Parse.{Found, constant_at, bounds_at, names_at, local_at, rest_after, row_by, compared_by, relation_by, argument_at, further_at, listed_at, values_at, value_list_at, spot_at, right_at, assign_at, item_at, items_at, int_line_at, literal_at, literals_at, literal_line_at, gives_at, parameters_at, main_at, heading_at, locals_at, statement_at, row_at, procedure_at, lines_at, procedures_at, text_at, ors_by, expr_by, ands_by, both_by, terms_by, sum_by, factors_by, product_by, index_by, parens_by, minus_by, negated_by, expr_at, rows_by, block_by, otherwise_by, if_by, while_by, for_by}
+use Rattle.tal_builder.specs.Parse.{Found, constant_at, bounds_at, names_at, local_at, rest_after, row_by, compared_by, relation_by, argument_at, further_at, listed_at, values_at, value_list_at, spot_at, right_at, assign_at, item_at, items_at, int_line_at, literal_at, literals_at, literal_line_at, gives_at, parameters_at, main_at, heading_at, locals_at, statement_at, row_at, procedure_at, lines_at, procedures_at, text_at, ors_by, expr_by, ands_by, both_by, compared_to, terms_by, sum_by, factors_by, product_by, index_by, parens_by, minus_by, negated_by, expr_at, rows_by, block_by, otherwise_by, if_by, while_by, for_by}
 
 pub expr-found : (both : List Token → Found g.Both) (ks us vs : List Token) (first : g.Both) (more : g.Ors)
     → both ks ≡ Some (first, us) → ors_by both us ≡ Some (more, vs) → expr_by both ks ≡ Some (g.expr first more, vs)
@@ -73,6 +73,20 @@ for-found inner n head at name set_at to_at do_at ks us vs ws xs ys zs ts from t
 pub relation-found : (sum : List Token → Found g.Sum) (ks us vs : List Token) (s : g.Sum) (c : g.Compared)
     → sum ks ≡ Some (s, us) → compared_by sum us ≡ Some (c, vs) → relation_by sum ks ≡ Some (g.relation s c, vs)
 relation-found sum ks us vs s c a b = rw (a, b) refl
+
+-- what is found of a relation goes on after its left sum
+pub relation-goes : (sum : List Token → Found g.Sum) (ks us : List Token) (s : g.Sum)
+    → sum ks ≡ Some (s, us) → relation_by sum ks ≡ compared_to sum s us
+relation-goes sum ks us s a = rw a refl
+
+pub alone-found : (sum : List Token → Found g.Sum) (ks : List Token) (s : g.Sum)
+    → rel_of ks ≡ None → compared_to sum s ks ≡ Some (g.relation s g.alone, ks)
+alone-found sum ks s a = rw a refl
+
+pub compared-found : (sum : List Token → Found g.Sum) (ks us vs : List Token) (s : g.Sum) (rel : g.Rel) (right : g.Sum)
+    → rel_of ks ≡ Some (rel, us) → sum us ≡ Some (right, vs)
+    → compared_to sum s ks ≡ Some (g.relation s (g.compared rel right), vs)
+compared-found sum ks us vs s rel right a b = rw (a, b) refl
 
 pub listed-found : (n : ℕ) (start close : At) (ks us vs ws : List Token) (first : g.Argument) (more : g.Further)
     → argument_at n ks ≡ Some (first, us) → further_at n us ≡ Some (more, vs) → mark_of mark.Close vs ≡ Some (close, ws)

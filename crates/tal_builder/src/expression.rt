@@ -1,27 +1,31 @@
 ghost use Rattle.std.specs.Prelude.{◌≡◌};
 ghost use Rattle.tal_builder.specs.Outcome.{Tells};
-ghost use Rattle.tal_builder.specs.Parse.{ors_by, ands_by, compared_by, relation_by, terms_by, factors_by, index_by, parens_by, minus_by, negated_by, expr_at, both_at, neg_at, sum_at, product_at, factor_at, spot_at, expr_in, neg_in, factor_in};
-ghost use Rattle.tal_syntax.specs.Seen.{seen_expr, seen_ors, seen_both, seen_ands, seen_neg, seen_compared, seen_sum, seen_terms, seen_product, seen_factors, seen_factor, seen_spot, seen_index};
+ghost use Rattle.tal_builder.specs.Parse.{ors_by, ands_by, compared_to, relation_by, terms_by, factors_by, index_by, parens_by, minus_by, negated_by, expr_at, both_at, neg_at, sum_at, product_at, factor_at, spot_at, expr_in, neg_in, factor_in};
+ghost use Rattle.tal_syntax.specs.Seen.{seen_expr, seen_ors, seen_both, seen_ands, seen_neg, seen_sum, seen_terms, seen_product, seen_factors, seen_factor, seen_spot, seen_index};
 
+use crate::expression_parts::{
+    add_both, add_factor, add_neg, add_term, alone_of, both_of, compared_of, expr_of, minus_of,
+    negated_of, number_of, parens_of, product_of, read_of, spot_of, sum_of,
+};
 use crate::first::{name_first, rel_first, scale_first, sign_first};
 use crate::mark::{Mark, expect, optional};
 use crate::stop::Stop;
 use gd_words::{Boxed, List};
 use std::alloc::Global;
 use tal_syntax::{
-    Both, Compared, Expr, Factor, Index, Neg, NextBoth, NextFactor, NextNeg, Product, Spot, Sum,
-    Term,
+    Both, Expr, Factor, Index, Neg, NextBoth, NextFactor, NextNeg, Product, Spot, Sum, Term,
 };
 use tal_tokens::{At, Token};
 
 /// `both { OR both }`, in which so many levels may be opened.
 #[cycle(expression)]
-pub fn expr(alloc: Global, room: u8, tokens: &[Token]) -> Result<(Expr, &[Token]), Stop>
+pub fn expr(alloc: Global, room: u8, tokens: &[Token]) -> Result<(Boxed<Expr>, &[Token]), Stop>
     ensures { Tells (λ r. (seen_expr r.0, r.1.now)) result (expr_at room tokens.now) }
 {
     let (first, after) = both(alloc, room, tokens)?;
     let (more, rest) = more_boths(alloc, room, after)?;
-    Ok((Expr { first, more }, rest))
+    let expr = expr_of(alloc, first, more)?;
+    Ok((expr, rest))
 }
 
 /// `{ OR both }`
@@ -36,7 +40,7 @@ fn more_boths(alloc: Global, room: u8, tokens: &[Token]) -> Result<(List<NextBot
             return Ok((all, rest));
         };
         let (both, after) = both(alloc, room, after)?;
-        all.push(NextBoth { or, both })?;
+        add_both(&mut all, or, both)?;
         rest = after;
     }
     Ok((all, rest))
@@ -44,12 +48,13 @@ fn more_boths(alloc: Global, room: u8, tokens: &[Token]) -> Result<(List<NextBot
 
 /// `neg { AND neg }`
 #[cycle(expression)]
-fn both(alloc: Global, room: u8, tokens: &[Token]) -> Result<(Both, &[Token]), Stop>
+fn both(alloc: Global, room: u8, tokens: &[Token]) -> Result<(Boxed<Both>, &[Token]), Stop>
     ensures { Tells (λ r. (seen_both r.0, r.1.now)) result (both_at room tokens.now) }
 {
     let (first, after) = neg(alloc, room, tokens)?;
     let (more, rest) = more_negs(alloc, room, after)?;
-    Ok((Both { first, more }, rest))
+    let both = both_of(alloc, first, more)?;
+    Ok((both, rest))
 }
 
 /// `{ AND neg }`
@@ -64,7 +69,7 @@ fn more_negs(alloc: Global, room: u8, tokens: &[Token]) -> Result<(List<NextNeg>
             return Ok((all, rest));
         };
         let (neg, after) = neg(alloc, room, after)?;
-        all.push(NextNeg { and, neg })?;
+        add_neg(&mut all, and, neg)?;
         rest = after;
     }
     Ok((all, rest))
@@ -72,7 +77,7 @@ fn more_negs(alloc: Global, room: u8, tokens: &[Token]) -> Result<(List<NextNeg>
 
 /// `NOT neg | sum compared`
 #[cycle(expression)]
-fn neg(alloc: Global, room: u8, tokens: &[Token]) -> Result<(Neg, &[Token]), Stop>
+fn neg(alloc: Global, room: u8, tokens: &[Token]) -> Result<(Boxed<Neg>, &[Token]), Stop>
     ensures { Tells (λ r. (seen_neg r.0, r.1.now)) result (neg_at room tokens.now) }
 {
     match tokens {
@@ -83,44 +88,56 @@ fn neg(alloc: Global, room: u8, tokens: &[Token]) -> Result<(Neg, &[Token]), Sto
 
 /// `neg`, after NOT
 #[cycle(expression)]
-fn negation(alloc: Global, room: u8, at: At, tokens: &[Token]) -> Result<(Neg, &[Token]), Stop>
+fn negation(
+    alloc: Global,
+    room: u8,
+    at: At,
+    tokens: &[Token],
+) -> Result<(Boxed<Neg>, &[Token]), Stop>
     ensures { Tells (λ r. (seen_neg r.0, r.1.now)) result (negated_by (neg_in room) at tokens.now) }
 {
     let (inner, rest) = neg_within(alloc, room, tokens)?;
-    let inner = Boxed::new(alloc, inner)?;
-    Ok((Neg::Not(at, inner), rest))
+    let neg = negated_of(alloc, at, inner)?;
+    Ok((neg, rest))
 }
 
 /// `sum compared`
 #[cycle(expression)]
-fn relation(alloc: Global, room: u8, tokens: &[Token]) -> Result<(Neg, &[Token]), Stop>
+fn relation(alloc: Global, room: u8, tokens: &[Token]) -> Result<(Boxed<Neg>, &[Token]), Stop>
     ensures { Tells (λ r. (seen_neg r.0, r.1.now)) result (relation_by (sum_at room) tokens.now) }
 {
     let (left, after) = sum(alloc, room, tokens)?;
-    let (compared, rest) = compared(alloc, room, after)?;
-    Ok((Neg::Relation(left, compared), rest))
+    compared(alloc, room, left, after)
 }
 
-/// `[ rel sum ]`
+/// `[ rel sum ]`, after its left sum
 #[cycle(expression)]
-fn compared(alloc: Global, room: u8, tokens: &[Token]) -> Result<(Compared, &[Token]), Stop>
-    ensures { Tells (λ r. (seen_compared r.0, r.1.now)) result (compared_by (sum_at room) tokens.now) }
+fn compared(
+    alloc: Global,
+    room: u8,
+    left: Boxed<Sum>,
+    tokens: &[Token],
+) -> Result<(Boxed<Neg>, &[Token]), Stop>
+    ensures { Tells (λ r. (seen_neg r.0, r.1.now)) result (compared_to (sum_at room) (seen_sum left) tokens.now) }
 {
     let Some((rel, after)) = rel_first(tokens) else {
-        return Ok((Compared::Alone, tokens));
+        let neg = alone_of(alloc, left)?;
+        return Ok((neg, tokens));
     };
     let (right, rest) = sum(alloc, room, after)?;
-    Ok((Compared::With(rel, right), rest))
+    let neg = compared_of(alloc, left, rel, right)?;
+    Ok((neg, rest))
 }
 
 /// `product { sign product }`
 #[cycle(expression)]
-fn sum(alloc: Global, room: u8, tokens: &[Token]) -> Result<(Sum, &[Token]), Stop>
+fn sum(alloc: Global, room: u8, tokens: &[Token]) -> Result<(Boxed<Sum>, &[Token]), Stop>
     ensures { Tells (λ r. (seen_sum r.0, r.1.now)) result (sum_at room tokens.now) }
 {
     let (first, after) = product(alloc, room, tokens)?;
     let (more, rest) = more_terms(alloc, room, after)?;
-    Ok((Sum { first, more }, rest))
+    let sum = sum_of(alloc, first, more)?;
+    Ok((sum, rest))
 }
 
 /// `{ sign product }`
@@ -135,7 +152,7 @@ fn more_terms(alloc: Global, room: u8, tokens: &[Token]) -> Result<(List<Term>, 
             return Ok((all, rest));
         };
         let (product, after) = product(alloc, room, after)?;
-        all.push(Term { sign, product })?;
+        add_term(&mut all, sign, product)?;
         rest = after;
     }
     Ok((all, rest))
@@ -143,12 +160,13 @@ fn more_terms(alloc: Global, room: u8, tokens: &[Token]) -> Result<(List<Term>, 
 
 /// `factor { scale factor }`
 #[cycle(expression)]
-fn product(alloc: Global, room: u8, tokens: &[Token]) -> Result<(Product, &[Token]), Stop>
+fn product(alloc: Global, room: u8, tokens: &[Token]) -> Result<(Boxed<Product>, &[Token]), Stop>
     ensures { Tells (λ r. (seen_product r.0, r.1.now)) result (product_at room tokens.now) }
 {
     let (first, after) = factor(alloc, room, tokens)?;
     let (more, rest) = more_factors(alloc, room, after)?;
-    Ok((Product { first, more }, rest))
+    let product = product_of(alloc, first, more)?;
+    Ok((product, rest))
 }
 
 /// `{ scale factor }`
@@ -167,7 +185,7 @@ fn more_factors(
             return Ok((all, rest));
         };
         let (factor, after) = factor(alloc, room, after)?;
-        all.push(NextFactor { scale, factor })?;
+        add_factor(&mut all, scale, factor)?;
         rest = after;
     }
     Ok((all, rest))
@@ -175,58 +193,66 @@ fn more_factors(
 
 /// `"-" factor | number | spot | "(" expr ")"`
 #[cycle(expression)]
-fn factor(alloc: Global, room: u8, tokens: &[Token]) -> Result<(Factor, &[Token]), Stop>
+fn factor(alloc: Global, room: u8, tokens: &[Token]) -> Result<(Boxed<Factor>, &[Token]), Stop>
     ensures { Tells (λ r. (seen_factor r.0, r.1.now)) result (factor_at room tokens.now) }
 {
     match tokens {
         [Token::Minus(at), rest @ ..] => negative(alloc, room, *at, rest),
-        [Token::Number(at, value), rest @ ..] => Ok((Factor::Number(*at, *value), rest)),
+        [Token::Number(at, value), rest @ ..] => {
+            let factor = number_of(alloc, *at, *value)?;
+            Ok((factor, rest))
+        }
         [Token::Open(start), rest @ ..] => parens(alloc, room, *start, rest),
         _ => {
             let (spot, rest) = spot(alloc, room, tokens)?;
-            Ok((Factor::Spot(spot), rest))
+            let factor = read_of(alloc, spot)?;
+            Ok((factor, rest))
         }
     }
 }
 
 /// `factor`, after `-`
 #[cycle(expression)]
-fn negative(alloc: Global, room: u8, at: At, tokens: &[Token]) -> Result<(Factor, &[Token]), Stop>
+fn negative(
+    alloc: Global,
+    room: u8,
+    at: At,
+    tokens: &[Token],
+) -> Result<(Boxed<Factor>, &[Token]), Stop>
     ensures { Tells (λ r. (seen_factor r.0, r.1.now)) result (minus_by (factor_in room) at tokens.now) }
 {
     let (inner, rest) = factor_within(alloc, room, tokens)?;
-    let inner = Boxed::new(alloc, inner)?;
-    Ok((Factor::Minus(at, inner), rest))
+    let factor = minus_of(alloc, at, inner)?;
+    Ok((factor, rest))
 }
 
 /// `expr ")"`, after `(`
 #[cycle(expression)]
-fn parens(alloc: Global, room: u8, start: At, tokens: &[Token]) -> Result<(Factor, &[Token]), Stop>
+fn parens(
+    alloc: Global,
+    room: u8,
+    start: At,
+    tokens: &[Token],
+) -> Result<(Boxed<Factor>, &[Token]), Stop>
     ensures { Tells (λ r. (seen_factor r.0, r.1.now)) result (parens_by (expr_in room) start tokens.now) }
 {
     let (inner, after) = expr_within(alloc, room, tokens)?;
     let (close, rest) = expect(Mark::Close, after)?;
-    let inner = Boxed::new(alloc, inner)?;
-    Ok((Factor::Parens(start, inner, close), rest))
+    let factor = parens_of(alloc, start, inner, close)?;
+    Ok((factor, rest))
 }
 
 /// `name index`
 #[cycle(expression)]
-pub fn spot(alloc: Global, room: u8, tokens: &[Token]) -> Result<(Spot, &[Token]), Stop>
+pub fn spot(alloc: Global, room: u8, tokens: &[Token]) -> Result<(Boxed<Spot>, &[Token]), Stop>
     ensures { Tells (λ r. (seen_spot r.0, r.1.now)) result (spot_at room tokens.now) }
 {
     let Some((named, after)) = name_first(tokens) else {
         return Err(Stop::NoSyntax);
     };
     let (index, rest) = index(alloc, room, after)?;
-    Ok((
-        Spot {
-            at: named.at,
-            name: named.name,
-            index,
-        },
-        rest,
-    ))
+    let spot = spot_of(alloc, named.at, named.name, index)?;
+    Ok((spot, rest))
 }
 
 /// `[ "[" expr "]" ]`
@@ -239,13 +265,12 @@ fn index(alloc: Global, room: u8, tokens: &[Token]) -> Result<(Index, &[Token]),
     };
     let (inner, after) = expr_within(alloc, room, after)?;
     let (close, rest) = expect(Mark::CloseIndex, after)?;
-    let inner = Boxed::new(alloc, inner)?;
     Ok((Index::Element(start, inner, close), rest))
 }
 
 /// An expression that opens the first of so many levels.
 #[cycle(expression)]
-fn expr_within(alloc: Global, room: u8, tokens: &[Token]) -> Result<(Expr, &[Token]), Stop>
+fn expr_within(alloc: Global, room: u8, tokens: &[Token]) -> Result<(Boxed<Expr>, &[Token]), Stop>
     ensures { Tells (λ r. (seen_expr r.0, r.1.now)) result (expr_in room tokens.now) }
 {
     if room == 0 {
@@ -256,7 +281,7 @@ fn expr_within(alloc: Global, room: u8, tokens: &[Token]) -> Result<(Expr, &[Tok
 
 /// The operand of a NOT that opens the first of so many levels.
 #[cycle(expression)]
-fn neg_within(alloc: Global, room: u8, tokens: &[Token]) -> Result<(Neg, &[Token]), Stop>
+fn neg_within(alloc: Global, room: u8, tokens: &[Token]) -> Result<(Boxed<Neg>, &[Token]), Stop>
     ensures { Tells (λ r. (seen_neg r.0, r.1.now)) result (neg_in room tokens.now) }
 {
     if room == 0 {
@@ -267,7 +292,11 @@ fn neg_within(alloc: Global, room: u8, tokens: &[Token]) -> Result<(Neg, &[Token
 
 /// The operand of a minus that opens the first of so many levels.
 #[cycle(expression)]
-fn factor_within(alloc: Global, room: u8, tokens: &[Token]) -> Result<(Factor, &[Token]), Stop>
+fn factor_within(
+    alloc: Global,
+    room: u8,
+    tokens: &[Token],
+) -> Result<(Boxed<Factor>, &[Token]), Stop>
     ensures { Tells (λ r. (seen_factor r.0, r.1.now)) result (factor_in room tokens.now) }
 {
     if room == 0 {

@@ -5,12 +5,14 @@
 #![tactic(auto)]
 
 mod expression;
+mod expression_parts;
 mod first;
 mod globals;
 mod heading;
 mod mark;
 mod simple;
 mod statement;
+mod statement_parts;
 pub mod stop;
 pub mod text;
 

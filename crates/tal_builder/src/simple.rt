@@ -1,13 +1,14 @@
-ghost use Rattle.std.specs.Prelude.{◌≡◌};
+ghost use Rattle.std.specs.Prelude.{◌≡◌, IfOk};
 ghost use Rattle.tal_builder.specs.Outcome.{Tells};
 ghost use Rattle.tal_builder.specs.Parse.{argument_at, further_at, listed_at, arguments_at, call_at, answer_at, return_at, values_at, value_list_at, value_list_in, right_at, assign_at};
+ghost use Rattle.tal_syntax.specs.Grammar as g;
 ghost use Rattle.tal_syntax.specs.Seen.{seen_argument, seen_further, seen_arguments, seen_statement, seen_answer, seen_values, seen_expr, seen_spot};
 
 use crate::expression::{expr, spot};
 use crate::first::{called_first, is_value, name_first, string_first};
 use crate::mark::{Mark, expect, optional};
 use crate::stop::Stop;
-use gd_words::{Boxed, List};
+use gd_words::{Boxed, Ident, List, NoMemory};
 use std::alloc::Global;
 use tal_syntax::{
     Answer, Argument, ArgumentList, Arguments, Assign, AssignCall, Call, Expr, NextArgument,
@@ -18,7 +19,7 @@ use tal_tokens::{At, Token};
 /// The values of a call on a right side, and where its parenthesis closes.
 #[derive(Drop)]
 struct ValueList {
-    first: Expr,
+    first: Boxed<Expr>,
     more: List<NextValue>,
     close: At,
 }
@@ -31,7 +32,7 @@ fn argument(alloc: Global, room: u8, tokens: &[Token]) -> Result<(Argument, &[To
         Some(found) => Ok(found),
         None => {
             let (value, rest) = expr(alloc, room, tokens)?;
-            Ok((Argument::Value(value), rest))
+            Ok((Argument::Value(value.into_inner()), rest))
         }
     }
 }
@@ -92,12 +93,13 @@ fn arguments(alloc: Global, room: u8, tokens: &[Token]) -> Result<(Arguments, &[
 }
 
 /// `name arguments`, after CALL
+#[inline(never)]
 pub fn call(
     alloc: Global,
     room: u8,
     head: At,
     tokens: &[Token],
-) -> Result<(Statement, &[Token]), Stop>
+) -> Result<(Boxed<Statement>, &[Token]), Stop>
     ensures { Tells (λ r. (seen_statement r.0, r.1.now)) result (call_at room head tokens.now) }
 {
     let Some((named, after)) = name_first(tokens) else {
@@ -111,7 +113,8 @@ pub fn call(
         arguments,
     };
     let call = Boxed::new(alloc, call)?;
-    Ok((Statement::Call(call), rest))
+    let statement = Boxed::new(alloc, Statement::Call(call))?;
+    Ok((statement, rest))
 }
 
 /// `[ expr ]`
@@ -120,24 +123,26 @@ fn answer(alloc: Global, room: u8, tokens: &[Token]) -> Result<(Answer, &[Token]
 {
     if is_value(tokens) {
         let (value, rest) = expr(alloc, room, tokens)?;
-        Ok((Answer::Value(value), rest))
+        Ok((Answer::Value(value.into_inner()), rest))
     } else {
         Ok((Answer::Absent, tokens))
     }
 }
 
 /// `answer`, after RETURN
+#[inline(never)]
 pub fn return_of(
     alloc: Global,
     room: u8,
     head: At,
     tokens: &[Token],
-) -> Result<(Statement, &[Token]), Stop>
+) -> Result<(Boxed<Statement>, &[Token]), Stop>
     ensures { Tells (λ r. (seen_statement r.0, r.1.now)) result (return_at room head tokens.now) }
 {
     let (answer, rest) = answer(alloc, room, tokens)?;
     let back = Boxed::new(alloc, Return { head, answer })?;
-    Ok((Statement::Return(back), rest))
+    let statement = Boxed::new(alloc, Statement::Return(back))?;
+    Ok((statement, rest))
 }
 
 /// `{ "," expr }`
@@ -155,6 +160,7 @@ fn more_values(
             return Ok((all, rest));
         };
         let (value, after) = expr(alloc, room, after)?;
+        let value = value.into_inner();
         all.push(NextValue { comma, value })?;
         rest = after;
     }
@@ -185,23 +191,39 @@ fn value_list_within(
     value_list(alloc, room - 1, tokens)
 }
 
-/// What stands behind `:=`: a call where a name stands directly before `(`, or else an expression.
-fn right_side(
+/// `spot ":=" expr`
+#[inline(never)]
+fn assign_of(
     alloc: Global,
-    room: u8,
-    target: Spot,
+    target: Boxed<Spot>,
     at: At,
-    tokens: &[Token],
-) -> Result<(Statement, &[Token]), Stop>
-    ensures { Tells (λ r. (seen_statement r.0, r.1.now)) result (right_at room (seen_spot target) at tokens.now) }
+    value: Boxed<Expr>,
+) -> Result<Boxed<Statement>, NoMemory>
+    ensures { IfOk result (λ s. seen_statement s ≡ g.assign (seen_spot target) at (seen_expr value)) }
 {
-    let Some((name_at, name, start, after)) = called_first(tokens) else {
-        let (value, rest) = expr(alloc, room, tokens)?;
-        let assign = Boxed::new(alloc, Assign { target, at, value })?;
-        return Ok((Statement::Assign(assign), rest));
-    };
-    let (values, rest) = value_list_within(alloc, room, after)?;
+    let target = target.into_inner();
+    let value = value.into_inner();
+    let assign = Boxed::new(alloc, Assign { target, at, value })?;
+    let statement = Boxed::new(alloc, Statement::Assign(assign))?;
+    Ok(statement)
+}
+
+/// `spot ":=" name "(" expr { "," expr } ")"`
+#[inline(never)]
+fn assign_call_of(
+    alloc: Global,
+    target: Boxed<Spot>,
+    at: At,
+    name_at: At,
+    name: Ident,
+    start: At,
+    values: ValueList,
+) -> Result<Boxed<Statement>, NoMemory>
+    ensures { IfOk result (λ s. seen_statement s ≡ g.assign_call (seen_spot target) at name_at name start (seen_expr values.first) (seen_values values.more) values.close) }
+{
+    let target = target.into_inner();
     let ValueList { first, more, close } = values;
+    let first = first.into_inner();
     let assign = AssignCall {
         target,
         at,
@@ -213,11 +235,37 @@ fn right_side(
         close,
     };
     let assign = Boxed::new(alloc, assign)?;
-    Ok((Statement::AssignCall(assign), rest))
+    let statement = Boxed::new(alloc, Statement::AssignCall(assign))?;
+    Ok(statement)
+}
+
+/// What stands behind `:=`: a call where a name stands directly before `(`, or else an expression.
+fn right_side(
+    alloc: Global,
+    room: u8,
+    target: Boxed<Spot>,
+    at: At,
+    tokens: &[Token],
+) -> Result<(Boxed<Statement>, &[Token]), Stop>
+    ensures { Tells (λ r. (seen_statement r.0, r.1.now)) result (right_at room (seen_spot target) at tokens.now) }
+{
+    let Some((name_at, name, start, after)) = called_first(tokens) else {
+        let (value, rest) = expr(alloc, room, tokens)?;
+        let statement = assign_of(alloc, target, at, value)?;
+        return Ok((statement, rest));
+    };
+    let (values, rest) = value_list_within(alloc, room, after)?;
+    let statement = assign_call_of(alloc, target, at, name_at, name, start, values)?;
+    Ok((statement, rest))
 }
 
 /// `spot ":=" expr | spot ":=" name "(" expr { "," expr } ")"`
-pub fn assignment(alloc: Global, room: u8, tokens: &[Token]) -> Result<(Statement, &[Token]), Stop>
+#[inline(never)]
+pub fn assignment(
+    alloc: Global,
+    room: u8,
+    tokens: &[Token],
+) -> Result<(Boxed<Statement>, &[Token]), Stop>
     ensures { Tells (λ r. (seen_statement r.0, r.1.now)) result (assign_at room tokens.now) }
 {
     let (target, after) = spot(alloc, room, tokens)?;

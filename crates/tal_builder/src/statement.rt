@@ -7,19 +7,27 @@ use crate::expression::expr;
 use crate::first::{is_begun, name_first};
 use crate::mark::{Mark, expect, optional};
 use crate::simple::{assignment, call, return_of};
+use crate::statement_parts::{
+    add_statement, block_of, for_head_of, for_of, if_of, nothing_of, test_of, while_of,
+};
 use crate::stop::Stop;
 use gd_words::{Boxed, List};
 use std::alloc::Global;
-use tal_syntax::{ForHead, Next, Otherwise, Statement, Test};
+use tal_syntax::{Next, Otherwise, Statement};
 use tal_tokens::{At, Token};
 
 /// A statement in which so many levels may be opened, its own among them.
 #[cycle(statement)]
-pub fn statement(alloc: Global, room: u8, tokens: &[Token]) -> Result<(Statement, &[Token]), Stop>
+pub fn statement(
+    alloc: Global,
+    room: u8,
+    tokens: &[Token],
+) -> Result<(Boxed<Statement>, &[Token]), Stop>
     ensures { Tells (λ r. (seen_statement r.0, r.1.now)) result (statement_at room tokens.now) }
 {
     if !is_begun(tokens) {
-        return Ok((Statement::Nothing, tokens));
+        let statement = nothing_of(alloc)?;
+        return Ok((statement, tokens));
     }
     if room == 0 {
         return Err(Stop::NoSyntax);
@@ -39,10 +47,7 @@ pub fn row(alloc: Global, room: u8, tokens: &[Token]) -> Result<(List<Next>, &[T
             return Ok((all, rest));
         };
         let (statement, after) = statement(alloc, room, after)?;
-        all.push(Next {
-            semicolon,
-            statement,
-        })?;
+        add_statement(&mut all, semicolon, statement)?;
         rest = after;
     }
     Ok((all, rest))
@@ -50,7 +55,7 @@ pub fn row(alloc: Global, room: u8, tokens: &[Token]) -> Result<(List<Next>, &[T
 
 /// A statement that isn't empty, in which so many levels may be opened.
 #[cycle(statement)]
-fn begun(alloc: Global, room: u8, tokens: &[Token]) -> Result<(Statement, &[Token]), Stop>
+fn begun(alloc: Global, room: u8, tokens: &[Token]) -> Result<(Boxed<Statement>, &[Token]), Stop>
     ensures { Tells (λ r. (seen_statement r.0, r.1.now)) result (begun_by (statement_at room) room tokens.now) }
 {
     match tokens {
@@ -71,14 +76,14 @@ fn block(
     room: u8,
     begin: At,
     tokens: &[Token],
-) -> Result<(Statement, &[Token]), Stop>
+) -> Result<(Boxed<Statement>, &[Token]), Stop>
     ensures { Tells (λ r. (seen_statement r.0, r.1.now)) result (block_by (statement_at room) begin tokens.now) }
 {
     let (first, after) = statement(alloc, room, tokens)?;
     let (more, after) = row(alloc, room, after)?;
     let (end, rest) = expect(Mark::End, after)?;
-    let first = Boxed::new(alloc, first)?;
-    Ok((Statement::Block(begin, first, more, end), rest))
+    let statement = block_of(alloc, begin, first, more, end)?;
+    Ok((statement, rest))
 }
 
 /// `[ ELSE statement ]`
@@ -90,7 +95,6 @@ fn otherwise(alloc: Global, room: u8, tokens: &[Token]) -> Result<(Otherwise, &[
         return Ok((Otherwise::Absent, tokens));
     };
     let (inner, rest) = statement(alloc, room, after)?;
-    let inner = Boxed::new(alloc, inner)?;
     Ok((Otherwise::Else(at, inner), rest))
 }
 
@@ -101,16 +105,16 @@ fn if_then(
     room: u8,
     head: At,
     tokens: &[Token],
-) -> Result<(Statement, &[Token]), Stop>
+) -> Result<(Boxed<Statement>, &[Token]), Stop>
     ensures { Tells (λ r. (seen_statement r.0, r.1.now)) result (if_by (statement_at room) room head tokens.now) }
 {
     let (test, after) = expr(alloc, room, tokens)?;
     let (end, after) = expect(Mark::Then, after)?;
     let (inner, after) = statement(alloc, room, after)?;
     let (otherwise, rest) = otherwise(alloc, room, after)?;
-    let test = Boxed::new(alloc, Test { head, test, end })?;
-    let inner = Boxed::new(alloc, inner)?;
-    Ok((Statement::If(test, inner, otherwise), rest))
+    let test = test_of(alloc, head, test, end)?;
+    let statement = if_of(alloc, test, inner, otherwise)?;
+    Ok((statement, rest))
 }
 
 /// `expr DO statement`, after WHILE
@@ -120,15 +124,15 @@ fn while_loop(
     room: u8,
     head: At,
     tokens: &[Token],
-) -> Result<(Statement, &[Token]), Stop>
+) -> Result<(Boxed<Statement>, &[Token]), Stop>
     ensures { Tells (λ r. (seen_statement r.0, r.1.now)) result (while_by (statement_at room) room head tokens.now) }
 {
     let (test, after) = expr(alloc, room, tokens)?;
     let (end, after) = expect(Mark::Do, after)?;
     let (inner, rest) = statement(alloc, room, after)?;
-    let test = Boxed::new(alloc, Test { head, test, end })?;
-    let inner = Boxed::new(alloc, inner)?;
-    Ok((Statement::While(test, inner), rest))
+    let test = test_of(alloc, head, test, end)?;
+    let statement = while_of(alloc, test, inner)?;
+    Ok((statement, rest))
 }
 
 /// `name ":=" expr TO expr DO statement`, after FOR
@@ -138,7 +142,7 @@ fn for_loop(
     room: u8,
     head: At,
     tokens: &[Token],
-) -> Result<(Statement, &[Token]), Stop>
+) -> Result<(Boxed<Statement>, &[Token]), Stop>
     ensures { Tells (λ r. (seen_statement r.0, r.1.now)) result (for_by (statement_at room) room head tokens.now) }
 {
     let Some((named, after)) = name_first(tokens) else {
@@ -150,17 +154,7 @@ fn for_loop(
     let (to, after) = expr(alloc, room, after)?;
     let (do_at, after) = expect(Mark::Do, after)?;
     let (inner, rest) = statement(alloc, room, after)?;
-    let counted = ForHead {
-        head,
-        at: named.at,
-        name: named.name,
-        set_at,
-        from,
-        to_at,
-        to,
-        do_at,
-    };
-    let counted = Boxed::new(alloc, counted)?;
-    let inner = Boxed::new(alloc, inner)?;
-    Ok((Statement::For(counted, inner), rest))
+    let counted = for_head_of(alloc, head, named, set_at, from, to_at, to, do_at)?;
+    let statement = for_of(alloc, counted, inner)?;
+    Ok((statement, rest))
 }

@@ -28,6 +28,7 @@ fn procedure(alloc: Global, tokens: &[Token]) -> Result<(Procedure, &[Token]), S
     let (begin, after) = expect(Mark::Begin, after)?;
     let (inner, after) = locals(alloc, after)?;
     let (first, after) = statement(alloc, LEVELS, after)?;
+    let first = first.into_inner();
     let (more, after) = row(alloc, LEVELS, after)?;
     let (end, after) = expect(Mark::End, after)?;
     let (last, rest) = expect(Mark::Semicolon, after)?;

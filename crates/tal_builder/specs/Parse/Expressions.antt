@@ -29,8 +29,12 @@ compared_after sum ks (Some (r, us)) = option_map (λ s. (g.compared r s.0, s.1)
 abbrev pub compared_by : (List Token → Found g.Sum) → List Token → Found g.Compared
 compared_by sum ks = compared_after sum ks (rel_of ks)
 
+-- a relation, after its left sum
+abbrev pub compared_to : (List Token → Found g.Sum) → g.Sum → List Token → Found g.Neg
+compared_to sum left ks = option_map (λ c. (g.relation left c.0, c.1)) (compared_by sum ks)
+
 abbrev pub relation_by : (List Token → Found g.Sum) → List Token → Found g.Neg
-relation_by sum ks = option_and_then (λ s. option_map (λ c. (g.relation s.0 c.0, c.1)) (compared_by sum s.1)) (sum ks)
+relation_by sum ks = option_and_then (λ s. compared_to sum s.0 s.1) (sum ks)
 
 -- neg, after NOT
 abbrev pub negated_by : (List Token → Found g.Neg) → At → List Token → Found g.Neg

@@ -3,16 +3,16 @@ use Rattle.tal_syntax.specs.Grammar as g
 use Rattle.tal_syntax.specs.Seen.{link_ands, link_factors, link_ors, link_terms, seen_both, seen_factor, seen_neg, seen_product, seen_scale, seen_sign}
 use Rattle.tal_builder.specs.Marks.{mark_of}
 use Rattle.tal_builder.specs.declared.mark.Mark.TheVariants as mark
-use Rattle.tal_builder.specs.First.{scale_of, sign_of}
-use Rattle.tal_builder.specs.Parse.{both_at, factor_at, neg_at, product_at}
+use Rattle.tal_builder.specs.First.{rel_of, scale_of, sign_of}
+use Rattle.tal_builder.specs.Parse.{both_at, factor_at, neg_at, product_at, sum_at}
 use Rattle.tal_builder.proofs.Turns.{ends, turns}
-use Rattle.tal_syntax.specs.Seen.{seen_expr, seen_ors, seen_ands, seen_terms, seen_factors}
-use Rattle.tal_syntax.proofs.SeenSteps.{seen-expr, seen-both, seen-sum, seen-product, seen-not, seen-minus, seen-parens, seen-element, seen-next-both, seen-term}
+use Rattle.tal_syntax.specs.Seen.{seen_expr, seen_ors, seen_ands, seen_terms, seen_factors, seen_sum, seen_rel}
+use Rattle.tal_syntax.proofs.SeenSteps.{seen-element, seen-next-both, seen-term}
 use Rattle.tal_syntax.specs.declared.expression.NextBoth.{roll-NextBoth}
 use Rattle.tal_syntax.specs.declared.expression.Term.{roll-Term}
 use Rattle.tal_builder.specs.Outcome.{Tells}
 use Rattle.tal_builder.specs.Parse.{expr_in, neg_in, factor_in}
-use Rattle.tal_builder.proofs.Steps.{expr-found, both-found, sum-found, product-found, negated-found, minus-found, parens-found, index-found}
+use Rattle.tal_builder.proofs.Steps.{expr-found, both-found, sum-found, product-found, negated-found, minus-found, parens-found, index-found, relation-goes, alone-found, compared-found}
 use Rattle.tal_builder.proofs.expression.+expression.Goals as goal
 
 pub more_boths-returns-in_default : goal.more_boths-returns-in_default
@@ -26,7 +26,7 @@ more_boths-loop-turn-preserved t c =
     let count : length c.args.tokens.now - c.loop-turn._turn ≡ suc (length c.args.tokens.now - (c.loop-turn._turn + 1)) = omega (arith, c.loop-turn-test.true) in
     let sign : mark_of mark.Or c.loop-turn.rest.now ≡ Some (c.in-Some.or, c.in-Some.after.now) = c.in-Some.ensures in
     let part : (both_at c.args.room) c.in-Some.after.now ≡ Some (seen_both c.in_ok-both.both, c.in_ok-both.after.now) = c.in_ok-both.ensures in
-    rw c.in_ok-push.ensures.ok
+    rw c.in_ok-add_both.ensures
     (sym (turns link_ors g.no_ors g.more_ors (mark_of mark.Or) (both_at c.args.room) c.loop-turn.all _ _ c.loop-turn.rest.now c.in-Some.after.now c.in_ok-both.after.now
     c.in-Some.or (seen_both c.in_ok-both.both) (roll-NextBoth (record { or = c.in-Some.or; both = c.in_ok-both.both })) count sign part (λ r. seen-next-both c.in-Some.or c.in_ok-both.both r)) ∙ c.loop-turn.invariant)
 
@@ -41,7 +41,7 @@ more_negs-loop-turn-preserved t c =
     let count : length c.args.tokens.now - c.loop-turn._turn ≡ suc (length c.args.tokens.now - (c.loop-turn._turn + 1)) = omega (arith, c.loop-turn-test.true) in
     let sign : mark_of mark.And c.loop-turn.rest.now ≡ Some (c.in-Some.and, c.in-Some.after.now) = c.in-Some.ensures in
     let part : (neg_at c.args.room) c.in-Some.after.now ≡ Some (seen_neg c.in_ok-neg.neg, c.in_ok-neg.after.now) = c.in_ok-neg.ensures in
-    rw c.in_ok-push.ensures.ok
+    rw c.in_ok-add_neg.ensures
     (sym (turns link_ands g.no_ands g.more_ands (mark_of mark.And) (neg_at c.args.room) c.loop-turn.all _ _ c.loop-turn.rest.now c.in-Some.after.now c.in_ok-neg.after.now
     c.in-Some.and (seen_neg c.in_ok-neg.neg) (record { and = c.in-Some.and; neg = c.in_ok-neg.neg }) count sign part (λ r. refl)) ∙ c.loop-turn.invariant)
 
@@ -56,7 +56,7 @@ more_terms-loop-turn-preserved t c =
     let count : length c.args.tokens.now - c.loop-turn._turn ≡ suc (length c.args.tokens.now - (c.loop-turn._turn + 1)) = omega (arith, c.loop-turn-test.true) in
     let sign : sign_of c.loop-turn.rest.now ≡ Some ((seen_sign c.in-Some.sign), c.in-Some.after.now) = c.in-Some.ensures in
     let part : (product_at c.args.room) c.in-Some.after.now ≡ Some (seen_product c.in_ok-product.product, c.in_ok-product.after.now) = c.in_ok-product.ensures in
-    rw c.in_ok-push.ensures.ok
+    rw c.in_ok-add_term.ensures
     (sym (turns link_terms g.no_terms g.more_terms sign_of (product_at c.args.room) c.loop-turn.all _ _ c.loop-turn.rest.now c.in-Some.after.now c.in_ok-product.after.now
     (seen_sign c.in-Some.sign) (seen_product c.in_ok-product.product) (roll-Term (record { sign = c.in-Some.sign; product = c.in_ok-product.product })) count sign part (λ r. seen-term c.in-Some.sign c.in_ok-product.product r)) ∙ c.loop-turn.invariant)
 
@@ -71,7 +71,7 @@ more_factors-loop-turn-preserved t c =
     let count : length c.args.tokens.now - c.loop-turn._turn ≡ suc (length c.args.tokens.now - (c.loop-turn._turn + 1)) = omega (arith, c.loop-turn-test.true) in
     let sign : scale_of c.loop-turn.rest.now ≡ Some ((seen_scale c.in-Some.scale), c.in-Some.after.now) = c.in-Some.ensures in
     let part : (factor_at c.args.room) c.in-Some.after.now ≡ Some (seen_factor c.in_ok-factor.factor, c.in_ok-factor.after.now) = c.in_ok-factor.ensures in
-    rw c.in_ok-push.ensures.ok
+    rw c.in_ok-add_factor.ensures
     (sym (turns link_factors g.no_factors g.more_factors scale_of (factor_at c.args.room) c.loop-turn.all _ _ c.loop-turn.rest.now c.in-Some.after.now c.in_ok-factor.after.now
     (seen_scale c.in-Some.scale) (seen_factor c.in_ok-factor.factor) (record { scale = c.in-Some.scale; factor = c.in_ok-factor.factor }) count sign part (λ r. refl)) ∙ c.loop-turn.invariant)
 
@@ -79,51 +79,64 @@ pub expr-returns : goal.expr-returns
 expr-returns t c =
     expr-found (both_at c.args.room) c.args.tokens.now c.in_ok-first.after.now c.in_ok-more.rest.now (seen_both c.in_ok-first.first) (seen_ors c.in_ok-more.more)
     c.in_ok-first.ensures c.in_ok-more.ensures
-    ∙ ap (λ e. Some (e, c.in_ok-more.rest.now)) (sym (seen-expr c.in_ok-first.first c.in_ok-more.more))
+    ∙ ap (λ e. Some (e, c.in_ok-more.rest.now)) (sym c.in_ok-expr.ensures)
 
 pub both-returns : goal.both-returns
 both-returns t c =
     both-found (neg_at c.args.room) c.args.tokens.now c.in_ok-first.after.now c.in_ok-more.rest.now (seen_neg c.in_ok-first.first) (seen_ands c.in_ok-more.more)
     c.in_ok-first.ensures c.in_ok-more.ensures
-    ∙ ap (λ e. Some (e, c.in_ok-more.rest.now)) (sym (seen-both c.in_ok-first.first c.in_ok-more.more))
+    ∙ ap (λ e. Some (e, c.in_ok-more.rest.now)) (sym c.in_ok-both.ensures)
 
 pub sum-returns : goal.sum-returns
 sum-returns t c =
     sum-found (product_at c.args.room) c.args.tokens.now c.in_ok-first.after.now c.in_ok-more.rest.now (seen_product c.in_ok-first.first) (seen_terms c.in_ok-more.more)
     c.in_ok-first.ensures c.in_ok-more.ensures
-    ∙ ap (λ e. Some (e, c.in_ok-more.rest.now)) (sym (seen-sum c.in_ok-first.first c.in_ok-more.more))
+    ∙ ap (λ e. Some (e, c.in_ok-more.rest.now)) (sym c.in_ok-sum.ensures)
 
 pub product-returns : goal.product-returns
 product-returns t c =
     product-found (factor_at c.args.room) c.args.tokens.now c.in_ok-first.after.now c.in_ok-more.rest.now (seen_factor c.in_ok-first.first) (seen_factors c.in_ok-more.more)
     c.in_ok-first.ensures c.in_ok-more.ensures
-    ∙ ap (λ e. Some (e, c.in_ok-more.rest.now)) (sym (seen-product c.in_ok-first.first c.in_ok-more.more))
+    ∙ ap (λ e. Some (e, c.in_ok-more.rest.now)) (sym c.in_ok-product.ensures)
+
+pub relation-returns : goal.relation-returns
+relation-returns t c =
+    subst (λ found. Tells (λ r. (seen_neg r.0, r.1.now)) c.compared.result found)
+    (sym (relation-goes (sum_at c.args.room) c.args.tokens.now c.in_ok-left.after.now (seen_sum c.in_ok-left.left) c.in_ok-left.ensures)) c.compared.ensures
+
+pub compared-returns-in_default : goal.compared-returns-in_default
+compared-returns-in_default t c =
+    let none : rel_of c.args.tokens.now ≡ None = rw c.in_default.is at c.rel_first.ensures in
+    alone-found (sum_at c.args.room) c.args.tokens.now (seen_sum c.args.left) none
+    ∙ ap (λ n. Some (n, c.args.tokens.now)) (sym c.in_ok-neg.ensures)
+
+pub compared-returns : goal.compared-returns
+compared-returns t c =
+    compared-found (sum_at c.args.room) c.args.tokens.now c.in-Some.after.now c.in_ok-right.rest.now (seen_sum c.args.left) (seen_rel c.in-Some.rel) (seen_sum c.in_ok-right.right)
+    c.in-Some.ensures c.in_ok-right.ensures
+    ∙ ap (λ n. Some (n, c.in_ok-right.rest.now)) (sym c.in_ok-neg-2.ensures)
 
 pub negation-returns : goal.negation-returns
 negation-returns t c =
     negated-found (neg_in c.args.room) c.args.at c.args.tokens.now c.in_ok-inner.rest.now (seen_neg c.in_ok-inner.inner) c.in_ok-inner.ensures
-    ∙ ap (λ n. Some (n, c.in_ok-inner.rest.now))
-    (ap (λ n. g.negated c.args.at (seen_neg n)) (sym c.in_ok-inner-2.ensures) ∙ sym (seen-not c.args.at c.in_ok-inner-2.inner))
+    ∙ ap (λ n. Some (n, c.in_ok-inner.rest.now)) (sym c.in_ok-neg.ensures)
 
 pub negative-returns : goal.negative-returns
 negative-returns t c =
     minus-found (factor_in c.args.room) c.args.at c.args.tokens.now c.in_ok-inner.rest.now (seen_factor c.in_ok-inner.inner) c.in_ok-inner.ensures
-    ∙ ap (λ f. Some (f, c.in_ok-inner.rest.now))
-    (ap (λ f. g.minus c.args.at (seen_factor f)) (sym c.in_ok-inner-2.ensures) ∙ sym (seen-minus c.args.at c.in_ok-inner-2.inner))
+    ∙ ap (λ f. Some (f, c.in_ok-inner.rest.now)) (sym c.in_ok-factor.ensures)
 
 pub parens-returns : goal.parens-returns
 parens-returns t c =
     parens-found (expr_in c.args.room) c.args.start c.in_ok-close.close c.args.tokens.now c.in_ok-inner.after.now c.in_ok-close.rest.now (seen_expr c.in_ok-inner.inner)
     c.in_ok-inner.ensures c.in_ok-close.ensures
-    ∙ ap (λ f. Some (f, c.in_ok-close.rest.now))
-    (ap (λ e. g.parens c.args.start (seen_expr e) c.in_ok-close.close) (sym c.in_ok-inner-2.ensures) ∙ sym (seen-parens c.args.start c.in_ok-inner-2.inner c.in_ok-close.close))
+    ∙ ap (λ f. Some (f, c.in_ok-close.rest.now)) (sym c.in_ok-factor.ensures)
 
 pub index-returns : goal.index-returns
 index-returns t c =
     index-found (expr_in c.args.room) c.in-Some.start c.in_ok-close.close c.args.tokens.now c.in-Some.after.now c.in_ok-inner.after.now c.in_ok-close.rest.now
     (seen_expr c.in_ok-inner.inner) c.in-Some.ensures c.in_ok-inner.ensures c.in_ok-close.ensures
-    ∙ ap (λ i. Some (i, c.in_ok-close.rest.now))
-    (ap (λ e. g.index c.in-Some.start (seen_expr e) c.in_ok-close.close) (sym c.in_ok-inner-2.ensures) ∙ sym (seen-element c.in-Some.start c.in_ok-inner-2.inner c.in_ok-close.close))
+    ∙ ap (λ i. Some (i, c.in_ok-close.rest.now)) (sym (seen-element c.in-Some.start c.in_ok-inner.inner c.in_ok-close.close))
 
 pub expr_within-returns : goal.expr_within-returns
 expr_within-returns t c =

@@ -8,7 +8,7 @@ use Rattle.tal_builder.proofs.Turns.{ends, turns}
 use Rattle.tal_syntax.specs.Seen.{seen_expr, seen_row, seen_otherwise}
 use Rattle.tal_syntax.specs.declared.statement.Test.{Test}
 use Rattle.tal_syntax.specs.declared.statement.ForHead.{ForHead}
-use Rattle.tal_syntax.proofs.SeenSteps.{seen-block, seen-if, seen-while, seen-for, seen-else}
+use Rattle.tal_syntax.proofs.SeenSteps.{seen-else}
 use Rattle.tal_builder.specs.Outcome.{Tells}
 use Rattle.std.specs.Prelude.{cond}
 use Rattle.tal_builder.specs.First.{is_begun}
@@ -27,7 +27,7 @@ row-loop-turn-preserved t c =
     let count : length c.args.tokens.now - c.loop-turn._turn ≡ suc (length c.args.tokens.now - (c.loop-turn._turn + 1)) = omega (arith, c.loop-turn-test.true) in
     let sign : mark_of mark.Semicolon c.loop-turn.rest.now ≡ Some (c.in-Some.semicolon, c.in-Some.after.now) = c.in-Some.ensures in
     let part : (statement_at c.args.room) c.in-Some.after.now ≡ Some (seen_statement c.in_ok-statement.statement, c.in_ok-statement.after.now) = c.in_ok-statement.ensures in
-    rw c.in_ok-push.ensures.ok
+    rw c.in_ok-add_statement.ensures
     (sym (turns link_row g.no_row g.more_row (mark_of mark.Semicolon) (statement_at c.args.room) c.loop-turn.all _ _ c.loop-turn.rest.now c.in-Some.after.now c.in_ok-statement.after.now
     c.in-Some.semicolon (seen_statement c.in_ok-statement.statement) (record { semicolon = c.in-Some.semicolon; statement = c.in_ok-statement.statement }) count sign part (λ r. refl)) ∙ c.loop-turn.invariant)
 
@@ -35,16 +35,13 @@ pub block-returns : goal.block-returns
 block-returns t c =
     block-found (statement_at c.args.room) c.args.begin c.in_ok-end.end c.args.tokens.now c.in_ok-first.after.now c.in_ok-more.after.now c.in_ok-end.rest.now
     (seen_statement c.in_ok-first.first) (seen_row c.in_ok-more.more) c.in_ok-first.ensures c.in_ok-more.ensures c.in_ok-end.ensures
-    ∙ ap (λ s. Some (s, c.in_ok-end.rest.now))
-    (ap (λ f. g.block c.args.begin (seen_statement f) (seen_row c.in_ok-more.more) c.in_ok-end.end) (sym c.in_ok-first-2.ensures)
-    ∙ sym (seen-block c.args.begin c.in_ok-first-2.first c.in_ok-more.more c.in_ok-end.end))
+    ∙ ap (λ s. Some (s, c.in_ok-end.rest.now)) (sym c.in_ok-statement.ensures)
 
 pub otherwise-returns : goal.otherwise-returns
 otherwise-returns t c =
     otherwise-found (statement_at c.args.room) c.in-Some.at c.args.tokens.now c.in-Some.after.now c.in_ok-inner.rest.now (seen_statement c.in_ok-inner.inner)
     c.in-Some.ensures c.in_ok-inner.ensures
-    ∙ ap (λ o. Some (o, c.in_ok-inner.rest.now))
-    (ap (λ s. g.otherwise c.in-Some.at (seen_statement s)) (sym c.in_ok-inner-2.ensures) ∙ sym (seen-else c.in-Some.at c.in_ok-inner-2.inner))
+    ∙ ap (λ o. Some (o, c.in_ok-inner.rest.now)) (sym (seen-else c.in-Some.at c.in_ok-inner.inner))
 
 pub if_then-returns : goal.if_then-returns
 if_then-returns t c =
@@ -52,9 +49,8 @@ if_then-returns t c =
     (seen_expr c.in_ok-test.test) (seen_statement c.in_ok-inner.inner) (seen_otherwise c.in_ok-otherwise.otherwise)
     c.in_ok-test.ensures c.in_ok-end.ensures c.in_ok-inner.ensures c.in_ok-otherwise.ensures
     ∙ ap (λ s. Some (s, c.in_ok-otherwise.rest.now))
-    (ap (λ s. g.if_then c.args.head (seen_expr c.in_ok-test.test) c.in_ok-end.end (seen_statement s) (seen_otherwise c.in_ok-otherwise.otherwise)) (sym c.in_ok-inner-2.ensures)
-    ∙ ap (λ (t : Test). g.if_then t.head (seen_expr t.test) t.end (seen_statement c.in_ok-inner-2.inner) (seen_otherwise c.in_ok-otherwise.otherwise)) (sym c.in_ok-test-2.ensures)
-    ∙ sym (seen-if c.in_ok-test-2.test c.in_ok-inner-2.inner c.in_ok-otherwise.otherwise))
+    (ap (λ (t : Test). g.if_then t.head (seen_expr t.test) t.end (seen_statement c.in_ok-inner.inner) (seen_otherwise c.in_ok-otherwise.otherwise)) (sym c.in_ok-test-2.ensures)
+    ∙ sym c.in_ok-statement.ensures)
 
 pub while_loop-returns : goal.while_loop-returns
 while_loop-returns t c =
@@ -62,9 +58,8 @@ while_loop-returns t c =
     (seen_expr c.in_ok-test.test) (seen_statement c.in_ok-inner.inner)
     c.in_ok-test.ensures c.in_ok-end.ensures c.in_ok-inner.ensures
     ∙ ap (λ s. Some (s, c.in_ok-inner.rest.now))
-    (ap (λ s. g.while_do c.args.head (seen_expr c.in_ok-test.test) c.in_ok-end.end (seen_statement s)) (sym c.in_ok-inner-2.ensures)
-    ∙ ap (λ (t : Test). g.while_do t.head (seen_expr t.test) t.end (seen_statement c.in_ok-inner-2.inner)) (sym c.in_ok-test-2.ensures)
-    ∙ sym (seen-while c.in_ok-test-2.test c.in_ok-inner-2.inner))
+    (ap (λ (t : Test). g.while_do t.head (seen_expr t.test) t.end (seen_statement c.in_ok-inner.inner)) (sym c.in_ok-test-2.ensures)
+    ∙ sym c.in_ok-statement.ensures)
 
 pub for_loop-returns : goal.for_loop-returns
 for_loop-returns t c =
@@ -73,9 +68,8 @@ for_loop-returns t c =
     (seen_expr c.in_ok-from.from) (seen_expr c.in_ok-to.to) (seen_statement c.in_ok-inner.inner)
     c.in-Some.ensures c.in_ok-set_at.ensures c.in_ok-from.ensures c.in_ok-to_at.ensures c.in_ok-to.ensures c.in_ok-do_at.ensures c.in_ok-inner.ensures
     ∙ ap (λ s. Some (s, c.in_ok-inner.rest.now))
-    (ap (λ s. g.for_do c.args.head c.in-Some.named.at c.in-Some.named.name c.in_ok-set_at.set_at (seen_expr c.in_ok-from.from) c.in_ok-to_at.to_at (seen_expr c.in_ok-to.to) c.in_ok-do_at.do_at (seen_statement s)) (sym c.in_ok-inner-2.ensures)
-    ∙ ap (λ (f : ForHead). g.for_do f.head f.at f.name f.set_at (seen_expr f.from) f.to_at (seen_expr f.to) f.do_at (seen_statement c.in_ok-inner-2.inner)) (sym c.in_ok-counted.ensures)
-    ∙ sym (seen-for c.in_ok-counted.counted c.in_ok-inner-2.inner))
+    (ap (λ (f : ForHead). g.for_do f.head f.at f.name f.set_at (seen_expr f.from) f.to_at (seen_expr f.to) f.do_at (seen_statement c.in_ok-inner.inner)) (sym c.in_ok-counted.ensures)
+    ∙ sym c.in_ok-statement.ensures)
 
 pub statement-returns : goal.statement-returns
 statement-returns t c =
