@@ -14,6 +14,12 @@ fn built(alloc: Global, text: &[u8]) -> Result<Text, Stop> {
     build(alloc, tokens.list.as_slice())
 }
 
+/// The syntax of a text that has one.
+fn syntax(alloc: Global, text: &[u8]) -> Result<Text, Fail> {
+    let text = built(alloc, text).ok().ok_or("no syntax is built")?;
+    Ok(text)
+}
+
 /// Whether a text has no syntax.
 fn is_refused(alloc: Global, text: &[u8]) -> bool {
     match built(alloc, text) {
@@ -70,7 +76,7 @@ fn letters(alloc: Global, first: &Statement, more: &List<Next>) -> Result<Vec<u8
 #[test]
 fn every_construct_is_built(rt: HostRuntime) -> Result<(), Fail> {
     let alloc = rt.alloc();
-    let text = built(
+    let text = syntax(
         alloc,
         b"INT a, b[-low:3]; LITERAL c = 1, d = -e; INT f; INT PROC g(x, y); INT x, y; BEGIN INT z; RETURN x + y END;
         PROC p MAIN; BEGIN ; a := NOT NOT - - (b) * c[1] <= 2 OR 3 AND 4; CALL s; CALL s(\"$RECEIVE\", \"$p\", \"?\", a);
@@ -116,7 +122,7 @@ fn thirty_two_levels_are_built(rt: HostRuntime) -> Result<(), Fail> {
         32,
         b"END;".as_slice(),
     )?;
-    let text = built(alloc, fine.as_slice())?;
+    let text = syntax(alloc, fine.as_slice())?;
     assert!(rt; text.procedures.len() == 1);
     let more = repeated(alloc, front, b"(".as_slice(), 33, b"1".as_slice())?;
     let deep = repeated(
@@ -142,7 +148,7 @@ fn long_texts_are_built_and_let_go(rt: HostRuntime) -> Result<(), Fail> {
         2_000,
         b" END;".as_slice(),
     )?;
-    let text = built(alloc, long.as_slice())?;
+    let text = syntax(alloc, long.as_slice())?;
     if let Some(procedure) = text.procedures.get(0) {
         assert!(rt; procedure.more.len() == 2_000);
     }
