@@ -24,23 +24,70 @@ is_reached (Some file) count = nat_le file.depth count
 -- Data: a CHECKPOINT that doesn't name a global that is due
 abbrev pub breaks_data : ℕ → Dues → What-F What Statement → Bool
 breaks_data item dues (What-F.Checkpoint items files) = is_among item dues.globals && not (is_among item items)
-breaks_data item dues _ = false
+breaks_data item dues (What-F.Assign _ _) = false
+breaks_data item dues (What-F.AssignCall _ _ _) = false
+breaks_data item dues (What-F.If _ _ _) = false
+breaks_data item dues (What-F.While _ _) = false
+breaks_data item dues (What-F.For _ _ _ _ _) = false
+breaks_data item dues (What-F.Call _ _) = false
+breaks_data item dues (What-F.Return _) = false
+breaks_data item dues (What-F.ReadUpdate _ _ _) = false
+breaks_data item dues (What-F.Reply _ _) = false
+breaks_data item dues (What-F.WriteRead _ _ _ _ _) = false
+breaks_data item dues What-F.CheckMonitor = false
+breaks_data item dues (What-F.Open _) = false
+breaks_data item dues What-F.Stop = false
 
 -- SyncBlock: a CHECKPOINT that doesn't name a file that was asked
 abbrev pub breaks_sync : ℕ → Dues → What-F What Statement → Bool
 breaks_sync file dues (What-F.Checkpoint items files) = is_among file dues.asked && not (is_among file files)
-breaks_sync file dues _ = false
+breaks_sync file dues (What-F.Assign _ _) = false
+breaks_sync file dues (What-F.AssignCall _ _ _) = false
+breaks_sync file dues (What-F.If _ _ _) = false
+breaks_sync file dues (What-F.While _ _) = false
+breaks_sync file dues (What-F.For _ _ _ _ _) = false
+breaks_sync file dues (What-F.Call _ _) = false
+breaks_sync file dues (What-F.Return _) = false
+breaks_sync file dues (What-F.ReadUpdate _ _ _) = false
+breaks_sync file dues (What-F.Reply _ _) = false
+breaks_sync file dues (What-F.WriteRead _ _ _ _ _) = false
+breaks_sync file dues What-F.CheckMonitor = false
+breaks_sync file dues (What-F.Open _) = false
+breaks_sync file dues What-F.Stop = false
 
 -- Input: a WRITEREAD or REPLY after a request was read
 abbrev pub breaks_input : Dues → What-F What Statement → Bool
 breaks_input dues (What-F.WriteRead file buffer send room got) = dues.read
 breaks_input dues (What-F.Reply buffer count) = dues.read
-breaks_input dues _ = false
+breaks_input dues (What-F.Assign _ _) = false
+breaks_input dues (What-F.AssignCall _ _ _) = false
+breaks_input dues (What-F.If _ _ _) = false
+breaks_input dues (What-F.While _ _) = false
+breaks_input dues (What-F.For _ _ _ _ _) = false
+breaks_input dues (What-F.Call _ _) = false
+breaks_input dues (What-F.Return _) = false
+breaks_input dues (What-F.ReadUpdate _ _ _) = false
+breaks_input dues (What-F.Checkpoint _ _) = false
+breaks_input dues What-F.CheckMonitor = false
+breaks_input dues (What-F.Open _) = false
+breaks_input dues What-F.Stop = false
 
 -- Depth: a WRITEREAD on a file on which as many are counted as replies are kept for it
 abbrev pub breaks_depth : Program → ℕ → Dues → What-F What Statement → Bool
 breaks_depth program file dues (What-F.WriteRead asked buffer send room got) = (asked == file) && is_reached (slice_get program.files file) (asked_count file dues)
-breaks_depth program file dues _ = false
+breaks_depth program file dues (What-F.Assign _ _) = false
+breaks_depth program file dues (What-F.AssignCall _ _ _) = false
+breaks_depth program file dues (What-F.If _ _ _) = false
+breaks_depth program file dues (What-F.While _ _) = false
+breaks_depth program file dues (What-F.For _ _ _ _ _) = false
+breaks_depth program file dues (What-F.Call _ _) = false
+breaks_depth program file dues (What-F.Return _) = false
+breaks_depth program file dues (What-F.ReadUpdate _ _ _) = false
+breaks_depth program file dues (What-F.Reply _ _) = false
+breaks_depth program file dues (What-F.Checkpoint _ _) = false
+breaks_depth program file dues What-F.CheckMonitor = false
+breaks_depth program file dues (What-F.Open _) = false
+breaks_depth program file dues What-F.Stop = false
 
 -- whether a statement breaks for a reason, with these dues before it
 abbrev pub breaks_by : Program → Reason → Dues → What-F What Statement → Bool

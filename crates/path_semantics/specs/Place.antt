@@ -47,12 +47,30 @@ ways_of program statement rest callers (What-F.AssignCall to procedure arguments
 ways_of program statement rest callers (What-F.Call procedure arguments) = (body_of program procedure ∷ (Run statement ∷ rest) ∷ callers) ∷ []
 ways_of program statement rest callers (What-F.Return value) = ([] ∷ callers) ∷ []
 ways_of program statement rest callers What-F.Stop = [] ∷ []
-ways_of program statement rest callers _ = (rest ∷ callers) ∷ []
+ways_of program statement rest callers (What-F.Assign _ _) = (rest ∷ callers) ∷ []
+ways_of program statement rest callers (What-F.ReadUpdate _ _ _) = (rest ∷ callers) ∷ []
+ways_of program statement rest callers (What-F.Reply _ _) = (rest ∷ callers) ∷ []
+ways_of program statement rest callers (What-F.WriteRead _ _ _ _ _) = (rest ∷ callers) ∷ []
+ways_of program statement rest callers (What-F.Checkpoint _ _) = (rest ∷ callers) ∷ []
+ways_of program statement rest callers What-F.CheckMonitor = (rest ∷ callers) ∷ []
+ways_of program statement rest callers (What-F.Open _) = (rest ∷ callers) ∷ []
 
 abbrev pub rounds_of : Statement → List Entry → Place → What-F What Statement → List Place
 rounds_of statement rest callers (What-F.For variable from to body last) =
     ((runs_of body ++ Last statement ∷ Test statement ∷ rest) ∷ callers) ∷ (rest ∷ callers) ∷ []
-rounds_of statement rest callers _ = (rest ∷ callers) ∷ []
+rounds_of statement rest callers (What-F.Assign _ _) = (rest ∷ callers) ∷ []
+rounds_of statement rest callers (What-F.AssignCall _ _ _) = (rest ∷ callers) ∷ []
+rounds_of statement rest callers (What-F.If _ _ _) = (rest ∷ callers) ∷ []
+rounds_of statement rest callers (What-F.While _ _) = (rest ∷ callers) ∷ []
+rounds_of statement rest callers (What-F.Call _ _) = (rest ∷ callers) ∷ []
+rounds_of statement rest callers (What-F.Return _) = (rest ∷ callers) ∷ []
+rounds_of statement rest callers (What-F.ReadUpdate _ _ _) = (rest ∷ callers) ∷ []
+rounds_of statement rest callers (What-F.Reply _ _) = (rest ∷ callers) ∷ []
+rounds_of statement rest callers (What-F.WriteRead _ _ _ _ _) = (rest ∷ callers) ∷ []
+rounds_of statement rest callers (What-F.Checkpoint _ _) = (rest ∷ callers) ∷ []
+rounds_of statement rest callers What-F.CheckMonitor = (rest ∷ callers) ∷ []
+rounds_of statement rest callers (What-F.Open _) = (rest ∷ callers) ∷ []
+rounds_of statement rest callers What-F.Stop = (rest ∷ callers) ∷ []
 
 -- where an entry leads: a FOR's test goes round once more or on, its last assignment to its test
 abbrev pub ways : Program → Entry → List Entry → Place → List Place
@@ -66,6 +84,14 @@ abbrev pub stand_at : List Entry → Place → Dues → Stand
 stand_at (entry ∷ rest) callers dues = record { place = (entry ∷ rest) ∷ callers; dues = dues }
 stand_at [] [] dues = record { place = []; dues = dues }
 stand_at [] (caller ∷ callers) dues = stand_at (drop 1 caller) callers (with_changed (changed_by_return (first_of caller)) dues)
+
+-- the calls whose procedures end where so much remains in the procedure that runs: none where something remains, and else the call in the frame below it, with
+-- those that end where that call was the last thing there
+abbrev pub calls_ended : List Entry → Place → List Entry
+calls_ended (entry ∷ rest) callers = []
+calls_ended [] [] = []
+calls_ended [] ([] ∷ callers) = calls_ended [] callers
+calls_ended [] ((call ∷ rest) ∷ callers) = call ∷ calls_ended rest callers
 
 -- a place as it is come to: without the procedures at whose end it stands
 abbrev pub settled : Dues → Place → Stand

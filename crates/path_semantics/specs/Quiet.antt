@@ -12,7 +12,16 @@ IsQuietStatement (What-F.Checkpoint items files) = ⊥
 IsQuietStatement (What-F.ReadUpdate buffer most got) = ⊥
 IsQuietStatement (What-F.WriteRead file buffer send room got) = ⊥
 IsQuietStatement (What-F.Reply buffer count) = ⊥
-IsQuietStatement _ = Unit {0}
+IsQuietStatement (What-F.Assign _ _) = Unit {0}
+IsQuietStatement (What-F.AssignCall _ _ _) = Unit {0}
+IsQuietStatement (What-F.If _ _ _) = Unit {0}
+IsQuietStatement (What-F.While _ _) = Unit {0}
+IsQuietStatement (What-F.For _ _ _ _ _) = Unit {0}
+IsQuietStatement (What-F.Call _ _) = Unit {0}
+IsQuietStatement (What-F.Return _) = Unit {0}
+IsQuietStatement What-F.CheckMonitor = Unit {0}
+IsQuietStatement (What-F.Open _) = Unit {0}
+IsQuietStatement What-F.Stop = Unit {0}
 
 -- a program that has none of these four
 abbrev pub IsQuiet : Program → Type 0

@@ -1,7 +1,7 @@
 -- The statements of a program, at any level, with their numbers and calls.
 use Rattle.std.specs.Prelude.{ℕ, ◌+◌, List, [], ◌∷◌, ◌++◌, flat_map}
 use Rattle.tal_tree.specs.declared.statement.Statement.{Statement}
-use Rattle.tal_tree.specs.declared.statement.What.{What, What-F, out-What, If', While', For', Row_of-Statement, end_of-Statement, more_of-Statement}
+use Rattle.tal_tree.specs.declared.statement.What.{What, What-F, out-What, Assign, AssignCall, If', While', For', Call, Return, ReadUpdate, Reply, WriteRead, Checkpoint, CheckMonitor, Open, Stop, Row_of-Statement, end_of-Statement, more_of-Statement}
 
 -- the statements that stand in a statement, at any level, in the order of the text
 abbrev mutual
@@ -9,7 +9,17 @@ abbrev mutual
   within (If' test _ first _ second) = within_row first ++ within_row second
   within (While' test _ body) = within_row body
   within (For' variable from to _ body last) = within_row body
-  within _ = []
+  within (Assign _ _) = []
+  within (AssignCall _ _ _) = []
+  within (Call _ _) = []
+  within (Return _) = []
+  within (ReadUpdate _ _ _) = []
+  within (Reply _ _) = []
+  within (WriteRead _ _ _ _ _) = []
+  within (Checkpoint _ _) = []
+  within CheckMonitor = []
+  within (Open _) = []
+  within Stop = []
 
   pub within_row : {n : _} → Row_of-Statement n → List Statement
   within_row end_of-Statement = []
@@ -26,7 +36,19 @@ all_of statements = flat_map all_in statements
 -- the numbers of a statement alone: a FOR's first assignment, its test and its last assignment have one each
 abbrev pub numbers_in : ℕ → What-F What Statement → List ℕ
 numbers_in number (What-F.For variable from to body last) = number ∷ (number + 1) ∷ last ∷ []
-numbers_in number _ = number ∷ []
+numbers_in number (What-F.Assign _ _) = number ∷ []
+numbers_in number (What-F.AssignCall _ _ _) = number ∷ []
+numbers_in number (What-F.If _ _ _) = number ∷ []
+numbers_in number (What-F.While _ _) = number ∷ []
+numbers_in number (What-F.Call _ _) = number ∷ []
+numbers_in number (What-F.Return _) = number ∷ []
+numbers_in number (What-F.ReadUpdate _ _ _) = number ∷ []
+numbers_in number (What-F.Reply _ _) = number ∷ []
+numbers_in number (What-F.WriteRead _ _ _ _ _) = number ∷ []
+numbers_in number (What-F.Checkpoint _ _) = number ∷ []
+numbers_in number What-F.CheckMonitor = number ∷ []
+numbers_in number (What-F.Open _) = number ∷ []
+numbers_in number What-F.Stop = number ∷ []
 
 abbrev pub own_numbers : Statement → List ℕ
 own_numbers statement = numbers_in statement.number (out-What statement.what)
@@ -39,7 +61,18 @@ numbers_of statements = flat_map own_numbers (all_of statements)
 abbrev pub call_in : What-F What Statement → List ℕ
 call_in (What-F.AssignCall to procedure arguments) = procedure ∷ []
 call_in (What-F.Call procedure arguments) = procedure ∷ []
-call_in _ = []
+call_in (What-F.Assign _ _) = []
+call_in (What-F.If _ _ _) = []
+call_in (What-F.While _ _) = []
+call_in (What-F.For _ _ _ _ _) = []
+call_in (What-F.Return _) = []
+call_in (What-F.ReadUpdate _ _ _) = []
+call_in (What-F.Reply _ _) = []
+call_in (What-F.WriteRead _ _ _ _ _) = []
+call_in (What-F.Checkpoint _ _) = []
+call_in What-F.CheckMonitor = []
+call_in (What-F.Open _) = []
+call_in What-F.Stop = []
 
 abbrev pub own_calls : Statement → List ℕ
 own_calls statement = call_in (out-What statement.what)

@@ -6,8 +6,8 @@ ghost use Rattle.tal_tree.specs.declared.statement.What.{What-F, out-What};
 ghost use Rattle.process_semantics.specs.Program.{Entry, Run};
 ghost use Rattle.path_semantics.specs.declared.dues.Dues.{Dues};
 ghost use Rattle.path_semantics.specs.declared.reason.Reason.{Reason};
-ghost use Rattle.path_semantics.specs.Dues.{no_dues};
-ghost use Rattle.path_semantics.specs.Place.{Place, Stand, successors, stand_at};
+ghost use Rattle.path_semantics.specs.Dues.{no_dues, targets_of};
+ghost use Rattle.path_semantics.specs.Place.{Place, Stand, successors, stand_at, calls_ended};
 ghost use Rattle.gd_words.specs.Members.{IsAmong};
 ghost use Rattle.path_semantics.specs.Path.{number_at, Leads, IsPath};
 ghost use Rattle.path_semantics.specs.Break.{Breaks, breaks_at};
@@ -41,11 +41,11 @@ pub fn accepted_breaks_nowhere()
     ensures { (program : Program) (path : List ℕ) (stand : Stand) (reason : Reason) → IsAccepted program → Leads program path stand → breaks_at program reason stand ≡ false }
 {}
 
-/// A CHECKPOINT leads on alone, and what was due before it isn't due after it: nothing is, but the targets of the calls whose
-/// procedures end with it.
+/// A CHECKPOINT leads on alone, past the procedures that end with it. Of globals only the targets of the calls of these
+/// procedures are due after it, each of them, and neither an ask nor a request is: so nothing at all where none ends.
 pub fn checkpoint_clears()
     ensures after { (program : Program) (dues : Dues) (statement : Statement) (items files : List ℕ) (rest : List Entry) (callers : Place) → out-What statement.what ≡ What-F.Checkpoint items files → successors program (record { place = (Run statement ∷ rest) ∷ callers; dues = dues }) ≡ stand_at rest callers no_dues ∷ [] }
-    ensures nothing { (entry : Entry) (rest : List Entry) (callers : Place) → (stand_at (entry ∷ rest) callers no_dues).dues ≡ no_dues }
+    ensures due { (program : Program) (dues : Dues) (statement : Statement) (items files : List ℕ) (rest : List Entry) (callers : Place) (stand : Stand) → out-What statement.what ≡ What-F.Checkpoint items files → IsAmong stand (successors program (record { place = (Run statement ∷ rest) ∷ callers; dues = dues })) → stand.dues ≡ record { globals = targets_of (calls_ended rest callers); asked = []; read = false } }
 {}
 
 /// A program without CHECKPOINT, READUPDATE, WRITEREAD and REPLY is accepted exactly where its calls are within bounds.
