@@ -4,6 +4,6 @@
 #![tactic(auto)]
 
 #[cfg(test)]
-mod trees;
-#[cfg(test)]
 mod texts;
+#[cfg(test)]
+mod trees;

@@ -1,7 +1,7 @@
-use tal_reader::read_program;
 use gd_words::NoMemory;
 use std::alloc::Global;
 use std::test::Fail;
+use tal_reader::read_program;
 use tal_tree::{Place, Shape, Statement, TalFault, What};
 
 mod answers;

@@ -1,4 +1,3 @@
-use tal_trees::tree;
 use gd_words::{Boxed, Ident, List, NoMemory};
 use std::alloc::Global;
 use std::test::Fail;
@@ -8,6 +7,7 @@ use tal_syntax::{
 };
 use tal_tokens::At;
 use tal_tree::{Place, TalFault, Variable, What};
+use tal_trees::tree;
 
 /// A token of a line.
 fn at(line: u32) -> At {

@@ -16,7 +16,7 @@ use Rattle.tal_declarations.specs.Globals.{atom_of, constant_value}
 use Rattle.tal_names.specs.Names.{is_declared, meaning_in, with_name}
 use Rattle.tal_names.specs.Places.{constant_of, name_of_argument, arguments_of}
 use Rattle.tal_names.specs.Scopes.{meaning_of}
-use Rattle.tal_names.specs.Systems.{call_of}
+use Rattle.tal_names.specs.Systems.{system_of}
 
 -- a procedure that is declared after a place isn't known there as a constant; this one and those before it are
 abbrev pub declared_before : ℕ → Option Meaning → Option Meaning
@@ -99,7 +99,7 @@ module _ (s : Scope) where
     statement_files f (g.if_then head test then_at t o) = else_files (statement_files f t) o
     statement_files f (g.while_do head test do_at t) = statement_files f t
     statement_files f (g.for_do head at name set_at from to_at to do_at t) = statement_files f t
-    statement_files f (g.call head at name a) = call_files s f (arguments_of a) (call_of s.locals name)
+    statement_files f (g.call head at name a) = call_files s f (arguments_of a) (system_of name)
     statement_files f (g.return head a) = f
     statement_files f (g.assign target at e) = f
     statement_files f (g.assign_call target at name_at name start first more close) = f

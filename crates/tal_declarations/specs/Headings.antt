@@ -1,15 +1,17 @@
 -- The headings of procedures, their parameters and their locals.
-use Rattle.std.specs.Prelude.{ℕ, ◌+◌, ◌||◌, ◌&&◌, ◌==◌, not, min, nat_le, Bool, true, false, List, [], ◌∷◌, ◌++◌, length, Option, Some, None, is_some}
+use Rattle.std.specs.Prelude.{ℕ, ◌+◌, ◌||◌, ◌&&◌, ◌==◌, not, min, nat_le, Bool, true, false, List, [], ◌∷◌, ◌++◌, length, Option, Some, None, is_some, if◌then◌else◌}
 use Rattle.tal_tokens.specs.declared.token.At.{At}
 use Rattle.tal_syntax.specs.Grammar as g
 use Rattle.tal_names.specs.declared.fault.Rule.TheVariants.{Unknown, Twice, Prologue, Limit}
 use Rattle.tal_names.specs.declared.fault.RuleFault.{RuleFault}
+use Rattle.tal_names.specs.declared.meaning.Meaning.{Meaning}
 use Rattle.tal_names.specs.declared.meaning.Meaning.TheVariants as m
 use Rattle.tal_declarations.specs.declared.table.Headed.{Headed}
 use Rattle.tal_names.specs.declared.scope.Named.{Named}
 use Rattle.tal_names.specs.Faults.{fault_at, if_so}
 use Rattle.tal_declarations.specs.Globals.{is_taken, taken_faults}
 use Rattle.tal_names.specs.Names.{Declarations, is_declared, with_name}
+use Rattle.tal_names.specs.Systems.{system_of}
 
 -- the names of a list, in order
 abbrev pub names_of : g.Names → List Named
@@ -92,10 +94,14 @@ main_number (Some k) number main = Some k
 main_number None number g.not_main = None
 main_number None number (g.is_main word) = Some number
 
+-- with the name of a procedure, unless it is the system's: such a name stands for nothing but the system's call
+abbrev pub with_procedure : Declarations → List ℕ → Meaning → Declarations
+with_procedure names name m = if is_some (system_of name) then names else with_name names name m
+
 -- with one more heading. Procedures past the limit all have the number 64, which plays no part
 abbrev pub with_heading : Headed → g.Heading → Headed
 with_heading h (g.heading gives proc at name listed main end) = record {
-  names = with_name h.names name (m.Procedure h.count (does_give gives) (length (parameters_of listed)));
+  names = with_procedure h.names name (m.Procedure h.count (does_give gives) (length (parameters_of listed)));
   count = min 64 (h.count + 1);
   main = main_number h.main h.count main;
 }

@@ -2,7 +2,7 @@ ghost use Rattle.std.specs.Prelude.{◌≡◌, OnOk, IfOk, option_map};
 ghost use Rattle.std.specs.Option.{option_copied};
 ghost use Rattle.tal_declarations.specs.Files.{named_in, declared_before, is_receive, target_of, file_by, depth_of, with_file, simple_by, simple_global, depth_value, opened_as, opened_by, opened, call_files, statement_files, else_files, row_files};
 ghost use Rattle.tal_names.specs.Places.{arguments_of};
-ghost use Rattle.tal_names.specs.Systems.{call_of};
+ghost use Rattle.tal_names.specs.Systems.{system_of};
 ghost use Rattle.tal_syntax.specs.Seen.{seen_atom, seen_argument, seen_arguments, seen_statement, seen_otherwise, seen_row};
 
 use crate::globals::{atom_of, constant_value};
@@ -12,7 +12,7 @@ use tal_names::alone::{argument, argument_count, constant_of, name_of_argument};
 use tal_names::lookup::meaning_of;
 use tal_names::meaning::Meaning;
 use tal_names::scope::Scope;
-use tal_names::system::{System, call_of};
+use tal_names::system::{System, system_of};
 use tal_syntax::{Argument, Arguments, Atom, Next, Otherwise, Statement};
 use tal_tree::{FileUse, Target};
 
@@ -262,9 +262,9 @@ fn call_files(
     name: Ident,
     arguments: &Arguments,
 ) -> Result<(), NoMemory>
-    ensures { OnOk result (files.new ≡ call_files scope.now files.old (arguments_of (seen_arguments arguments.now)) (call_of scope.now.locals name)) }
+    ensures { OnOk result (files.new ≡ call_files scope.now files.old (arguments_of (seen_arguments arguments.now)) (system_of name)) }
 {
-    match call_of(&scope.locals, name) {
+    match system_of(name) {
         Some(System::Open) => open(scope, files, arguments),
         _ => Ok(()),
     }

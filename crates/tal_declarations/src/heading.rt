@@ -1,6 +1,6 @@
 ghost use Rattle.std.specs.Prelude.{◌≡◌, ◌++◌, OnOk, IfOk, None, length};
 ghost use Rattle.tal_names.specs.Faults.{least};
-ghost use Rattle.tal_declarations.specs.Headings.{names_of, parameters_of, local_names, locals_of, with_local, with_locals, count_faults, parameter_faults, parameters_faults, one_outer_faults, outer_faults, one_inner_faults, inner_faults, locals_faults, does_give, main_faults, heading_faults, main_number, with_heading, headings_faults, with_headings};
+ghost use Rattle.tal_declarations.specs.Headings.{names_of, parameters_of, local_names, locals_of, with_local, with_locals, count_faults, parameter_faults, parameters_faults, one_outer_faults, outer_faults, one_inner_faults, inner_faults, locals_faults, does_give, main_faults, heading_faults, main_number, with_procedure, with_heading, headings_faults, with_headings};
 ghost use Rattle.tal_syntax.specs.Seen.{seen_names, seen_parameters, seen_local, seen_locals, seen_gives, seen_main, seen_heading, seen_procedures};
 
 use crate::globals::{is_taken, judge_taken};
@@ -12,6 +12,7 @@ use tal_names::least::{with_fault, with_fault_if};
 use tal_names::meaning::Meaning;
 use tal_names::names::Names;
 use tal_names::scope::Named;
+use tal_names::system::system_of;
 use tal_syntax::{Gives, Heading, Local, Main, NextName, Parameters, Procedure};
 use tal_tokens::At;
 
@@ -288,6 +289,16 @@ fn main_number(found: Option<u16>, number: u16, main: Main) -> Option<u16>
     }
 }
 
+/// Declares the name of a procedure, unless it is the system's.
+fn declare_procedure(names: &mut Names, name: Ident, meaning: Meaning) -> Result<(), NoMemory>
+    ensures { OnOk result (names.new ≡ with_procedure names.old name meaning) }
+{
+    if system_of(name).is_some() {
+        return Ok(());
+    }
+    names.declare(name, meaning)
+}
+
 /// Declares a procedure.
 fn declare_heading(headed: &mut Headed, heading: &Heading) -> Result<(), NoMemory>
     ensures { OnOk result (headed.new ≡ with_heading headed.old (seen_heading heading.now)) }
@@ -297,7 +308,7 @@ fn declare_heading(headed: &mut Headed, heading: &Heading) -> Result<(), NoMemor
         gives: does_give(heading.gives),
         parameters: parameter_count(&heading.parameters),
     };
-    headed.names.declare(heading.name, meaning)?;
+    declare_procedure(&mut headed.names, heading.name, meaning)?;
     headed.main = main_number(headed.main, headed.count, heading.main);
     headed.count = headed.count.saturating_add(1).min(PROCEDURES);
     Ok(())

@@ -2,9 +2,9 @@
 use Rattle.std.specs.Prelude.{ℕ, List, Option, Some, None, codes, if◌then◌else◌}
 use Rattle.tal_names.specs.declared.system.System.{System}
 use Rattle.tal_names.specs.declared.system.System.TheVariants.{CheckMonitor, Checkpoint, Open, ReadUpdate, Reply, Stop, WriteRead}
-use Rattle.tal_names.specs.Names.{Declarations, same, is_declared}
+use Rattle.tal_names.specs.Names.{same}
 
--- the system's call that has a name
+-- the system's call that has a name: nothing that is declared hides it
 abbrev pub system_of : List ℕ → Option System
 system_of name =
     if same name (codes "CHECKMONITOR") then Some CheckMonitor else
@@ -15,7 +15,3 @@ system_of name =
     if same name (codes "STOP") then Some Stop else
     if same name (codes "WRITEREAD") then Some WriteRead else
     None
-
--- the system's call that a name stands for, where no local hides it
-abbrev pub call_of : Declarations → List ℕ → Option System
-call_of locals name = if is_declared name locals then None else system_of name

@@ -1,7 +1,6 @@
 ghost use Rattle.std.specs.Prelude.{◌≡◌};
-ghost use Rattle.tal_names.specs.Systems.{call_of, system_of};
+ghost use Rattle.tal_names.specs.Systems.{system_of};
 
-use crate::names::Names;
 use gd_words::Ident;
 
 /// The system's own calls.
@@ -16,7 +15,7 @@ pub enum System {
     WriteRead,
 }
 
-/// The system's call that has the name.
+/// The system's call that has the name. Nothing that is declared hides it.
 pub fn system_of(name: Ident) -> Option<System>
     ensures { result ≡ system_of name }
 {
@@ -29,16 +28,5 @@ pub fn system_of(name: Ident) -> Option<System>
         b"STOP" => Some(System::Stop),
         b"WRITEREAD" => Some(System::WriteRead),
         _ => None,
-    }
-}
-
-/// The system's call that a name stands for, where no local hides it.
-pub fn call_of(locals: &Names, name: Ident) -> Option<System>
-    ensures { result ≡ call_of locals.now name }
-{
-    if locals.is_declared(name) {
-        None
-    } else {
-        system_of(name)
     }
 }

@@ -18,7 +18,7 @@ use Rattle.tal_names.specs.declared.system.System.TheVariants as system
 use Rattle.tal_rules.specs.Calls.{called_faults, call_faults, values_faults, values_count, opens_receive}
 use Rattle.tal_rules.specs.Expressions.{expr_faults, value_faults, spot_faults}
 use Rattle.tal_names.specs.Faults.{fault_at, if_so}
-use Rattle.tal_names.specs.Systems.{call_of}
+use Rattle.tal_names.specs.Systems.{system_of}
 use Rattle.tal_names.specs.Places.{first_of_spot, name_of_expr, arguments_of}
 use Rattle.tal_names.specs.Scopes.{meaning_of, name_faults}
 
@@ -82,7 +82,7 @@ right_faults s e = right_named s e (name_of_expr e)
 
 -- the faults of statements with no statement inside
 abbrev pub call_statement_faults : Scope → Walk → At → At → List ℕ → List g.Argument → List RuleFault
-call_statement_faults s w head at name arguments = number_faults w.number head ++ call_faults s w at name arguments (call_of s.locals name)
+call_statement_faults s w head at name arguments = number_faults w.number head ++ call_faults s w at name arguments (system_of name)
 
 abbrev pub return_statement_faults : Scope → Walk → At → g.Answer → List RuleFault
 return_statement_faults s w head a = number_faults w.number head ++ return_faults s head a
@@ -112,7 +112,7 @@ module _ (s : Scope) where
     after w (g.if_then head test then_at t o) = after_else (after (stepped w) t) o
     after w (g.while_do head test do_at t) = after (stepped w) t
     after w (g.for_do head at name set_at from to_at to do_at t) = stepped (after (stepped (stepped w)) t)
-    after w (g.call head at name a) = after_call w (arguments_of a) (call_of s.locals name)
+    after w (g.call head at name a) = after_call w (arguments_of a) (system_of name)
     after w (g.return head a) = stepped w
     after w (g.assign target at e) = stepped w
     after w (g.assign_call target at name_at name start first more close) = stepped w

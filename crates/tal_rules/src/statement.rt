@@ -1,7 +1,7 @@
 ghost use Rattle.std.specs.Prelude.{◌≡◌, ◌+◌, OnOk, IfOk};
 ghost use Rattle.tal_rules.specs.Calls.{values_count};
 ghost use Rattle.tal_names.specs.Faults.{least};
-ghost use Rattle.tal_names.specs.Systems.{call_of};
+ghost use Rattle.tal_names.specs.Systems.{system_of};
 ghost use Rattle.tal_names.specs.Places.{arguments_of, first_of_spot};
 ghost use Rattle.tal_rules.specs.Statements.{next_number, stage_after, stage_after_monitor, stage_after_open, next_file, stepped, after_call, number_faults, return_faults, right_by, right_named, right_faults, call_statement_faults, return_statement_faults, assign_faults, assign_call_faults, for_head_faults, test_faults, after, after_else, after_row, statement_faults, else_faults, row_faults};
 ghost use Rattle.tal_syntax.specs.Seen.{seen_spot, seen_expr, seen_arguments, seen_values, seen_answer, seen_statement, seen_otherwise, seen_row};
@@ -17,7 +17,7 @@ use tal_names::least::with_fault_if;
 use tal_names::lookup::{judge_name, meaning_of};
 use tal_names::meaning::{Meaning, Need, Wanted};
 use tal_names::scope::Scope;
-use tal_names::system::{System, call_of};
+use tal_names::system::{System, system_of};
 use tal_syntax::{
     Answer, Arguments, Assign, AssignCall, Call, Expr, ForHead, Next, NextValue, Otherwise, Return,
     Statement, Test,
@@ -187,11 +187,11 @@ fn judge_call_statement(
     call: &Call,
     so_far: Option<RuleFault>,
 ) -> Result<Judged, NoMemory>
-    ensures walk { IfOk result (λ j. j.walk ≡ after_call walk (arguments_of (seen_arguments call.now.arguments)) (call_of scope.now.locals call.now.name)) }
+    ensures walk { IfOk result (λ j. j.walk ≡ after_call walk (arguments_of (seen_arguments call.now.arguments)) (system_of call.now.name)) }
     ensures least { IfOk result (λ j. j.least ≡ least so_far (call_statement_faults scope.now walk call.now.head call.now.at call.now.name (arguments_of (seen_arguments call.now.arguments)))) }
 {
     let so_far = judge_number(walk.number, call.head, so_far);
-    let system = call_of(&scope.locals, call.name);
+    let system = system_of(call.name);
     let arguments = &call.arguments;
     let least = judge_call(
         alloc, scope, walk, call.at, call.name, arguments, system, so_far,

@@ -10,7 +10,7 @@ use Rattle.tal_names.specs.declared.meaning.Meaning.{Meaning}
 use Rattle.tal_names.specs.declared.meaning.Meaning.TheVariants as m
 use Rattle.tal_names.specs.declared.scope.Scope.{Scope}
 use Rattle.tal_rules.specs.declared.walk.Walk.{Walk}
-use Rattle.tal_names.specs.Systems.{call_of}
+use Rattle.tal_names.specs.Systems.{system_of}
 use Rattle.tal_names.specs.Places.{first_of_spot, name_of_expr, arguments_of}
 use Rattle.tal_names.specs.Scopes.{meaning_of}
 use Rattle.tal_rules.specs.Statements.{stepped, after}
@@ -42,7 +42,7 @@ module _ (s : Scope) where
     statements_of w (g.for_do head at name set_at from to_at to do_at t) =
         one w head (what.For (variable_by (meaning_of s name)) (value_of_expr s from) (value_of_expr s to)
         (statements_of (stepped (stepped w)) t) (after s (stepped (stepped w)) t).number)
-    statements_of w (g.call head at name a) = one w head (call_what s name (arguments_of a) (call_of s.locals name))
+    statements_of w (g.call head at name a) = one w head (call_what s name (arguments_of a) (system_of name))
     statements_of w (g.return head a) = one w head (what.Return (answer_of s a))
     statements_of w (g.assign target at e) = one w (first_of_spot target) (assign_by s target e (meaning_by s (name_of_expr e)))
     statements_of w (g.assign_call target at name_at name start first more close) =

@@ -1,5 +1,5 @@
 ghost use Rattle.std.specs.Prelude.{◌≡◌, [], ◌++◌, ◌∷◌, OnOk, IfOk};
-ghost use Rattle.tal_names.specs.Systems.{call_of};
+ghost use Rattle.tal_names.specs.Systems.{system_of};
 ghost use Rattle.tal_names.specs.Places.{arguments_of, first_of_spot, name_of_expr};
 ghost use Rattle.tal_names.specs.Scopes.{meaning_of};
 ghost use Rattle.tal_rules.specs.Statements.{stepped, after_call, after, after_else, after_row};
@@ -17,7 +17,7 @@ use tal_names::alone::name_of_expr;
 use tal_names::lookup::meaning_of;
 use tal_names::meaning::Meaning;
 use tal_names::scope::Scope;
-use tal_names::system::call_of;
+use tal_names::system::system_of;
 use tal_rules::statement::{after_call, stepped};
 use tal_rules::walk::Walk;
 use tal_syntax::{
@@ -159,10 +159,10 @@ fn push_call(
     call: &Call,
     all: &mut List<tal_tree::Statement>,
 ) -> Result<Walk, NoMemory>
-    ensures walk { IfOk result (λ w. w ≡ after_call walk (arguments_of (seen_arguments call.now.arguments)) (call_of scope.now.locals call.now.name)) }
-    ensures statements { OnOk result (all.new ≡ all.old ++ one walk call.now.head (call_what scope.now call.now.name (arguments_of (seen_arguments call.now.arguments)) (call_of scope.now.locals call.now.name))) }
+    ensures walk { IfOk result (λ w. w ≡ after_call walk (arguments_of (seen_arguments call.now.arguments)) (system_of call.now.name)) }
+    ensures statements { OnOk result (all.new ≡ all.old ++ one walk call.now.head (call_what scope.now call.now.name (arguments_of (seen_arguments call.now.arguments)) (system_of call.now.name))) }
 {
-    let system = call_of(&scope.locals, call.name);
+    let system = system_of(call.name);
     let what = call_what(alloc, scope, call.name, &call.arguments, system)?;
     push_one(all, walk, call.head, what)?;
     Ok(after_call(walk, &call.arguments, system))

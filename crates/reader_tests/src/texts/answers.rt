@@ -3,7 +3,7 @@ use std::test::Fail;
 use tal_tree::{Place, TalFault};
 
 /// Texts and what each is refused for, none where it is read.
-const ANSWERS: [(&[u8], Option<TalFault>); 127] = [
+const ANSWERS: [(&[u8], Option<TalFault>); 134] = [
     // bytes, comments and strings
     (
         b"INT a[0:255$ ];\nPROC m MAIN;\nBEGIN\nCALL CHECKMONITOR;\nEND;\n",
@@ -602,6 +602,53 @@ const ANSWERS: [(&[u8], Option<TalFault>); 127] = [
         Some(TalFault::Unknown(Place {
             line: 1,
             column: 13,
+        })),
+    ),
+    // names of the system's calls, which nothing hides
+    (
+        b"PROC m MAIN; BEGIN INT checkmonitor; CALL CHECKMONITOR END;",
+        Some(TalFault::Twice(Place {
+            line: 1,
+            column: 24,
+        })),
+    ),
+    (
+        b"PROC p; BEGIN stop := 1 END; PROC stop; BEGIN END; PROC m MAIN; BEGIN CALL CHECKMONITOR END;",
+        Some(TalFault::Unknown(Place {
+            line: 1,
+            column: 15,
+        })),
+    ),
+    (
+        b"INT x; PROC p; BEGIN x := stop END; INT PROC stop; BEGIN RETURN 1 END; PROC m MAIN; BEGIN CALL CHECKMONITOR END;",
+        Some(TalFault::Unknown(Place {
+            line: 1,
+            column: 27,
+        })),
+    ),
+    (
+        b"INT x; PROC p; BEGIN x := stop(1) END; INT PROC stop(a); INT a; BEGIN RETURN a END; PROC m MAIN; BEGIN CALL CHECKMONITOR END;",
+        Some(TalFault::Unknown(Place {
+            line: 1,
+            column: 27,
+        })),
+    ),
+    (
+        b"INT f,x; INT a[0:1]; PROC p; BEGIN CALL WRITEREAD(f,a,1,1,x) END; PROC m MAIN; BEGIN INT open; CALL CHECKMONITOR; CALL OPEN(\"$A\",f,1) END;",
+        Some(TalFault::Twice(Place {
+            line: 1,
+            column: 90,
+        })),
+    ),
+    (
+        b"PROC p(stop); INT stop; BEGIN END; PROC m MAIN; BEGIN CALL CHECKMONITOR END;",
+        Some(TalFault::Twice(Place { line: 1, column: 8 })),
+    ),
+    (
+        b"PROC p; BEGIN CALL stop END; PROC stop; BEGIN END; PROC m MAIN; BEGIN CALL CHECKMONITOR END;",
+        Some(TalFault::Twice(Place {
+            line: 1,
+            column: 35,
         })),
     ),
     // kinds

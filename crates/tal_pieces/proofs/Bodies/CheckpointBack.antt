@@ -30,7 +30,7 @@ use Rattle.tal_pieces.specs.Printed.Statements.{close, more_items, more_files, w
 use Rattle.tal_pieces.proofs.Values.Back.{first}
 use Rattle.tal_pieces.proofs.Bodies.Fronts.{behind}
 use Rattle.tal_pieces.proofs.Bodies.PartsBack.{lone_name}
-use Rattle.tal_pieces.proofs.Standing.Stands.{AreSystems, IsCounted, IsItem, simple, array, Mentions, none, file, item}
+use Rattle.tal_pieces.proofs.Standing.Stands.{IsCounted, IsItem, simple, array, Mentions, none, file, item}
 use Rattle.tal_pieces.proofs.Bodies.StatementsBack.{StatementBack}
 use Rattle.tal_pieces.proofs.Bodies.SystemCallBack.{called_back, system_back}
 use Rattle.tal_pieces.proofs.Common.Faultless.{nils}
@@ -106,7 +106,7 @@ module _ (p : Program) (locals : List (List ℕ)) (s : Scope) where
         shallow = λ n ls room held. (room, (room, b.shallow n ls room held));
       }
 
-module _ (p : Program) (locals : List (List ℕ)) (s : Scope) (f : Files) (systems : AreSystems s) where
+module _ (p : Program) (locals : List (List ℕ)) (s : Scope) (f : Files) where
   -- a CHECKPOINT of these reads back
   abbrev Back : ℕ → Walk → ℕ → List ℕ → List ℕ → List Piece → List Token → Type 0
   Back n w line items files ks tokens =
@@ -116,7 +116,7 @@ module _ (p : Program) (locals : List (List ℕ)) (s : Scope) (f : Files) (syste
       → AreTokens (what_pieces p locals (what.Checkpoint [] []) ks) tokens → Back n w line [] [] ks tokens
   checkpoint_none n w line ks tokens count room a =
       let c = called_back system.Checkpoint ks tokens a in
-      system_back s f n w (stepped w) line system.Checkpoint (what.Checkpoint [] []) ks ks tokens systems count room c (record {
+      system_back s f n w (stepped w) line system.Checkpoint (what.Checkpoint [] []) ks ks tokens count room c (record {
         syntax = g.unlisted;
         rest = c.rest;
         front = refl;
@@ -137,7 +137,7 @@ module _ (p : Program) (locals : List (List ℕ)) (s : Scope) (f : Files) (syste
       let x = first (as_name is o.later) in
       let b = mentions_back p locals s others (close ks) x.rest x.later in
       let z = first b.later in
-      system_back s f n w (stepped w) line system.Checkpoint (what.Checkpoint _ _) ks _ tokens systems count (omega (arith, deep)) c (record {
+      system_back s f n w (stepped w) line system.Checkpoint (what.Checkpoint _ _) ks _ tokens count (omega (arith, deep)) c (record {
         syntax = g.listed o.at (g.value (lone_name x.at name)) b.syntax z.at;
         rest = z.rest;
         front = behind o.is (behind x.is (b.front ∙ ap (g.of_further b.syntax) z.is));
@@ -154,7 +154,7 @@ module _ (p : Program) (locals : List (List ℕ)) (s : Scope) (f : Files) (syste
       let x = first (as_name is o.later) in
       let b = mentions_back p locals s others (close ks) x.rest x.later in
       let z = first b.later in
-      system_back s f n w (stepped w) line system.Checkpoint (what.Checkpoint _ _) ks _ tokens systems count (omega (arith, deep)) c (record {
+      system_back s f n w (stepped w) line system.Checkpoint (what.Checkpoint _ _) ks _ tokens count (omega (arith, deep)) c (record {
         syntax = g.listed o.at (g.value (lone_name x.at name)) b.syntax z.at;
         rest = z.rest;
         front = behind o.is (behind x.is (b.front ∙ ap (g.of_further b.syntax) z.is));

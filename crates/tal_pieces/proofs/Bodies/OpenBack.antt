@@ -34,7 +34,7 @@ use Rattle.tal_pieces.proofs.Values.Back.{first}
 use Rattle.tal_pieces.proofs.Bodies.Fronts.{behind}
 use Rattle.tal_pieces.proofs.Bodies.OpenedFiles.{depth_is, with_next}
 use Rattle.tal_pieces.proofs.Bodies.PartsBack.{lone_name, only}
-use Rattle.tal_pieces.proofs.Standing.Stands.{AreSystems, IsCounted, Opens, file_meaning, first_files}
+use Rattle.tal_pieces.proofs.Standing.Stands.{IsCounted, Opens, file_meaning, first_files}
 use Rattle.tal_pieces.proofs.Bodies.StatementsBack.{without_files, StatementBack}
 use Rattle.tal_pieces.proofs.Bodies.SystemCallBack.{called_back, system_back}
 use Rattle.tal_pieces.proofs.Common.Faultless.{nils}
@@ -93,13 +93,13 @@ file_fine (target.Process name) item number at = refl
 abbrev lone_number : At → ℕ → g.Expr
 lone_number at n = only (g.sum (g.product (g.number at (pos n)) g.no_factors) g.no_terms)
 
-module _ (p : Program) (locals : List (List ℕ)) (s : Scope) (f : Files) (systems : AreSystems s) where
+module _ (p : Program) (locals : List (List ℕ)) (s : Scope) (f : Files) where
   pub monitor_back : (n : ℕ) (w : Walk) (line : ℕ) (ks : List Piece) (tokens : List Token) → IsCounted w → suc n ≤ 33 → w.stage ≡ stage.Start
       → AreTokens (what_pieces p locals what.CheckMonitor ks) tokens
       → StatementBack s f n w (record { number = w.number; line = line; what = what.CheckMonitor } ∷ []) (record w { number = next_number w.number; stage = stage.Opens }) ks tokens
   monitor_back n w line ks tokens counted room start a =
       let c = called_back system.CheckMonitor ks tokens a in
-      system_back s f n w (record w { number = next_number w.number; stage = stage.Opens }) line system.CheckMonitor what.CheckMonitor ks ks tokens systems counted room c (record {
+      system_back s f n w (record w { number = next_number w.number; stage = stage.Opens }) line system.CheckMonitor what.CheckMonitor ks ks tokens counted room c (record {
         syntax = g.unlisted;
         rest = c.rest;
         front = refl;
@@ -125,7 +125,7 @@ module _ (p : Program) (locals : List (List ℕ)) (s : Scope) (f : Files) (syste
       let e = first x.later in
       let q = first e.later in
       let z = first q.later in
-      system_back s f n w _ line system.Open (what.Open file) ks _ tokens systems counted (omega (arith, deep)) c (record {
+      system_back s f n w _ line system.Open (what.Open file) ks _ tokens counted (omega (arith, deep)) c (record {
         syntax = g.listed h.at b.syntax (g.more_further d.at (g.value (lone_name x.at o.name)) (g.more_further e.at (g.value (lone_number q.at o.opened.depth)) g.no_further)) z.at;
         rest = z.rest;
         front = behind h.is (b.front ∙ ap (g.of_argument b.syntax) (behind d.is (behind x.is (behind e.is (behind q.is z.is)))));

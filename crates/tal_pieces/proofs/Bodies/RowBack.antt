@@ -23,7 +23,7 @@ use Rattle.tal_pieces.proofs.Values.Back.{First, first}
 use Rattle.tal_pieces.proofs.Bodies.LayersBack.{if_back, while_back, for_back}
 use Rattle.tal_pieces.proofs.Bodies.LoneBack.{lone_back}
 use Rattle.tal_pieces.proofs.Bodies.OpenBack.{monitor_back, open_back}
-use Rattle.tal_pieces.proofs.Standing.Stands.{AreSystems, Stands, lone, monitors, opens, tests, loops, counts, StandsIn, empty, one, several, Row, ended, goes_on}
+use Rattle.tal_pieces.proofs.Standing.Stands.{Stands, lone, monitors, opens, tests, loops, counts, StandsIn, empty, one, several, Row, ended, goes_on}
 use Rattle.tal_pieces.proofs.Bodies.StatementsBack.{without_files, StatementBack, RowBack, BodyBack, InnerReadBack, RowsReadBack, BodiesReadBack}
 use Rattle.tal_pieces.proofs.Bodies.UnlinedLayers.{unlined_append}
 use Rattle.tal_pieces.proofs.Common.Faultless.{nils}
@@ -87,13 +87,13 @@ module _ (s : Scope) (f : Files) where
     opened = c.opened;
   }
 
-module _ (p : Program) (locals : List (List ℕ)) (s : Scope) (f : Files) (systems : AreSystems s) where
+module _ (p : Program) (locals : List (List ℕ)) (s : Scope) (f : Files) where
   mutual
     stands_back : {n : ℕ} {w : Walk} {x : Statement} {v : Walk} → Stands p locals s f n w x v → (ks : List Piece) (tokens : List Token)
         → AreTokens (what_pieces p locals x.what ks) tokens → StatementBack s f n w (x ∷ []) v ks tokens
-    stands_back (lone counted l) ks tokens a = lone_back p locals s f systems _ _ _ _ ks tokens counted l a
-    stands_back (monitors counted room start) ks tokens a = monitor_back p locals s f systems _ _ _ ks tokens counted room start a
-    stands_back (opens counted room o) ks tokens a = open_back p locals s f systems _ _ _ _ ks tokens counted room o a
+    stands_back (lone counted l) ks tokens a = lone_back p locals s f _ _ _ _ ks tokens counted l a
+    stands_back (monitors counted room start) ks tokens a = monitor_back p locals s f _ _ _ ks tokens counted room start a
+    stands_back (opens counted room o) ks tokens a = open_back p locals s f _ _ _ _ ks tokens counted room o a
     stands_back (tests counted c x y) ks tokens a =
         if_back p locals s f _ _ _ _ _ _ _ _ ks tokens counted c (λ later others held. inner_back x later others held) (λ later others held. inner_back y later others held) a
     stands_back (loops counted c x) ks tokens a =
@@ -165,10 +165,10 @@ module _ (p : Program) (locals : List (List ℕ)) (s : Scope) (f : Files) (syste
 
 -- printed statements read back in the place of one, after one, and as those of a procedure
 pub inner_read_back : (p : Program) (locals : List (List ℕ)) (s : Scope) (f : Files) → InnerReadBack p locals s f
-inner_read_back p locals s f systems n w xs v ks tokens h a = inner_back p locals s f systems h ks tokens a
+inner_read_back p locals s f n w xs v ks tokens h a = inner_back p locals s f h ks tokens a
 
 pub rows_read_back : (p : Program) (locals : List (List ℕ)) (s : Scope) (f : Files) → RowsReadBack p locals s f
-rows_read_back p locals s f systems n w xs v ks tokens room h a = row_back p locals s f systems room h ks tokens a
+rows_read_back p locals s f n w xs v ks tokens room h a = row_back p locals s f room h ks tokens a
 
 pub bodies_read_back : (p : Program) (locals : List (List ℕ)) (s : Scope) (f : Files) → BodiesReadBack p locals s f
-bodies_read_back p locals s f systems n w xs v ks tokens room h a = body_back p locals s f systems room h ks tokens a
+bodies_read_back p locals s f n w xs v ks tokens room h a = body_back p locals s f room h ks tokens a

@@ -18,7 +18,7 @@ use Rattle.tal_pieces.specs.declared.piece.Piece.{Piece}
 use Rattle.tal_pieces.specs.Cuts.{AreTokens}
 use Rattle.tal_pieces.specs.Printed.Statements.{inner_pieces, more_statements, body_pieces}
 use Rattle.tal_pieces.specs.Unlined.{unlined_statements}
-use Rattle.tal_pieces.proofs.Standing.Stands.{AreSystems, StandsIn, Row, first_files}
+use Rattle.tal_pieces.proofs.Standing.Stands.{StandsIn, Row, first_files}
 
 -- the same scope before the files are known
 abbrev pub without_files : Scope → Scope
@@ -69,15 +69,15 @@ module _ (s : Scope) (f : Files) (n : ℕ) (w : Walk) (xs : List Statement) (v :
 -- printed statements that keep the rules read back as themselves: in the place of one, after one, and as those of a procedure
 abbrev pub InnerReadBack : Program → List (List ℕ) → Scope → Files → Type 0
 InnerReadBack p locals s f =
-    AreSystems s → (n : ℕ) (w : Walk) (xs : List Statement) (v : Walk) (ks : List Piece) (tokens : List Token)
+    (n : ℕ) (w : Walk) (xs : List Statement) (v : Walk) (ks : List Piece) (tokens : List Token)
     → StandsIn p locals s f n w xs v → AreTokens (inner_pieces p locals xs ks) tokens → StatementBack s f n w xs v ks tokens
 
 abbrev pub RowsReadBack : Program → List (List ℕ) → Scope → Files → Type 0
 RowsReadBack p locals s f =
-    AreSystems s → (n : ℕ) (w : Walk) (xs : List Statement) (v : Walk) (ks : List Piece) (tokens : List Token)
+    (n : ℕ) (w : Walk) (xs : List Statement) (v : Walk) (ks : List Piece) (tokens : List Token)
     → n ≤ 33 → Row p locals s f n w xs v → AreTokens (more_statements p locals xs ks) tokens → RowBack s f n w xs v ks tokens
 
 abbrev pub BodiesReadBack : Program → List (List ℕ) → Scope → Files → Type 0
 BodiesReadBack p locals s f =
-    AreSystems s → (n : ℕ) (w : Walk) (xs : List Statement) (v : Walk) (ks : List Piece) (tokens : List Token)
+    (n : ℕ) (w : Walk) (xs : List Statement) (v : Walk) (ks : List Piece) (tokens : List Token)
     → n ≤ 33 → Row p locals s f n w xs v → AreTokens (body_pieces p locals xs ks) tokens → BodyBack s f n w xs v ks tokens

@@ -12,6 +12,8 @@ use Rattle.tal_declarations.specs.declared.table.Files.{Files}
 use Rattle.tal_names.specs.declared.scope.Scope.{Scope}
 use Rattle.tal_rules.specs.declared.walk.Walk.{Walk}
 use Rattle.tal_names.specs.declared.system.System.{System}
+use Rattle.tal_names.specs.declared.system.System.TheVariants as system
+use Rattle.tal_names.specs.Systems.{system_of}
 use Rattle.tal_rules.specs.Calls.{system_faults, call_faults}
 use Rattle.tal_declarations.specs.Files.{call_files}
 use Rattle.tal_names.specs.Places.{arguments_of}
@@ -25,9 +27,19 @@ use Rattle.tal_pieces.specs.Unlined.{unlined_what}
 use Rattle.tal_pieces.proofs.Values.Back.{first}
 use Rattle.tal_pieces.proofs.Bodies.Counted.{counted}
 use Rattle.tal_pieces.proofs.Bodies.Fronts.{behind}
-use Rattle.tal_pieces.proofs.Standing.Stands.{AreSystems, IsCounted, first_files}
+use Rattle.tal_pieces.proofs.Standing.Stands.{IsCounted, first_files}
 use Rattle.tal_pieces.proofs.Bodies.StatementsBack.{without_files, StatementBack}
 use Rattle.tal_pieces.proofs.Common.Faultless.{nils}
+
+-- the names of the system's calls
+system_named : (x : System) → system_of (system_text x) ≡ Some x
+system_named system.CheckMonitor = refl
+system_named system.Checkpoint = refl
+system_named system.Open = refl
+system_named system.ReadUpdate = refl
+system_named system.Reply = refl
+system_named system.Stop = refl
+system_named system.WriteRead = refl
 
 -- the tokens begin with CALL and the name of a system call
 pub record CallBack (x : System) (ks : List Piece) (tokens : List Token) : Type 0 where
@@ -56,19 +68,19 @@ pub record SystemArguments (s : Scope) (f : Files) (n : ℕ) (w v : Walk) (x : S
   pub opened : call_files (without_files s) (first_files f w.files) (arguments_of syntax) (Some x) ≡ first_files f v.files
 
 pub system_back : (s : Scope) (f : Files) (n : ℕ) (w v : Walk) (line : ℕ) (x : System) (y : What) (ks between : List Piece) (tokens : List Token)
-    → AreSystems s → IsCounted w → suc n ≤ 33 → (c : CallBack x between tokens) → SystemArguments s f n w v x y ks c.rest
+    → IsCounted w → suc n ≤ 33 → (c : CallBack x between tokens) → SystemArguments s f n w v x y ks c.rest
     → StatementBack s f n w (record { number = w.number; line = line; what = y } ∷ []) v ks tokens
-system_back s f n w v line x y ks between tokens systems count room c a = record {
+system_back s f n w v line x y ks between tokens count room c a = record {
   syntax = g.call c.head c.at (system_text x) a.syntax;
   rest = a.rest;
   front = c.front ∙ ap (λ ts. tok.Call c.head ∷ tok.Name c.at (system_text x) ∷ ts) a.front;
   later = a.later;
   same = ap (λ z. record { number = w.number; line = 0; what = unlined_what z } ∷ [])
-      (ap (call_what s (system_text x) (arguments_of a.syntax)) (systems x) ∙ a.same);
-  next = ap (after_call w (arguments_of a.syntax)) (systems x) ∙ a.next;
-  faultless = nils (counted w c.head count) (ap (call_faults s w c.at (system_text x) (arguments_of a.syntax)) (systems x) ∙ a.faultless c.at);
+      (ap (call_what s (system_text x) (arguments_of a.syntax)) (system_named x) ∙ a.same);
+  next = ap (after_call w (arguments_of a.syntax)) (system_named x) ∙ a.next;
+  faultless = nils (counted w c.head count) (ap (call_faults s w c.at (system_text x) (arguments_of a.syntax)) (system_named x) ∙ a.faultless c.at);
   nearest = tt;
   closed = refl;
   shallow = λ ls held. (room, (room, a.shallow ls held));
-  opened = ap (call_files (without_files s) (first_files f w.files) (arguments_of a.syntax)) (systems x) ∙ a.opened;
+  opened = ap (call_files (without_files s) (first_files f w.files) (arguments_of a.syntax)) (system_named x) ∙ a.opened;
 }

@@ -27,12 +27,12 @@ use Rattle.tal_pieces.proofs.Values.ReadsBack.{StandsFor}
 use Rattle.tal_pieces.proofs.Values.Back.{first}
 use Rattle.tal_pieces.proofs.Bodies.Fronts.{behind, past}
 use Rattle.tal_pieces.proofs.Bodies.PartsBack.{name_back, lone_name, value_back, variable_back}
-use Rattle.tal_pieces.proofs.Standing.Stands.{AreSystems, IsCounted, IsNamedArray, IsNamedVariable, FitsValue}
+use Rattle.tal_pieces.proofs.Standing.Stands.{IsCounted, IsNamedArray, IsNamedVariable, FitsValue}
 use Rattle.tal_pieces.proofs.Bodies.StatementsBack.{StatementBack}
 use Rattle.tal_pieces.proofs.Bodies.SystemCallBack.{called_back, system_back}
 use Rattle.tal_pieces.proofs.Common.Faultless.{nils}
 
-module _ (p : Program) (locals : List (List ℕ)) (s : Scope) (f : Files) (systems : AreSystems s) where
+module _ (p : Program) (locals : List (List ℕ)) (s : Scope) (f : Files) where
   -- one statement reads back
   abbrev Back : ℕ → Walk → Statement → List Piece → List Token → Type 0
   Back n w x ks tokens = StatementBack s f n w (x ∷ []) (stepped w) ks tokens
@@ -56,7 +56,7 @@ module _ (p : Program) (locals : List (List ℕ)) (s : Scope) (f : Files) (syste
       let x = variable_back p locals s got (close ks) h.rest variable h.later in
       let z = first x.later in
       let deep : suc (suc n) ≤ 33 = omega (arith, fits.low) in
-      system_back s f n w (stepped w) line system.ReadUpdate (what.ReadUpdate buffer most got) ks _ tokens systems count (omega (arith, deep)) c (record {
+      system_back s f n w (stepped w) line system.ReadUpdate (what.ReadUpdate buffer most got) ks _ tokens count (omega (arith, deep)) c (record {
         syntax = g.listed o.at (g.value (lone_name r.at r.text)) (g.more_further d.at (g.value (lone_name b.at b.text))
             (g.more_further e.at (g.value v.syntax) (g.more_further h.at (g.value (lone_name x.at x.text)) g.no_further))) z.at;
         rest = z.rest;
@@ -81,7 +81,7 @@ module _ (p : Program) (locals : List (List ℕ)) (s : Scope) (f : Files) (syste
       let v = value_back p locals s (suc (suc n)) sent (close ks) e.rest fits e.later in
       let z = first v.later in
       let deep : suc (suc n) ≤ 33 = omega (arith, fits.low) in
-      system_back s f n w (stepped w) line system.Reply (what.Reply buffer sent) ks _ tokens systems count (omega (arith, deep)) c (record {
+      system_back s f n w (stepped w) line system.Reply (what.Reply buffer sent) ks _ tokens count (omega (arith, deep)) c (record {
         syntax = g.listed o.at (g.value (lone_name b.at b.text)) (g.more_further e.at (g.value v.syntax) g.no_further) z.at;
         rest = z.rest;
         front = behind o.is (behind b.front (behind e.is (past v.syntax v.front z.is)));
@@ -115,7 +115,7 @@ module _ (p : Program) (locals : List (List ℕ)) (s : Scope) (f : Files) (syste
       let x = variable_back p locals s got (close ks) k.rest variable k.later in
       let z = first x.later in
       let deep : suc (suc n) ≤ 33 = omega (arith, fits.low) in
-      system_back s f n w (stepped w) line system.WriteRead (what.WriteRead file buffer send room got) ks _ tokens systems count (omega (arith, deep)) c (record {
+      system_back s f n w (stepped w) line system.WriteRead (what.WriteRead file buffer send room got) ks _ tokens count (omega (arith, deep)) c (record {
         syntax = g.listed o.at (g.value (lone_name r.at r.text)) (g.more_further d.at (g.value (lone_name b.at b.text))
             (g.more_further e.at (g.value v.syntax) (g.more_further h.at (g.value u.syntax) (g.more_further k.at (g.value (lone_name x.at x.text)) g.no_further)))) z.at;
         rest = z.rest;
@@ -149,7 +149,7 @@ module _ (p : Program) (locals : List (List ℕ)) (s : Scope) (f : Files) (syste
       → AreTokens (what_pieces p locals what.Stop ks) tokens → Back n w (record { number = w.number; line = line; what = what.Stop }) ks tokens
   stop_back n w line ks tokens count room a =
       let c = called_back system.Stop ks tokens a in
-      system_back s f n w (stepped w) line system.Stop what.Stop ks ks tokens systems count room c (record {
+      system_back s f n w (stepped w) line system.Stop what.Stop ks ks tokens count room c (record {
         syntax = g.unlisted;
         rest = c.rest;
         front = refl;

@@ -28,7 +28,7 @@ use Rattle.tal_pieces.specs.Printed.Procedures.{word_if, parameters_pieces, loca
 use Rattle.tal_pieces.proofs.Scopes.Agreement.{without_literals}
 use Rattle.tal_pieces.proofs.Values.Back.{first}
 use Rattle.tal_pieces.proofs.Declarations.DeclarationsBack.{HeadingBack, HeadingsReadBack}
-use Rattle.tal_pieces.proofs.Scopes.DeclaredNames.{still_free, fresh_of_free, with_other_name}
+use Rattle.tal_pieces.proofs.Scopes.DeclaredNames.{still_free, fresh_of_free, with_other_name, with_free_procedure}
 use Rattle.tal_pieces.proofs.Declarations.ItemsBack.{low_level}
 use Rattle.tal_pieces.proofs.Declarations.LocalsBack.{parameters_back, locals_back, gives_back, main_back}
 use Rattle.tal_pieces.proofs.Declarations.LocalsFaults.{NamesFine, with_texts, by_texts, names_fine, locals_fine}
@@ -164,8 +164,10 @@ module _ (hd : Headed) (gives : g.Gives) (proc at : At) (name : List ℕ) (liste
       let free : is_taken hd.names name ≡ false = refuted (is_taken hd.names name) at Twice heads.0 in
       let count : length (parameters_of b.listed) ≡ length ps = count_from (parameters_of b.listed) ps b.listed_texts in
       let named =
-      (λ i. with_name (without_literals hd.names) name (m.Procedure hd.count (b.gives_same i) (count i)))
-      ∙ sym (with_other_name hd.names name (m.Procedure hd.count (does_give gives) (length ps)) refl (fresh_of_free hd.names name free)) in
+      with_free_procedure (without_literals hd.names) name _ (still_free hd.names name free)
+      ∙ (λ i. with_name (without_literals hd.names) name (m.Procedure hd.count (b.gives_same i) (count i)))
+      ∙ sym (with_other_name hd.names name (m.Procedure hd.count (does_give gives) (length ps)) refl (fresh_of_free hd.names name free))
+      ∙ ap without_literals (sym (with_free_procedure hd.names name (m.Procedure hd.count (does_give gives) (length ps)) free)) in
       record {
         heading = g.heading b.given b.proc b.at name b.listed b.main b.end;
         outer = b.outer;

@@ -4,6 +4,7 @@ use Rattle.std.proofs.lemmas.Bool.{true≢false, or_parts, or_from}
 use Rattle.std.specs.Prelude.{is_some}
 use Rattle.tal_names.specs.declared.meaning.Meaning.{Meaning}
 use Rattle.tal_declarations.specs.Globals.{is_taken}
+use Rattle.tal_declarations.specs.Headings.{with_procedure}
 use Rattle.tal_names.specs.Names.{Declarations, same, is_declared, with_name}
 use Rattle.tal_names.specs.Systems.{system_of}
 use Rattle.tal_pieces.proofs.Scopes.Agreement.{is_literal, kept_by, without_literals}
@@ -89,6 +90,11 @@ is_there ds name m = by (is_declared name ds) refl
     by : (b : Bool) → is_declared name ds ≡ b → is_declared name (with_name ds name m) ≡ true
     by true e = rw e e
     by false e = rw e (last_there ds name m)
+
+-- the name of a procedure that can be declared is
+pub with_free_procedure : (ds : Declarations) (name : List ℕ) (m : Meaning) → is_taken ds name ≡ false → with_procedure ds name m ≡ with_name ds name m
+with_free_procedure ds name m free =
+    ap (λ b. if b then ds else with_name ds name m) (or_parts (is_some (system_of name)) (is_declared name ds) free).0
 
 -- a name that can be declared can be declared where the LITERALs are gone
 pub still_free : (ds : Declarations) (name : List ℕ) → is_taken ds name ≡ false → is_taken (without_literals ds) name ≡ false

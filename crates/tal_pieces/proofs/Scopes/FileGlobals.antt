@@ -9,7 +9,7 @@ use Rattle.tal_names.specs.declared.scope.Scope.{Scope}
 use Rattle.tal_names.specs.declared.system.System.{System}
 use Rattle.tal_names.specs.declared.system.System.TheVariants as system
 use Rattle.tal_declarations.specs.Files.{file_by, with_file, simple_by, simple_global, depth_of, depth_value, opened_as, opened_named, opened, call_files, statement_files, else_files, row_files}
-use Rattle.tal_names.specs.Systems.{call_of}
+use Rattle.tal_names.specs.Systems.{system_of}
 use Rattle.tal_names.specs.Names.{Declarations, meaning_in, is_declared}
 use Rattle.tal_names.specs.Places.{name_of_argument, arguments_of}
 use Rattle.tal_rules.specs.Texts.{scope_of, next_procedure, procedure_files, files_from, files_by, headed_text, no_files}
@@ -79,7 +79,7 @@ module _ (s : Scope) where
     statement_simple f (g.if_then head test then_at t o) a = else_simple (statement_files s f t) o (statement_simple f t a)
     statement_simple f (g.while_do head test do_at t) a = statement_simple f t a
     statement_simple f (g.for_do head at name set_at from to_at to do_at t) a = statement_simple f t a
-    statement_simple f (g.call head at name list) a = call_simple f (arguments_of list) (call_of s.locals name) a
+    statement_simple f (g.call head at name list) a = call_simple f (arguments_of list) (system_of name) a
     statement_simple f (g.return head e) a = a
     statement_simple f (g.assign target at e) a = a
     statement_simple f (g.assign_call target at name_at name start first more close) a = a

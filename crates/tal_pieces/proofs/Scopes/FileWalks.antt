@@ -12,7 +12,7 @@ use Rattle.tal_names.specs.declared.system.System.TheVariants as system
 use Rattle.tal_rules.specs.Calls.{call_faults}
 use Rattle.tal_names.specs.Faults.{fault_at, if_so}
 use Rattle.tal_declarations.specs.Files.{call_files, statement_files, else_files, row_files}
-use Rattle.tal_names.specs.Systems.{call_of}
+use Rattle.tal_names.specs.Systems.{system_of}
 use Rattle.tal_names.specs.Names.{Declarations}
 use Rattle.tal_names.specs.Places.{arguments_of}
 use Rattle.tal_rules.specs.Statements.{stepped, after, after_else, after_row, after_call, number_faults, test_faults, for_head_faults, statement_faults, else_faults, row_faults}
@@ -56,8 +56,8 @@ module _ (s : Scope) where
         (first_nil (for_head_faults s at name from to ++ statement_faults s (stepped (stepped w)) t) (number_faults (after s (stepped (stepped w)) t).number head) e))
         a
     statement_opened f w (g.call head at name list) e a =
-        call_opened f w at name (arguments_of list) (call_of s.locals name)
-        (second_nil (number_faults w.number head) (call_faults s w at name (arguments_of list) (call_of s.locals name)) e) a
+        call_opened f w at name (arguments_of list) (system_of name)
+        (second_nil (number_faults w.number head) (call_faults s w at name (arguments_of list) (system_of name)) e) a
     statement_opened f w (g.return head given) e a = a
     statement_opened f w (g.assign target at value) e a = a
     statement_opened f w (g.assign_call target at name_at name start first more close) e a = a

@@ -10,7 +10,8 @@ use Rattle.tal_names.specs.Names.{Declarations, meaning_in, with_name}
 use Rattle.tal_names.specs.Systems.{system_of}
 use Rattle.tal_rules.specs.Texts.{headed_after, headed_text}
 use Rattle.tal_pieces.proofs.Scopes.Declared.{meaning_with}
-use Rattle.tal_pieces.proofs.Scopes.GlobalNames.{not_taken}
+use Rattle.tal_pieces.proofs.Scopes.DeclaredNames.{with_free_procedure}
+use Rattle.tal_pieces.proofs.Scopes.GlobalNames.{free_name, not_taken}
 use Rattle.tal_pieces.proofs.Common.Faultless.{first_nil, second_nil}
 
 abbrev pub AreFree : Declarations → Type 0
@@ -58,7 +59,9 @@ lines_free d (g.more_lines l rest) e a =
 
 heading_free : (h : Headed) (x : g.Heading) → heading_faults h x ≡ [] → AreFree h.names → AreFree (with_heading h x).names
 heading_free h (g.heading gives proc at name listed main end) e a =
-    free_with h.names name _ (not_taken h.names at name (first_nil (taken_faults h.names at name) _ (first_nil _ _ e))).0 a
+    let untaken = first_nil (taken_faults h.names at name) _ (first_nil _ _ e) in
+    subst AreFree (sym (with_free_procedure h.names name _ (free_name h.names at name untaken)))
+    (free_with h.names name _ (not_taken h.names at name untaken).0 a)
 
 headings_free : (h : Headed) (ps : g.Procedures) → headings_faults h ps ≡ [] → AreFree h.names → AreFree (with_headings h ps).names
 headings_free h g.no_procedures e a = a

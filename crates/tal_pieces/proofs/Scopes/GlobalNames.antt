@@ -19,6 +19,7 @@ use Rattle.tal_names.specs.Systems.{system_of}
 use Rattle.tal_rules.specs.Texts.{headed_after, headed_text}
 use Rattle.tal_trees.specs.Programs.{name_by}
 use Rattle.tal_pieces.proofs.Scopes.Declared.{meaning_kept, meaning_new, meaning_with}
+use Rattle.tal_pieces.proofs.Scopes.DeclaredNames.{with_free_procedure}
 use Rattle.tal_pieces.proofs.Common.Limits.{limit_is, min_is}
 use Rattle.std.proofs.lemmas.Bool.{leb-false, or_parts}
 use Rattle.tal_pieces.proofs.Common.Faultless.{first_nil, second_nil, refuted}
@@ -121,12 +122,13 @@ abbrev AreItems : Declared → Type 0
 AreItems d = AreGlobals d.names d.items []
 
 -- a name that may be declared
+pub free_name : (names : Declarations) (at : At) (name : List ℕ) → taken_faults names at name ≡ [] → is_taken names name ≡ false
+free_name names at name e = refuted (is_taken names name) at Twice e
+
 pub not_taken : (names : Declarations) (at : At) (name : List ℕ) → taken_faults names at name ≡ [] → (system_of name ≡ None) × (is_declared name names ≡ false)
 not_taken names at name e =
-    (none_of (system_of name) (or_parts (is_some (system_of name)) (is_declared name names) free).0, (or_parts (is_some (system_of name)) (is_declared name names) free).1)
-  where
-    free : is_taken names name ≡ false
-    free = refuted (is_taken names name) at Twice e
+    let parts = or_parts (is_some (system_of name)) (is_declared name names) (free_name names at name e) in
+    (none_of (system_of name) parts.0, parts.1)
 
 item_globals : (d : Declared) (i : g.Item) → item_faults d i ≡ [] → AreItems d → AreItems (with_item d i)
 item_globals d (g.item at name bounds) e a =
@@ -207,9 +209,12 @@ heading_globals h items procedures (g.heading gives proc at name listed main end
     let taken : List RuleFault = taken_faults h.names at name in
     let few : List RuleFault = if_so (nat_le 64 h.count) (fault_at at (Limit 5)) in
     let mains : List RuleFault = main_faults (is_some h.main) at (not (does_give gives) && (length (parameters_of listed) == 0)) main in
+    let free = free_name h.names at name (first_nil taken few (first_nil (taken ++ few) mains e)) in
     record {
-      globals = subst (λ n. AreGlobals (with_name h.names name (m.Procedure n (does_give gives) (length (parameters_of listed)))) items (procedures ++ name ∷ [])) (sym a.count)
-          (with_one_procedure h.names items procedures name (does_give gives) (length (parameters_of listed)) a.globals);
+      globals = subst (λ names. AreGlobals names items (procedures ++ name ∷ []))
+          (sym (with_free_procedure h.names name (m.Procedure h.count (does_give gives) (length (parameters_of listed))) free))
+          (subst (λ n. AreGlobals (with_name h.names name (m.Procedure n (does_give gives) (length (parameters_of listed)))) items (procedures ++ name ∷ [])) (sym a.count)
+          (with_one_procedure h.names items procedures name (does_give gives) (length (parameters_of listed)) a.globals));
       count =
           min_is 64 (h.count + 1) (omega (arith, leb-false 64 h.count (refuted (nat_le 64 h.count) at (Limit 5) (second_nil taken few (first_nil (taken ++ few) mains e)))))
           ∙ ap (λ n. n + 1) a.count ∙ sym (length-append procedures (name ∷ []));

@@ -1,5 +1,5 @@
 -- What the locals of a procedure without faults stand for.
-use Rattle.std.proofs.Common.{◌≡◌, ℕ, ◌+◌, min, nat_le, not, ◌||◌, false, List, [], ◌∷◌, ◌++◌, length, slice_get, is_some, Option, Some, None, ◌⊎◌, inl, inr, refl, sym, ap, ◌∙◌, subst, append_assoc, append-nil, length-append, if◌then◌else◌}
+use Rattle.std.proofs.Common.{◌≡◌, ℕ, ◌+◌, min, nat_le, not, ◌||◌, false, List, [], ◌∷◌, ◌++◌, length, slice_get, is_some, Some, ◌⊎◌, inl, inr, refl, sym, ap, ◌∙◌, subst, append_assoc, append-nil, length-append}
 use Rattle.tal_tokens.specs.declared.token.At.{At}
 use Rattle.tal_syntax.specs.Grammar as g
 use Rattle.tal_names.specs.declared.fault.Rule.TheVariants.{Unknown, Twice, Limit}
@@ -7,31 +7,26 @@ use Rattle.tal_names.specs.declared.fault.RuleFault.{RuleFault}
 use Rattle.tal_names.specs.declared.meaning.Meaning.{Meaning}
 use Rattle.tal_names.specs.declared.meaning.Meaning.TheVariants as m
 use Rattle.tal_names.specs.declared.scope.Named.{Named}
-use Rattle.tal_names.specs.declared.system.System.{System}
-use Rattle.tal_names.specs.declared.system.System.TheVariants as system
 use Rattle.tal_names.specs.Faults.{fault_at, if_so}
 use Rattle.tal_declarations.specs.Globals.{is_taken, taken_faults}
 use Rattle.tal_declarations.specs.Headings.{parameters_of, locals_of, with_local, with_locals, count_faults, parameter_faults, parameters_faults, outer_faults, one_inner_faults, inner_faults}
 use Rattle.tal_names.specs.Names.{Declarations, meaning_in, is_declared}
-use Rattle.tal_names.specs.Systems.{system_of, call_of}
+use Rattle.tal_names.specs.Systems.{system_of}
 use Rattle.tal_rules.specs.Texts.{locals_by, heading_locals_faults}
 use Rattle.tal_trees.specs.Programs.{parameters_by, texts_of}
-use Rattle.tal_pieces.specs.Spelling.{system_text}
 use Rattle.tal_pieces.proofs.Scopes.Declared.{meaning_with}
 use Rattle.tal_pieces.proofs.Scopes.GlobalNames.{not_taken}
-use Rattle.tal_pieces.proofs.Scopes.SourceScopes.{SystemsStay}
 use Rattle.tal_pieces.proofs.Common.Limits.{limit_is}
 use Rattle.tal_pieces.proofs.Common.Names.{texts_append}
 use Rattle.tal_pieces.proofs.Common.Faultless.{first_nil, second_nil, refuted}
-use Rattle.tal_pieces.proofs.Common.Entries.{none_of, get_front, get_last}
+use Rattle.tal_pieces.proofs.Common.Entries.{get_front, get_last}
 use Rattle.std.proofs.lemmas.Bool.{or_parts}
 
--- a name stands for a local in its place, and for no call of the system
+-- a name stands for a local in its place
 pub record IsLocal (texts : List (List ℕ)) (name : List ℕ) (x : Meaning) : Type 0 where
   pub place : ℕ
   pub is : x ≡ m.Local place
   pub there : slice_get texts place ≡ Some name
-  pub free : system_of name ≡ None
 
 -- these names are the locals of these texts, in order
 pub record AreLocals (ds : Declarations) (texts : List (List ℕ)) : Type 0 where
@@ -39,20 +34,20 @@ pub record AreLocals (ds : Declarations) (texts : List (List ℕ)) : Type 0 wher
   pub local : (name : List ℕ) (x : Meaning) → meaning_in name ds ≡ Some x → IsLocal texts name x
 
 -- with one more local
-one_local : (ds : Declarations) (texts : List (List ℕ)) (name : List ℕ) → system_of name ≡ None → is_declared name ds ≡ false → nat_le 12 (length ds) ≡ false
+one_local : (ds : Declarations) (texts : List (List ℕ)) (name : List ℕ) → is_declared name ds ≡ false → nat_le 12 (length ds) ≡ false
     → AreLocals ds texts → AreLocals (with_local ds name) (texts ++ name ∷ [])
-one_local ds texts name free new few a = record {
+one_local ds texts name new few a = record {
   count = rw new (length-append ds ((name, m.Local (min 12 (length ds))) ∷ []) ∙ ap (λ n. n + 1) a.count ∙ sym (length-append texts (name ∷ [])));
   local = λ other x e. by other x (meaning_with other ds name (m.Local (min 12 (length ds))) x e);
 }
   where
     is_last : IsLocal (texts ++ name ∷ []) name (m.Local (min 12 (length ds)))
-    is_last = record { place = length texts; is = ap m.Local (limit_is 12 (length ds) few ∙ a.count); there = get_last texts name; free = free }
+    is_last = record { place = length texts; is = ap m.Local (limit_is 12 (length ds) few ∙ a.count); there = get_last texts name }
 
     by : (other : List ℕ) (x : Meaning) → (meaning_in other ds ≡ Some x) ⊎ ((other ≡ name) × (m.Local (min 12 (length ds)) ≡ x)) → IsLocal (texts ++ name ∷ []) other x
     by other x (inl e) =
         let old : IsLocal texts other x = a.local other x e in
-        record { place = old.place; is = old.is; there = get_front texts (name ∷ []) old.place other old.there; free = old.free }
+        record { place = old.place; is = old.is; there = get_front texts (name ∷ []) old.place other old.there }
     by other x (inr e) = subst (λ n. IsLocal (texts ++ name ∷ []) n x) (sym e.0) (subst (λ y. IsLocal (texts ++ name ∷ []) name y) e.1 is_last)
 
 few_of : (before : Declarations) (at : At) → count_faults before at ≡ [] → nat_le 12 (length before) ≡ false
@@ -65,7 +60,7 @@ parameter_locals outer before texts [] e a = subst (λ l. AreLocals before l) (s
 parameter_locals outer before texts (n ∷ ns) e a =
     subst (λ l. AreLocals (with_locals (with_local before n.name) ns) l) (append_assoc texts (n.name ∷ []) (texts_of ns))
     (parameter_locals outer (with_local before n.name) (texts ++ n.name ∷ []) ns (second_nil one more e)
-    (one_local before texts n.name (not_taken before n.at n.name front).0 (not_taken before n.at n.name front).1
+    (one_local before texts n.name (not_taken before n.at n.name front).1
     (few_of before n.at (second_nil (taken ++ unknown) (count_faults before n.at) now)) a))
   where
     one : List RuleFault
@@ -92,8 +87,7 @@ inner_locals outer before texts [] e a = subst (λ l. AreLocals before l) (sym (
 inner_locals outer before texts (n ∷ ns) e a =
     subst (λ l. AreLocals (with_locals (with_local before n.name) ns) l) (append_assoc texts (n.name ∷ []) (texts_of ns))
     (inner_locals outer (with_local before n.name) (texts ++ n.name ∷ []) ns (second_nil one more e)
-    (one_local before texts n.name (none_of (system_of n.name) (or_parts (is_some (system_of n.name)) (is_declared n.name before) free).0)
-    (or_parts (is_some (system_of n.name)) (is_declared n.name before) free).1
+    (one_local before texts n.name (or_parts (is_some (system_of n.name)) (is_declared n.name before) free).1
     (few_of before n.at (second_nil twice (count_faults before n.at) now)) a))
   where
     one : List RuleFault
@@ -128,23 +122,3 @@ local_names (g.heading gives proc at name listed main end) outer inner e =
 
     after_begin : List RuleFault
     after_begin = inner_faults (with_locals [] (locals_of outer)) (with_locals [] (parameters_of listed)) (locals_of inner)
-
--- the names of the system's calls
-system_named : (x : System) → system_of (system_text x) ≡ Some x
-system_named system.CheckMonitor = refl
-system_named system.Checkpoint = refl
-system_named system.Open = refl
-system_named system.ReadUpdate = refl
-system_named system.Reply = refl
-system_named system.Stop = refl
-system_named system.WriteRead = refl
-
-stays : (ds : Declarations) (texts : List (List ℕ)) → AreLocals ds texts → (x : System) → call_of ds (system_text x) ≡ Some x
-stays ds texts a x = by (meaning_in (system_text x) ds) refl
-  where
-    by : (o : Option Meaning) → meaning_in (system_text x) ds ≡ o → (if is_some o then None else system_of (system_text x)) ≡ Some x
-    by None e = system_named x
-    by (Some y) e = absurd (cc (system_named x, (a.local (system_text x) y e).free))
-
-pub systems_stay : SystemsStay
-systems_stay lines ps number h outer inner e = stays (locals_by h inner) (texts_of (parameters_by h ++ locals_of inner)) (local_names h outer inner e)

@@ -7,9 +7,8 @@ use Rattle.tal_declarations.specs.Globals.{with_lines, nothing_declared}
 use Rattle.tal_declarations.specs.Headings.{locals_of}
 use Rattle.tal_rules.specs.Texts.{faults, headed_text, files_by, scope_of, heading_locals_faults}
 use Rattle.tal_trees.specs.Programs.{tree_of, texts_of, parameters_by}
-use Rattle.tal_pieces.proofs.Scopes.Agreement.{Agreement, printed_scope}
+use Rattle.tal_pieces.proofs.Scopes.Agreement.{Agreement}
 use Rattle.tal_pieces.proofs.Declarations.DeclarationsBack.{FilesAreSimple}
-use Rattle.tal_pieces.proofs.Standing.Stands.{AreSystems}
 
 -- the scope of a procedure of this number in a text
 abbrev pub scope_in : g.Lines → g.Procedures → ℕ → g.Heading → g.Locals → Scope
@@ -21,12 +20,6 @@ ScopesAgree =
     (lines : g.Lines) (ps : g.Procedures) (finish : At) → faults (g.text lines ps finish) ≡ []
     → (number : ℕ) (h : g.Heading) (outer inner : g.Locals) → heading_locals_faults h outer inner ≡ []
     → Agreement (tree_of (g.text lines ps finish)) (texts_of (parameters_by h ++ locals_of inner)) (scope_in lines ps number h inner)
-
--- no local hides a name of the system
-abbrev pub SystemsStay : Type 0
-SystemsStay =
-    (lines : g.Lines) (ps : g.Procedures) (number : ℕ) (h : g.Heading) (outer inner : g.Locals) → heading_locals_faults h outer inner ≡ []
-    → AreSystems (printed_scope (scope_in lines ps number h inner))
 
 -- the variables of files are declared as simple items
 abbrev pub FileItemsAreSimple : Type 0

@@ -15,7 +15,7 @@ use Rattle.tal_declarations.specs.Globals.{lines_faults, with_lines, nothing_dec
 use Rattle.tal_declarations.specs.Headings.{locals_of, headings_faults}
 use Rattle.tal_names.specs.Names.{Declarations, meaning_in}
 use Rattle.tal_names.specs.Scopes.{or_else, is_file}
-use Rattle.tal_names.specs.Systems.{system_of, call_of}
+use Rattle.tal_names.specs.Systems.{system_of}
 use Rattle.tal_rules.specs.Texts.{faults, headed_after, headed_text, files_by, bodies_faults, main_missing, heading_locals_faults}
 use Rattle.tal_trees.specs.Programs.{texts_of, parameters_by}
 use Rattle.tal_pieces.proofs.Scopes.Declared.{meaning_there}
@@ -91,7 +91,7 @@ module _ (lines : g.Lines) (ps : g.Procedures) (finish : At) (fine : faults (g.t
       by_file name x None None local opened e is = absurd (cc (is, no_file _ _ name x ((are_globals lines ps finish fine).means name x e)))
 
       by_procedure : (k : ℕ) (gives : Bool) (count : ℕ) (name : List ℕ) (l f : Option Meaning) → meaning_in name scope.locals ≡ l → meaning_in name files.names ≡ f
-          → or_else l (or_else f (meaning_in name globals)) ≡ Some (m.Procedure k gives count) → call_of scope.locals name ≡ None
+          → or_else l (or_else f (meaning_in name globals)) ≡ Some (m.Procedure k gives count) → system_of name ≡ None
       by_procedure k gives count name (Some y) f local opened e = absurd (cc (local_is name (m.Procedure k gives count) (local ∙ e)).is)
       by_procedure k gives count name None (Some y) local opened e = absurd (cc (file_is name (m.Procedure k gives count) (opened ∙ e)))
-      by_procedure k gives count name None None local opened e = rw (ap is_some local) (free name (m.Procedure k gives count) e)
+      by_procedure k gives count name None None local opened e = free name (m.Procedure k gives count) e

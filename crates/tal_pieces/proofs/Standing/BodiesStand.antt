@@ -10,7 +10,7 @@ use Rattle.tal_declarations.specs.declared.table.Files.{Files}
 use Rattle.tal_names.specs.declared.scope.Scope.{Scope}
 use Rattle.tal_rules.specs.declared.walk.Walk.{Walk}
 use Rattle.tal_declarations.specs.Files.{statement_files, else_files, row_files}
-use Rattle.tal_names.specs.Systems.{call_of}
+use Rattle.tal_names.specs.Systems.{system_of}
 use Rattle.tal_names.specs.Places.{arguments_of, first_of_spot, name_of_expr}
 use Rattle.tal_rules.specs.Statements.{stepped, after, after_else, after_row, statement_faults, else_faults, row_faults}
 use Rattle.tal_names.specs.Scopes.{meaning_of}
@@ -87,7 +87,7 @@ module _ (p : Program) (locals : List (List ℕ)) (s : Scope) (all : Files) (agr
         (refuted (nat_lt 2000 (after s (stepped (stepped w)) t).number) head (Limit 7) parts.1)) x.opened
     stand (g.call head at name a) n w f ls so_far more none low =
         let parts = split none in
-        let x = call_stand p locals s all agreed names files_are names_are n w f head at name (arguments_of a) (call_of s.locals name)
+        let x = call_stand p locals s all agreed names files_are names_are n w f head at name (arguments_of a) (system_of name)
         (refuted (nat_lt 2000 w.number) head (Limit 7) parts.0) low.0 (low_arguments s a (suc n) ls low.1.1) so_far more parts.1 in
         single x.stands x.opened
     stand (g.return head a) n w f ls so_far more none low =

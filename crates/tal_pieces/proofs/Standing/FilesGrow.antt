@@ -9,7 +9,7 @@ use Rattle.tal_names.specs.declared.scope.Scope.{Scope}
 use Rattle.tal_names.specs.declared.system.System.{System}
 use Rattle.tal_names.specs.declared.system.System.TheVariants as system
 use Rattle.tal_declarations.specs.Files.{file_by, target_of, depth_of, depth_value, with_file, opened_as, opened_named, opened, call_files, statement_files, else_files, row_files, simple_global}
-use Rattle.tal_names.specs.Systems.{call_of}
+use Rattle.tal_names.specs.Systems.{system_of}
 use Rattle.tal_names.specs.Names.{is_declared}
 use Rattle.tal_names.specs.Places.{name_of_argument, arguments_of}
 use Rattle.tal_pieces.proofs.Scopes.Agreement.{Extends}
@@ -74,7 +74,7 @@ module _ (s : Scope) where
     statement_grows (g.if_then head test then_at t o) f = extends_on (else_grows o (statement_files s f t)) (statement_grows t f)
     statement_grows (g.while_do head test do_at t) f = statement_grows t f
     statement_grows (g.for_do head at name set_at from to_at to do_at t) f = statement_grows t f
-    statement_grows (g.call head at name a) f = call_grows f (arguments_of a) (call_of s.locals name)
+    statement_grows (g.call head at name a) f = call_grows f (arguments_of a) (system_of name)
     statement_grows (g.return head a) f = extends_itself f
     statement_grows (g.assign target at e) f = extends_itself f
     statement_grows (g.assign_call target at name_at name start first more close) f = extends_itself f

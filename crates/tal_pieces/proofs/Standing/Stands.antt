@@ -19,9 +19,8 @@ use Rattle.tal_declarations.specs.declared.table.Files.{Files}
 use Rattle.tal_names.specs.declared.scope.Scope.{Scope}
 use Rattle.tal_rules.specs.declared.walk.Stage.TheVariants as stage
 use Rattle.tal_rules.specs.declared.walk.Walk.{Walk}
-use Rattle.tal_names.specs.declared.system.System.{System}
 use Rattle.tal_rules.specs.Calls.{is_depth}
-use Rattle.tal_names.specs.Systems.{call_of}
+use Rattle.tal_names.specs.Systems.{system_of}
 use Rattle.tal_names.specs.Names.{Declarations, is_declared, meaning_in, with_name}
 use Rattle.tal_names.specs.Scopes.{meaning_of}
 use Rattle.tal_rules.specs.Statements.{next_number, next_file, stepped}
@@ -30,7 +29,6 @@ use Rattle.tal_pieces.specs.declared.rank.ValueRank.TheVariants as value
 use Rattle.tal_pieces.proofs.Values.Depths.{value_depth, spot_depth}
 use Rattle.tal_pieces.specs.Printed.Names.{item_name, procedure_name, file_name, receive_name, is_receive}
 use Rattle.tal_pieces.proofs.Values.ReadsBack.{StandsFor, IsNamed, IsNamedSpot}
-use Rattle.tal_pieces.specs.Spelling.{system_text}
 use Rattle.tal_pieces.proofs.Values.TestDepths.{test_depth}
 use Rattle.tal_pieces.proofs.Values.TestsReadBack.{IsNamedTest}
 use Rattle.tal_pieces.proofs.Values.ValueLists.{AllNamed, values_depth}
@@ -43,10 +41,6 @@ file_meaning (target.Process name) item number = m.ProcessFile item number
 -- the variables of the first files
 abbrev pub first_files : Files → ℕ → Files
 first_files f n = record { names = take n f.names; uses = take n f.uses }
-
--- the system's names stand for its calls
-abbrev pub AreSystems : Scope → Type 0
-AreSystems s = (x : System) → call_of s.locals (system_text x) ≡ Some x
 
 -- no further statement has a number past the limit
 abbrev pub IsCounted : Walk → Type 0
@@ -87,7 +81,7 @@ module _ (p : Program) (locals : List (List ℕ)) (s : Scope) where
     pub name : List ℕ
     pub named : procedure_name p number ≡ Some name
     pub means : meaning_of s name ≡ Some (m.Procedure number gives count)
-    pub free : call_of s.locals name ≡ None
+    pub free : system_of name ≡ None
     pub before : nat_le s.number number ≡ false
 
   -- the names of a CHECKPOINT: none of them stands before

@@ -32,7 +32,7 @@ use Rattle.tal_pieces.proofs.Values.Back.{first}
 use Rattle.tal_pieces.proofs.Declarations.DeclarationsBack.{HeadingsReadBack}
 use Rattle.tal_pieces.proofs.Texts.LaterLevels.{after_heading, after_locals}
 use Rattle.tal_pieces.proofs.Scopes.SourceNames.{SourceNames}
-use Rattle.tal_pieces.proofs.Scopes.SourceScopes.{ScopesAgree, SystemsStay, scope_in}
+use Rattle.tal_pieces.proofs.Scopes.SourceScopes.{ScopesAgree, scope_in}
 use Rattle.tal_pieces.proofs.Standing.SourceStands.{BodiesStand}
 use Rattle.tal_pieces.proofs.Standing.Stands.{first_files}
 use Rattle.tal_pieces.proofs.Scopes.TextNames.{source_names}
@@ -42,7 +42,7 @@ use Rattle.tal_pieces.proofs.Common.Faultless.{nils, first_nil, second_nil, refu
 module _ (lines : g.Lines) (all : g.Procedures) (finish : At) (fine : faults (g.text lines all finish) ≡ [])
     (bodies : (p : Program) (locals : List (List ℕ)) (s : Scope) (f : Files) → BodiesReadBack p locals s f)
     (stand : (p : Program) (locals : List (List ℕ)) (s : Scope) (f : Files) → SourceNames s → BodiesStand p locals s f)
-    (agree : ScopesAgree) (systems : SystemsStay) (headings : HeadingsReadBack) where
+    (agree : ScopesAgree) (headings : HeadingsReadBack) where
   abbrev pub program : Program
   program = tree_of (g.text lines all finish)
 
@@ -94,7 +94,7 @@ module _ (lines : g.Lines) (all : g.Procedures) (finish : At) (fine : faults (g.
       (after_locals 33 0 inner (nest_statement 0 start (nest_row 0 more (0 ∷ 0 ∷ levels)))
       (after_locals 33 0 outer (0 ∷ nest_locals 0 inner (nest_statement 0 start (nest_row 0 more (0 ∷ 0 ∷ levels))))
       (after_heading 33 0 h (nest_locals 0 outer (0 ∷ nest_locals 0 inner (nest_statement 0 start (nest_row 0 more (0 ∷ 0 ∷ levels))))) deep)).1) in
-      let bb = bodies program locals (printed_scope s) files (systems lines all pr.count h outer inner local_fine) 0 w body v ends hb.rest (omega arith) stands.row hb.later in
+      let bb = bodies program locals (printed_scope s) files 0 w body v ends hb.rest (omega arith) stands.row hb.later in
       let fe = first bb.later in
       let fs = first fe.later in
       let scope = scope_of printed_names files.names pr.count hb.heading hb.locals in

@@ -27,7 +27,7 @@ use Rattle.tal_pieces.proofs.Texts.LaterLevels.{after_heading, after_locals}
 use Rattle.tal_pieces.proofs.Standing.LevelsAfter.{after_statement, after_row}
 use Rattle.tal_pieces.proofs.Texts.OneProcedureBack.{program, names, printed_names, files, procedure_back}
 use Rattle.tal_pieces.proofs.Scopes.SourceNames.{SourceNames}
-use Rattle.tal_pieces.proofs.Scopes.SourceScopes.{ScopesAgree, SystemsStay}
+use Rattle.tal_pieces.proofs.Scopes.SourceScopes.{ScopesAgree}
 use Rattle.tal_pieces.proofs.Standing.SourceStands.{BodiesStand}
 use Rattle.tal_pieces.proofs.Standing.Stands.{first_files}
 use Rattle.tal_pieces.proofs.Bodies.StatementsBack.{BodiesReadBack}
@@ -57,15 +57,15 @@ after_procedures (g.procedure h outer begin inner first more end last) ls held =
 module _ (lines : g.Lines) (all : g.Procedures) (finish : At) (fine : faults (g.text lines all finish) ≡ [])
     (bodies : (p : Program) (locals : List (List ℕ)) (s : Scope) (f : Files) → BodiesReadBack p locals s f)
     (stand : (p : Program) (locals : List (List ℕ)) (s : Scope) (f : Files) → SourceNames s → BodiesStand p locals s f)
-    (agree : ScopesAgree) (systems : SystemsStay) (headings : HeadingsReadBack) where
+    (agree : ScopesAgree) (headings : HeadingsReadBack) where
   abbrev globals : Declarations
-  globals = names lines all finish fine bodies stand agree systems headings
+  globals = names lines all finish fine bodies stand agree headings
 
   abbrev printed_globals : Declarations
-  printed_globals = printed_names lines all finish fine bodies stand agree systems headings
+  printed_globals = printed_names lines all finish fine bodies stand agree headings
 
   abbrev opened_files : Files
-  opened_files = files lines all finish fine bodies stand agree systems headings
+  opened_files = files lines all finish fine bodies stand agree headings
 
   -- the tokens begin with procedures that have no fault and are the same but for lines
   pub record ProceduresBack (hd : Headed) (pr : Progress) (f : Files) (ps : g.Procedures) (ks : List Piece) (tokens : List Token) : Type 0 where
@@ -86,7 +86,7 @@ module _ (lines : g.Lines) (all : g.Procedures) (finish : At) (fine : faults (g.
   pub procedures_back : (hd : Headed) (pr : Progress) (f : Files) (ps : g.Procedures) (levels : List ℕ) (ks : List Piece) (tokens : List Token)
       → headings_faults hd ps ≡ [] → procedures_faults globals opened_files.names pr ps ≡ []
       → OpenedSoFar pr.walk.files f → Extends opened_files (files_from globals pr.count f ps) → AllAtMost 33 (nest_procedures 0 ps levels)
-      → AreTokens (flagged (program lines all finish fine bodies stand agree systems headings) (marked globals opened_files.names pr ps) ks) tokens
+      → AreTokens (flagged (program lines all finish fine bodies stand agree headings) (marked globals opened_files.names pr ps) ks) tokens
       → ProceduresBack hd pr f ps ks tokens
   procedures_back hd pr f g.no_procedures levels ks tokens eh ep counted extends deep a = record {
     syntax = g.no_procedures;
@@ -105,8 +105,8 @@ module _ (lines : g.Lines) (all : g.Procedures) (finish : At) (fine : faults (g.
   procedures_back hd pr f (g.more_procedures (g.procedure h outer begin inner start others end last) rest) levels ks tokens eh ep counted extends deep a =
       let q = g.procedure h outer begin inner start others end last in
       let next = after_procedure globals opened_files.names pr q in
-      let one = procedure_back lines all finish fine bodies stand agree systems headings hd pr f q (nest_procedures 0 rest levels)
-      (flagged (program lines all finish fine bodies stand agree systems headings) (marked globals opened_files.names next rest) ks) tokens
+      let one = procedure_back lines all finish fine bodies stand agree headings hd pr f q (nest_procedures 0 rest levels)
+      (flagged (program lines all finish fine bodies stand agree headings) (marked globals opened_files.names next rest) ks) tokens
       (first_nil (heading_faults hd h) (headings_faults (with_heading hd h) rest) eh)
       (first_nil (procedure_faults globals opened_files.names pr q) (procedures_faults globals opened_files.names next rest) ep)
       counted (extends_on extends (files_grow globals next.count (procedure_files globals pr.count f q) rest)) deep a in

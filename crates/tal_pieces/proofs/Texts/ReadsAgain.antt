@@ -11,7 +11,6 @@ use Rattle.tal_pieces.proofs.Standing.BodiesStand.{bodies_stand}
 use Rattle.tal_pieces.proofs.Spelling.Cut.{cuts}
 use Rattle.tal_pieces.proofs.Declarations.HeadingsBack.{headings_read_back}
 use Rattle.tal_pieces.proofs.Declarations.ItemsBack.{lines_read_back}
-use Rattle.tal_pieces.proofs.Scopes.LocalNames.{systems_stay}
 use Rattle.tal_pieces.proofs.Bodies.RowBack.{bodies_read_back}
 use Rattle.tal_pieces.proofs.Scopes.ScopesAgree.{scopes_agree, file_items_are_simple}
 use Rattle.tal_pieces.proofs.Texts.TextBack.{text_back}
@@ -21,7 +20,7 @@ pub reads_again : (program : Program) (source : List ℕ) → Reads source progr
 reads_again program source reads =
     let t = reads.0 in
     let cut = cuts (printed (tree_of t)) (printed_can_be_spelled source t reads.1.1 reads.2) in
-    let back = text_back bodies_read_back bodies_stand scopes_agree systems_stay file_items_are_simple headings_read_back lines_read_back
+    let back = text_back bodies_read_back bodies_stand scopes_agree file_items_are_simple headings_read_back lines_read_back
     t cut.list reads.2 reads.1.2 cut.pieces in
     subst (λ p. ReadsAgain (spelled (printed p)) p) (sym reads.3) (record {
       again = tree_of back.syntax;

@@ -29,7 +29,7 @@ use Rattle.tal_pieces.proofs.Declarations.ItemsBack.{low_level}
 use Rattle.tal_pieces.proofs.Texts.LaterLevels.{after_lines}
 use Rattle.tal_pieces.proofs.Texts.ProceduresBack.{last_progress, procedures_back}
 use Rattle.tal_pieces.proofs.Scopes.SourceNames.{SourceNames}
-use Rattle.tal_pieces.proofs.Scopes.SourceScopes.{ScopesAgree, SystemsStay, FileItemsAreSimple}
+use Rattle.tal_pieces.proofs.Scopes.SourceScopes.{ScopesAgree, FileItemsAreSimple}
 use Rattle.tal_pieces.proofs.Standing.SourceStands.{BodiesStand}
 use Rattle.tal_pieces.proofs.Standing.Stands.{first_files}
 use Rattle.tal_pieces.proofs.Bodies.StatementsBack.{BodiesReadBack}
@@ -104,7 +104,7 @@ module _ (lines : g.Lines) (ps : g.Procedures) (finish : At) (items : List Item)
 
 module _ (bodies : (p : Program) (locals : List (List ℕ)) (s : Scope) (f : Files) → BodiesReadBack p locals s f)
     (stand : (p : Program) (locals : List (List ℕ)) (s : Scope) (f : Files) → SourceNames s → BodiesStand p locals s f)
-    (agree : ScopesAgree) (systems : SystemsStay) (simple : FileItemsAreSimple) (headings : HeadingsReadBack) (read_lines : LinesReadBack) where
+    (agree : ScopesAgree) (simple : FileItemsAreSimple) (headings : HeadingsReadBack) (read_lines : LinesReadBack) where
   pub text_back : (t : g.Text) (tokens : List Token) → faults t ≡ [] → AllAtMost 33 (nest_text t) → AreTokens (printed (tree_of t)) tokens → TextBack t tokens
   text_back (g.text lines ps finish) tokens fine deep a =
       let d = with_lines nothing_declared lines in
@@ -131,7 +131,7 @@ module _ (bodies : (p : Program) (locals : List (List ℕ)) (s : Scope) (f : Fil
       let a' : AreTokens (items_pieces (items_with opened.names d.items) (flagged p (marked globals opened.names first_progress ps) [])) tokens
       = subst (λ ks. AreTokens (items_pieces (items_with opened.names d.items) ks) tokens) (main_pieces_are p.main number) a in
       let lb = read_lines lines opened.names (flagged p (marked globals opened.names first_progress ps) []) tokens lines_fine (simple lines ps finish fine) a' in
-      let pb = procedures_back lines ps finish fine bodies stand agree systems headings hd first_progress no_files ps (0 ∷ []) [] lb.rest
+      let pb = procedures_back lines ps finish fine bodies stand agree headings hd first_progress no_files ps (0 ∷ []) [] lb.rest
       headings_fine bodies_fine none_opened (extends_itself opened)
       (after_lines 33 0 lines (nest_procedures 0 ps (0 ∷ [])) deep) lb.later in
       let done = ended pb.later in

@@ -14,7 +14,7 @@ use Rattle.tal_names.specs.declared.scope.Scope.{Scope}
 use Rattle.tal_names.specs.declared.system.System.{System}
 use Rattle.tal_names.specs.declared.system.System.TheVariants as system
 use Rattle.tal_declarations.specs.Files.{target_of, file_by, depth_of, with_file, simple_global, depth_value, opened_as, opened_named, opened, call_files, statement_files, else_files, row_files}
-use Rattle.tal_names.specs.Systems.{call_of}
+use Rattle.tal_names.specs.Systems.{system_of}
 use Rattle.tal_names.specs.Names.{is_declared}
 use Rattle.tal_names.specs.Places.{name_of_argument, further_arguments, arguments_of}
 use Rattle.tal_rules.specs.Texts.{first_progress}
@@ -143,7 +143,7 @@ module _ (s : Scope) where
         let low = rest_of_expr from (tok.To to_at ∷ g.of_expr to (tok.Do do_at ∷ g.of_statement t ks)) a.1.1.1 in
         files_statement t f ks h (rest_of_expr to (tok.Do do_at ∷ g.of_statement t ks) low.1).1
     files_statement (g.call head at name arguments) f ks h a =
-        files_called f (arguments_of arguments) (call_of s.locals name) h (target_arguments arguments ks a.1.1)
+        files_called f (arguments_of arguments) (system_of name) h (target_arguments arguments ks a.1.1)
     files_statement (g.return head given) f ks h a = h
     files_statement (g.assign target at e) f ks h a = h
     files_statement (g.assign_call target at name_at name start first more close) f ks h a = h

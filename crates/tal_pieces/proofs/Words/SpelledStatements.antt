@@ -13,7 +13,7 @@ use Rattle.tal_names.specs.declared.scope.Scope.{Scope}
 use Rattle.tal_rules.specs.declared.walk.Walk.{Walk}
 use Rattle.tal_names.specs.declared.system.System.{System}
 use Rattle.tal_names.specs.declared.system.System.TheVariants as system
-use Rattle.tal_names.specs.Systems.{call_of}
+use Rattle.tal_names.specs.Systems.{system_of}
 use Rattle.tal_names.specs.Places.{name_of_expr, further_arguments, arguments_of}
 use Rattle.tal_names.specs.Scopes.{meaning_of}
 use Rattle.tal_rules.specs.Statements.{stepped, after}
@@ -139,7 +139,7 @@ module _ (p : Program) (locals : List (List ℕ)) (names : NamesSpell p) (own : 
         )
     words_statement (g.call head at name a) w ks h =
         let r = words_arguments a ks h.1.1 in
-        ((call_spells name (arguments_of a) (call_of s.locals name) r.0, tt), r.1)
+        ((call_spells name (arguments_of a) (system_of name) r.0, tt), r.1)
     words_statement (g.return head a) w ks h =
         let r = words_answer a ks h.1 in
         ((r.0, tt), r.1)

@@ -1,6 +1,6 @@
 -- Every piece of a printed program can be spelled.
 use Rattle.std.proofs.Common.{ℕ, zero, suc, List, [], ◌∷◌, ◌++◌, length, min, subst}
-use Rattle.std.specs.Prelude.{slice_get, option_map, Option, Some, None}
+use Rattle.std.specs.Prelude.{slice_get, option_map, Bool, true, false, Option, Some, None, is_some, if◌then◌else◌}
 use Rattle.tal_tokens.specs.declared.token.Token.{Token}
 use Rattle.tal_tokens.specs.declared.token.Token.TheVariants as tok
 use Rattle.tal_syntax.specs.Grammar as g
@@ -9,6 +9,7 @@ use Rattle.tal_tree.specs.declared.program.Item.{Item}
 use Rattle.tal_tree.specs.declared.program.Procedure.{Procedure}
 use Rattle.tal_tree.specs.declared.program.Program.{Program}
 use Rattle.tal_tree.specs.declared.program.Shape.{Shape}
+use Rattle.tal_names.specs.declared.meaning.Meaning.{Meaning}
 use Rattle.tal_names.specs.declared.meaning.Meaning.TheVariants as m
 use Rattle.tal_declarations.specs.declared.table.Files.{Files}
 use Rattle.tal_declarations.specs.declared.table.Headed.{Headed}
@@ -19,7 +20,8 @@ use Rattle.tal_rules.specs.declared.walk.Walk.{Walk}
 use Rattle.tal_rules.specs.Calls.{file_number}
 use Rattle.tal_declarations.specs.Globals.{with_lines, nothing_declared}
 use Rattle.tal_declarations.specs.Headings.{parameters_of, locals_of, with_local, with_locals, does_give, with_heading, heading_of, with_headings}
-use Rattle.tal_names.specs.Names.{Declarations, meaning_in}
+use Rattle.tal_names.specs.Names.{Declarations, meaning_in, with_name}
+use Rattle.tal_names.specs.Systems.{system_of}
 use Rattle.tal_rules.specs.Statements.{after}
 use Rattle.tal_rules.specs.Texts.{scope_of, locals_by, entered, next_procedure, after_procedure, first_progress, headed_after, headed_text, procedure_files, files_from, files_by, no_files}
 use Rattle.tal_trees.specs.Programs.{shape_by, items_with, texts_of, name_by, parameters_by, trees_of, tree_of}
@@ -79,7 +81,14 @@ own_fit (g.heading gives proc at name listed main end) inner =
 -- headings declare no LITERALs
 heading_fits : (h : g.Heading) (x : Headed) → AreFitting x.names → AreFitting (with_heading x h).names
 heading_fits (g.heading gives proc at name listed main end) x f =
-    with_fits x.names name (m.Procedure x.count (does_give gives) (length (parameters_of listed))) f tt
+    by (is_some (system_of name))
+  where
+    own : Meaning
+    own = m.Procedure x.count (does_give gives) (length (parameters_of listed))
+
+    by : (taken : Bool) → AreFitting (if taken then x.names else with_name x.names name own)
+    by true = f
+    by false = with_fits x.names name own f tt
 
 headings_fit : (ps : g.Procedures) (x : Headed) → AreFitting x.names → AreFitting (with_headings x ps).names
 headings_fit g.no_procedures x f = f
