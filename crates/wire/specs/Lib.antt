@@ -1,3 +1,4 @@
+pub mod Buses
 pub mod Layout
 pub mod Pieces
 pub mod Telling

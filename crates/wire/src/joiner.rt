@@ -1,16 +1,15 @@
-ghost use Rattle.std.specs.Prelude.{◌≡◌, [], OnOk, IfOk};
+ghost use Rattle.std.specs.Prelude.{◌≡◌, [], OnOk, OnErr, IfOk};
 ghost use Rattle.wire.specs.Pieces.{joined, completed};
 
 use crate::piece::Piece;
 use gd_words::{List, NoMemory};
 use std::alloc::Global;
 use std::marker::Model;
-use std::mem;
 
-/// The words of a message's pieces that came, none at its beginning.
+/// The words of a message's pieces that came, none at its beginning. Room that it has once it keeps for the messages to come.
 #[derive(Drop)]
 pub struct Joiner {
-    words: List<i16>,
+    words: Vec<i16>,
     alloc: Global,
 }
 
@@ -19,7 +18,7 @@ impl Model for Joiner {
 
     ghost Value = { Items ℤ };
 
-    ghost view = { λ joiner. joiner.words };
+    ghost view = { λ joiner. joiner.words.items };
 }
 
 impl Joiner {
@@ -28,21 +27,26 @@ impl Joiner {
         ensures { result ≡ [] }
     {
         Joiner {
-            words: List::new(alloc),
+            words: Vec::new(alloc),
             alloc,
         }
     }
 
-    /// Adds a piece; at a last one it gives the message, and the next begins.
+    /// Adds a piece; at a last one it gives the message, and the next begins. Without memory nothing changes.
     pub fn add(&mut self, piece: &Piece) -> Result<Option<List<i16>>, NoMemory>
         ensures message { IfOk result (λ message. message ≡ completed piece.now self.old) }
         ensures left { OnOk result (self.new ≡ joined piece.now self.old) }
+        ensures err { OnErr result (self.new ≡ self.old) }
     {
-        self.words.extend_from_slice(piece.words.as_slice())?;
+        let more = piece.words.as_slice();
         if piece.last {
-            let message = mem::replace(&mut self.words, List::new(self.alloc));
-            Ok(Some(message))
+            let mut message = Vec::with_capacity(self.alloc, self.words.len() + more.len())?;
+            message.extend_from_slice(self.words.as_slice())?;
+            message.extend_from_slice(more)?;
+            self.words.clear();
+            Ok(Some(List::from_vec(message)))
         } else {
+            self.words.extend_from_slice(more)?;
             Ok(None)
         }
     }
@@ -51,6 +55,6 @@ impl Joiner {
     pub fn clear(&mut self)
         ensures { self.new ≡ [] }
     {
-        self.words = List::new(self.alloc);
+        self.words.clear();
     }
 }

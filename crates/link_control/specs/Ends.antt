@@ -1,0 +1,187 @@
+-- One end of a channel: what it has, and what each call makes of it. That messages go in numbered packets, acknowledged and sent again over two buses, is
+-- Bartlett's; one outstanding piece at a time, and when it is sent again, are our own.
+use Rattle.std.specs.Prelude.{ℕ, ◌+◌, ◌*◌, ◌==◌, ◌&&◌, not, nat_lt, nat_le, ℤ, Bool, true, false, List, [], ◌∷◌, ◌++◌, length, Option, Some, None, if◌then◌else◌}
+use Rattle.std.specs.Option.{option_map}
+use Rattle.wire.specs.declared.bus_name.BusName.{BusName}
+use Rattle.wire.specs.declared.bus_name.BusName.TheVariants as bus
+use Rattle.wire.specs.declared.piece.Piece.{Piece}
+use Rattle.wire.specs.declared.packet.Packet.{Packet}
+use Rattle.wire.specs.declared.packet.Incarnation.{Incarnation}
+use Rattle.wire.specs.declared.packet.PacketKind.{PacketKind}
+use Rattle.wire.specs.declared.packet.PacketKind.TheVariants as kind
+use Rattle.wire.specs.Buses.{other_bus}
+use Rattle.wire.specs.Pieces.{piece_at, joined, completed}
+use Rattle.link_control.specs.declared.channel.Resent.{Resent}
+
+-- the sender's end of one direction: the messages that aren't acknowledged whole, the oldest first; which piece of the first of them is outstanding,
+-- counted from 0; how many pieces were numbered so far, the outstanding one last; whether that one was outstanding at the last tick; and the bus over
+-- which it is sent again next. A piece is outstanding exactly where there is such a message
+pub record Sending : Type 0 where
+  pub queue : List (List ℤ)
+  pub place : ℕ
+  pub numbered : ℕ
+  pub waited : Bool
+  pub resend_bus : BusName
+
+-- the receiver's end of one direction: the number of the last piece kept, and the words of the message in part
+pub record Receiving : Type 0 where
+  pub kept : ℕ
+  pub part : List ℤ
+
+-- one node's end of the channel with another: the sender's end of the direction there, the receiver's end of the direction here, and whether this node has
+-- marked the other down
+pub record End : Type 0 where
+  pub here : ℕ
+  pub there : ℕ
+  pub incarnation : Incarnation
+  pub sending : Sending
+  pub receiving : Receiving
+  pub down : Bool
+
+-- nothing is outstanding, after so many pieces
+abbrev pub idle_after : ℕ → Sending
+idle_after numbered = record { queue = []; place = 0; numbered = numbered; waited = false; resend_bus = bus.Y }
+
+-- nothing is kept in part, after so many pieces
+abbrev pub nothing_in_part : ℕ → Receiving
+nothing_in_part kept = record { kept = kept; part = [] }
+
+abbrev pub new_end : ℕ → ℕ → Incarnation → End
+new_end here there incarnation = record {
+  here = here;
+  there = there;
+  incarnation = incarnation;
+  sending = idle_after 0;
+  receiving = nothing_in_part 0;
+  down = false;
+}
+
+-- The sender's end
+
+-- the piece at this place of the first message is numbered and becomes outstanding
+abbrev pub numbered_at : ℕ → List (List ℤ) → ℕ → Sending
+numbered_at place queue numbered = record { queue = queue; place = place; numbered = numbered + 1; waited = false; resend_bus = bus.Y }
+
+-- the first piece of the first message becomes outstanding, where there is a message
+abbrev pub begun : List (List ℤ) → ℕ → Sending
+begun [] numbered = idle_after numbered
+begun (message ∷ rest) numbered = numbered_at 0 (message ∷ rest) numbered
+
+abbrev pub is_none : List (List ℤ) → Bool
+is_none [] = true
+is_none (message ∷ rest) = false
+
+abbrev pub is_idle : Sending → Bool
+is_idle s = is_none s.queue
+
+-- a message is pushed: it goes at once where nothing is outstanding, and else waits behind the others
+abbrev pub pushed : List ℤ → Sending → Sending
+pushed message s = if is_idle s then begun (message ∷ []) s.numbered else record s { queue = s.queue ++ message ∷ [] }
+
+-- the next piece becomes outstanding: of the first message, or of the one behind it where no words are left
+abbrev pub moved_on : List (List ℤ) → Sending → Sending
+moved_on [] s = s
+moved_on (message ∷ rest) s =
+    if nat_lt (10 * (s.place + 1)) (length message) then numbered_at (s.place + 1) (message ∷ rest) s.numbered else begun rest s.numbered
+
+-- whether an acknowledgement is that of the outstanding piece
+abbrev pub is_ended_by : ℕ → Sending → Bool
+is_ended_by number s = not (is_idle s) && (number == s.numbered)
+
+-- an acknowledgement came
+abbrev pub acknowledged : ℕ → Sending → Sending
+acknowledged number s = if is_ended_by number s then moved_on s.queue s else s
+
+-- whether a tick sends the outstanding piece again
+abbrev pub is_sent_again : Sending → Bool
+is_sent_again s = not (is_idle s) && s.waited
+
+-- a tick: what was outstanding at the last one goes over its bus, and next over the other
+abbrev pub ticked : Sending → Sending
+ticked s = if is_idle s then s else if s.waited then record s { resend_bus = other_bus s.resend_bus } else record s { waited = true }
+
+-- the outstanding piece
+abbrev pub piece_of : List (List ℤ) → ℕ → Option Piece
+piece_of [] place = None
+piece_of (message ∷ rest) place = piece_at place message
+
+-- The receiver's end
+
+-- a piece is kept where its number follows the last kept one
+abbrev pub is_next : ℕ → Receiving → Bool
+is_next number r = number == r.kept + 1
+
+-- a piece came
+abbrev pub kept : ℕ → Piece → Receiving → Receiving
+kept number piece r = if is_next number r then record { kept = r.kept + 1; part = joined piece r.part } else r
+
+-- the message that is handed over as a piece comes: it is whole where the piece is kept and the last
+abbrev pub handed : ℕ → Piece → Receiving → Option (List ℤ)
+handed number piece r = if is_next number r then completed piece r.part else None
+
+-- whether a piece that comes is acknowledged: it is kept now, or was before
+abbrev pub is_answered : ℕ → Receiving → Bool
+is_answered number r = nat_le number (r.kept + 1)
+
+-- The calls
+
+-- a packet of this end
+abbrev pub packet_of : End → PacketKind → Packet
+packet_of e kind = record { sender = e.here; receiver = e.there; incarnation = e.incarnation; kind = kind }
+
+-- the packet of the outstanding piece
+abbrev pub outstanding : End → Option Packet
+outstanding e = option_map (λ piece. packet_of e (kind.Piece e.sending.numbered piece)) (piece_of e.sending.queue e.sending.place)
+
+-- a message is pushed; to a node that is marked down it is thrown away
+abbrev pub after_push : List ℤ → End → End
+after_push message e = if e.down then e else record e { sending = pushed message e.sending }
+
+-- what a push sends: the first piece, where nothing was outstanding
+abbrev pub sent_by_push : List ℤ → End → Option Packet
+sent_by_push message e = if e.down then None else if is_idle e.sending then outstanding (after_push message e) else None
+
+abbrev pub after_kind : PacketKind → End → End
+after_kind kind.Alive e = e
+after_kind (kind.Piece number piece) e = record e { receiving = kept number piece e.receiving }
+after_kind (kind.Acknowledgement number) e = record e { sending = acknowledged number e.sending }
+
+-- a packet comes: a piece concerns the receiver's end, an acknowledgement the sender's; of a node that is marked down it is dropped
+abbrev pub after_packet : Packet → End → End
+after_packet packet e = if e.down then e else after_kind packet.kind e
+
+abbrev pub sent_by_kind : PacketKind → End → Option Packet
+sent_by_kind kind.Alive e = None
+sent_by_kind (kind.Piece number piece) e = if is_answered number e.receiving then Some (packet_of e (kind.Acknowledgement number)) else None
+sent_by_kind (kind.Acknowledgement number) e = if is_ended_by number e.sending then outstanding (after_kind (kind.Acknowledgement number) e) else None
+
+-- what a packet makes this end send: a piece its acknowledgement, an acknowledgement the next piece
+abbrev pub sent_by_packet : Packet → End → Option Packet
+sent_by_packet packet e = if e.down then None else sent_by_kind packet.kind e
+
+abbrev pub handed_by_kind : PacketKind → End → Option (List ℤ)
+handed_by_kind kind.Alive e = None
+handed_by_kind (kind.Piece number piece) e = handed number piece e.receiving
+handed_by_kind (kind.Acknowledgement number) e = None
+
+-- the message that is handed over as a packet comes
+abbrev pub handed_by_packet : Packet → End → Option (List ℤ)
+handed_by_packet packet e = if e.down then None else handed_by_kind packet.kind e
+
+-- a tick of the node
+abbrev pub after_tick : End → End
+after_tick e = if e.down then e else record e { sending = ticked e.sending }
+
+-- what a tick sends again, and over which bus
+abbrev pub sent_by_tick : End → Option Resent
+sent_by_tick e =
+    if e.down then None
+    else if is_sent_again e.sending then option_map (λ packet. record { bus = e.sending.resend_bus; packet = packet }) (outstanding e) else None
+
+-- the other node is marked down: what is queued, outstanding or kept in part is thrown away
+abbrev pub after_down : End → End
+after_down e = record e { sending = idle_after e.sending.numbered; receiving = nothing_in_part e.receiving.kept; down = true }
+
+-- whether nothing is outstanding or queued
+abbrev pub is_empty : End → Bool
+is_empty e = is_idle e.sending

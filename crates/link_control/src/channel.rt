@@ -1,0 +1,196 @@
+ghost use Rattle.std.specs.Prelude.{◌≡◌, ◌<◌, List as Items, length, IfOk, OnOk, OnErr, Some, None, if◌then◌else◌};
+ghost use Rattle.wire.specs.declared.packet.PacketKind.TheVariants as kind;
+ghost use Rattle.link_control.specs.Ends.{End, new_end, after_push, sent_by_push, after_packet, sent_by_packet, handed_by_packet, after_tick, sent_by_tick, after_down, is_empty, outstanding, packet_of, is_answered, kept, handed};
+
+use crate::sender::Sender;
+use gd_words::{List, NoMemory};
+use std::alloc::Global;
+use std::marker::Model;
+use wire::{BusName, Incarnation, Joiner, Packet, PacketKind, Piece};
+
+/// What a packet that came makes a channel send and hand over.
+#[derive(Drop)]
+pub struct Arrived {
+    pub send: Option<Packet>,
+    pub delivered: Option<List<i16>>,
+}
+
+/// A packet that is sent again, and over which bus.
+#[derive(Drop)]
+pub struct Resent {
+    pub bus: BusName,
+    pub packet: Packet,
+}
+
+/// One node's end of the channel with one node, which may be itself.
+#[derive(Drop)]
+pub struct Channel {
+    from: u8,
+    to: u8,
+    incarnation: Incarnation,
+    sender: Sender,
+    kept: u32,
+    joiner: Joiner,
+    down: bool,
+}
+
+impl Model for Channel {
+    ghost use Rattle.link_control.specs.Ends.{End};
+
+    ghost Value = { End };
+
+    ghost view = { λ channel. record {
+      here = channel.from;
+      there = channel.to;
+      incarnation = channel.incarnation;
+      sending = channel.sender;
+      receiving = record { kept = channel.kept; part = channel.joiner };
+      down = channel.down;
+    } };
+}
+
+impl Channel {
+    /// The end at `from` of a channel over which nothing has gone. Its packets bear the incarnation.
+    pub fn new(alloc: Global, from: u8, to: u8, incarnation: Incarnation) -> Channel
+        ensures { result ≡ new_end from to incarnation }
+    {
+        Channel {
+            from,
+            to,
+            incarnation,
+            sender: Sender::new(alloc),
+            kept: 0,
+            joiner: Joiner::new(alloc),
+            down: false,
+        }
+    }
+
+    /// Takes a message to be sent; it gives the packet that goes out now, over bus X. Without memory nothing changes.
+    pub fn push(&mut self, message: List<i16>) -> Result<Option<Packet>, NoMemory>
+        requires numbered { self.old.sending.numbered < 4294967295 }
+        requires some { 0 < length message }
+        ensures sent { IfOk result (λ packet. packet ≡ sent_by_push message self.old) }
+        ensures after { OnOk result (self.new ≡ after_push message self.old) }
+        ensures err { OnErr result (self.new ≡ self.old) }
+    {
+        if self.down {
+            return Ok(None);
+        }
+        let was_idle = self.sender.is_idle();
+        self.sender.push(message)?;
+        if was_idle {
+            Ok(self.outstanding())
+        } else {
+            Ok(None)
+        }
+    }
+
+    /// Treats a packet that came from the other node. A piece that it sends goes over bus X, an acknowledgement over the bus by
+    /// which the packet came. Without memory nothing changes.
+    pub fn on_packet(&mut self, packet: &Packet) -> Result<Arrived, NoMemory>
+        requires numbered { self.old.sending.numbered < 4294967295 }
+        requires kept { self.old.receiving.kept < 4294967295 }
+        ensures sent { IfOk result (λ arrived. arrived.send ≡ sent_by_packet packet.now self.old) }
+        ensures delivered { IfOk result (λ arrived. arrived.delivered ≡ handed_by_packet packet.now self.old) }
+        ensures after { OnOk result (self.new ≡ after_packet packet.now self.old) }
+        ensures err { OnErr result (self.new ≡ self.old) }
+    {
+        let mut arrived = Arrived {
+            send: None,
+            delivered: None,
+        };
+        if self.down {
+            return Ok(arrived);
+        }
+        match &packet.kind {
+            PacketKind::Alive => {}
+            PacketKind::Piece { number, piece } => {
+                arrived.send = self.answer(*number);
+                arrived.delivered = self.keep(*number, piece)?;
+            }
+            PacketKind::Acknowledgement { number } => {
+                if self.sender.acknowledge(*number) {
+                    arrived.send = self.outstanding();
+                }
+            }
+        }
+        Ok(arrived)
+    }
+
+    /// Takes a tick of the node; it gives what is sent again.
+    pub fn on_tick(&mut self) -> Option<Resent>
+        ensures sent { result ≡ sent_by_tick self.old }
+        ensures after { self.new ≡ after_tick self.old }
+    {
+        if self.down {
+            return None;
+        }
+        let bus = self.sender.resend_bus();
+        if !self.sender.tick() {
+            return None;
+        }
+        let packet = self.outstanding()?;
+        Some(Resent { bus, packet })
+    }
+
+    /// The other node was marked down: all is thrown away, and nothing is sent or taken any more.
+    pub fn down(&mut self)
+        ensures { self.new ≡ after_down self.old }
+    {
+        self.sender.clear();
+        self.joiner.clear();
+        self.down = true;
+    }
+
+    /// Whether nothing is outstanding or queued.
+    pub fn is_empty(&self) -> bool
+        ensures { result ≡ is_empty self.now }
+    {
+        self.sender.is_idle()
+    }
+
+    fn packet_of(&self, kind: PacketKind) -> Packet
+        ensures { result ≡ packet_of self.now kind }
+    {
+        Packet {
+            sender: self.from,
+            receiver: self.to,
+            incarnation: self.incarnation,
+            kind,
+        }
+    }
+
+    fn outstanding(&self) -> Option<Packet>
+        ensures { result ≡ outstanding self.now }
+    {
+        let piece = self.sender.piece()?;
+        let number = self.sender.numbered();
+        Some(self.packet_of(PacketKind::Piece { number, piece }))
+    }
+
+    fn answer(&self, number: u32) -> Option<Packet>
+        requires { self.now.receiving.kept < 4294967295 }
+        ensures { result ≡ (if is_answered number self.now.receiving then Some (packet_of self.now (kind.Acknowledgement number)) else None) }
+    {
+        if number <= self.kept + 1 {
+            Some(self.packet_of(PacketKind::Acknowledgement { number }))
+        } else {
+            None
+        }
+    }
+
+    fn keep(&mut self, number: u32, piece: &Piece) -> Result<Option<List<i16>>, NoMemory>
+        requires { self.old.receiving.kept < 4294967295 }
+        ensures delivered { IfOk result (λ message. message ≡ handed number piece.now self.old.receiving) }
+        ensures after { OnOk result (self.new ≡ record self.old { receiving = kept number piece.now self.old.receiving }) }
+        ensures err { OnErr result (self.new ≡ self.old) }
+    {
+        if number == self.kept + 1 {
+            let message = self.joiner.add(piece)?;
+            self.kept += 1;
+            Ok(message)
+        } else {
+            Ok(None)
+        }
+    }
+}
