@@ -1,6 +1,6 @@
 -- One end of a channel: what it has, and what each call makes of it. That messages go in numbered packets, acknowledged and sent again over two buses, is
 -- Bartlett's; one outstanding piece at a time, and when it is sent again, are our own.
-use Rattle.std.specs.Prelude.{ℕ, ◌+◌, ◌*◌, ◌==◌, ◌&&◌, not, nat_lt, nat_le, ℤ, Bool, true, false, List, [], ◌∷◌, ◌++◌, length, Option, Some, None, if◌then◌else◌}
+use Rattle.std.specs.Prelude.{ℕ, ◌+◌, ◌*◌, ◌<◌, ◌==◌, ◌&&◌, not, nat_lt, nat_le, ℤ, Bool, true, false, List, [], ◌∷◌, ◌++◌, length, Option, Some, None, if◌then◌else◌}
 use Rattle.std.specs.Option.{option_map}
 use Rattle.wire.specs.declared.bus_name.BusName.{BusName}
 use Rattle.wire.specs.declared.bus_name.BusName.TheVariants as bus
@@ -185,3 +185,7 @@ after_down e = record e { sending = idle_after e.sending.numbered; receiving = n
 -- whether nothing is outstanding or queued
 abbrev pub is_empty : End → Bool
 is_empty e = is_idle e.sending
+
+-- whether one more piece can be numbered, and one more kept: numbers end at 4,294,967,295
+abbrev pub HasNumbersLeft : End → Type 0
+HasNumbersLeft e = (e.sending.numbered < 4294967295) × (e.receiving.kept < 4294967295)

@@ -1,6 +1,6 @@
-ghost use Rattle.std.specs.Prelude.{◌≡◌, ◌<◌, List as Items, length, IfOk, OnOk, OnErr, Some, None, if◌then◌else◌};
+ghost use Rattle.std.specs.Prelude.{◌≡◌, ◌<◌, ◌↔◌, IsTrue, List as Items, length, IfOk, OnOk, OnErr, Some, None, if◌then◌else◌};
 ghost use Rattle.wire.specs.declared.packet.PacketKind.TheVariants as kind;
-ghost use Rattle.link_control.specs.Ends.{End, new_end, after_push, sent_by_push, after_packet, sent_by_packet, handed_by_packet, after_tick, sent_by_tick, after_down, is_empty, outstanding, packet_of, is_answered, kept, handed};
+ghost use Rattle.link_control.specs.Ends.{End, new_end, after_push, sent_by_push, after_packet, sent_by_packet, handed_by_packet, after_tick, sent_by_tick, after_down, is_empty, HasNumbersLeft, outstanding, packet_of, is_answered, kept, handed};
 
 use crate::sender::Sender;
 use gd_words::{List, NoMemory};
@@ -147,6 +147,13 @@ impl Channel {
         ensures { result ≡ is_empty self.now }
     {
         self.sender.is_idle()
+    }
+
+    /// Whether one more piece can be numbered, and one more kept.
+    pub fn has_numbers_left(&self) -> bool
+        ensures { IsTrue result ↔ HasNumbersLeft self.now }
+    {
+        self.sender.numbered() < u32::MAX && self.kept < u32::MAX
     }
 
     fn packet_of(&self, kind: PacketKind) -> Packet
