@@ -119,9 +119,9 @@ kept number piece r = if is_next number r then record { kept = r.kept + 1; part 
 abbrev pub handed : ℕ → Piece → Receiving → Option (List ℤ)
 handed number piece r = if is_next number r then completed piece r.part else None
 
--- whether a piece that comes is acknowledged: it is kept now, or was before
-abbrev pub is_answered : ℕ → Receiving → Bool
-is_answered number r = nat_le number (r.kept + 1)
+-- whether the piece of this number is kept, now or before
+abbrev pub is_kept : ℕ → Receiving → Bool
+is_kept number r = nat_le number r.kept
 
 -- The calls
 
@@ -152,10 +152,10 @@ after_packet packet e = if e.down then e else after_kind packet.kind e
 
 abbrev pub sent_by_kind : PacketKind → End → Option Packet
 sent_by_kind kind.Alive e = None
-sent_by_kind (kind.Piece number piece) e = if is_answered number e.receiving then Some (packet_of e (kind.Acknowledgement number)) else None
+sent_by_kind (kind.Piece number piece) e = if is_kept number (kept number piece e.receiving) then Some (packet_of e (kind.Acknowledgement number)) else None
 sent_by_kind (kind.Acknowledgement number) e = if is_ended_by number e.sending then outstanding (after_kind (kind.Acknowledgement number) e) else None
 
--- what a packet makes this end send: a piece its acknowledgement, an acknowledgement the next piece
+-- what a packet makes this end send: a piece that is kept its acknowledgement, an acknowledgement the next piece
 abbrev pub sent_by_packet : Packet → End → Option Packet
 sent_by_packet packet e = if e.down then None else sent_by_kind packet.kind e
 

@@ -1,6 +1,6 @@
 ghost use Rattle.std.specs.Prelude.{◌≡◌, ◌<◌, ◌↔◌, IsTrue, List as Items, length, IfOk, OnOk, OnErr, Some, None, if◌then◌else◌};
 ghost use Rattle.wire.specs.declared.packet.PacketKind.TheVariants as kind;
-ghost use Rattle.link_control.specs.Ends.{End, new_end, after_push, sent_by_push, after_packet, sent_by_packet, handed_by_packet, after_tick, sent_by_tick, after_down, is_empty, HasNumbersLeft, outstanding, packet_of, is_answered, kept, handed};
+ghost use Rattle.link_control.specs.Ends.{End, new_end, after_push, sent_by_push, after_packet, sent_by_packet, handed_by_packet, after_tick, sent_by_tick, after_down, is_empty, HasNumbersLeft, outstanding, packet_of, is_kept, kept, handed};
 
 use crate::sender::Sender;
 use gd_words::{List, NoMemory};
@@ -95,26 +95,31 @@ impl Channel {
         ensures after { OnOk result (self.new ≡ after_packet packet.now self.old) }
         ensures err { OnErr result (self.new ≡ self.old) }
     {
-        let mut arrived = Arrived {
-            send: None,
-            delivered: None,
-        };
         if self.down {
-            return Ok(arrived);
+            return Ok(Arrived {
+                send: None,
+                delivered: None,
+            });
         }
         match &packet.kind {
-            PacketKind::Alive => {}
+            PacketKind::Alive => Ok(Arrived {
+                send: None,
+                delivered: None,
+            }),
             PacketKind::Piece { number, piece } => {
-                arrived.send = self.answer(*number);
-                arrived.delivered = self.keep(*number, piece)?;
+                let delivered = self.keep(*number, piece)?;
+                let send = self.answer(*number);
+                Ok(Arrived { send, delivered })
             }
             PacketKind::Acknowledgement { number } => {
-                if self.sender.acknowledge(*number) {
-                    arrived.send = self.outstanding();
-                }
+                let ended = self.sender.acknowledge(*number);
+                let send = if ended { self.outstanding() } else { None };
+                Ok(Arrived {
+                    send,
+                    delivered: None,
+                })
             }
         }
-        Ok(arrived)
     }
 
     /// Takes a tick of the node; it gives what is sent again.
@@ -176,10 +181,9 @@ impl Channel {
     }
 
     fn answer(&self, number: u32) -> Option<Packet>
-        requires { self.now.receiving.kept < 4294967295 }
-        ensures { result ≡ (if is_answered number self.now.receiving then Some (packet_of self.now (kind.Acknowledgement number)) else None) }
+        ensures { result ≡ (if is_kept number self.now.receiving then Some (packet_of self.now (kind.Acknowledgement number)) else None) }
     {
-        if number <= self.kept + 1 {
+        if number <= self.kept {
             Some(self.packet_of(PacketKind::Acknowledgement { number }))
         } else {
             None
