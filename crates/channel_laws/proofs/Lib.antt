@@ -1,0 +1,6 @@
+pub mod Joints
+pub mod Members
+pub mod Nets
+pub mod Packets
+pub mod Places
+pub mod Senders
