@@ -2,12 +2,12 @@
 use Rattle.std.proofs.Common.{◌≡◌, ◌<◌, ◌≤◌, ◌+◌, ◌*◌, ℕ, ℤ, Bool, true, false, List, [], ◌∷◌, ◌++◌, length, take, drop, refl, sym, subst, ap, ◌∙◌, arith}
 use Rattle.std.proofs.lemmas.List.{append-nil, append_assoc}
 use Rattle.std.proofs.lemmas.Bool.{eqb-true, ltb-true, ltb-false}
-use Rattle.std.specs.Prelude.{Option, Some, None, ◌==◌, nat_lt, nat_le, if◌then◌else◌}
+use Rattle.std.specs.Prelude.{None, ◌==◌, nat_lt, nat_le, if◌then◌else◌}
 use Rattle.std.specs.Option.{option_to_list}
 use Rattle.wire.specs.declared.bus_name.BusName.{BusName}
 use Rattle.wire.specs.declared.piece.Piece.{Piece}
 use Rattle.wire.specs.Pieces.{pieces, joined, completed, first_piece}
-use Rattle.link_control.specs.Ends.{Sending, Receiving, idle_after, numbered_at, begun, pushed, ticked, moved_on, acknowledged, is_next}
+use Rattle.link_control.specs.Ends.{Sending, Receiving, numbered_at, begun, pushed, ticked, moved_on, is_next}
 use Rattle.channel_laws.specs.Way.{Way, AtSender, AtReceiver, IsJoint, IsCut, IsPieceOf, IsWithin, quiet_way, pushing, coming, telling, ticking, total, first_of, Filled, opened}
 use Rattle.channel_laws.proofs.Places.{total-append, filled-more, filled-rest, within-more, none-within, part-more, same-place, cut-is, part-and_piece, whole-at_last, count-at_last, more-after}
 

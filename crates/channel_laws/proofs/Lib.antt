@@ -3,4 +3,5 @@ pub mod Members
 pub mod Nets
 pub mod Packets
 pub mod Places
+pub mod Rounds
 pub mod Senders

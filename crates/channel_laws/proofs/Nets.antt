@@ -4,17 +4,15 @@ use Rattle.std.proofs.lemmas.List.{append-nil}
 use Rattle.std.proofs.lemmas.Bool.{eqb-true, eq-eqb, leb-true}
 use Rattle.std.specs.Prelude.{Option, Some, None, ◌==◌, ◌&&◌, if◌then◌else◌}
 use Rattle.std.specs.Option.{option_to_list, option_map}
-use Rattle.wire.specs.declared.bus_name.BusName.{BusName}
 use Rattle.wire.specs.declared.piece.Piece.{Piece}
 use Rattle.wire.specs.declared.packet.Packet.{Packet}
-use Rattle.wire.specs.declared.packet.Incarnation.{Incarnation}
 use Rattle.wire.specs.declared.packet.PacketKind.{PacketKind}
 use Rattle.wire.specs.declared.packet.PacketKind.TheVariants as kind
 use Rattle.wire.specs.Pieces.{piece_at}
 use Rattle.link_control.specs.declared.channel.Resent.{Resent}
 use Rattle.link_control.specs.Ends.{End, Sending, packet_of, outstanding, after_push, sent_by_push, after_packet, after_kind, sent_by_packet, sent_by_kind, after_tick, sent_by_tick, after_down, piece_of, pushed, acknowledged, ticked, kept, is_kept, is_idle, is_ended_by, is_sent_again}
 use Rattle.channel_laws.specs.Way.{Way, IsJoint, IsPieceOf, IsReceiptOf, pushing, coming, telling, ticking}
-use Rattle.channel_laws.specs.Net.{Net, IsIn, is_first, is_later, put, put_one, Runs, at_end, pushed_net, arrived_net, ticked_net, alive_net, packet_in, ways_by, incarnation_of, quiet_net, Goes, pushes, arrives, ticks, lives, bus_changes, stops, marks, Leads, at_once, later, IsTold, IsRight, IsNamed, IsTied, IsWhole}
+use Rattle.channel_laws.specs.Net.{Net, IsIn, is_first, is_later, put, Runs, at_end, pushed_net, arrived_net, ticked_net, packet_in, ways_by, incarnation_of, quiet_net, Goes, pushes, arrives, ticks, lives, bus_changes, stops, marks, Leads, at_once, later, IsTold, IsRight, IsNamed, IsTied, IsWhole}
 use Rattle.channel_laws.proofs.Members.{in-none, in-append}
 use Rattle.channel_laws.proofs.Joints.{joint-quiet, joint-pushing, joint-telling, joint-ticking, joint-coming, same-piece}
 use Rattle.channel_laws.proofs.Packets.{IsLater, later-same, later-pushing, later-coming, later-telling, later-ticking, piece-outstanding}

@@ -1,14 +1,14 @@
 -- What is a piece or an acknowledgement of a way stays one, and is within the layout.
 use Rattle.std.proofs.Common.{◌≡◌, ◌<◌, ◌≤◌, ◌+◌, ◌*◌, ℕ, ℤ, Bool, true, false, List, [], ◌∷◌, ◌++◌, length, length-drop, take, drop, refl, sym, subst, ap, ◌∙◌, arith}
 use Rattle.std.proofs.lemmas.List.{append_assoc, length-take, length-take-le}
-use Rattle.std.proofs.lemmas.Bool.{eqb-true, eqb-false, leb-true, leb-false, le-leb, lt-ltb, eq-eqb}
+use Rattle.std.proofs.lemmas.Bool.{leb-false, le-leb, lt-ltb, eq-eqb}
 use Rattle.std.specs.Prelude.{◌==◌, ◌||◌, nat_lt, nat_le, Some, if◌then◌else◌}
 use Rattle.wire.specs.declared.bus_name.BusName.{BusName}
 use Rattle.wire.specs.declared.piece.Piece.{Piece}
-use Rattle.wire.specs.Pieces.{first_piece, joined, piece_at}
+use Rattle.wire.specs.Pieces.{joined, piece_at}
 use Rattle.wire.specs.Layout.{is_piece}
-use Rattle.link_control.specs.Ends.{Sending, Receiving, numbered_at, begun, ticked, acknowledged, moved_on, is_next, is_kept, kept}
-use Rattle.channel_laws.specs.Way.{Way, IsJoint, IsCut, IsPieceOf, IsReceiptOf, pushing, coming, telling, ticking, opened, total}
+use Rattle.link_control.specs.Ends.{Sending, Receiving, numbered_at, begun, ticked, acknowledged, moved_on, is_next, kept}
+use Rattle.channel_laws.specs.Way.{Way, IsJoint, IsCut, IsPieceOf, IsReceiptOf, pushing, coming, telling, ticking, opened}
 use Rattle.channel_laws.proofs.Places.{cut-is}
 use Rattle.channel_laws.proofs.Joints.{numbered-pushed, same-piece}
 

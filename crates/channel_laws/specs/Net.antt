@@ -6,7 +6,7 @@ use Rattle.wire.specs.declared.packet.Incarnation.{Incarnation}
 use Rattle.wire.specs.declared.packet.PacketKind.{PacketKind}
 use Rattle.wire.specs.declared.packet.PacketKind.TheVariants as kind
 use Rattle.link_control.specs.declared.channel.Resent.{Resent}
-use Rattle.link_control.specs.Ends.{Sending, End, new_end, packet_of, after_push, sent_by_push, after_packet, sent_by_packet, after_tick, sent_by_tick, after_down}
+use Rattle.link_control.specs.Ends.{End, new_end, packet_of, after_push, sent_by_push, after_packet, sent_by_packet, after_tick, sent_by_tick, after_down}
 use Rattle.channel_laws.specs.Way.{Way, IsJoint, IsPieceOf, IsReceiptOf, quiet_way, pushing, coming, telling, ticking}
 
 -- membership, as among the packets on the buses

@@ -1,6 +1,5 @@
 use Rattle.std.proofs.Common.{◌≡◌, true, List, [], ◌∷◌, ◌++◌, ℤ, refl, sym, ap, ◌∙◌, arith}
 use Rattle.std.proofs.lemmas.List.{append-nil}
-use Rattle.std.specs.Option.{option_to_list}
 use Rattle.link_control.specs.Ends.{Sending, is_none}
 use Rattle.channel_laws.specs.Way.{Way, IsJoint, total}
 use Rattle.channel_laws.proofs.Places.{total-append, none-left}
