@@ -22,7 +22,7 @@ pub struct Deck {
     pub lines: List<Line>,
 }
 
-/// Reads a deck.
+/// The deck that the bytes spell. They are refused as too long, or as no deck of the form that is taken today.
 pub fn read_deck(alloc: Global, bytes: &[u8]) -> Result<Deck, DeckFault>
     ensures ok { IfOk result (λ deck. Decks bytes.now deck) }
     ensures too_long { (result ≡ Err DeckFault.TooLong) ↔ (1048576 < length bytes.now) }

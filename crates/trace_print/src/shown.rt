@@ -8,7 +8,8 @@ use crate::line::Line;
 use gd_io::{Sink, WriteFault, put_all};
 use tal_tree::{Shown, Site};
 
-/// Writes the line of what a process or a terminal of the site shows; the name of one that isn't there is empty. It takes no memory.
+/// Writes the line of what a process or a terminal of the site shows; the name of one that isn't there is empty. It takes no
+/// memory.
 pub fn write_shown<K: Sink>(sink: &mut K, site: &Site, shown: &Shown) -> Result<(), WriteFault>
     ensures { Puts K.held K.faults K.sure sink.old sink.new (shown_line site.now shown.now) result }
 {
