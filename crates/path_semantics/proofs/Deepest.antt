@@ -12,7 +12,7 @@ use Rattle.tal_tree.specs.declared.statement.Statement.{Statement}
 use Rattle.tal_tree.specs.declared.statement.What.{What, What-F, out-What, roll-What, If, While, For}
 use Rattle.tal_tree.specs.declared.statement.What.TheViews.{out-roll-What, rolls-If, rolls-While, rolls-For}
 use Rattle.path_semantics.specs.Bounds.{greatest, of_called, depth_from, in_order}
-use Rattle.path_semantics.specs.Statements.{within, all_in, all_of, call_in, own_calls, calls_of}
+use Rattle.tal_tree.specs.Statements.{within, all_in, all_of, call_in, own_calls, calls_of}
 use Rattle.path_semantics.proofs.Within.{within_of, within-is}
 
 abbrev look : List ℕ → ℕ → ℕ

@@ -6,14 +6,14 @@ use Rattle.tal_tree.specs.declared.program.Procedure.{Procedure}
 use Rattle.tal_tree.specs.declared.statement.Statement.{Statement}
 use Rattle.tal_tree.specs.declared.statement.What.{What, What-F, out-What}
 use Rattle.process_semantics.specs.Program.{Entry, Run, Test, Last, runs_of, first_of}
-use Rattle.process_semantics.specs.Image.{number_of, last_of}
+use Rattle.process_semantics.specs.Image.{number_of}
 use Rattle.path_semantics.specs.declared.dues.Dues.{Dues}
 use Rattle.path_semantics.specs.Dues.{with_changed, changed_by_return, after_entry}
-use Rattle.path_semantics.specs.Statements.{numbers_of}
+use Rattle.tal_tree.specs.Statements.{last_of, numbers_of}
 use Rattle.path_semantics.specs.Place.{Place, Stand, next_in, body_of, ways_of, rounds_of, ways, stand_at, settled, stands_after, successors, first_stand}
-use Rattle.gd_words.specs.Members.{IsAmong}
+use Rattle.gd_words.specs.Members.{AreDistinct, IsAmong}
 use Rattle.path_semantics.specs.Path.{number_at, Walks, Leads}
-use Rattle.path_semantics.specs.Ordered.{AreDistinct, IsOrdered}
+use Rattle.tal_tree.specs.Ordered.{IsOrdered}
 use Rattle.path_semantics.proofs.Distinct.{distinct-apart, given-apart}
 use Rattle.path_semantics.proofs.Kept.{one-mapped, kept-led, kept-after}
 use Rattle.path_semantics.proofs.Levels.{inside, inside_test, numbers_at, AreLevels, number-own, run-numbers, numbers_of_procedure}

@@ -1,7 +1,6 @@
 -- Lists of numbers of which none stands twice.
 use Rattle.std.proofs.Common.{inl, inr, ℕ, zero, suc, ◌<◌, arith, List, [], ◌∷◌, ◌++◌, Option, Some, None, slice_get, flat_map, subst}
-use Rattle.gd_words.specs.Members.{IsAmong}
-use Rattle.path_semantics.specs.Ordered.{AreDistinct}
+use Rattle.gd_words.specs.Members.{AreDistinct, IsAmong}
 use Rattle.path_semantics.proofs.Reaching.{one-left, one-right, one-given, one-giver}
 
 pub distinct-left : (xs ys : List ℕ) → AreDistinct (xs ++ ys) → AreDistinct xs

@@ -6,9 +6,9 @@ use Rattle.tal_tree.specs.declared.program.Program.{Program}
 use Rattle.tal_tree.specs.declared.program.Procedure.{Procedure}
 use Rattle.tal_tree.specs.declared.statement.Statement.{Statement}
 use Rattle.path_semantics.specs.Bounds.{greatest, of_called, depth_from, size_from, in_order, depths, sizes}
-use Rattle.path_semantics.specs.Ordered.{IsOrdered}
+use Rattle.tal_tree.specs.Ordered.{IsOrdered}
 use Rattle.gd_words.specs.Members.{IsAmong}
-use Rattle.path_semantics.specs.Statements.{numbers_of, calls_of}
+use Rattle.tal_tree.specs.Statements.{numbers_of, calls_of}
 
 get-left : (xs ys : List ℕ) (k : ℕ) → k < length xs → slice_get (xs ++ ys) k ≡ slice_get xs k
 get-left [] ys k within = absurd (omega arith)

@@ -6,11 +6,11 @@ use Rattle.tal_tree.specs.declared.program.Procedure.{Procedure}
 use Rattle.tal_tree.specs.declared.statement.Statement.{Statement}
 use Rattle.tal_tree.specs.declared.statement.What.{What, What-F, out-What}
 use Rattle.process_semantics.specs.Program.{Entry, Run, Test, Last, runs_of}
-use Rattle.process_semantics.specs.Image.{number_of, last_of}
-use Rattle.path_semantics.specs.Statements.{all_in, all_of, numbers_in, own_numbers, numbers_of, own_calls, calls_of}
+use Rattle.process_semantics.specs.Image.{number_of}
+use Rattle.tal_tree.specs.Statements.{last_of, all_in, all_of, numbers_in, own_numbers, numbers_of, own_calls, calls_of}
 use Rattle.path_semantics.specs.Place.{Place, body_in}
-use Rattle.gd_words.specs.Members.{IsAmong}
-use Rattle.path_semantics.specs.Ordered.{AreDistinct, IsOrdered}
+use Rattle.gd_words.specs.Members.{AreDistinct, IsAmong}
+use Rattle.tal_tree.specs.Ordered.{IsOrdered}
 use Rattle.path_semantics.proofs.Distinct.{distinct-left, distinct-right, distinct-apart, given-part, given_at, given-distinct}
 use Rattle.path_semantics.proofs.Entries.{statement_of}
 use Rattle.path_semantics.proofs.Reaching.{one-either, one-given}

@@ -5,11 +5,11 @@ use Rattle.tal_tree.specs.declared.program.Program.{Program}
 use Rattle.tal_tree.specs.declared.statement.Statement.{Statement}
 use Rattle.tal_tree.specs.declared.statement.What.{What, What-F, out-What}
 use Rattle.process_semantics.specs.Program.{Entry, Run, Test, Last, runs_of}
-use Rattle.process_semantics.specs.Image.{number_of, last_of}
-use Rattle.path_semantics.specs.Statements.{within, all_in, all_of, own_numbers, numbers_of, call_in, own_calls, calls_of}
+use Rattle.process_semantics.specs.Image.{number_of}
+use Rattle.tal_tree.specs.Statements.{last_of, within, all_in, all_of, own_numbers, numbers_of, call_in, own_calls, calls_of}
 use Rattle.path_semantics.specs.Place.{Place, body_of, ways_of, rounds_of, ways}
-use Rattle.gd_words.specs.Members.{IsAmong}
-use Rattle.path_semantics.specs.Ordered.{AreDistinct, IsOrdered}
+use Rattle.gd_words.specs.Members.{AreDistinct, IsAmong}
+use Rattle.tal_tree.specs.Ordered.{IsOrdered}
 use Rattle.path_semantics.proofs.Distinct.{distinct-left, distinct-right, given-part}
 use Rattle.path_semantics.proofs.Entries.{only-way, either-way}
 use Rattle.path_semantics.proofs.Kept.{IsKept}

@@ -4,7 +4,7 @@ use Rattle.tal_tree.specs.Rows.{rows, if-is, while-is, for-is}
 use Rattle.tal_tree.specs.declared.statement.Statement.{Statement}
 use Rattle.tal_tree.specs.declared.statement.What.{What, What-F, out-What, roll-What, roll-out-What}
 use Rattle.tal_tree.specs.declared.statement.What.TheViews.{rolls-Assign, rolls-AssignCall, rolls-If, rolls-While, rolls-For, rolls-Call, rolls-Return, rolls-ReadUpdate, rolls-Reply, rolls-WriteRead, rolls-Checkpoint, rolls-CheckMonitor, rolls-Open, rolls-Stop}
-use Rattle.path_semantics.specs.Statements.{within, within_row, all_of}
+use Rattle.tal_tree.specs.Statements.{within, within_row, all_of}
 
 -- those of the branches and bodies of a statement
 abbrev pub within_of : What-F What Statement → List Statement

@@ -4,7 +4,7 @@ use Rattle.std.specs.Option.{unwrap_or}
 use Rattle.tal_tree.specs.declared.program.Program.{Program}
 use Rattle.tal_tree.specs.declared.program.Procedure.{Procedure}
 use Rattle.tal_tree.specs.declared.statement.Statement.{Statement}
-use Rattle.path_semantics.specs.Statements.{numbers_of, calls_of}
+use Rattle.tal_tree.specs.Statements.{numbers_of, calls_of}
 
 abbrev pub greatest : List ℕ → ℕ
 greatest [] = 0

@@ -2,9 +2,7 @@ pub mod Accepted
 pub mod Bounds
 pub mod Break
 pub mod Dues
-pub mod Ordered
 pub mod Path
 pub mod Place
 pub mod Quiet
 pub mod Reached
-pub mod Statements

@@ -4,7 +4,7 @@ use Rattle.tal_tree.specs.declared.program.Procedure.{Procedure}
 use Rattle.tal_tree.specs.declared.statement.Statement.{Statement}
 use Rattle.tal_tree.specs.declared.statement.What.{What, What-F, out-What}
 use Rattle.gd_words.specs.Members.{IsAmong}
-use Rattle.path_semantics.specs.Statements.{all_of}
+use Rattle.tal_tree.specs.Statements.{all_of}
 
 -- any statement but CHECKPOINT, READUPDATE, WRITEREAD and REPLY
 abbrev pub IsQuietStatement : What-F What Statement → Type 0

@@ -12,7 +12,7 @@ ghost use Rattle.gd_words.specs.Members.{IsAmong};
 ghost use Rattle.path_semantics.specs.Path.{number_at, Leads, IsPath};
 ghost use Rattle.path_semantics.specs.Break.{Breaks, breaks_at};
 ghost use Rattle.path_semantics.specs.Bounds.{depth_from, size_from, depths, sizes, IsWithinBounds};
-ghost use Rattle.path_semantics.specs.Ordered.{IsOrdered};
+ghost use Rattle.tal_tree.specs.Ordered.{IsOrdered};
 ghost use Rattle.path_semantics.specs.Quiet.{IsQuiet};
 ghost use Rattle.path_semantics.specs.Accepted.{IsAccepted};
 

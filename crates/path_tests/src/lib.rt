@@ -1,9 +1,10 @@
-//! Tests of the checkpoint discipline: the least paths of known programs that break it, and the depth of calls.
+//! Tests of the checkpoint discipline on program texts: the least paths of known programs that break it, what single statements
+//! make due, and the depth of calls.
 //!
-//! Below stand the crates that are tested; nothing stands above.
+//! Below stand `path_semantics`, which is tested, and `tal_reader`, which reads the texts; nothing stands above.
 #![tactic(auto)]
 
 #[cfg(test)]
-mod samples;
+mod dues;
 #[cfg(test)]
 mod paths;

@@ -1,14 +1,115 @@
-use crate::samples::{
-    BUF, Body, DISK, GOT, OUT, TOTAL, asker, bank, call, checkpoint, read_request, set,
-    set_by_call, set_first, setter, three, turn, write,
-};
 use path_semantics::{Reason, breaks, call_depth, is_path};
 use std::alloc::Global;
 use std::test::Fail;
-use tal_tree::{Program, What};
+use tal_reader::read_program;
+use tal_tree::Program;
 
-/// More than any number of a statement in the samples.
+/// The numbers of the globals of the bank.
+const TOTAL: u16 = 0;
+
+const OUT: u16 = 5;
+
+/// The number of the bank's file of its disc.
+const DISK: u8 = 1;
+
+/// More than any number of a statement here.
 const NUMBERS: u16 = 20;
+
+/// The bank up to its turns, the first of whose statements has the number 5.
+const BANK: &[u8] =
+    b"INT total, got, rcv, disk; INT buf[0:0]; INT out[0:2]; PROC bank MAIN; BEGIN CALL CHECKMONITOR;
+CALL OPEN(\"$RECEIVE\", rcv, 1); CALL OPEN(\"$DISC\", disk, 1); WHILE 1 DO BEGIN ";
+
+/// A program, a reason, and a path that breaks for it where no shorter one does; or none where none of up to 18 numbers does.
+struct Sample {
+    turn: &'static [u8],
+    reason: Reason,
+    least: Option<&'static [u16]>,
+}
+
+const NO_TOTAL: &[u8] =
+    b"CALL READUPDATE(rcv, buf, 1, got); total := total + buf[0]; CALL CHECKPOINT(buf, out, got, disk);
+out[0] := 2; out[1] := 0; out[2] := total; CALL WRITEREAD(disk, out, 3, 1, got); buf[0] := total; CALL REPLY(buf, 1)";
+
+const NO_OUT: &[u8] =
+    b"CALL READUPDATE(rcv, buf, 1, got); total := total + buf[0]; CALL CHECKPOINT(buf, got, total, disk);
+out[0] := 2; out[1] := 0; out[2] := total; CALL WRITEREAD(disk, out, 3, 1, got); buf[0] := total; CALL REPLY(buf, 1)";
+
+const NO_DISK: &[u8] =
+    b"CALL READUPDATE(rcv, buf, 1, got); total := total + buf[0]; CALL CHECKPOINT(buf, out, got, total);
+out[0] := 2; out[1] := 0; out[2] := total; CALL WRITEREAD(disk, out, 3, 1, got); buf[0] := total; CALL REPLY(buf, 1)";
+
+const WHOLE: &[u8] =
+    b"CALL READUPDATE(rcv, buf, 1, got); total := total + buf[0]; CALL CHECKPOINT(buf, out, got, total, disk);
+out[0] := 2; out[1] := 0; out[2] := total; CALL WRITEREAD(disk, out, 3, 1, got); buf[0] := total; CALL REPLY(buf, 1)";
+
+const LATE: &[u8] = b"CALL READUPDATE(rcv, buf, 1, got); total := total + buf[0];
+out[0] := 2; out[1] := 0; out[2] := total; CALL WRITEREAD(disk, out, 3, 1, got); CALL CHECKPOINT(buf, out, got, total, disk)";
+
+const AROUND: &[u8] = b"CALL READUPDATE(rcv, buf, 1, got); total := total + buf[0];
+WHILE total < 9 DO CALL CHECKPOINT(buf, out, got, total, disk);
+out[0] := 2; out[1] := 0; out[2] := total; CALL WRITEREAD(disk, out, 3, 1, got)";
+
+/// The path to the CHECKPOINT of the second turn.
+const SECOND_TURN: &[u16] = &[1, 2, 3, 4, 5, 6, 7, 8, 9, 10, 11, 12, 13, 4, 5, 6, 7];
+
+const BANKS: [Sample; 11] = [
+    Sample {
+        turn: NO_TOTAL,
+        reason: Reason::Data(TOTAL),
+        least: Some(&[1, 2, 3, 4, 5, 6, 7]),
+    },
+    Sample {
+        turn: NO_OUT,
+        reason: Reason::Data(OUT),
+        least: Some(SECOND_TURN),
+    },
+    Sample {
+        turn: NO_OUT,
+        reason: Reason::Data(TOTAL),
+        least: None,
+    },
+    Sample {
+        turn: NO_DISK,
+        reason: Reason::SyncBlock(DISK),
+        least: Some(SECOND_TURN),
+    },
+    Sample {
+        turn: WHOLE,
+        reason: Reason::Data(TOTAL),
+        least: None,
+    },
+    Sample {
+        turn: WHOLE,
+        reason: Reason::Data(OUT),
+        least: None,
+    },
+    Sample {
+        turn: WHOLE,
+        reason: Reason::SyncBlock(DISK),
+        least: None,
+    },
+    Sample {
+        turn: WHOLE,
+        reason: Reason::Input,
+        least: None,
+    },
+    Sample {
+        turn: WHOLE,
+        reason: Reason::Depth(DISK),
+        least: None,
+    },
+    Sample {
+        turn: LATE,
+        reason: Reason::Input,
+        least: Some(&[1, 2, 3, 4, 5, 6, 7, 8, 9, 10]),
+    },
+    Sample {
+        turn: AROUND,
+        reason: Reason::Input,
+        least: Some(&[1, 2, 3, 4, 5, 6, 7, 9, 10, 11, 12]),
+    },
+];
 
 /// The paths that go on from these by one number.
 fn longer(alloc: Global, program: &Program, paths: &[Vec<u16>]) -> Result<Vec<Vec<u16>>, Fail> {
@@ -25,17 +126,12 @@ fn longer(alloc: Global, program: &Program, paths: &[Vec<u16>]) -> Result<Vec<Ve
     Ok(all)
 }
 
-/// A path that breaks for a reason, where no shorter one does, among those of at most `most` numbers. All paths of each length
-/// are tried, since the front of a path is a path.
-fn least(
-    alloc: Global,
-    program: &Program,
-    reason: Reason,
-    most: usize,
-) -> Result<Option<Vec<u16>>, Fail> {
+/// A path that breaks for a reason, where no shorter one does, among those of at most 18 numbers. All paths of each length are
+/// tried, since the front of a path is a path.
+fn least(alloc: Global, program: &Program, reason: Reason) -> Result<Option<Vec<u16>>, Fail> {
     let mut paths = Vec::new(alloc);
     paths.push(Vec::new(alloc))?;
-    for _ in 0..most {
+    for _ in 0..18 {
         paths = longer(alloc, program, paths.as_slice())?;
         for path in &paths {
             if breaks(alloc, program, path.as_slice(), reason)? {
@@ -46,125 +142,78 @@ fn least(
     Ok(None)
 }
 
-/// Whether this is the least path that breaks for a reason; with none, whether no path of up to 18 numbers does.
 fn is_least(
     alloc: Global,
-    program: &Program,
+    text: &[u8],
     reason: Reason,
-    want: Option<&[u16]>,
+    wanted: Option<&[u16]>,
 ) -> Result<bool, Fail> {
-    let found = least(alloc, program, reason, 18)?;
-    Ok(found.as_ref().map(|path| path.as_slice()) == want)
+    let program = read_program(alloc, text)?;
+    let found = least(alloc, &program, reason)?;
+    Ok(found.as_ref().map(|path| path.as_slice()) == wanted)
+}
+
+/// The bank with these turns.
+fn bank(alloc: Global, turn: &[u8]) -> Result<Vec<u8>, Fail> {
+    let mut text = Vec::from_slice(alloc, BANK)?;
+    text.extend_from_slice(turn)?;
+    text.extend_from_slice(b" END END;")?;
+    Ok(text)
 }
 
 #[test]
-fn the_bank_names_too_little(rt: HostRuntime) -> Result<(), Fail> {
+fn banks_break_where_they_should(rt: HostRuntime) -> Result<(), Fail> {
     let alloc = rt.alloc();
-    let no_total = bank(alloc, turn(alloc, &[BUF, OUT, GOT], &[DISK])?)?;
-    assert!(rt;
-        is_least(
-            alloc,
-            &no_total,
-            Reason::Data(TOTAL),
-            Some(&[1, 2, 3, 4, 5, 6, 7]),
-        )?
-    );
-    let second = [1, 2, 3, 4, 5, 6, 7, 8, 9, 10, 11, 12, 13, 4, 5, 6, 7];
-    let no_out = bank(alloc, turn(alloc, &[BUF, GOT, TOTAL], &[DISK])?)?;
-    assert!(rt; is_least(alloc, &no_out, Reason::Data(OUT), Some(&second))?);
-    assert!(rt; is_least(alloc, &no_out, Reason::Data(TOTAL), None)?);
-    let no_disk = bank(alloc, turn(alloc, &[BUF, OUT, GOT, TOTAL], &[])?)?;
-    assert!(rt; is_least(alloc, &no_disk, Reason::SyncBlock(DISK), Some(&second))?);
-    Ok(())
-}
-
-#[test]
-fn the_whole_bank_breaks_nowhere(rt: HostRuntime) -> Result<(), Fail> {
-    let alloc = rt.alloc();
-    let program = bank(alloc, turn(alloc, &[BUF, OUT, GOT, TOTAL], &[DISK])?)?;
-    for reason in [
-        Reason::Data(TOTAL),
-        Reason::Data(OUT),
-        Reason::SyncBlock(DISK),
-        Reason::Input,
-        Reason::Depth(DISK),
-    ] {
-        assert!(rt; is_least(alloc, &program, reason, None)?);
+    for sample in &BANKS {
+        let text = bank(alloc, sample.turn)?;
+        assert!(rt;
+            is_least(alloc, text.as_slice(), sample.reason, sample.least)?,
+            "{:?}",
+            sample.turn
+        );
     }
     Ok(())
 }
 
 #[test]
-fn the_bank_has_its_checkpoint_too_late(rt: HostRuntime) -> Result<(), Fail> {
-    let alloc = rt.alloc();
-    let mut late = Body::from(alloc, 5);
-    late.add(read_request(BUF, GOT))?;
-    late.add(set(TOTAL))?;
-    write(&mut late)?;
-    late.add(checkpoint(alloc, &[BUF, OUT, GOT, TOTAL], &[DISK])?)?;
-    let program = bank(alloc, late)?;
-    let path = [1, 2, 3, 4, 5, 6, 7, 8, 9, 10];
-    assert!(rt; is_least(alloc, &program, Reason::Input, Some(&path))?);
-    Ok(())
-}
-
-#[test]
-fn a_path_goes_past_a_loop(rt: HostRuntime) -> Result<(), Fail> {
-    let alloc = rt.alloc();
-    let mut around = Body::from(alloc, 8);
-    around.add(checkpoint(alloc, &[BUF, OUT, GOT, TOTAL], &[DISK])?)?;
-    let mut past = Body::from(alloc, 5);
-    past.add(read_request(BUF, GOT))?;
-    past.add(set(TOTAL))?;
-    past.add_while(around)?;
-    write(&mut past)?;
-    let program = bank(alloc, past)?;
-    let path = [1, 2, 3, 4, 5, 6, 7, 9, 10, 11, 12];
-    assert!(rt; is_least(alloc, &program, Reason::Input, Some(&path))?);
-    Ok(())
-}
-
-#[test]
 fn the_third_of_two_kept_asks_breaks(rt: HostRuntime) -> Result<(), Fail> {
-    let alloc = rt.alloc();
-    let program = asker(alloc)?;
+    let asker =
+        b"INT got, disk; INT out[0:1]; PROC m MAIN; BEGIN CALL CHECKMONITOR; CALL OPEN(\"$DISC\", disk, 2);
+out[0] := 1; WHILE 1 DO CALL WRITEREAD(disk, out, 1, 1, got) END;"
+            .as_slice();
     let path = [1, 2, 3, 4, 5, 4, 5, 4, 5];
-    assert!(rt; is_least(alloc, &program, Reason::Depth(0), Some(&path))?);
-    assert!(rt; is_least(alloc, &program, Reason::Input, None)?);
+    assert!(rt; is_least(rt.alloc(), asker, Reason::Depth(0), Some(&path))?);
+    assert!(rt; is_least(rt.alloc(), asker, Reason::Input, None)?);
     Ok(())
 }
 
 #[test]
 fn a_target_is_due_when_its_function_is_left(rt: HostRuntime) -> Result<(), Fail> {
-    let alloc = rt.alloc();
-    let empty = setter(alloc, Body::from(alloc, 1))?;
-    assert!(rt; is_least(alloc, &empty, Reason::Data(0), Some(&[1, 2]))?);
-    let mut returns = Body::from(alloc, 1);
-    returns.add(What::Return(None))?;
-    returns.add(set_first(0))?;
-    let returns = setter(alloc, returns)?;
-    assert!(rt; is_least(alloc, &returns, Reason::Data(0), Some(&[3, 1, 4]))?);
-    let mut marks = Body::from(alloc, 1);
-    marks.add(checkpoint(alloc, &[], &[])?)?;
-    let marks = setter(alloc, marks)?;
-    assert!(rt; is_least(alloc, &marks, Reason::Data(0), Some(&[2, 1, 3]))?);
-    let mut stops = Body::from(alloc, 1);
-    stops.add(What::Stop)?;
-    let stops = setter(alloc, stops)?;
-    assert!(rt; is_least(alloc, &stops, Reason::Data(0), None)?);
+    let wanted: [(&[u8], Option<&[u16]>); 4] = [
+        (
+            b"INT x; INT PROC f; BEGIN END; PROC m MAIN; BEGIN CALL CHECKMONITOR; x := f; CALL CHECKPOINT END;",
+            Some(&[1, 2, 3]),
+        ),
+        (
+            b"INT x; INT PROC f; BEGIN RETURN 0; x := 1 END; PROC m MAIN; BEGIN CALL CHECKMONITOR; x := f; CALL CHECKPOINT END;",
+            Some(&[3, 4, 1, 5]),
+        ),
+        (
+            b"INT x; INT PROC f; BEGIN CALL CHECKPOINT END; PROC m MAIN; BEGIN CALL CHECKMONITOR; x := f; CALL CHECKPOINT END;",
+            Some(&[2, 3, 1, 4]),
+        ),
+        (
+            b"INT x; INT PROC f; BEGIN CALL STOP END; PROC m MAIN; BEGIN CALL CHECKMONITOR; x := f; CALL CHECKPOINT END;",
+            None,
+        ),
+    ];
+    for (text, path) in wanted {
+        assert!(rt;
+            is_least(rt.alloc(), text, Reason::Data(0), path)?,
+            "{text:?}"
+        );
+    }
     Ok(())
-}
-
-/// A body that calls nothing.
-fn silent(alloc: Global) -> Body {
-    Body::from(alloc, 1)
-}
-
-/// A body of one call.
-fn caller(alloc: Global, number: u16, procedure: u16) -> Result<Body, Fail> {
-    let mut body = Body::from(alloc, number);
-    body.add(call(alloc, procedure))?;
-    Ok(body)
 }
 
 /// The depth of a program's calls, where its procedures are few enough.
@@ -178,33 +227,27 @@ fn depth_of(program: &Program) -> Option<u32> {
 
 #[test]
 fn calls_go_as_deep_as_their_longest_chain(rt: HostRuntime) -> Result<(), Fail> {
-    let alloc = rt.alloc();
-    let alone = three(alloc, silent(alloc), silent(alloc), silent(alloc))?;
-    assert!(rt; depth_of(&alone) == Some(1));
-    let chain = three(
-        alloc,
-        silent(alloc),
-        caller(alloc, 1, 0)?,
-        caller(alloc, 2, 1)?,
-    )?;
-    assert!(rt; depth_of(&chain) == Some(3));
-    let mut around = Body::from(alloc, 2);
-    around.add_if(alloc, caller(alloc, 3, 0)?)?;
-    let mut main = Body::from(alloc, 1);
-    main.add_while(around)?;
-    let inside = three(alloc, silent(alloc), silent(alloc), main)?;
-    assert!(rt; depth_of(&inside) == Some(2));
-    let mut main = Body::from(alloc, 2);
-    main.add(set_by_call(alloc, 0, 1))?;
-    main.add(call(alloc, 0))?;
-    let deeper_first = three(alloc, silent(alloc), caller(alloc, 1, 0)?, main)?;
-    assert!(rt; depth_of(&deeper_first) == Some(3));
-    let not_before = three(
-        alloc,
-        silent(alloc),
-        caller(alloc, 1, 1)?,
-        caller(alloc, 2, 2)?,
-    )?;
-    assert!(rt; depth_of(&not_before) == Some(1));
+    let wanted: [(&[u8], u32); 4] = [
+        (
+            b"PROC a; BEGIN END; PROC b; BEGIN END; PROC m MAIN; BEGIN CALL CHECKMONITOR END;",
+            1,
+        ),
+        (
+            b"PROC a; BEGIN END; PROC b; BEGIN CALL a END; PROC m MAIN; BEGIN CALL CHECKMONITOR; CALL b END;",
+            3,
+        ),
+        (
+            b"PROC a; BEGIN END; PROC m MAIN; BEGIN CALL CHECKMONITOR; WHILE 1 DO IF 1 THEN CALL a END;",
+            2,
+        ),
+        (
+            b"INT x; PROC a; BEGIN END; INT PROC b; BEGIN CALL a END; PROC m MAIN; BEGIN CALL CHECKMONITOR; x := b; CALL a END;",
+            3,
+        ),
+    ];
+    for (text, depth) in wanted {
+        let program = read_program(rt.alloc(), text)?;
+        assert!(rt; depth_of(&program) == Some(depth), "{text:?}");
+    }
     Ok(())
 }

@@ -1,5 +1,5 @@
-use plain_semantics::{Opener, opener_of, openers};
 use gd_words::{Ident, List, Name};
+use plain_semantics::{Opener, opener_of, openers};
 use std::alloc::Global;
 use std::test::Fail;
 use tal_tree::{

@@ -1,5 +1,5 @@
-use plain_machine::{Played, play_rounds};
 use gd_words::{Boxed, Ident, List, Name, NoMemory, Words};
+use plain_machine::{Played, play_rounds};
 use std::alloc::Global;
 use std::test::Fail;
 use tal_tree::{

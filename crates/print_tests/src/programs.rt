@@ -1,7 +1,7 @@
-use tal_print::print_program;
 use gd_words::{List, NoMemory};
 use std::alloc::Global;
 use std::test::Fail;
+use tal_print::print_program;
 use tal_reader::read_program;
 
 mod forms;

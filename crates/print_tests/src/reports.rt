@@ -1,11 +1,11 @@
 ghost use Rattle.trace_print.specs.FaultLine.{IsOfDeck};
 
-use trace_print::{End, write_end, write_fault, write_report, write_shown, write_usage};
 use gd_io::MemorySink;
 use gd_words::{List, Name, NoMemory, Words};
 use std::alloc::Global;
 use std::test::Fail;
 use tal_tree::{DeckFault, Kind, Place, ProcessSpec, Shown, Site, TalFault, TerminalSpec};
+use trace_print::{End, write_end, write_fault, write_report, write_shown, write_usage};
 
 fn empty_sink(alloc: Global) -> Result<MemorySink, NoMemory> {
     MemorySink::new(alloc, 512, List::new(alloc))

@@ -4,6 +4,8 @@ use Rattle.std.specs.Option.{option_map, option_and_then}
 use Rattle.std.specs.List.{flat_map}
 use Rattle.gd_words.specs.Arithmetic.{wrap}
 use Rattle.gd_words.specs.Members.{is_among}
+use Rattle.tal_tree.specs.Rows.{rows}
+use Rattle.tal_tree.specs.Statements.{last_of, called_in}
 use Rattle.tal_tree.specs.declared.program.Program.{Program}
 use Rattle.tal_tree.specs.declared.program.Procedure.{Procedure}
 use Rattle.tal_tree.specs.declared.program.Item.{Item}
@@ -28,11 +30,6 @@ abbrev pub counted : List ℤ → List ℤ
 counted words = pos (length words) ∷ words
 
 -- The words of a program's state
-
--- the number of a FOR's last assignment
-abbrev pub last_of : What-F What Statement → ℕ
-last_of (What-F.For variable from to body last) = last
-last_of _ = 0
 
 -- the number of an entry: a FOR's test has the one after its first assignment
 abbrev pub number_of : Entry → ℕ
@@ -144,9 +141,7 @@ abbrev mutual
 
 -- what remains from each entry of a procedure's body on
 abbrev pub rests_of : List Statement → List (List Entry)
-rests_of [] = []
-rests_of (statement ∷ statements) =
-    (Run statement ∷ runs_of statements) ∷ rests_in statement.what statement (runs_of statements) ++ rests_of statements
+rests_of body = rests_row (rows body) []
 
 -- the first that begins with an entry of this number
 abbrev pub rest_among : ℕ → List (List Entry) → Option (List Entry)
@@ -192,23 +187,6 @@ abbrev pub frames_in : Program → ℕ → List ℤ → Front (List Frame)
 frames_in program zero words = Some ([], words)
 frames_in program (suc n) words =
     option_and_then (λ (frame, left). option_map (λ (frames, rest). (frame ∷ frames, rest)) (frames_in program n left)) (frame_in program words)
-
--- the procedure that a statement calls
-abbrev pub called_in : What-F What Statement → Option ℕ
-called_in (What-F.Call procedure arguments) = Some procedure
-called_in (What-F.AssignCall to procedure arguments) = Some procedure
-called_in (What-F.Assign to value) = None
-called_in (What-F.If test first second) = None
-called_in (What-F.While test body) = None
-called_in (What-F.For variable from to body last) = None
-called_in (What-F.Return value) = None
-called_in What-F.CheckMonitor = None
-called_in (What-F.Open file) = None
-called_in What-F.Stop = None
-called_in (What-F.ReadUpdate buffer most got) = None
-called_in (What-F.Reply buffer count) = None
-called_in (What-F.WriteRead file buffer send room got) = None
-called_in (What-F.Checkpoint items files) = None
 
 -- the procedure that a frame has called: that of the call that stands first in it
 abbrev pub called_by : List Entry → Option ℕ

@@ -4,6 +4,6 @@
 #![tactic(auto)]
 
 #[cfg(test)]
-mod values;
-#[cfg(test)]
 mod steps;
+#[cfg(test)]
+mod values;

@@ -1,5 +1,5 @@
-use process_semantics::{Execution, Point};
 use gd_words::{Boxed, Ident, List, NoMemory, Words};
+use process_semantics::{Execution, Point};
 use std::alloc::Global;
 use std::test::Fail;
 use tal_tree::{

@@ -1,8 +1,8 @@
-use tal_values::{Memory, truth, value};
 use gd_words::{Boxed, Ident, List, NoMemory};
 use std::alloc::Global;
 use std::test::Fail;
 use tal_tree::{Cond, Expr, Item, Op, Rel, Shape, Spot};
+use tal_values::{Memory, truth, value};
 
 fn nothing() -> Memory<'static> {
     Memory {
@@ -57,7 +57,10 @@ fn words_wrap(rt: HostRuntime) -> Result<(), Fail> {
         (Op::Div, 7, 0, None),
     ] {
         let expr = two(alloc, op, Expr::Number(left), Expr::Number(right))?;
-        assert!(rt; value(alloc, nothing(), &expr)? == want, "{left} and {right}");
+        assert!(rt;
+            value(alloc, nothing(), &expr)? == want,
+            "{left} and {right}"
+        );
     }
     let least = Expr::Minus(Boxed::new(alloc, Expr::Number(-32_768))?);
     assert!(rt; value(alloc, nothing(), &least)? == Some(-32_768));

@@ -15,7 +15,7 @@ use Rattle.tal_trees.specs.Programs.{texts_of, parameters_by, procedure_with}
 use Rattle.tal_pieces.proofs.Common.Faultless.{split, refuted}
 use Rattle.tal_pieces.proofs.Common.Names.{texts_append}
 use Rattle.tal_pieces.proofs.Scopes.LocalNames.{local_names}
-use Rattle.tal_laws.specs.Limits.{IsProcedureWithinLimits}
+use Rattle.tal_tree.specs.Limits.{IsProcedureWithinLimits}
 
 -- one more local, where there is room
 local_room : (ds : Declarations) (name : List ℕ) → length ds < 12 → length (with_local ds name) ≤ 12

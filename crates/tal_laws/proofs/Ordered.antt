@@ -8,7 +8,7 @@ use Rattle.tal_declarations.specs.Headings.{headings_faults}
 use Rattle.tal_rules.specs.Texts.{faults, headed_after, headed_text, files_by, bodies_faults, main_missing, first_progress}
 use Rattle.tal_trees.specs.Programs.{tree_of}
 use Rattle.tal_reader.specs.Reads.{Reads}
-use Rattle.path_semantics.specs.Ordered.{IsOrdered}
+use Rattle.tal_tree.specs.Ordered.{IsOrdered}
 use Rattle.tal_pieces.proofs.Common.Faultless.{split}
 use Rattle.tal_laws.proofs.Procedures.{procedures_numbers, procedures_calls}
 

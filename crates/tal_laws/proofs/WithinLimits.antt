@@ -14,10 +14,10 @@ use Rattle.tal_names.specs.Names.{Declarations}
 use Rattle.tal_rules.specs.Texts.{faults, headed_after, headed_text, files_by, main_missing, procedure_faults, after_procedure, procedures_faults, first_progress, scope_of, entered}
 use Rattle.tal_trees.specs.Programs.{items_with, tree_of, trees_of, tree_of_procedure, body_statements}
 use Rattle.tal_reader.specs.Reads.{Reads}
-use Rattle.path_semantics.specs.Ordered.{numbers_in_all}
+use Rattle.tal_tree.specs.Ordered.{numbers_in_all}
 use Rattle.gd_words.specs.Members.{IsAmong}
 use Rattle.tal_pieces.proofs.Common.Faultless.{split, no_fault}
-use Rattle.tal_laws.specs.Limits.{IsProcedureWithinLimits, IsWithinLimits}
+use Rattle.tal_tree.specs.Limits.{IsProcedureWithinLimits, IsWithinLimits}
 use Rattle.tal_laws.proofs.Between.{AreBetween}
 use Rattle.tal_laws.proofs.Items.{declared_within, filed_within, same_length}
 use Rattle.tal_laws.proofs.Locals.{locals_within}

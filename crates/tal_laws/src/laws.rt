@@ -1,6 +1,6 @@
 ghost use Rattle.std.specs.Prelude.{ℕ, List};
-ghost use Rattle.path_semantics.specs.Ordered.{IsOrdered};
-ghost use Rattle.tal_laws.specs.Limits.{IsWithinLimits};
+ghost use Rattle.tal_tree.specs.Ordered.{IsOrdered};
+ghost use Rattle.tal_tree.specs.Limits.{IsWithinLimits};
 ghost use Rattle.tal_reader.specs.Reads.{Reads};
 ghost use Rattle.tal_tree.specs.declared.program.Program.{Program};
 

@@ -1,7 +1,7 @@
-use tal_builder::{Stop, build};
 use gd_words::List;
 use std::alloc::Global;
 use std::test::Fail;
+use tal_builder::{Stop, build};
 use tal_syntax::{Arguments, Next, Otherwise, Statement, Text};
 use tal_tokens::tokens;
 

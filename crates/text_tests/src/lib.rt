@@ -4,8 +4,8 @@
 #![tactic(auto)]
 
 #[cfg(test)]
-mod tokenising;
+mod building;
 #[cfg(test)]
 mod recognising;
 #[cfg(test)]
-mod building;
+mod tokenising;

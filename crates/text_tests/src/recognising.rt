@@ -1,7 +1,7 @@
-use tal_recogniser::{Judgement, judge};
 use gd_words::NoMemory;
 use std::alloc::Global;
 use std::test::Fail;
+use tal_recogniser::{Judgement, judge};
 use tal_tokens::tokens;
 
 /// How the tokens of a text are judged; no text of these tests is longer than a million bytes.

@@ -1,7 +1,7 @@
-use tal_tokens::{At, Token, TokenList, tokens};
 use gd_words::{Ident, NoMemory};
 use std::alloc::Global;
 use std::test::Fail;
+use tal_tokens::{At, Token, TokenList, tokens};
 use tal_tree::{Place, TalFault};
 
 fn place(line: u32, column: u32) -> Place {

@@ -5,6 +5,6 @@
 #![tactic(auto)]
 
 #[cfg(test)]
-mod words;
-#[cfg(test)]
 mod ends;
+#[cfg(test)]
+mod words;

@@ -1,6 +1,6 @@
 use super::{ident, item, put, read, request};
-use plain_machine::play_rounds;
 use gd_words::{Boxed, List, Name, NoMemory};
+use plain_machine::play_rounds;
 use std::alloc::Global;
 use std::test::Fail;
 use tal_tree::{

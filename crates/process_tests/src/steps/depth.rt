@@ -1,6 +1,6 @@
 use super::{BUF, element, item, put, read};
-use process_semantics::{Execution, Point};
 use gd_words::{Boxed, Ident, List, NoMemory};
+use process_semantics::{Execution, Point};
 use std::alloc::Global;
 use std::test::Fail;
 use tal_tree::{Expr, Op, Procedure, Program, Shape, Spot, Statement, Variable, What};
@@ -100,7 +100,10 @@ fn sixteen_frames_deep_each_call_gets_its_word_back(rt: HostRuntime) -> Result<(
     let program = program(alloc)?;
     let mut execution = Execution::start(alloc, &program)?;
     for step in 0..30 {
-        assert!(rt; execution.point(alloc)? == Point::Inner, "before step {step}");
+        assert!(rt;
+            execution.point(alloc)? == Point::Inner,
+            "before step {step}"
+        );
         execution.inner(alloc)?;
     }
     assert!(rt; execution.point(alloc)? == Point::Ask);

@@ -1,6 +1,6 @@
 use super::{BUF, GOT, element, item, put, read};
-use process_semantics::{Execution, Point};
 use gd_words::{Boxed, Ident, List, NoMemory, Words};
+use process_semantics::{Execution, Point};
 use std::alloc::Global;
 use std::test::Fail;
 use tal_tree::{Expr, Op, Procedure, Program, Shape, Spot, Statement, Variable, What};

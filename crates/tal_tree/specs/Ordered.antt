@@ -1,14 +1,9 @@
 -- Programs as their texts number and order them.
-use Rattle.std.specs.Prelude.{◌≡◌, ℕ, ◌<◌, List, [], ◌∷◌, flat_map, slice_get, Some}
+use Rattle.std.specs.Prelude.{◌≡◌, ℕ, ◌<◌, List, flat_map, slice_get, Some}
 use Rattle.tal_tree.specs.declared.program.Program.{Program}
 use Rattle.tal_tree.specs.declared.program.Procedure.{Procedure}
-use Rattle.gd_words.specs.Members.{IsAmong}
-use Rattle.path_semantics.specs.Statements.{numbers_of, calls_of}
-
--- no number stands twice
-abbrev pub AreDistinct : List ℕ → Type 0
-AreDistinct [] = Unit {0}
-AreDistinct (n ∷ ns) = (IsAmong n ns → ⊥) × AreDistinct ns
+use Rattle.gd_words.specs.Members.{IsAmong, AreDistinct}
+use Rattle.tal_tree.specs.Statements.{numbers_of, calls_of}
 
 -- the numbers of a program's statements
 abbrev pub numbers_in_all : List Procedure → List ℕ

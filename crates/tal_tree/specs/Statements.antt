@@ -1,5 +1,6 @@
 -- The statements of a program, at any level, with their numbers and calls.
-use Rattle.std.specs.Prelude.{ℕ, ◌+◌, List, [], ◌∷◌, ◌++◌, flat_map}
+use Rattle.std.specs.Prelude.{ℕ, ◌+◌, List, [], ◌∷◌, ◌++◌, flat_map, Option, Some, None}
+use Rattle.std.specs.Option.{option_to_list}
 use Rattle.tal_tree.specs.declared.statement.Statement.{Statement}
 use Rattle.tal_tree.specs.declared.statement.What.{What, What-F, out-What, Assign, AssignCall, If', While', For', Call, Return, ReadUpdate, Reply, WriteRead, Checkpoint, CheckMonitor, Open, Stop, Row_of-Statement, end_of-Statement, more_of-Statement}
 
@@ -33,6 +34,11 @@ all_in statement = statement ∷ within statement.what
 abbrev pub all_of : List Statement → List Statement
 all_of statements = flat_map all_in statements
 
+-- the number of a FOR's last assignment
+abbrev pub last_of : What-F What Statement → ℕ
+last_of (What-F.For variable from to body last) = last
+last_of _ = 0
+
 -- the numbers of a statement alone: a FOR's first assignment, its test and its last assignment have one each
 abbrev pub numbers_in : ℕ → What-F What Statement → List ℕ
 numbers_in number (What-F.For variable from to body last) = number ∷ (number + 1) ∷ last ∷ []
@@ -58,21 +64,24 @@ abbrev pub numbers_of : List Statement → List ℕ
 numbers_of statements = flat_map own_numbers (all_of statements)
 
 -- the procedure that a statement calls
+abbrev pub called_in : What-F What Statement → Option ℕ
+called_in (What-F.Call procedure arguments) = Some procedure
+called_in (What-F.AssignCall to procedure arguments) = Some procedure
+called_in (What-F.Assign to value) = None
+called_in (What-F.If test first second) = None
+called_in (What-F.While test body) = None
+called_in (What-F.For variable from to body last) = None
+called_in (What-F.Return value) = None
+called_in What-F.CheckMonitor = None
+called_in (What-F.Open file) = None
+called_in What-F.Stop = None
+called_in (What-F.ReadUpdate buffer most got) = None
+called_in (What-F.Reply buffer count) = None
+called_in (What-F.WriteRead file buffer send room got) = None
+called_in (What-F.Checkpoint items files) = None
+
 abbrev pub call_in : What-F What Statement → List ℕ
-call_in (What-F.AssignCall to procedure arguments) = procedure ∷ []
-call_in (What-F.Call procedure arguments) = procedure ∷ []
-call_in (What-F.Assign _ _) = []
-call_in (What-F.If _ _ _) = []
-call_in (What-F.While _ _) = []
-call_in (What-F.For _ _ _ _ _) = []
-call_in (What-F.Return _) = []
-call_in (What-F.ReadUpdate _ _ _) = []
-call_in (What-F.Reply _ _) = []
-call_in (What-F.WriteRead _ _ _ _ _) = []
-call_in (What-F.Checkpoint _ _) = []
-call_in What-F.CheckMonitor = []
-call_in (What-F.Open _) = []
-call_in What-F.Stop = []
+call_in layer = option_to_list (called_in layer)
 
 abbrev pub own_calls : Statement → List ℕ
 own_calls statement = call_in (out-What statement.what)
