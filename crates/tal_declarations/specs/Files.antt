@@ -11,7 +11,7 @@ use Rattle.tal_declarations.specs.declared.table.Files.{Files}
 use Rattle.tal_names.specs.declared.scope.Named.{Named}
 use Rattle.tal_names.specs.declared.scope.Scope.{Scope}
 use Rattle.tal_names.specs.declared.system.System.{System}
-use Rattle.tal_names.specs.declared.system.System.TheVariants.{Open}
+use Rattle.tal_names.specs.declared.system.System.TheVariants.{CheckMonitor, Checkpoint, Open, ReadUpdate, Reply, Stop, WriteRead}
 use Rattle.tal_declarations.specs.Globals.{atom_of, constant_value}
 use Rattle.tal_names.specs.Names.{is_declared, meaning_in, with_name}
 use Rattle.tal_names.specs.Places.{constant_of, name_of_argument, arguments_of}
@@ -88,7 +88,13 @@ opened s f _ = f
 
 abbrev pub call_files : Scope → Files → List g.Argument → Option System → Files
 call_files s f arguments (Some Open) = opened s f arguments
-call_files s f arguments _ = f
+call_files s f arguments (Some CheckMonitor) = f
+call_files s f arguments (Some Checkpoint) = f
+call_files s f arguments (Some ReadUpdate) = f
+call_files s f arguments (Some Reply) = f
+call_files s f arguments (Some Stop) = f
+call_files s f arguments (Some WriteRead) = f
+call_files s f arguments None = f
 
 -- the variables of files with those of a statement
 module _ (s : Scope) where

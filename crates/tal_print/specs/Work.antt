@@ -83,7 +83,14 @@ system_layer (What-F.If test first second) = false
 system_layer (What-F.While test body) = false
 system_layer (What-F.For counter from to body last) = false
 system_layer (What-F.Call number values) = false
-system_layer _ = true
+system_layer (What-F.Return answer) = true
+system_layer (What-F.ReadUpdate buffer most got) = true
+system_layer (What-F.Reply buffer count) = true
+system_layer (What-F.WriteRead file buffer send room got) = true
+system_layer (What-F.Checkpoint items files) = true
+system_layer What-F.CheckMonitor = true
+system_layer (What-F.Open file) = true
+system_layer What-F.Stop = true
 
 abbrev pub returns_or_calls_the_system : What → Bool
 returns_or_calls_the_system what = system_layer (out-What what)

@@ -57,7 +57,12 @@ after_call w arguments (Some system.Open) = record {
   files = next_file w.files;
   receive = w.receive || opens_receive (slice_get arguments 0);
 }
-after_call w arguments _ = stepped w
+after_call w arguments (Some system.Checkpoint) = stepped w
+after_call w arguments (Some system.ReadUpdate) = stepped w
+after_call w arguments (Some system.Reply) = stepped w
+after_call w arguments (Some system.Stop) = stepped w
+after_call w arguments (Some system.WriteRead) = stepped w
+after_call w arguments None = stepped w
 
 -- at most 2,000 numbered statements
 abbrev pub number_faults : ℕ → At → List RuleFault
