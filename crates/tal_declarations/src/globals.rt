@@ -270,30 +270,23 @@ fn declare_item(declared: &mut Declared, item: &Item) -> Result<(), NoMemory>
     Ok(())
 }
 
-/// Judges a LITERAL.
+/// Judges and declares a LITERAL.
 #[tactic(auto, using(crate::proofs::Parts::parts))]
-fn judge_named(
-    declared: &Declared,
+fn declare_literal(
+    declared: &mut Declared,
     literal: &Literal,
     so_far: Option<RuleFault>,
-) -> Option<RuleFault>
-    ensures { result ≡ least so_far (literal_line_faults declared.now (seen_literal literal.now)) }
-{
-    let so_far = judge_taken(&declared.names, literal.at, literal.name, so_far);
-    let named = constant_meaning(&declared.names, &literal.constant);
-    judge_constant(&literal.constant, named, so_far)
-}
-
-/// Declares a LITERAL.
-fn declare_literal(declared: &mut Declared, literal: &Literal) -> Result<(), NoMemory>
-    ensures { OnOk result (declared.new ≡ with_literal declared.old (seen_literal literal.now)) }
+) -> Result<Option<RuleFault>, NoMemory>
+    ensures least { IfOk result (λ o. o ≡ least so_far (literal_line_faults declared.old (seen_literal literal.now))) }
+    ensures declared { OnOk result (declared.new ≡ with_literal declared.old (seen_literal literal.now)) }
 {
     let named = constant_meaning(&declared.names, &literal.constant);
     let value = constant_value(&literal.constant, named).unwrap_or(0);
-    declared
-        .names
-        .declare(literal.name, Meaning::Literal(value))?;
-    Ok(())
+    let meaning = Meaning::Literal(value);
+    let before = declared.names.declare(literal.name, meaning)?;
+    let taken = system_of(literal.name).is_some() || before;
+    let so_far = with_fault_if(so_far, taken, literal.at, Rule::Twice);
+    Ok(judge_constant(&literal.constant, named, so_far))
 }
 
 /// Judges and declares the items that are left of a line.
@@ -324,8 +317,7 @@ fn declare_literals(
 {
     let mut so_far = so_far;
     for next in more {
-        so_far = judge_named(declared, &next.literal, so_far);
-        declare_literal(declared, &next.literal)?;
+        so_far = declare_literal(declared, &next.literal, so_far)?;
     }
     Ok(so_far)
 }
@@ -347,8 +339,7 @@ fn declare_line(
             declare_items(declared, line.more.as_slice(), so_far)
         }
         Globals::Literal(line) => {
-            let so_far = judge_named(declared, &line.first, so_far);
-            declare_literal(declared, &line.first)?;
+            let so_far = declare_literal(declared, &line.first, so_far)?;
             declare_literals(declared, line.more.as_slice(), so_far)
         }
     }

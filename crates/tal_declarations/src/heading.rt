@@ -296,7 +296,8 @@ fn declare_procedure(names: &mut Names, name: Ident, meaning: Meaning) -> Result
     if system_of(name).is_some() {
         return Ok(());
     }
-    names.declare(name, meaning)
+    names.declare(name, meaning)?;
+    Ok(())
 }
 
 /// Declares a procedure.

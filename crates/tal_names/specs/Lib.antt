@@ -1,4 +1,5 @@
 pub mod Faults
+pub mod Found
 pub mod Names
 pub mod Places
 pub mod Scopes

@@ -275,7 +275,10 @@ fn mention(before: &mut Names, named: Option<Named>) -> Result<(), NoMemory>
 {
     match named {
         None => Ok(()),
-        Some(named) => before.declare(named.name, Meaning::Literal(0)),
+        Some(named) => {
+            before.declare(named.name, Meaning::Literal(0))?;
+            Ok(())
+        }
     }
 }
 
