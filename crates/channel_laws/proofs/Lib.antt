@@ -1,6 +1,7 @@
 pub mod Joints
 pub mod Members
 pub mod Nets
+pub mod Numbers
 pub mod Packets
 pub mod Places
 pub mod Rounds

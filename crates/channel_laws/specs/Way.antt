@@ -3,7 +3,7 @@ use Rattle.std.specs.Prelude.{◌≡◌, ◌≤◌, ◌<◌, ℕ, ◌+◌, ◌*�
 use Rattle.std.specs.Option.{option_to_list}
 use Rattle.wire.specs.declared.piece.Piece.{Piece}
 use Rattle.wire.specs.Pieces.{pieces, piece_at}
-use Rattle.link_control.specs.Ends.{Sending, Receiving, idle_after, nothing_in_part, pushed, acknowledged, ticked, kept, handed}
+use Rattle.link_control.specs.Ends.{Sending, Receiving, End, idle_after, nothing_in_part, pushed, acknowledged, ticked, kept, handed}
 
 -- the messages ever pushed at the sender's end, the oldest first; that end; the receiver's end; and the messages that it handed over
 pub record Way : Type 0 where
@@ -116,3 +116,7 @@ IsOutstanding n s = (s.numbered ≡ n) × (opened s.queue ≡ 1)
 -- the piece of this number was numbered, and is outstanding no more
 abbrev pub IsEnded : ℕ → Sending → Type 0
 IsEnded n s = n + opened s.queue ≤ s.numbered
+
+-- an end has numbered at most one piece more than before, and kept at most one more
+abbrev pub IsOneOn : End → End → Type 0
+IsOneOn e next = (next.sending.numbered ≤ e.sending.numbered + 1) × (next.receiving.kept ≤ e.receiving.kept + 1)

@@ -3,8 +3,8 @@ ghost use Rattle.std.specs.Option.{option_to_list};
 ghost use Rattle.wire.specs.declared.packet.Packet.{Packet};
 ghost use Rattle.wire.specs.declared.piece.Piece.{Piece};
 ghost use Rattle.wire.specs.Layout.{is_packet};
-ghost use Rattle.link_control.specs.Ends.{is_empty, handed_by_packet};
-ghost use Rattle.channel_laws.specs.Way.{Way, IsJoint, IsPieceOf, IsReceiptOf, IsOutstanding, IsEnded, pushing, coming, telling, ticking};
+ghost use Rattle.link_control.specs.Ends.{End, after_push, after_packet, after_tick, after_down, is_empty, handed_by_packet};
+ghost use Rattle.channel_laws.specs.Way.{Way, IsJoint, IsPieceOf, IsReceiptOf, IsOutstanding, IsEnded, IsOneOn, pushing, coming, telling, ticking};
 ghost use Rattle.channel_laws.specs.Net.{Net, IsIn, Goes, Leads, IsWhole, Runs, quiet_net, ways_by};
 ghost use Rattle.channel_laws.specs.Rounds.{IsRound, IsBroughtOn};
 
@@ -14,6 +14,14 @@ pub fn ends_stay_together()
     ensures piece { (number : ℕ) (piece : Piece) (w : Way) → IsPieceOf w number piece → IsJoint w → IsJoint (coming number piece w) }
     ensures acknowledgement { (number : ℕ) (w : Way) → IsReceiptOf w number → IsJoint w → IsJoint (telling number w) }
     ensures tick { (w : Way) → IsJoint w → IsJoint (ticking w) }
+{}
+
+/// No call numbers more than one piece or keeps more than one, so numbers are left for as many calls.
+pub fn numbers_rise_one_by_one()
+    ensures push { (message : List ℤ) (e : End) → IsOneOn e (after_push message e) }
+    ensures packet { (p : Packet) (e : End) → IsOneOn e (after_packet p e) }
+    ensures tick { (e : End) → IsOneOn e (after_tick e) }
+    ensures down { (e : End) → IsOneOn e (after_down e) }
 {}
 
 /// A net is whole at its beginning and stays so whatever happens in it, and so it is in each run.

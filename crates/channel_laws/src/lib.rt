@@ -9,5 +9,5 @@ pub mod laws;
 
 pub use laws::{
     a_round_brings_a_piece_on, ends_stay_together, four_rounds_end_a_piece,
-    nets_hand_over_in_order, nets_stay_whole, packets_fit_the_layout,
+    nets_hand_over_in_order, nets_stay_whole, numbers_rise_one_by_one, packets_fit_the_layout,
 };
