@@ -1,7 +1,7 @@
+use crate::programs::program_of;
 use path_semantics::{Reason, breaks, is_path};
 use std::alloc::Global;
 use std::test::Fail;
-use tal_reader::read_program;
 
 /// A program whose path ends with a CHECKPOINT that names nothing, and which of its first four globals are due there.
 struct Due {
@@ -94,7 +94,7 @@ PROC m MAIN; BEGIN CALL CHECKMONITOR; x := g; CALL CHECKPOINT END;",
 
 /// Whether the path is one of the program and breaks for just these globals.
 fn is_due(alloc: Global, due: &Due) -> Result<bool, Fail> {
-    let program = read_program(alloc, due.text)?;
+    let program = program_of(alloc, due.text)?;
     let mut holds = is_path(alloc, &program, due.path)?;
     for (item, wanted) in [0, 1, 2, 3].into_iter().zip(due.globals) {
         let found = breaks(alloc, &program, due.path, Reason::Data(item))?;
@@ -114,13 +114,13 @@ fn statements_make_their_globals_due(rt: HostRuntime) -> Result<(), Fail> {
 #[test]
 fn a_reply_to_a_request_read_since_breaks(rt: HostRuntime) -> Result<(), Fail> {
     let alloc = rt.alloc();
-    let at_once = read_program(
+    let at_once = program_of(
         alloc,
         b"INT rcv, n; INT b[0:3]; PROC m MAIN; BEGIN CALL CHECKMONITOR; CALL OPEN(\"$RECEIVE\", rcv, 1);
 CALL READUPDATE(rcv, b, 1, n); CALL REPLY(b, 1) END;",
     )?;
     assert!(rt; breaks(alloc, &at_once, &[1, 2, 3, 4], Reason::Input)?);
-    let marked = read_program(
+    let marked = program_of(
         alloc,
         b"INT rcv, n; INT b[0:3]; PROC m MAIN; BEGIN CALL CHECKMONITOR; CALL OPEN(\"$RECEIVE\", rcv, 1);
 CALL READUPDATE(rcv, b, 1, n); CALL CHECKPOINT(b, n); CALL REPLY(b, 1) END;",

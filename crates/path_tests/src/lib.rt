@@ -8,3 +8,5 @@
 mod dues;
 #[cfg(test)]
 mod paths;
+#[cfg(test)]
+mod programs;

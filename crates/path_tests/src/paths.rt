@@ -1,7 +1,7 @@
+use crate::programs::program_of;
 use path_semantics::{Reason, breaks, call_depth, is_path};
 use std::alloc::Global;
 use std::test::Fail;
-use tal_reader::read_program;
 use tal_tree::Program;
 
 /// The numbers of the globals of the bank.
@@ -148,7 +148,7 @@ fn is_least(
     reason: Reason,
     wanted: Option<&[u16]>,
 ) -> Result<bool, Fail> {
-    let program = read_program(alloc, text)?;
+    let program = program_of(alloc, text)?;
     let found = least(alloc, &program, reason)?;
     Ok(found.as_ref().map(|path| path.as_slice()) == wanted)
 }
@@ -246,7 +246,7 @@ fn calls_go_as_deep_as_their_longest_chain(rt: HostRuntime) -> Result<(), Fail> 
         ),
     ];
     for (text, depth) in wanted {
-        let program = read_program(rt.alloc(), text)?;
+        let program = program_of(rt.alloc(), text)?;
         assert!(rt; depth_of(&program) == Some(depth), "{text:?}");
     }
     Ok(())
