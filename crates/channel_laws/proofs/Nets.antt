@@ -12,7 +12,8 @@ use Rattle.wire.specs.Pieces.{piece_at}
 use Rattle.link_control.specs.declared.channel.Resent.{Resent}
 use Rattle.link_control.specs.Ends.{End, Sending, packet_of, outstanding, after_push, sent_by_push, after_packet, after_kind, sent_by_packet, sent_by_kind, after_tick, sent_by_tick, after_down, piece_of, pushed, acknowledged, ticked, kept, is_kept, is_idle, is_ended_by, is_sent_again}
 use Rattle.channel_laws.specs.Way.{Way, IsJoint, IsPieceOf, IsReceiptOf, pushing, coming, telling, ticking}
-use Rattle.channel_laws.specs.Net.{Net, IsIn, is_first, is_later, put, Runs, at_end, pushed_net, arrived_net, ticked_net, packet_in, ways_by, incarnation_of, quiet_net, Goes, pushes, arrives, ticks, lives, bus_changes, stops, marks, Leads, at_once, later, IsTold, IsRight, IsNamed, IsTied, IsWhole}
+use Rattle.gd_words.specs.Members.{IsAmong}
+use Rattle.channel_laws.specs.Net.{Net, put, Runs, at_end, pushed_net, arrived_net, ticked_net, packet_in, ways_by, incarnation_of, quiet_net, Goes, pushes, arrives, ticks, lives, bus_changes, stops, marks, Leads, at_once, later, IsTold, IsRight, IsNamed, IsTied, IsWhole}
 use Rattle.channel_laws.proofs.Members.{in-none, in-append}
 use Rattle.channel_laws.proofs.Joints.{joint-quiet, joint-pushing, joint-telling, joint-ticking, joint-coming, same-piece}
 use Rattle.channel_laws.proofs.Packets.{IsLater, later-same, later-pushing, later-coming, later-telling, later-ticking, piece-outstanding}
@@ -48,14 +49,14 @@ right-later reloads f g h p o = record { incarnation = o.incarnation; told = go 
     go (kind.Acknowledgement number) o = (h p.receiver p.sender).1 number o
 
 right-sent : (n : Net) (g : ℕ → ℕ → Way) (sent : Option Packet) → ((a b : ℕ) → IsLater (n.ways a b) (g a b)) → IsWhole n
-    → ((q : Packet) → sent ≡ Some q → IsRight n.reloads g q) → (p : Packet) → IsIn p (n.flight ++ option_to_list sent) → IsRight n.reloads g p
-right-sent n g sent h w new p i = go sent new (in-append n.flight (option_to_list sent) i)
+    → ((q : Packet) → sent ≡ Some q → IsRight n.reloads g q) → (p : Packet) → IsAmong p (n.flight ++ option_to_list sent) → IsRight n.reloads g p
+right-sent n g sent h w new p i = go sent new (in-append _ n.flight (option_to_list sent) i)
   where
-    go : (sent : Option Packet) → ((q : Packet) → sent ≡ Some q → IsRight n.reloads g q) → IsIn p n.flight ⊎ IsIn p (option_to_list sent) → IsRight n.reloads g p
+    go : (sent : Option Packet) → ((q : Packet) → sent ≡ Some q → IsRight n.reloads g q) → IsAmong p n.flight ⊎ IsAmong p (option_to_list sent) → IsRight n.reloads g p
     go sent new (inl j) = right-later n.reloads n.ways g h p (w.flight p j)
     go None new (inr j) = in-none j
-    go (Some q) new (inr is_first) = new p refl
-    go (Some q) new (inr (is_later j)) = in-none j
+    go (Some q) new (inr (inl e)) = new p (ap Some (sym e))
+    go (Some q) new (inr (inr j)) = in-none j
 
 -- a packet of an end is right where what it tells is
 pub packet-right : (reloads : ℕ → ℕ) (g : ℕ → ℕ → Way) (x y : ℕ) (e : End) (k : PacketKind) → IsNamed reloads x y e → IsTold (g x y) (g y x) k
@@ -278,7 +279,7 @@ whole-alive n x y p k h w = subst IsWhole (sym (same ∙ same_tables)) w
     same_tables : at_end x y e None n.ways n ≡ n
     same_tables = λ i. record n { ends = put-own x y n.ends i; flight = append-nil n.flight i }
 
-whole-arrived : (n : Net) (p : Packet) → IsIn p n.flight → Runs n p.receiver p.sender → IsWhole n → IsWhole (arrived_net p.receiver p.sender p n)
+whole-arrived : (n : Net) (p : Packet) → IsAmong p n.flight → Runs n p.receiver p.sender → IsWhole n → IsWhole (arrived_net p.receiver p.sender p n)
 whole-arrived n p i h w = go p.kind refl (w.flight p i).told
   where
     go : (k : PacketKind) → p.kind ≡ k → IsTold (n.ways p.sender p.receiver) (n.ways p.receiver p.sender) k

@@ -12,9 +12,10 @@ use Rattle.wire.specs.Pieces.{joined, piece_at, first_piece}
 use Rattle.link_control.specs.declared.channel.Resent.{Resent}
 use Rattle.link_control.specs.Ends.{End, Sending, packet_of, outstanding, after_push, after_packet, after_kind, after_tick, pushed, after_down, sent_by_push, sent_by_packet, sent_by_kind, sent_by_tick, ticked, kept, is_kept, is_next, is_sent_again}
 use Rattle.channel_laws.specs.Way.{Way, IsJoint, IsEnded, IsWithin, pushing, coming, telling, ticking}
-use Rattle.channel_laws.specs.Net.{Net, IsIn, is_first, Goes, put, put_one, Runs, packet_in, ways_by, arrived_net, ticked_net, pushes, arrives, ticks, lives, bus_changes, stops, marks, IsWhole}
+use Rattle.gd_words.specs.Members.{IsAmong}
+use Rattle.channel_laws.specs.Net.{Net, Goes, put, put_one, Runs, packet_in, ways_by, arrived_net, ticked_net, pushes, arrives, ticks, lives, bus_changes, stops, marks, IsWhole}
 use Rattle.channel_laws.specs.Rounds.{Passes, nothing, by_push, by_packet, by_drop, by_tick, by_alive, by_bus, by_stop, by_mark, IsRound, IsFlying, HasWaited, IsAnswered, IsSent, IsBroughtOn}
-use Rattle.channel_laws.proofs.Members.{in-none, in-left, in-right, in-cons}
+use Rattle.channel_laws.proofs.Members.{in-none, in-left, in-right}
 use Rattle.channel_laws.proofs.Joints.{numbered-pushed, opened-few}
 use Rattle.channel_laws.proofs.Packets.{numbered-acknowledged, numbered-ticked}
 use Rattle.channel_laws.proofs.Senders.{on-pushed, on-told, on-ticked, hit, ticked-cases}
@@ -35,7 +36,7 @@ abbrev pub SentIn : ℕ → ℕ → ℕ → Net → Type 0
 SentIn n a b m = IsSent n a b (m.ways a b).sender m.flight
 
 flying-on : (from to : ℕ) (k : PacketKind) (xs ys : List Packet) → IsFlying from to k xs → IsFlying from to k (xs ++ ys)
-flying-on from to k xs ys h = (h.0, in-left xs ys h.1, h.2, h.3, h.4)
+flying-on from to k xs ys h = (h.0, in-left _ xs ys h.1, h.2, h.3, h.4)
 
 -- how a way goes on, for the piece n
 abbrev pub WayOn : ℕ → Way → Way → Type 0
@@ -116,25 +117,25 @@ mid-came n a b l came p m r o h = record {
   low = h.low;
   here = h.here;
   there = h.there;
-  acknowledgements = λ q. by_acknowledgement q.0 (in-cons q.1) q.2 q.3 q.4;
-  pieces = λ piece q. by_piece piece q.0 (in-cons q.1) q.2 q.3 q.4;
+  acknowledgements = λ q. by_acknowledgement q.0 q.1 q.2 q.3 q.4;
+  pieces = λ piece q. by_piece piece q.0 q.1 q.2 q.3 q.4;
   ended = h.ended;
   waited = h.waited;
   answered = h.answered;
   sent = h.sent;
 }
   where
-    by_acknowledgement : (q : Packet) → (q ≡ p) ⊎ IsIn q came → q.kind ≡ kind.Acknowledgement n → q.sender ≡ b → q.receiver ≡ a → EndedIn n a b m
+    by_acknowledgement : (q : Packet) → (q ≡ p) ⊎ IsAmong q came → q.kind ≡ kind.Acknowledgement n → q.sender ≡ b → q.receiver ≡ a → EndedIn n a b m
     by_acknowledgement q (inl same) k s t = subst (λ (p : Packet). (p.kind ≡ kind.Acknowledgement n → p.sender ≡ b → p.receiver ≡ a → EndedIn n a b m)) (sym same) r k s t
     by_acknowledgement q (inr i) k s t = h.acknowledgements (q, i, k, s, t)
 
-    by_piece : (piece : Piece) (q : Packet) → (q ≡ p) ⊎ IsIn q came → q.kind ≡ kind.Piece n piece → q.sender ≡ a → q.receiver ≡ b → AnsweredIn n a b m
+    by_piece : (piece : Piece) (q : Packet) → (q ≡ p) ⊎ IsAmong q came → q.kind ≡ kind.Piece n piece → q.sender ≡ a → q.receiver ≡ b → AnsweredIn n a b m
     by_piece piece q (inl same) k s t = subst (λ (p : Packet). (p.kind ≡ kind.Piece n piece → p.sender ≡ a → p.receiver ≡ b → AnsweredIn n a b m)) (sym same) (o piece) k s t
     by_piece piece q (inr i) k s t = h.pieces piece (q, i, k, s, t)
 
 -- packets that came leave
-mid-bus : (n a b : ℕ) (l : Net) (came : List Packet) (m : Net) (flight : List Packet) → ((p : Packet) → IsIn p flight → IsIn p m.flight)
-    → ((p : Packet) → IsIn p m.flight → IsIn p flight ⊎ IsIn p came) → IsMid n a b l came m → IsMid n a b l came (record m { flight = flight })
+mid-bus : (n a b : ℕ) (l : Net) (came : List Packet) (m : Net) (flight : List Packet) → ((p : Packet) → IsAmong p flight → IsAmong p m.flight)
+    → ((p : Packet) → IsAmong p m.flight → IsAmong p flight ⊎ IsAmong p came) → IsMid n a b l came m → IsMid n a b l came (record m { flight = flight })
 mid-bus n a b l came m flight fewer stays h = record {
   whole = whole-goes (bus_changes flight fewer) h.whole;
   low = h.low;
@@ -148,7 +149,7 @@ mid-bus n a b l came m flight fewer stays h = record {
   sent = λ x. sent (h.sent x);
 }
   where
-    by_acknowledgement : (q : Packet) → q.kind ≡ kind.Acknowledgement n → q.sender ≡ b → q.receiver ≡ a → IsIn q flight ⊎ IsIn q came → AnsweredIn n a b (record m { flight = flight })
+    by_acknowledgement : (q : Packet) → q.kind ≡ kind.Acknowledgement n → q.sender ≡ b → q.receiver ≡ a → IsAmong q flight ⊎ IsAmong q came → AnsweredIn n a b (record m { flight = flight })
     by_acknowledgement q k s t (inl x) = inr (q, x, k, s, t)
     by_acknowledgement q k s t (inr x) = inl (h.acknowledgements (q, x, k, s, t))
 
@@ -156,7 +157,7 @@ mid-bus n a b l came m flight fewer stays h = record {
     answered (inl x) = inl x
     answered (inr x) = by_acknowledgement x.0 x.2 x.3 x.4 (stays x.0 x.1)
 
-    by_piece : (piece : Piece) (q : Packet) → q.kind ≡ kind.Piece n piece → q.sender ≡ a → q.receiver ≡ b → IsIn q flight ⊎ IsIn q came → SentIn n a b (record m { flight = flight })
+    by_piece : (piece : Piece) (q : Packet) → q.kind ≡ kind.Piece n piece → q.sender ≡ a → q.receiver ≡ b → IsAmong q flight ⊎ IsAmong q came → SentIn n a b (record m { flight = flight })
     by_piece piece q k s t (inl x) = inr (piece, (q, x, k, s, t))
     by_piece piece q k s t (inr x) = inl (answered (h.pieces piece (q, x, k, s, t)))
 
@@ -185,7 +186,7 @@ kept-at n piece w j low = go (is_next n w.receiver) refl
     go true is = le-leb n (w.receiver.kept + 1) top
     go false is = le-leb n w.receiver.kept (grind (arith, top, eqb-false n (w.receiver.kept + 1) is))
 
-mid-packet : (n a b : ℕ) (l : Net) (came : List Packet) (m : Net) (p : Packet) → IsIn p m.flight → Runs m p.receiver p.sender → IsMid n a b l came m
+mid-packet : (n a b : ℕ) (l : Net) (came : List Packet) (m : Net) (p : Packet) → IsAmong p m.flight → Runs m p.receiver p.sender → IsMid n a b l came m
     → IsMid n a b l (p ∷ came) (arrived_net p.receiver p.sender p m)
 mid-packet n a b l came m p i r h = mid-came n a b l came p (arrived_net p.receiver p.sender p m) ended answered
     (mid-on n a b l came m (put p.receiver p.sender (after_packet p e) m.ends) (option_to_list (sent_by_packet p e)) (ways_by p.receiver p.sender p.kind m.ways)
@@ -210,7 +211,7 @@ mid-packet n a b l came m p i r h = mid-came n a b l came p (arrived_net p.recei
         let is : is_kept n (kept n piece e.receiving) ≡ true = ap (λ r. is_kept n (kept n piece r)) tie ∙ kept-at n piece (m.ways a b) (h.whole.joint a b) h.low in
         let sent_is : sent_by_packet p e ≡ Some own = when-up None (sent_by_kind p.kind e) r.1 ∙ ap (λ k. sent_by_kind k e) k ∙ ap (λ b. if b then Some own else None) is in
         inr (subst (λ s. IsFlying b a (kind.Acknowledgement n) (m.flight ++ option_to_list s)) (sym sent_is)
-        (own, in-right m.flight (own ∷ []) is_first, refl, names.here ∙ t, names.there ∙ s))
+        (own, in-right _ m.flight (own ∷ []) (inl refl), refl, names.here ∙ t, names.there ∙ s))
 
 mid-tick : (n a b : ℕ) (l : Net) (came : List Packet) (m : Net) (x y : ℕ) → Runs m x y → IsMid n a b l came m → IsMid n a b l came (ticked_net x y m)
 mid-tick n a b l came m x y r h = mid-on n a b l came m (put x y (after_tick (m.ends x y)) m.ends) (option_to_list (option_map packet_in (sent_by_tick (m.ends x y))))
@@ -336,7 +337,7 @@ net-sends n a b m w low r k = go (tick-sends n (m.ends a b) (m.ways a b) r.1 (w.
     go (inr x) = inr (
       x.0,
       subst (λ s. IsFlying a b (kind.Piece n x.0) (m.flight ++ option_to_list s)) (sym x.1)
-          (packet_of e (kind.Piece n x.0), in-right m.flight (packet_of e (kind.Piece n x.0) ∷ []) is_first, refl, (w.named a b).here, (w.named a b).there),
+          (packet_of e (kind.Piece n x.0), in-right _ m.flight (packet_of e (kind.Piece n x.0) ∷ []) (inl refl), refl, (w.named a b).here, (w.named a b).there),
     )
 
 pub brought-on : (n a b : ℕ) {l next : Net} → IsRound a b l next → IsWhole l → Runs l a b → Runs l b a → n ≤ (l.ends a b).sending.numbered → IsBroughtOn n a b l next

@@ -1,6 +1,7 @@
 -- Channels between any number of nodes.
 use Rattle.std.specs.Prelude.{◌≡◌, ◌<◌, ℕ, ◌==◌, ◌&&◌, ℤ, Bool, true, false, List, [], ◌∷◌, ◌++◌, length, Option, if◌then◌else◌}
 use Rattle.std.specs.Option.{option_map, option_to_list}
+use Rattle.gd_words.specs.Members.{IsAmong}
 use Rattle.wire.specs.declared.packet.Packet.{Packet}
 use Rattle.wire.specs.declared.packet.Incarnation.{Incarnation}
 use Rattle.wire.specs.declared.packet.PacketKind.{PacketKind}
@@ -8,11 +9,6 @@ use Rattle.wire.specs.declared.packet.PacketKind.TheVariants as kind
 use Rattle.link_control.specs.declared.channel.Resent.{Resent}
 use Rattle.link_control.specs.Ends.{End, new_end, packet_of, after_push, sent_by_push, after_packet, sent_by_packet, after_tick, sent_by_tick, after_down}
 use Rattle.channel_laws.specs.Way.{Way, IsJoint, IsPieceOf, IsReceiptOf, quiet_way, pushing, coming, telling, ticking}
-
--- membership, as among the packets on the buses
-pub data IsIn {A : Type 0} (x : A) : List A → Type 0 where
-  is_first : {xs : List A} → IsIn x (x ∷ xs)
-  is_later : {y : A} {xs : List A} → IsIn x xs → IsIn x (y ∷ xs)
 
 -- a table with one place changed
 abbrev pub put : {A : Type 0} → ℕ → ℕ → A → (ℕ → ℕ → A) → ℕ → ℕ → A
@@ -92,10 +88,10 @@ marked_net x y n = record n { ends = put x y (after_down (n.ends x y)) n.ends }
 -- packets are lost, repeated or come to stand in another order, so that none is there that wasn't; a node stops; a node marks down one that has stopped
 pub data Goes (n : Net) : Net → Type 0 where
   pushes : (x y : ℕ) (message : List ℤ) → 0 < length message → Runs n x y → Goes n (pushed_net x y message n)
-  arrives : (p : Packet) → IsIn p n.flight → Runs n p.receiver p.sender → Goes n (arrived_net p.receiver p.sender p n)
+  arrives : (p : Packet) → IsAmong p n.flight → Runs n p.receiver p.sender → Goes n (arrived_net p.receiver p.sender p n)
   ticks : (x y : ℕ) → Runs n x y → Goes n (ticked_net x y n)
   lives : (x y : ℕ) → Runs n x y → Goes n (alive_net x y n)
-  bus_changes : (flight : List Packet) → ((p : Packet) → IsIn p flight → IsIn p n.flight) → Goes n (record n { flight = flight })
+  bus_changes : (flight : List Packet) → ((p : Packet) → IsAmong p flight → IsAmong p n.flight) → Goes n (record n { flight = flight })
   stops : (x : ℕ) → Goes n (stopped_net x n)
   marks : (x y : ℕ) → n.stopped y ≡ true → Goes n (marked_net x y n)
 
@@ -133,4 +129,4 @@ pub record IsWhole (n : Net) : Type 0 where
   pub joint : (a b : ℕ) → IsJoint (n.ways a b)
   pub named : (a b : ℕ) → IsNamed n.reloads a b (n.ends a b)
   pub tied : (a b : ℕ) → Runs n a b → IsTied n.ways a b (n.ends a b)
-  pub flight : (p : Packet) → IsIn p n.flight → IsRight n.reloads n.ways p
+  pub flight : (p : Packet) → IsAmong p n.flight → IsRight n.reloads n.ways p

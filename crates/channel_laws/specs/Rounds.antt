@@ -6,21 +6,22 @@ use Rattle.wire.specs.declared.packet.PacketKind.{PacketKind}
 use Rattle.wire.specs.declared.packet.PacketKind.TheVariants as kind
 use Rattle.link_control.specs.Ends.{Sending}
 use Rattle.channel_laws.specs.Way.{IsEnded}
-use Rattle.channel_laws.specs.Net.{Net, IsIn, IsWhole, Runs, pushed_net, arrived_net, ticked_net, alive_net, stopped_net, marked_net}
+use Rattle.gd_words.specs.Members.{IsAmong}
+use Rattle.channel_laws.specs.Net.{Net, IsWhole, Runs, pushed_net, arrived_net, ticked_net, alive_net, stopped_net, marked_net}
 
 -- what goes on in a net while the nodes a and b don't stop and no packet is lost that didn't come. The packets that came are listed, the newest first; those
 -- that came may leave the buses, be repeated and stand in another order
 pub data Passes (a b : ℕ) (n : Net) : List Packet → Net → Type 0 where
   nothing : Passes a b n [] n
   by_push : {came : List Packet} {m : Net} (x y : ℕ) (message : List ℤ) → 0 < length message → Runs m x y → Passes a b n came m → Passes a b n came (pushed_net x y message m)
-  by_packet : {came : List Packet} {m : Net} (p : Packet) → IsIn p m.flight → Runs m p.receiver p.sender → Passes a b n came m
+  by_packet : {came : List Packet} {m : Net} (p : Packet) → IsAmong p m.flight → Runs m p.receiver p.sender → Passes a b n came m
       → Passes a b n (p ∷ came) (arrived_net p.receiver p.sender p m)
   -- a packet comes to a node that has stopped or has marked its sender down
   by_drop : {came : List Packet} {m : Net} (p : Packet) → (Runs m p.receiver p.sender → ⊥) → Passes a b n came m → Passes a b n (p ∷ came) m
   by_tick : {came : List Packet} {m : Net} (x y : ℕ) → Runs m x y → Passes a b n came m → Passes a b n came (ticked_net x y m)
   by_alive : {came : List Packet} {m : Net} (x y : ℕ) → Runs m x y → Passes a b n came m → Passes a b n came (alive_net x y m)
-  by_bus : {came : List Packet} {m : Net} (flight : List Packet) → ((p : Packet) → IsIn p flight → IsIn p m.flight)
-      → ((p : Packet) → IsIn p m.flight → IsIn p flight ⊎ IsIn p came) → Passes a b n came m → Passes a b n came (record m { flight = flight })
+  by_bus : {came : List Packet} {m : Net} (flight : List Packet) → ((p : Packet) → IsAmong p flight → IsAmong p m.flight)
+      → ((p : Packet) → IsAmong p m.flight → IsAmong p flight ⊎ IsAmong p came) → Passes a b n came m → Passes a b n came (record m { flight = flight })
   by_stop : {came : List Packet} {m : Net} (x : ℕ) → x ≢ a → x ≢ b → Passes a b n came m → Passes a b n came (stopped_net x m)
   by_mark : {came : List Packet} {m : Net} (x y : ℕ) → m.stopped y ≡ true → Passes a b n came m → Passes a b n came (marked_net x y m)
 
@@ -29,7 +30,7 @@ pub record IsRound (a b : ℕ) (n next : Net) : Type 0 where
   pub came : List Packet
   pub middle : Net
   pub first : Passes a b n came middle
-  pub all : (p : Packet) → IsIn p n.flight → IsIn p came
+  pub all : (p : Packet) → IsAmong p n.flight → IsAmong p came
   pub later : List Packet
   pub rest : Passes a b (ticked_net a b middle) later next
 
@@ -37,7 +38,7 @@ pub record IsRound (a b : ℕ) (n next : Net) : Type 0 where
 
 -- a packet from one node to another tells this
 abbrev pub IsFlying : ℕ → ℕ → PacketKind → List Packet → Type 0
-IsFlying from to told flight = (p : Packet) × IsIn p flight × (p.kind ≡ told) × (p.sender ≡ from) × (p.receiver ≡ to)
+IsFlying from to told flight = (p : Packet) × IsAmong p flight × (p.kind ≡ told) × (p.sender ≡ from) × (p.receiver ≡ to)
 
 -- it has ended, or was outstanding at a tick
 abbrev pub HasWaited : ℕ → Sending → Type 0

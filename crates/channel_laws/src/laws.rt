@@ -5,7 +5,8 @@ ghost use Rattle.wire.specs.declared.piece.Piece.{Piece};
 ghost use Rattle.wire.specs.Layout.{is_packet};
 ghost use Rattle.link_control.specs.Ends.{End, after_push, after_packet, after_tick, after_down, is_empty, handed_by_packet};
 ghost use Rattle.channel_laws.specs.Way.{Way, IsJoint, IsPieceOf, IsReceiptOf, IsOutstanding, IsEnded, IsOneOn, pushing, coming, telling, ticking};
-ghost use Rattle.channel_laws.specs.Net.{Net, IsIn, Goes, Leads, IsWhole, Runs, quiet_net, ways_by};
+ghost use Rattle.gd_words.specs.Members.{IsAmong};
+ghost use Rattle.channel_laws.specs.Net.{Net, Goes, Leads, IsWhole, Runs, quiet_net, ways_by};
 ghost use Rattle.channel_laws.specs.Rounds.{IsRound, IsBroughtOn};
 
 /// Both ends of a way stay together, whatever happens at one of them.
@@ -43,7 +44,7 @@ pub fn nets_hand_over_in_order()
 
 /// In a whole net each packet in flight between nodes that there may be, reloaded as often as they may be, is within the layout.
 pub fn packets_fit_the_layout()
-    ensures { (n : Net) (p : Packet) → IsWhole n → IsIn p n.flight → p.sender ≤ 16 → p.receiver ≤ 16 → n.reloads p.sender ≤ 127 → n.reloads p.receiver ≤ 127
+    ensures { (n : Net) (p : Packet) → IsWhole n → IsAmong p n.flight → p.sender ≤ 16 → p.receiver ≤ 16 → n.reloads p.sender ≤ 127 → n.reloads p.receiver ≤ 127
         → is_packet p ≡ true }
 {}
 
