@@ -1,0 +1,232 @@
+ghost use Rattle.std.specs.Prelude.{◌≡◌, ◌⊎◌, ◌≤◌, ◌↔◌, [], ok_or, option_map, option_copied, Some, None, false, IsOk, IsSome, IfOk, IfErr, IfSome, IfNone, OnOk, OnErr};
+ghost use Rattle.message_system.specs.declared.link.Side.TheVariants.{Asked, Arrived};
+ghost use Rattle.message_system.specs.declared.link.LinkFault.TheVariants.{NoSuchLink};
+ghost use Rattle.message_system.specs.Linking.{at, asked_at, arrived_at, reply_at, reply_to, replied, read, changed_at, without, Opens, IsOldest, NonePasses, is_unread, is_of, is_wanted};
+
+use crate::link::{Link, LinkFault, Side, Wanted};
+use gd_words::{NoMemory, Reply, Request, Words};
+use slab::Slab;
+use std::alloc::Global;
+use std::marker::Model;
+
+/// The open links of a node. Requesters' links and servers' links stand in one table, and a call on a link of the other kind
+/// finds none. A number is used again once its link has ended.
+#[derive(Drop)]
+pub struct Links {
+    links: Slab<Link>,
+    next: u64,
+}
+
+impl Model for Links {
+    ghost use Rattle.message_system.specs.Linking.{Table, IsTimed};
+
+    ghost Value = { Table };
+
+    ghost view = { λ links. links.links.slots };
+
+    ghost invariant = { λ links. IsTimed links.links.slots links.next };
+}
+
+impl Links {
+    /// No link is open.
+    pub fn new(alloc: Global) -> Links
+        ensures { result ≡ [] }
+    {
+        Links {
+            links: Slab::new(alloc),
+            next: 0,
+        }
+    }
+
+    /// Opens the link of a requester that sends this request, and gives its number.
+    pub fn link(&mut self, request: Request) -> Result<usize, NoMemory>
+        ensures opens { IfOk result (Opens self.old self.new (Asked request None)) }
+        ensures err { OnErr result (self.new ≡ self.old) }
+    {
+        self.open(Side::Asked {
+            request,
+            reply: None,
+        })
+    }
+
+    /// The request of a requester's link; none where no such link is open.
+    pub fn requested(&self, number: usize) -> Option<&Request>
+        ensures { option_copied result ≡ asked_at self.now number }
+    {
+        match &self.links.get(number)?.side {
+            Side::Asked { request, reply: _ } => Some(request),
+            Side::Arrived {
+                request: _,
+                read: _,
+            } => None,
+        }
+    }
+
+    /// The reply came for a requester's link. Where one came before, that one stays.
+    pub fn replied(&mut self, number: usize, words: Words) -> Result<(), LinkFault>
+        ensures open { IsOk result ↔ IsSome (asked_at self.old number) }
+        ensures fault { IfErr result (λ fault. fault ≡ NoSuchLink) }
+        ensures after { OnOk result (self.new ≡ changed_at number (replied words) self.old) }
+        ensures err { OnErr result (self.new ≡ self.old) }
+    {
+        match self.links.get_mut(number) {
+            Some(link) => link.keep_reply(words),
+            None => Err(LinkFault::NoSuchLink),
+        }
+    }
+
+    /// Gives the reply that came for a requester's link, and ends the link. Where none came the link stays open.
+    pub fn break_link(&mut self, number: usize) -> Result<Words, LinkFault>
+        ensures answer { result ≡ reply_at self.old number }
+        ensures ends { OnOk result (self.new ≡ without number self.old) }
+        ensures err { OnErr result (self.new ≡ self.old) }
+    {
+        let words = match self.links.get(number) {
+            Some(link) => link.reply()?,
+            None => return Err(LinkFault::NoSuchLink),
+        };
+        self.links.try_remove(number);
+        Ok(words)
+    }
+
+    /// Opens the link of a server to which this request came, and gives its number.
+    pub fn arrived(&mut self, request: Request) -> Result<usize, NoMemory>
+        ensures opens { IfOk result (Opens self.old self.new (Arrived request false)) }
+        ensures err { OnErr result (self.new ≡ self.old) }
+    {
+        self.open(Side::Arrived {
+            request,
+            read: false,
+        })
+    }
+
+    /// The oldest link of a process that the process hasn't read yet.
+    pub fn listen(&self, process: u8) -> Option<usize>
+        ensures oldest { IfSome result (IsOldest (is_unread process) self.now) }
+        ensures none { IfNone result (NonePasses (is_unread process) self.now) }
+    {
+        self.oldest(Wanted::Unread { process })
+    }
+
+    /// The request of a server's link, which is read from now on; one that was read before gives it again.
+    pub fn read_link(&mut self, number: usize) -> Result<Request, LinkFault>
+        ensures answer { result ≡ ok_or (arrived_at self.old number) NoSuchLink }
+        ensures after { OnOk result (self.new ≡ changed_at number read self.old) }
+        ensures err { OnErr result (self.new ≡ self.old) }
+    {
+        match self.links.get_mut(number) {
+            Some(link) => link.read(),
+            None => Err(LinkFault::NoSuchLink),
+        }
+    }
+
+    /// The reply to the request of a server's link, which ends, read before or not.
+    pub fn write_link(&mut self, number: usize, words: &Words) -> Result<Reply, LinkFault>
+        ensures answer { result ≡ ok_or (option_map (reply_to words.now) (arrived_at self.old number)) NoSuchLink }
+        ensures ends { OnOk result (self.new ≡ without number self.old) }
+        ensures err { OnErr result (self.new ≡ self.old) }
+    {
+        let reply = match self.served(number) {
+            Some(request) => reply_to(request, words),
+            None => return Err(LinkFault::NoSuchLink),
+        };
+        self.links.try_remove(number);
+        Ok(reply)
+    }
+
+    /// The oldest open link of a server for this request.
+    pub fn link_of(&self, process: u8, opener: u16, number: u32) -> Option<usize>
+        ensures oldest { IfSome result (IsOldest (is_of process opener number) self.now) }
+        ensures none { IfNone result (NonePasses (is_of process opener number) self.now) }
+    {
+        self.oldest(Wanted::Of {
+            process,
+            opener,
+            number,
+        })
+    }
+
+    /// Ends a server's link without a reply.
+    pub fn end_link(&mut self, number: usize) -> Result<(), LinkFault>
+        ensures open { IsOk result ↔ IsSome (arrived_at self.old number) }
+        ensures fault { IfErr result (λ fault. fault ≡ NoSuchLink) }
+        ensures ends { OnOk result (self.new ≡ without number self.old) }
+        ensures err { OnErr result (self.new ≡ self.old) }
+    {
+        if self.served(number).is_none() {
+            return Err(LinkFault::NoSuchLink);
+        }
+        self.links.try_remove(number);
+        Ok(())
+    }
+
+    /// The request of a server's link; none where no such link is open.
+    fn served(&self, number: usize) -> Option<&Request>
+        ensures { option_copied result ≡ arrived_at self.now number }
+    {
+        match &self.links.get(number)?.side {
+            Side::Asked {
+                request: _,
+                reply: _,
+            } => None,
+            Side::Arrived { request, read: _ } => Some(request),
+        }
+    }
+
+    // Want of memory is the answer too where the count of opened links could rise no more.
+    fn open(&mut self, side: Side) -> Result<usize, NoMemory>
+        ensures opens { IfOk result (Opens self.old self.new side) }
+        ensures err { OnErr result (self.new ≡ self.old) }
+    {
+        let opened = self.next;
+        let Some(next) = opened.checked_add(1) else {
+            return Err(NoMemory);
+        };
+        let number = self.links.insert(Link { opened, side })?;
+        self.next = next;
+        Ok(number)
+    }
+
+    fn oldest(&self, wanted: Wanted) -> Option<usize>
+        ensures oldest { IfSome result (IsOldest (is_wanted wanted) self.now) }
+        ensures none { IfNone result (NonePasses (is_wanted wanted) self.now) }
+    {
+        let mut oldest: Option<Seen> = None;
+        for (number, link) in self.links.iter() {
+            if link.is(wanted) {
+                oldest = Some(older(oldest, number, link.opened));
+            }
+        }
+        Some(oldest?.number)
+    }
+}
+
+/// A link that was seen, and when it was opened.
+#[derive(Clone, Copy)]
+struct Seen {
+    number: usize,
+    opened: u64,
+}
+
+/// The older one of the link seen so far, if there is one, and this link.
+fn older(seen: Option<Seen>, number: usize, opened: u64) -> Seen
+    ensures which { (seen ≡ Some result) ⊎ ((result.number ≡ number) × (result.opened ≡ opened)) }
+    ensures no_later { result.opened ≤ opened }
+    ensures before { IfSome seen (λ before. result.opened ≤ before.opened) }
+{
+    match seen {
+        Some(seen) if seen.opened <= opened => seen,
+        _ => Seen { number, opened },
+    }
+}
+
+fn reply_to(request: &Request, words: &Words) -> Reply
+    ensures { result ≡ reply_to words.now request.now }
+{
+    Reply {
+        process: request.process,
+        opener: request.opener,
+        number: request.number,
+        words: words.copy(),
+    }
+}
