@@ -62,7 +62,8 @@ impl Links {
         }
     }
 
-    /// The reply came for a requester's link. Where one came before, that one stays.
+    /// The reply came for a requester's link. Where one came before, that one stays. `NoSuchLink` where no requester's link is
+    /// open under the number.
     pub fn replied(&mut self, number: usize, words: Words) -> Result<(), LinkFault>
         ensures open { IsOk result ↔ IsSome (asked_at self.old number) }
         ensures fault { IfErr result (λ fault. fault ≡ NoSuchLink) }
@@ -75,7 +76,8 @@ impl Links {
         }
     }
 
-    /// Gives the reply that came for a requester's link, and ends the link. Where none came the link stays open.
+    /// Gives the reply that came for a requester's link, and ends the link. `NotAnswered` where none came, and the link stays
+    /// open; `NoSuchLink` where no requester's link is open under the number.
     pub fn break_link(&mut self, number: usize) -> Result<Words, LinkFault>
         ensures answer { result ≡ reply_at self.old number }
         ensures ends { OnOk result (self.new ≡ without number self.old) }
@@ -108,7 +110,8 @@ impl Links {
         self.oldest(Wanted::Unread { process })
     }
 
-    /// The request of a server's link, which is read from now on; one that was read before gives it again.
+    /// The request of a server's link, which is read from now on; one that was read before gives it again. `NoSuchLink` where
+    /// no server's link is open under the number.
     pub fn read_link(&mut self, number: usize) -> Result<Request, LinkFault>
         ensures answer { result ≡ ok_or (arrived_at self.old number) NoSuchLink }
         ensures after { OnOk result (self.new ≡ changed_at number read self.old) }
@@ -120,7 +123,8 @@ impl Links {
         }
     }
 
-    /// The reply to the request of a server's link, which ends, read before or not.
+    /// The reply to the request of a server's link, which ends, read before or not. `NoSuchLink` where no server's link is open
+    /// under the number.
     pub fn write_link(&mut self, number: usize, words: &Words) -> Result<Reply, LinkFault>
         ensures answer { result ≡ ok_or (option_map (reply_to words.now) (arrived_at self.old number)) NoSuchLink }
         ensures ends { OnOk result (self.new ≡ without number self.old) }
@@ -146,7 +150,7 @@ impl Links {
         })
     }
 
-    /// Ends a server's link without a reply.
+    /// Ends a server's link without a reply. `NoSuchLink` where no server's link is open under the number.
     pub fn end_link(&mut self, number: usize) -> Result<(), LinkFault>
         ensures open { IsOk result ↔ IsSome (arrived_at self.old number) }
         ensures fault { IfErr result (λ fault. fault ≡ NoSuchLink) }
