@@ -1,6 +1,8 @@
 -- Dues that grow, and words of globals that stay.
-use Rattle.std.proofs.Common.{◌≡◌, ◌≤◌, ℕ, zero, suc, ◌+◌, ◌==◌, ℤ, Bool, true, false, ◌||◌, List, [], ◌∷◌, ◌++◌, count_by, Option, Some, None, option_map, slice_get, slice_set, unwrap_or, refl, ap, sym, arith, eq-eqb}
+use Rattle.std.proofs.Common.{◌≡◌, ◌≤◌, ℕ, zero, suc, ◌+◌, ◌==◌, ℤ, Bool, true, false, ◌||◌, List, [], ◌∷◌, ◌++◌, count_by, Option, Some, None, option_map, slice_get, slice_set, unwrap_or, refl, ap, sym, ◌∙◌, arith, eq-eqb}
 use Rattle.std.specs.Prelude.{cond}
+use Rattle.std.proofs.lemmas.Bool.{or_parts}
+use Rattle.std.proofs.lemmas.List.Folds.{list_any-append}
 use Rattle.std.proofs.lemmas.List.Sums.{sum_by-append}
 use Rattle.tal_tree.specs.declared.expression.Spot.{Spot, Local, Simple, Element}
 use Rattle.tal_tree.specs.declared.expression.Variable.{Variable}
@@ -16,24 +18,12 @@ use Rattle.path_semantics.specs.Dues.{with_changed, global_of_spot, global_of, c
 use Rattle.gd_words.specs.Members.{is_among}
 use Rattle.path_semantics.specs.Break.{asked_count}
 
-pub or-false : (a b : Bool) → (a || b) ≡ false → (a ≡ false) × (b ≡ false)
-or-false true b e = absurd (cc)
-or-false false b e = (refl, e)
-
-both-false : (a b : Bool) → a ≡ false → b ≡ false → (a || b) ≡ false
-both-false true b e f = absurd (cc)
-both-false false b e f = f
-
 or-true : (a b : Bool) → a ≡ true → (a || b) ≡ true
 or-true true b e = refl
 or-true false b e = absurd (cc)
 
-pub among-append : (n : ℕ) (ns ms : List ℕ) → is_among n (ns ++ ms) ≡ false → (is_among n ns ≡ false) × (is_among n ms ≡ false)
-among-append n [] ms e = (refl, e)
-among-append n (m ∷ ns) ms e =
-    let first = or-false (m == n) (is_among n (ns ++ ms)) e in
-    let others = among-append n ns ms first.1 in
-    (both-false (m == n) (is_among n ns) first.0 others.0, others.1)
+among-append : (n : ℕ) (ns ms : List ℕ) → is_among n (ns ++ ms) ≡ false → (is_among n ns ≡ false) × (is_among n ms ≡ false)
+among-append n ns ms e = or_parts (is_among n ns) (is_among n ms) (sym (list_any-append (λ m. m == n) ns ms) ∙ e)
 
 pub count-append : (p : ℕ → Bool) (ns ms : List ℕ) → count_by p (ns ++ ms) ≡ count_by p ns + count_by p ms
 count-append p ns ms = sum_by-append (λ n. cond (p n) 1 0) ns ms
@@ -85,11 +75,11 @@ set-other (x ∷ xs) zero (suc j) y n = refl
 set-other (x ∷ xs) (suc i) zero y n = refl
 set-other (x ∷ xs) (suc i) (suc j) y n = set-other xs i j y (λ s. n (ap suc s))
 
-pub not-equal : (b : Bool) → b ≡ true → b ≡ false → ⊥
-not-equal b t f = cc
+pub not-both : (b : Bool) → b ≡ true → b ≡ false → ⊥
+not-both b t f = cc
 
 pub words-other : (globals : List (List ℤ)) (at item : ℕ) (words : List ℤ) → (at == item) ≡ false → words_of (slice_set globals at words) item ≡ words_of globals item
-words-other globals at item words e = ap (λ o. unwrap_or o []) (set-other globals at item words (λ s. not-equal (at == item) (eq-eqb at item s) e))
+words-other globals at item words e = ap (λ o. unwrap_or o []) (set-other globals at item words (λ s. not-both (at == item) (eq-eqb at item s) e))
 
 -- the global in which a cell is
 abbrev pub cell_global : Cell → List ℕ
@@ -98,7 +88,7 @@ cell_global (cell.Global item offset) = item ∷ []
 
 pub word-stays : (to : Cell) (word : ℤ) (s : ProgramState) (item : ℕ) → is_among item (cell_global to) ≡ false → words_of (with_word to word s).globals item ≡ words_of s.globals item
 word-stays (cell.Local local) word s item e = refl
-word-stays (cell.Global at offset) word s item e = words-other s.globals at item _ (or-false (at == item) false e).0
+word-stays (cell.Global at offset) word s item e = words-other s.globals at item _ (or_parts (at == item) false e).0
 
 pub variable-global : (v : Variable) → cell_global (variable_cell v) ≡ global_of v
 variable-global (variable.Local local) = refl

@@ -1,5 +1,6 @@
 -- What each kind of step does to the place, and to the words of globals.
 use Rattle.std.proofs.Common.{◌≡◌, ◌≤◌, ℕ, ◌==◌, ℤ, pos, Bool, true, false, List, [], ◌∷◌, ◌++◌, drop, take, length, min, is_some, Option, Some, None, slice_get, refl, ap, subst, sym, ◌∙◌}
+use Rattle.std.proofs.lemmas.Bool.{or_parts}
 use Rattle.tal_tree.specs.declared.program.Program.{Program}
 use Rattle.tal_tree.specs.declared.program.Procedure.{Procedure}
 use Rattle.tal_tree.specs.declared.expression.Variable.{Variable}
@@ -14,7 +15,7 @@ use Rattle.path_semantics.specs.Dues.{with_changed, global_of, changed_by_return
 use Rattle.path_semantics.specs.Place.{Place, Stand, place_of, body_in, body_of, settled, stand_at}
 use Rattle.gd_words.specs.Members.{is_among}
 use Rattle.path_semantics.specs.Break.{asked_count}
-use Rattle.path_steps.proofs.Growing.{HasGrown, grown-changed, grown-same, or-false, words-other, cell_global, word-stays, variable-global, spot-global}
+use Rattle.path_steps.proofs.Growing.{HasGrown, grown-changed, grown-same, words-other, cell_global, word-stays, variable-global, spot-global}
 
 -- Places
 
@@ -148,7 +149,7 @@ module _ (P : Stand → Type 0) (program : Program) (dues : Dues) (s : ProgramSt
       let word : ℤ = pos (min room (length words)) in
       moved-by (done (with_word (variable_cell got) word filled)) later (rest ∷ callers) (buffer ∷ global_of got)
       (place-done (with_word (variable_cell got) word filled).frames ∙ ap without_first (place-word (variable_cell got) word filled ∙ place)) holds
-      grown (λ item e. let t = or-false (buffer == item) (is_among item (global_of got)) e in
+      grown (λ item e. let t = or_parts (buffer == item) (is_among item (global_of got)) e in
       word-stays (variable_cell got) word filled item (subst (λ (ns : List ℕ). is_among item ns ≡ false) (sym (variable-global got)) t.1)
       ∙ words-other s.globals buffer item _ t.0)
 

@@ -1,5 +1,5 @@
 -- Each step of a program stays at its stand or goes on along a path, and what it changes is due then.
-use Rattle.std.proofs.Common.{◌≡◌, inl, inr, ◌<◌, ℕ, ℤ, pos, Bool, true, false, List, [], ◌∷◌, drop, Option, refl, ap, subst, sym, ◌∙◌, arith}
+use Rattle.std.proofs.Common.{◌≡◌, inl, inr, ◌<◌, ℕ, ℤ, pos, true, false, List, [], ◌∷◌, drop, Option, refl, ap, subst, sym, ◌∙◌, arith}
 use Rattle.tal_tree.specs.declared.program.Program.{Program}
 use Rattle.tal_tree.specs.declared.statement.Statement.{Statement}
 use Rattle.tal_tree.specs.declared.statement.What.{What, What-F, out-What}
@@ -12,6 +12,7 @@ use Rattle.path_semantics.specs.Place.{Place, Stand, place_of, settled, successo
 use Rattle.gd_words.specs.Members.{IsAmong}
 use Rattle.path_semantics.specs.Break.{asked_count}
 use Rattle.path_steps.specs.Step.{stand_of, StaysOrGoesOn, FollowsPath, has_room_in, HasRoom}
+use Rattle.path_steps.proofs.Growing.{not-both}
 use Rattle.path_steps.proofs.Moving.{GoesBy, GoesTo, end-goes}
 use Rattle.path_steps.proofs.Going.{entry-goes}
 use Rattle.path_steps.proofs.Points.{AtCall, at_ask, stands-at, awaiting, in-next, took-in, got-in, answered-in, marked-in}
@@ -48,9 +49,6 @@ no-frames : (code : Program) (s : ProgramState) → s.frames ≡ [] → (inner c
 no-frames code s is =
     ap (λ (f : List Frame). (or_ends s (inner_entry code s (next_of f))).ended) is
     ∙ ap (λ (f : List Frame). (or_ends s (program.given_to code (pos 0) (program.left s) (drop 1 f))).ended) is
-
-not-both : (b : Bool) → b ≡ true → b ≡ false → ⊥
-not-both b t f = cc
 
 -- at Inner
 pub inner-steps : (code : Program) (dues : Dues) (s : ProgramState) → (inner code s).ended ≡ false → (later : Dues) × FollowsPath code dues later s (inner code s)
