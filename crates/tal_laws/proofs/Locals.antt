@@ -52,7 +52,7 @@ locals_few (g.heading gives proc at name listed main end) outer inner fine =
     inner_few (with_locals [] (locals_of outer)) (with_locals [] (parameters_of listed)) (locals_of inner) parts.1
     (parameters_few (with_locals [] (locals_of outer)) [] (parameters_of listed) front.0 (omega arith))
 
-texts_length : (ns : List Named) → length (texts_of ns) ≡ length ns
+pub texts_length : (ns : List Named) → length (texts_of ns) ≡ length ns
 texts_length [] = refl
 texts_length (n ∷ ns) = ap suc (texts_length ns)
 

@@ -26,7 +26,7 @@ faultless lines ps finish fine =
     let two = split three.0 in
     record { lines_fine = two.0; headings = two.1; bodies = three.1; main = parts.1 }
 
-is_ordered : (t : g.Text) → faults t ≡ [] → IsOrdered (tree_of t)
+pub is_ordered : (t : g.Text) → faults t ≡ [] → IsOrdered (tree_of t)
 is_ordered (g.text lines ps finish) fine =
     let parts = faultless lines ps finish fine in
     let globals = (headed_text lines ps).names in

@@ -58,7 +58,7 @@ module _ (globals files : Declarations) where
       let front = split parts.0 in
       locals_within h outer inner (body_statements (scope_of globals files p.count h inner) (entered p h) first more) front.0
 
-  procedures_within : (p : Progress) (ps : g.Procedures) → procedures_faults globals files p ps ≡ []
+  pub procedures_within : (p : Progress) (ps : g.Procedures) → procedures_faults globals files p ps ≡ []
       → (procedure : Procedure) → IsAmong procedure (trees_of globals files p ps) → IsProcedureWithinLimits procedure
   procedures_within p g.no_procedures fine procedure among = absurd among
   procedures_within p (g.more_procedures q rest) fine procedure (inl same) =
@@ -66,7 +66,7 @@ module _ (globals files : Declarations) where
   procedures_within p (g.more_procedures q rest) fine procedure (inr among) =
       let parts = split fine in procedures_within (after_procedure globals files p q) rest parts.1 procedure among
 
-is_within : (t : g.Text) → faults t ≡ [] → IsWithinLimits (tree_of t)
+pub is_within : (t : g.Text) → faults t ≡ [] → IsWithinLimits (tree_of t)
 is_within (g.text lines ps finish) fine =
     let parts : AreFaultless lines ps finish = faultless lines ps finish fine in
     let globals : Declarations = (headed_text lines ps).names in

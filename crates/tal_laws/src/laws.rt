@@ -1,6 +1,7 @@
 ghost use Rattle.std.specs.Prelude.{ℕ, List};
 ghost use Rattle.tal_tree.specs.Ordered.{IsOrdered};
 ghost use Rattle.tal_tree.specs.Limits.{IsWithinLimits};
+ghost use Rattle.tal_laws.specs.Regular.{IsRegular};
 ghost use Rattle.tal_reader.specs.Reads.{Reads};
 ghost use Rattle.tal_tree.specs.declared.program.Program.{Program};
 
@@ -12,4 +13,10 @@ pub fn what_is_read_is_ordered()
 /// A program that a text reads as keeps the limits.
 pub fn what_is_read_keeps_the_limits()
     ensures { (text : List ℕ) (program : Program) → Reads text program → IsWithinLimits program }
+{}
+
+/// A program that a text reads as is regular: its main procedure is there, each procedure's numbers are distinct and at least 1, and what its statements
+/// name is there and of its kind.
+pub fn what_is_read_is_regular()
+    ensures { (text : List ℕ) (program : Program) → Reads text program → IsRegular program }
 {}
