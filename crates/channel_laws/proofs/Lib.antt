@@ -1,5 +1,4 @@
 pub mod Joints
-pub mod Members
 pub mod Nets
 pub mod Numbers
 pub mod Packets

@@ -14,7 +14,7 @@ use Rattle.link_control.specs.Ends.{End, Sending, packet_of, outstanding, after_
 use Rattle.channel_laws.specs.Way.{Way, IsJoint, IsPieceOf, IsReceiptOf, pushing, coming, telling, ticking}
 use Rattle.gd_words.specs.Members.{IsAmong}
 use Rattle.channel_laws.specs.Net.{Net, put, Runs, at_end, pushed_net, arrived_net, ticked_net, packet_in, ways_by, incarnation_of, quiet_net, Goes, pushes, arrives, ticks, lives, bus_changes, stops, marks, Leads, at_once, later, IsTold, IsRight, IsNamed, IsTied, IsWhole}
-use Rattle.channel_laws.proofs.Members.{in-none, in-append}
+use Rattle.gd_words.proofs.Among.{among-either}
 use Rattle.channel_laws.proofs.Joints.{joint-quiet, joint-pushing, joint-telling, joint-ticking, joint-coming, same-piece}
 use Rattle.channel_laws.proofs.Packets.{IsLater, later-same, later-pushing, later-coming, later-telling, later-ticking, piece-outstanding}
 
@@ -50,13 +50,13 @@ right-later reloads f g h p o = record { incarnation = o.incarnation; told = go 
 
 right-sent : (n : Net) (g : ℕ → ℕ → Way) (sent : Option Packet) → ((a b : ℕ) → IsLater (n.ways a b) (g a b)) → IsWhole n
     → ((q : Packet) → sent ≡ Some q → IsRight n.reloads g q) → (p : Packet) → IsAmong p (n.flight ++ option_to_list sent) → IsRight n.reloads g p
-right-sent n g sent h w new p i = go sent new (in-append _ n.flight (option_to_list sent) i)
+right-sent n g sent h w new p i = go sent new (among-either _ n.flight (option_to_list sent) i)
   where
     go : (sent : Option Packet) → ((q : Packet) → sent ≡ Some q → IsRight n.reloads g q) → IsAmong p n.flight ⊎ IsAmong p (option_to_list sent) → IsRight n.reloads g p
     go sent new (inl j) = right-later n.reloads n.ways g h p (w.flight p j)
-    go None new (inr j) = in-none j
+    go None new (inr j) = absurd j
     go (Some q) new (inr (inl e)) = new p (ap Some (sym e))
-    go (Some q) new (inr (inr j)) = in-none j
+    go (Some q) new (inr (inr j)) = absurd j
 
 -- a packet of an end is right where what it tells is
 pub packet-right : (reloads : ℕ → ℕ) (g : ℕ → ℕ → Way) (x y : ℕ) (e : End) (k : PacketKind) → IsNamed reloads x y e → IsTold (g x y) (g y x) k
@@ -321,7 +321,7 @@ whole-quiet reloads = record {
   joint = λ a b. joint-quiet;
   named = λ a b. record { here = refl; there = refl; incarnation = refl };
   tied = λ a b live. record { sending = refl; receiving = refl };
-  flight = λ p i. in-none i;
+  flight = λ p i. absurd i;
 }
 
 pub whole-run : (reloads : ℕ → ℕ) {n : Net} → Leads (quiet_net reloads) n → IsWhole n

@@ -15,7 +15,7 @@ use Rattle.channel_laws.specs.Way.{Way, IsJoint, IsEnded, IsWithin, pushing, com
 use Rattle.gd_words.specs.Members.{IsAmong}
 use Rattle.channel_laws.specs.Net.{Net, Goes, put, put_one, Runs, packet_in, ways_by, arrived_net, ticked_net, pushes, arrives, ticks, lives, bus_changes, stops, marks, IsWhole}
 use Rattle.channel_laws.specs.Rounds.{Passes, nothing, by_push, by_packet, by_drop, by_tick, by_alive, by_bus, by_stop, by_mark, IsRound, IsFlying, HasWaited, IsAnswered, IsSent, IsBroughtOn}
-use Rattle.channel_laws.proofs.Members.{in-none, in-left, in-right}
+use Rattle.gd_words.proofs.Among.{among-left, among-right}
 use Rattle.channel_laws.proofs.Joints.{numbered-pushed, opened-few}
 use Rattle.channel_laws.proofs.Packets.{numbered-acknowledged, numbered-ticked}
 use Rattle.channel_laws.proofs.Senders.{on-pushed, on-told, on-ticked, hit, ticked-cases}
@@ -36,7 +36,7 @@ abbrev pub SentIn : ℕ → ℕ → ℕ → Net → Type 0
 SentIn n a b m = IsSent n a b (m.ways a b).sender m.flight
 
 flying-on : (from to : ℕ) (k : PacketKind) (xs ys : List Packet) → IsFlying from to k xs → IsFlying from to k (xs ++ ys)
-flying-on from to k xs ys h = (h.0, in-left _ xs ys h.1, h.2, h.3, h.4)
+flying-on from to k xs ys h = (h.0, among-left _ xs ys h.1, h.2, h.3, h.4)
 
 -- how a way goes on, for the piece n
 abbrev pub WayOn : ℕ → Way → Way → Type 0
@@ -211,7 +211,7 @@ mid-packet n a b l came m p i r h = mid-came n a b l came p (arrived_net p.recei
         let is : is_kept n (kept n piece e.receiving) ≡ true = ap (λ r. is_kept n (kept n piece r)) tie ∙ kept-at n piece (m.ways a b) (h.whole.joint a b) h.low in
         let sent_is : sent_by_packet p e ≡ Some own = when-up None (sent_by_kind p.kind e) r.1 ∙ ap (λ k. sent_by_kind k e) k ∙ ap (λ b. if b then Some own else None) is in
         inr (subst (λ s. IsFlying b a (kind.Acknowledgement n) (m.flight ++ option_to_list s)) (sym sent_is)
-        (own, in-right _ m.flight (own ∷ []) (inl refl), refl, names.here ∙ t, names.there ∙ s))
+        (own, among-right _ m.flight (own ∷ []) (inl refl), refl, names.here ∙ t, names.there ∙ s))
 
 mid-tick : (n a b : ℕ) (l : Net) (came : List Packet) (m : Net) (x y : ℕ) → Runs m x y → IsMid n a b l came m → IsMid n a b l came (ticked_net x y m)
 mid-tick n a b l came m x y r h = mid-on n a b l came m (put x y (after_tick (m.ends x y)) m.ends) (option_to_list (option_map packet_in (sent_by_tick (m.ends x y))))
@@ -232,8 +232,8 @@ mid-passes n a b w low here there nothing = record {
   low = low;
   here = here;
   there = there;
-  acknowledgements = λ q. in-none q.1;
-  pieces = λ piece q. in-none q.1;
+  acknowledgements = λ q. absurd q.1;
+  pieces = λ piece q. absurd q.1;
   ended = λ x. x;
   waited = λ x. x;
   answered = λ x. x;
@@ -337,7 +337,7 @@ net-sends n a b m w low r k = go (tick-sends n (m.ends a b) (m.ways a b) r.1 (w.
     go (inr x) = inr (
       x.0,
       subst (λ s. IsFlying a b (kind.Piece n x.0) (m.flight ++ option_to_list s)) (sym x.1)
-          (packet_of e (kind.Piece n x.0), in-right _ m.flight (packet_of e (kind.Piece n x.0) ∷ []) (inl refl), refl, (w.named a b).here, (w.named a b).there),
+          (packet_of e (kind.Piece n x.0), among-right _ m.flight (packet_of e (kind.Piece n x.0) ∷ []) (inl refl), refl, (w.named a b).here, (w.named a b).there),
     )
 
 pub brought-on : (n a b : ℕ) {l next : Net} → IsRound a b l next → IsWhole l → Runs l a b → Runs l b a → n ≤ (l.ends a b).sending.numbered → IsBroughtOn n a b l next

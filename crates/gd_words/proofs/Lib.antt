@@ -1,3 +1,5 @@
+pub mod Among
 pub mod AmongTest
+pub mod Distinct
 pub mod OneWord
 pub mod PaddedSteps

@@ -5,7 +5,7 @@ use Rattle.tal_tree.specs.declared.program.Program.{Program}
 use Rattle.tal_tree.specs.declared.statement.Statement.{Statement}
 use Rattle.tal_tree.specs.declared.statement.What.{What, What-F, out-What}
 use Rattle.gd_words.specs.Members.{IsAmong}
-use Rattle.process_semantics.specs.Program.{Entry, Run}
+use Rattle.process_semantics.specs.State.{Entry, Run}
 use Rattle.path_semantics.specs.declared.dues.Dues.{Dues}
 use Rattle.path_semantics.specs.Dues.{no_dues, with_changed, after_statement, changed_by_return, targets_of}
 use Rattle.path_semantics.specs.Place.{Place, Stand, ways_of, settled, stand_at, calls_ended, successors}

@@ -13,7 +13,7 @@ use Rattle.tal_tree.specs.declared.statement.What.{What, What-F, out-What, roll-
 use Rattle.tal_tree.specs.declared.statement.What.TheViews.{out-roll-What, rolls-If, rolls-While, rolls-For}
 use Rattle.path_semantics.specs.Bounds.{greatest, of_called, depth_from, in_order}
 use Rattle.tal_tree.specs.Statements.{within, all_in, all_of, call_in, own_calls, calls_of}
-use Rattle.path_semantics.proofs.Within.{within_of, within-is}
+use Rattle.tal_tree.proofs.Within.{within_of, within-is}
 
 abbrev look : List ℕ → ℕ → ℕ
 look before procedure = unwrap_or (slice_get before procedure) 0

@@ -5,8 +5,8 @@ use Rattle.tal_tree.specs.declared.program.Program.{Program}
 use Rattle.tal_tree.specs.declared.program.Procedure.{Procedure}
 use Rattle.tal_tree.specs.declared.statement.Statement.{Statement}
 use Rattle.tal_tree.specs.declared.statement.What.{What, What-F, out-What}
-use Rattle.process_semantics.specs.Program.{Entry, Run, Test, Last, runs_of, first_of}
-use Rattle.process_semantics.specs.Image.{number_of}
+use Rattle.process_semantics.specs.State.{Entry, Run, Test, Last, runs_of, first_of}
+use Rattle.process_semantics.specs.Rests.{number_of}
 use Rattle.path_semantics.specs.declared.dues.Dues.{Dues}
 use Rattle.path_semantics.specs.Dues.{with_changed, changed_by_return, after_entry}
 use Rattle.tal_tree.specs.Statements.{last_of, numbers_of}
@@ -14,11 +14,11 @@ use Rattle.path_semantics.specs.Place.{Place, Stand, next_in, body_of, ways_of, 
 use Rattle.gd_words.specs.Members.{AreDistinct, IsAmong}
 use Rattle.path_semantics.specs.Path.{number_at, Walks, Leads}
 use Rattle.tal_tree.specs.Ordered.{IsOrdered}
-use Rattle.path_semantics.proofs.Distinct.{distinct-apart, given-apart}
+use Rattle.gd_words.proofs.Distinct.{distinct-apart, given-apart}
 use Rattle.path_semantics.proofs.Kept.{one-mapped, kept-led, kept-after}
 use Rattle.path_semantics.proofs.Levels.{inside, inside_test, numbers_at, AreLevels, number-own, run-numbers, numbers_of_procedure}
 use Rattle.path_semantics.proofs.LevelsKept.{if-first, if-second, while-body, for-body, if-numbers, levels-kept}
-use Rattle.path_semantics.proofs.Reaching.{one-left, one-right, one-either}
+use Rattle.gd_words.proofs.Among.{among-left, among-right, among-either}
 use Rattle.path_semantics.proofs.Walks.{numbered}
 
 abbrev all_entries : Place → List Entry
@@ -35,8 +35,8 @@ next-later (entry ∷ rest) callers dues next is = inl (inl (let same : next ≡
 next-later [] [] dues next is = absurd (cc)
 next-later [] (caller ∷ callers) dues next is =
     inr (elim (next-later (drop 1 caller) callers (with_changed (changed_by_return (first_of caller)) dues) next is) [
-      | inl in_caller ↦ one-left next caller (all_entries callers) (drop-one next caller in_caller)
-      | inr above ↦ one-right next caller (all_entries callers) above
+      | inl in_caller ↦ among-left next caller (all_entries callers) (drop-one next caller in_caller)
+      | inr above ↦ among-right next caller (all_entries callers) above
     ])
 
 -- an entry above is of a later procedure
@@ -44,7 +44,7 @@ above-number : (program : Program) (low : ℕ) (callers : Place) (entry : Entry)
     → (k : ℕ) × (low ≤ k) × IsAmong (number_of entry) (numbers_of_procedure program k)
 above-number program low [] entry levels among = absurd among
 above-number program low (frame ∷ callers) entry levels among =
-    elim (one-either entry frame (all_entries callers) among) [
+    elim (among-either entry frame (all_entries callers) among) [
       | inl in_frame ↦ (levels.0, levels.1, (levels.2.belong entry in_frame).numbers (number_of entry) (number-own entry))
       | inr above ↦ higher (above-number program (levels.0 + 1) callers entry levels.3 above)
     ]

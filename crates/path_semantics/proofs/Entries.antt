@@ -4,13 +4,13 @@ use Rattle.tal_tree.specs.declared.program.Program.{Program}
 use Rattle.tal_tree.specs.declared.program.Procedure.{Procedure}
 use Rattle.tal_tree.specs.declared.statement.Statement.{Statement}
 use Rattle.tal_tree.specs.declared.statement.What.{What, What-F, out-What}
-use Rattle.process_semantics.specs.Program.{Entry, Run, Test, Last, runs_of}
+use Rattle.process_semantics.specs.State.{Entry, Run, Test, Last, runs_of}
 use Rattle.tal_tree.specs.Statements.{all_in, all_of}
 use Rattle.path_semantics.specs.Place.{Place, body_in, body_of, ways_of, rounds_of, ways}
 use Rattle.gd_words.specs.Members.{IsAmong}
 use Rattle.path_semantics.proofs.Kept.{IsKept}
-use Rattle.path_semantics.proofs.Reaching.{one-left, one-right}
-use Rattle.path_semantics.proofs.Within.{within_of, within-is}
+use Rattle.gd_words.proofs.Among.{among-left, among-right}
+use Rattle.tal_tree.proofs.Within.{within_of, within-is}
 
 abbrev pub statement_of : Entry → Statement
 statement_of (Run statement) = statement
@@ -35,8 +35,8 @@ HoldsAt P (frame ∷ callers) = HoldsFor P frame × HoldsAt P callers
 for-runs : (P : Statement → Type 0) (statements : List Statement) (rest : List Entry) → HoldsIn P statements → HoldsFor P rest → HoldsFor P (runs_of statements ++ rest)
 for-runs P [] rest holds later = later
 for-runs P (first ∷ statements) rest holds later = (
-  (λ statement among. holds statement (one-left statement (all_in first) (all_of statements) among)),
-  for-runs P statements rest (λ statement among. holds statement (one-right statement (all_in first) (all_of statements) among)) later,
+  (λ statement among. holds statement (among-left statement (all_in first) (all_of statements) among)),
+  for-runs P statements rest (λ statement among. holds statement (among-right statement (all_in first) (all_of statements) among)) later,
 )
 
 -- what holds of a statement's parts
@@ -75,8 +75,8 @@ statement-way : (P : Statement → Type 0) (program : Program)
     → HoldsOf P (Run self) → HoldsFor P rest → HoldsAt P callers → IsAmong way (ways_of program self rest callers what) → HoldsAt P way
 statement-way P program all self rest callers way (What-F.If test first second) is own later above among =
     either-way (HoldsAt P) way ((runs_of first ++ rest) ∷ callers) ((runs_of second ++ rest) ∷ callers) among
-    (for-runs P first rest (λ statement there. in-layer P self (What-F.If test first second) own is statement (one-left statement (all_of first) (all_of second) there)) later, above)
-    (for-runs P second rest (λ statement there. in-layer P self (What-F.If test first second) own is statement (one-right statement (all_of first) (all_of second) there)) later, above)
+    (for-runs P first rest (λ statement there. in-layer P self (What-F.If test first second) own is statement (among-left statement (all_of first) (all_of second) there)) later, above)
+    (for-runs P second rest (λ statement there. in-layer P self (What-F.If test first second) own is statement (among-right statement (all_of first) (all_of second) there)) later, above)
 statement-way P program all self rest callers way (What-F.While test body) is own later above among =
     either-way (HoldsAt P) way ((runs_of body ++ Run self ∷ rest) ∷ callers) (rest ∷ callers) among
     (for-runs P body (Run self ∷ rest) (in-layer P self (What-F.While test body) own is) (own, later), above) (later, above)

@@ -1,7 +1,7 @@
 -- What is kept along every walk.
 use Rattle.std.proofs.Common.{◌≡◌, inl, inr, ℕ, List, [], ◌∷◌, map, drop, refl, subst, sym}
 use Rattle.tal_tree.specs.declared.program.Program.{Program}
-use Rattle.process_semantics.specs.Program.{Entry, first_of}
+use Rattle.process_semantics.specs.State.{Entry, first_of}
 use Rattle.path_semantics.specs.declared.dues.Dues.{Dues}
 use Rattle.path_semantics.specs.Dues.{no_dues, with_changed, changed_by_return, after_entry}
 use Rattle.path_semantics.specs.Place.{Place, Stand, body_of, ways, stand_at, settled, stands_after, first_stand}

@@ -5,16 +5,16 @@ use Rattle.tal_tree.specs.declared.program.Program.{Program}
 use Rattle.tal_tree.specs.declared.program.Procedure.{Procedure}
 use Rattle.tal_tree.specs.declared.statement.Statement.{Statement}
 use Rattle.tal_tree.specs.declared.statement.What.{What, What-F, out-What}
-use Rattle.process_semantics.specs.Program.{Entry, Run, Test, Last, runs_of}
-use Rattle.process_semantics.specs.Image.{number_of}
+use Rattle.process_semantics.specs.State.{Entry, Run, Test, Last, runs_of}
+use Rattle.process_semantics.specs.Rests.{number_of}
 use Rattle.tal_tree.specs.Statements.{last_of, all_in, all_of, numbers_in, own_numbers, numbers_of, own_calls, calls_of}
 use Rattle.path_semantics.specs.Place.{Place, body_in}
 use Rattle.gd_words.specs.Members.{AreDistinct, IsAmong}
 use Rattle.tal_tree.specs.Ordered.{IsOrdered}
-use Rattle.path_semantics.proofs.Distinct.{distinct-left, distinct-right, distinct-apart, given-part, given_at, given-distinct}
+use Rattle.gd_words.proofs.Distinct.{distinct-left, distinct-right, distinct-apart, given-part, given_at, given-distinct}
 use Rattle.path_semantics.proofs.Entries.{statement_of}
-use Rattle.path_semantics.proofs.Reaching.{one-either, one-given}
-use Rattle.path_semantics.proofs.Within.{within_of, within-is}
+use Rattle.gd_words.proofs.Among.{among-either, among-given}
+use Rattle.tal_tree.proofs.Within.{within_of, within-is}
 
 -- the numbers in a statement, at any level
 abbrev pub inside : ℕ → What-F What Statement → List ℕ
@@ -87,7 +87,7 @@ run-of entry (statement ∷ rest) (inl same) = (statement, inl refl, same)
 run-of entry (statement ∷ rest) (inr among) = let found = run-of entry rest among in (found.0, inr found.1, found.2)
 
 all-one : (statement part : Statement) (statements : List Statement) → IsAmong statement statements → IsAmong part (all_in statement) → IsAmong part (all_of statements)
-all-one statement part statements among inner = one-given all_in statement part statements among inner
+all-one statement part statements among inner = among-given all_in statement part statements among inner
 
 -- what a statement of some has, they all have
 pub run-numbers : (entry : Entry) (statements : List Statement) (n : ℕ) → IsAmong entry (runs_of statements) → IsAmong n (numbers_at entry) → IsAmong n (numbers_of statements)
@@ -108,7 +108,7 @@ pub apart-join : (first second : List Entry) → AreApart first → AreApart sec
 apart-join [] second one two cross = two
 apart-join (entry ∷ first) second one two cross = (
   one.0,
-  (λ later among. elim (one-either later first second among) [ inl here' ↦ one.1 later here' | inr there' ↦ cross entry later (inl refl) there' ]),
+  (λ later among. elim (among-either later first second among) [ inl here' ↦ one.1 later here' | inr there' ↦ cross entry later (inl refl) there' ]),
   apart-join first second one.2 two (λ e later among. cross e later (inr among)),
 )
 

@@ -4,18 +4,18 @@ use Rattle.std.proofs.lemmas.Grind.{flat_map-append}
 use Rattle.tal_tree.specs.declared.program.Program.{Program}
 use Rattle.tal_tree.specs.declared.statement.Statement.{Statement}
 use Rattle.tal_tree.specs.declared.statement.What.{What, What-F, out-What}
-use Rattle.process_semantics.specs.Program.{Entry, Run, Test, Last, runs_of}
-use Rattle.process_semantics.specs.Image.{number_of}
+use Rattle.process_semantics.specs.State.{Entry, Run, Test, Last, runs_of}
+use Rattle.process_semantics.specs.Rests.{number_of}
 use Rattle.tal_tree.specs.Statements.{last_of, within, all_in, all_of, own_numbers, numbers_of, call_in, own_calls, calls_of}
 use Rattle.path_semantics.specs.Place.{Place, body_of, ways_of, rounds_of, ways}
 use Rattle.gd_words.specs.Members.{AreDistinct, IsAmong}
 use Rattle.tal_tree.specs.Ordered.{IsOrdered}
-use Rattle.path_semantics.proofs.Distinct.{distinct-left, distinct-right, given-part}
+use Rattle.gd_words.proofs.Distinct.{distinct-left, distinct-right, given-part}
 use Rattle.path_semantics.proofs.Entries.{only-way, either-way}
 use Rattle.path_semantics.proofs.Kept.{IsKept}
 use Rattle.path_semantics.proofs.Levels.{inside, inside_test, numbers_at, calls_at, BelongsTo, IsFrameOf, AreLevels, apart-join, apart-runs, run-numbers, run-calls, dropped, body-frame}
-use Rattle.path_semantics.proofs.Reaching.{one-left, one-right, one-either}
-use Rattle.path_semantics.proofs.Within.{within_of, within-is}
+use Rattle.gd_words.proofs.Among.{among-left, among-right, among-either}
+use Rattle.tal_tree.proofs.Within.{within_of, within-is}
 
 -- the statements of a branch or a body, within a statement of some entry
 pub record ArePartOf (entry : Entry) (part : List Statement) : Type 0 where
@@ -29,7 +29,7 @@ part-frame : (program : Program) (k : ℕ) (entry : Entry) (part : List Statemen
 part-frame program k entry part rest is belongs later cross = record {
   apart = apart-join (runs_of part) rest (apart-runs part is.distinct) later.apart
       (λ one other among there'. λ inner. cross other there' (run-numbers one part (number_of other) among inner));
-  belong = λ one among. elim (one-either one (runs_of part) rest among) [
+  belong = λ one among. elim (among-either one (runs_of part) rest among) [
     | inl in_part ↦ record {
       numbers = λ n inner. belongs.numbers n (is.numbers n (run-numbers one part n in_part inner));
       calls = λ called inner. belongs.calls called (is.calls called (run-calls one part called in_part inner));
@@ -63,7 +63,7 @@ part-calls : (self : Statement) (what : What-F What Statement) (part : List Stat
     → ((statement : Statement) → IsAmong statement (all_of part) → IsAmong statement (within_of what))
     → (called : ℕ) → IsAmong called (calls_of part) → IsAmong called (flat_map own_calls (all_in self))
 part-calls self what part is among called inner =
-    one-right called (own_calls self) (flat_map own_calls (within self.what))
+    among-right called (own_calls self) (flat_map own_calls (within self.what))
     (subst (λ (parts : List Statement). IsAmong called (flat_map own_calls parts)) (sym (within-is self.what ∙ ap within_of is))
     (given-part own_calls (all_of part) (within_of what) among called inner))
 
@@ -77,8 +77,8 @@ if-first self test first second is distinct =
     let numbers : numbers_at (Run self) ≡ inside self.number (What-F.If test first second) = ap (inside self.number) is in
     record {
       numbers = λ n inner. subst (IsAmong n) (sym numbers)
-          (inr (given-part own_numbers (all_of first) (all_of first ++ all_of second) (λ s among. one-left s (all_of first) (all_of second) among) n inner));
-      calls = part-calls self (What-F.If test first second) first is (λ s among. one-left s (all_of first) (all_of second) among);
+          (inr (given-part own_numbers (all_of first) (all_of first ++ all_of second) (λ s among. among-left s (all_of first) (all_of second) among) n inner));
+      calls = part-calls self (What-F.If test first second) first is (λ s among. among-left s (all_of first) (all_of second) among);
       distinct = distinct-left (numbers_of first) (numbers_of second) (if-numbers self.number first second (subst AreDistinct numbers distinct));
     }
 
@@ -88,8 +88,8 @@ if-second self test first second is distinct =
     let numbers : numbers_at (Run self) ≡ inside self.number (What-F.If test first second) = ap (inside self.number) is in
     record {
       numbers = λ n inner. subst (IsAmong n) (sym numbers)
-          (inr (given-part own_numbers (all_of second) (all_of first ++ all_of second) (λ s among. one-right s (all_of first) (all_of second) among) n inner));
-      calls = part-calls self (What-F.If test first second) second is (λ s among. one-right s (all_of first) (all_of second) among);
+          (inr (given-part own_numbers (all_of second) (all_of first ++ all_of second) (λ s among. among-right s (all_of first) (all_of second) among) n inner));
+      calls = part-calls self (What-F.If test first second) second is (λ s among. among-right s (all_of first) (all_of second) among);
       distinct = distinct-right (numbers_of first) (numbers_of second) (if-numbers self.number first second (subst AreDistinct numbers distinct));
     }
 
@@ -205,14 +205,14 @@ statement-levels program ordered self rest callers way (What-F.AssignCall to pro
     (procedure, omega arith, body-frame program ordered procedure (slice_get program.procedures procedure) refl, (k, omega arith, frame, above))
   where
     inl-call : own_calls self ≡ procedure ∷ [] → IsAmong procedure (calls_at (Run self))
-    inl-call equal = one-left procedure (own_calls self) (flat_map own_calls (within self.what)) (subst (IsAmong procedure) (sym equal) (inl refl))
+    inl-call equal = among-left procedure (own_calls self) (flat_map own_calls (within self.what)) (subst (IsAmong procedure) (sym equal) (inl refl))
 statement-levels program ordered self rest callers way (What-F.Call procedure arguments) is k frame above among =
     let before : procedure < k = (frame.belong (Run self) (inl refl)).calls procedure (inl-call (ap call_in is)) in
     only-way (AreLevels program 0) way (body_of program procedure ∷ (Run self ∷ rest) ∷ callers) among
     (procedure, omega arith, body-frame program ordered procedure (slice_get program.procedures procedure) refl, (k, omega arith, frame, above))
   where
     inl-call : own_calls self ≡ procedure ∷ [] → IsAmong procedure (calls_at (Run self))
-    inl-call equal = one-left procedure (own_calls self) (flat_map own_calls (within self.what)) (subst (IsAmong procedure) (sym equal) (inl refl))
+    inl-call equal = among-left procedure (own_calls self) (flat_map own_calls (within self.what)) (subst (IsAmong procedure) (sym equal) (inl refl))
 statement-levels program ordered self rest callers way (What-F.Return value) is k frame above among =
     only-way (AreLevels program 0) way ([] ∷ callers) among
     (k, omega arith, record { apart = tt; belong = λ entry there'. absurd there' }, above)

@@ -1,7 +1,6 @@
 pub mod Checkpoints
 pub mod Deepest
 pub mod Differing
-pub mod Distinct
 pub mod Entries
 pub mod InOrder
 pub mod Kept
@@ -10,4 +9,3 @@ pub mod LevelsKept
 pub mod QuietPrograms
 pub mod Reaching
 pub mod Walks
-pub mod Within

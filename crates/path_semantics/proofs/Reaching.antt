@@ -8,39 +8,10 @@ use Rattle.tal_tree.specs.declared.program.Program.{Program}
 use Rattle.path_semantics.specs.declared.reason.Reason.{Reason}
 use Rattle.path_semantics.specs.Place.{Stand, successors, first_stand}
 use Rattle.gd_words.specs.Members.{IsAmong}
+use Rattle.gd_words.proofs.Among.{among-given, among-giver}
 use Rattle.path_semantics.specs.Path.{number_at, Steps, Walks, Leads, IsPath}
 use Rattle.path_semantics.specs.Break.{Breaks, breaks_at}
 use Rattle.path_semantics.specs.Reached.{is_number, is_next, stepped, reached_from, reached, breaks_next}
-
-pub one-left : {A : Type 0} (x : A) (xs ys : List A) → IsAmong x xs → IsAmong x (xs ++ ys)
-one-left x [] ys among = absurd among
-one-left x (y ∷ xs) ys (inl same) = inl same
-one-left x (y ∷ xs) ys (inr among) = inr (one-left x xs ys among)
-
-pub one-right : {A : Type 0} (x : A) (xs ys : List A) → IsAmong x ys → IsAmong x (xs ++ ys)
-one-right x [] ys among = among
-one-right x (y ∷ xs) ys among = inr (one-right x xs ys among)
-
-pub one-either : {A : Type 0} (x : A) (xs ys : List A) → IsAmong x (xs ++ ys) → IsAmong x xs ⊎ IsAmong x ys
-one-either x [] ys among = inr among
-one-either x (y ∷ xs) ys (inl same) = inl (inl same)
-one-either x (y ∷ xs) ys (inr among) = elim (one-either x xs ys among) [ inl left ↦ inl (inr left) | inr right ↦ inr right ]
-
--- one of those that a list's items give
-pub one-given : {A B : Type 0} (f : A → List B) (x : A) (y : B) (xs : List A) → IsAmong x xs → IsAmong y (f x) → IsAmong y (flat_map f xs)
-one-given f x y [] among given = absurd among
-one-given f x y (z ∷ xs) (inl same) given = one-left y (f z) (flat_map f xs) (subst (λ w. IsAmong y (f w)) same given)
-one-given f x y (z ∷ xs) (inr among) given = one-right y (f z) (flat_map f xs) (one-given f x y xs among given)
-
-giver-more : {A B : Type 0} (f : A → List B) (y : B) (z : A) (xs : List A) → IsAmong y (f z) ⊎ IsAmong y (flat_map f xs)
-    → (IsAmong y (flat_map f xs) → (x : A) × IsAmong x xs × IsAmong y (f x)) → (x : A) × IsAmong x (z ∷ xs) × IsAmong y (f x)
-giver-more f y z xs (inl given) later = (z, inl refl, given)
-giver-more f y z xs (inr among) later = let found = later among in (found.0, inr found.1, found.2)
-
--- which item gives it
-pub one-giver : {A B : Type 0} (f : A → List B) (y : B) (xs : List A) → IsAmong y (flat_map f xs) → (x : A) × IsAmong x xs × IsAmong y (f x)
-one-giver f y [] among = absurd among
-one-giver f y (z ∷ xs) among = giver-more f y z xs (one-either y (f z) (flat_map f xs) among) (λ later. one-giver f y xs later)
 
 number-is : (number : ℕ) (next : Option ℕ) → is_number number next ≡ true → next ≡ Some number
 number-is number None is = absurd (cc)
@@ -68,7 +39,7 @@ pub reached-walks : (program : Program) (path : List ℕ) (stands : List Stand) 
 reached-walks program [] stands there among = (there, among, refl)
 reached-walks program (number ∷ path) stands there among =
     let later = reached-walks program path (flat_map (stepped program number) stands) there among in
-    let found = one-giver (stepped program number) later.0 stands later.1 in
+    let found = among-giver (stepped program number) later.0 stands later.1 in
     (found.0, found.1, (later.0, step-is program number found.0 later.0 found.2, later.2))
 
 pub walks-reached : (program : Program) (path : List ℕ) (stands : List Stand) (here there : Stand) → IsAmong here stands → Walks program here path there
@@ -76,7 +47,7 @@ pub walks-reached : (program : Program) (path : List ℕ) (stands : List Stand) 
 walks-reached program [] stands here there among same = subst (λ (s : Stand). IsAmong s stands) same among
 walks-reached program (number ∷ path) stands here there among walk =
     walks-reached program path (flat_map (stepped program number) stands) walk.0 there
-    (one-given (stepped program number) here walk.0 stands among (is-step program number here walk.0 walk.1)) walk.2
+    (among-given (stepped program number) here walk.0 stands among (is-step program number here walk.0 walk.1)) walk.2
 
 first-only : {A : Type 0} (x y : A) → IsAmong x (y ∷ []) → x ≡ y
 first-only x y (inl same) = same

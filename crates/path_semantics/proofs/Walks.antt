@@ -4,9 +4,9 @@ use Rattle.std.specs.Option.{option_map}
 use Rattle.tal_tree.specs.declared.program.Program.{Program}
 use Rattle.tal_tree.specs.declared.statement.Statement.{Statement}
 use Rattle.tal_tree.specs.declared.statement.What.{What, What-F, out-What}
-use Rattle.process_semantics.specs.Program.{Entry, Run, Test, Last}
+use Rattle.process_semantics.specs.State.{Entry, Run, Test, Last}
 use Rattle.path_semantics.specs.declared.reason.Reason.{Reason}
-use Rattle.process_semantics.specs.Image.{number_of}
+use Rattle.process_semantics.specs.Rests.{number_of}
 use Rattle.path_semantics.specs.declared.dues.Dues.{Dues}
 use Rattle.path_semantics.specs.Dues.{after_entry}
 use Rattle.path_semantics.specs.Place.{Place, Stand, next_in, ways_of, rounds_of, ways, settled, stands_after, first_stand}

@@ -2,7 +2,7 @@
 use Rattle.std.specs.Prelude.{◌≡◌, ℕ, List, [], ◌∷◌, Option, Some, option_map}
 use Rattle.gd_words.specs.Members.{IsAmong}
 use Rattle.tal_tree.specs.declared.program.Program.{Program}
-use Rattle.process_semantics.specs.Image.{number_of}
+use Rattle.process_semantics.specs.Rests.{number_of}
 use Rattle.path_semantics.specs.Place.{Stand, next_entry, successors, first_stand}
 
 -- the number of the next entry: its statement's, and for a FOR's test and last assignment one of their own; none where the program has ended

@@ -4,7 +4,7 @@ use Rattle.tal_tree.specs.declared.program.Program.{Program}
 use Rattle.tal_tree.specs.declared.program.Procedure.{Procedure}
 use Rattle.tal_tree.specs.declared.statement.Statement.{Statement}
 use Rattle.tal_tree.specs.declared.statement.What.{What, What-F, out-What}
-use Rattle.process_semantics.specs.Program.{Entry, Run, Test, Last, Frame, runs_of, first_of}
+use Rattle.process_semantics.specs.State.{Entry, Run, Test, Last, Frame, runs_of, first_of}
 use Rattle.path_semantics.specs.declared.dues.Dues.{Dues}
 use Rattle.path_semantics.specs.Dues.{no_dues, with_changed, after_entry, changed_by_return}
 

@@ -1,6 +1,6 @@
 ghost use Rattle.std.specs.Prelude.{◌≡◌, [], ◌∷◌, ◌++◌, drop, IsTrue, ◌↔◌, IfOk, OnOk};
 ghost use Rattle.std.specs.Option.{option_map};
-ghost use Rattle.process_semantics.specs.Program.{first_of, runs_of};
+ghost use Rattle.process_semantics.specs.State.{first_of, runs_of};
 ghost use Rattle.process_semantics.specs.SeenEntries.{entry_of};
 
 use gd_words::NoMemory;
@@ -19,10 +19,10 @@ impl<'a> Model for Frame<'a> {
     ghost use Rattle.std.specs.Prelude.{List as Items};
     ghost use Rattle.std.specs.Coded.{codes};
     ghost use Rattle.tal_tree.specs.contracts.statement.Statement as statement;
-    ghost use Rattle.process_semantics.specs.Program as program;
+    ghost use Rattle.process_semantics.specs.State as semantics;
     ghost use Rattle.process_semantics.specs.SeenEntries.{stack};
 
-    ghost Value = { Items program.Entry };
+    ghost Value = { Items semantics.Entry };
 
     ghost coded = { Prim.hlevel (codes, statement.the_row.coded) };
 

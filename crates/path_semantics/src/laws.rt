@@ -3,7 +3,7 @@ ghost use Rattle.tal_tree.specs.declared.program.Program.{Program};
 ghost use Rattle.tal_tree.specs.declared.program.Procedure.{Procedure};
 ghost use Rattle.tal_tree.specs.declared.statement.Statement.{Statement};
 ghost use Rattle.tal_tree.specs.declared.statement.What.{What-F, out-What};
-ghost use Rattle.process_semantics.specs.Program.{Entry, Run};
+ghost use Rattle.process_semantics.specs.State.{Entry, Run};
 ghost use Rattle.path_semantics.specs.declared.dues.Dues.{Dues};
 ghost use Rattle.path_semantics.specs.declared.reason.Reason.{Reason};
 ghost use Rattle.path_semantics.specs.Dues.{no_dues, targets_of};

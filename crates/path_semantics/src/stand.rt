@@ -1,7 +1,7 @@
 ghost use Rattle.std.specs.Prelude.{◌≡◌, ◌∷◌, ◌++◌, [], map, reverse, IfOk};
 ghost use Rattle.std.specs.Option.{option_map};
 ghost use Rattle.tal_tree.specs.declared.statement.What.{out-What};
-ghost use Rattle.process_semantics.specs.Program.{Run, Test, runs_of};
+ghost use Rattle.process_semantics.specs.State.{Run, Test, runs_of};
 ghost use Rattle.process_semantics.specs.SeenEntries.{entry_of};
 ghost use Rattle.path_semantics.specs.Place.{ways_of, rounds_of, ways, body_of, stand_at, settled, stands_after, successors, first_stand, next_entry};
 

@@ -5,7 +5,8 @@ use Rattle.tal_tree.specs.declared.program.Program.{Program}
 use Rattle.tal_tree.specs.declared.statement.Statement.{Statement}
 use Rattle.tal_tree.specs.declared.statement.What.{What, What-F, out-What}
 use Rattle.tal_values.specs.Value.{cell_of}
-use Rattle.process_semantics.specs.Program.{Entry, Run, Test, Last, ProgramState, runs_of, inner_in, tested_in, counted_in, inner_entry, or_ends, memory_of}
+use Rattle.process_semantics.specs.State.{Entry, Run, Test, Last, ProgramState, runs_of, memory_of}
+use Rattle.process_semantics.specs.Steps.{inner_in, tested_in, counted_in, inner_entry, or_ends}
 use Rattle.path_semantics.specs.declared.dues.Dues.{Dues}
 use Rattle.path_semantics.specs.Dues.{with_changed, global_of, global_of_spot, changed_by, after_entry, after_statement}
 use Rattle.path_semantics.specs.Place.{Place, Stand, place_of, ways_of, rounds_of, settled, stands_after}

@@ -12,7 +12,8 @@ use Rattle.tal_tree.specs.declared.statement.What.{What, What-F}
 use Rattle.tal_values.specs.declared.memory.Cell.{Cell}
 use Rattle.tal_values.specs.declared.memory.Cell.TheVariants as cell
 use Rattle.tal_values.specs.Value.{Memory, cell_of}
-use Rattle.process_semantics.specs.Program.{ProgramState, words_of, with_word, variable_cell}
+use Rattle.process_semantics.specs.State.{ProgramState, words_of}
+use Rattle.process_semantics.specs.Changes.{with_word, variable_cell}
 use Rattle.path_semantics.specs.declared.dues.Dues.{Dues}
 use Rattle.path_semantics.specs.Dues.{with_changed, global_of_spot, global_of, changed_by, after_statement}
 use Rattle.gd_words.specs.Members.{is_among}

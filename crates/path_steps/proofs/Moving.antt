@@ -9,7 +9,10 @@ use Rattle.tal_tree.specs.declared.statement.What.{What, What-F, out-What}
 use Rattle.tal_values.specs.declared.memory.Cell.{Cell}
 use Rattle.tal_values.specs.declared.memory.Cell.TheVariants as cell
 use Rattle.tal_values.specs.Value.{cell_of}
-use Rattle.process_semantics.specs.Program.{Entry, Run, Test, Last, Frame, ProgramState, runs_of, first_of, local_set, words_of, with_word, with_words, without_next, put_before, done, before, entering, left, ends, assigned, tested, entered_by, entered, given_in, given, given_to, returned, for_begun, counted_up, inner_entry, or_ends, memory_of, variable_cell, received}
+use Rattle.process_semantics.specs.State.{Entry, Run, Test, Last, Frame, ProgramState, runs_of, first_of, words_of, memory_of}
+use Rattle.process_semantics.specs.Changes.{local_set, with_word, with_words, without_next, put_before, done, before, entering, left, ends, variable_cell}
+use Rattle.process_semantics.specs.Steps.{assigned, tested, entered_by, entered, given_in, given, given_to, returned, for_begun, counted_up, inner_entry, or_ends}
+use Rattle.process_semantics.specs.Calls.{received}
 use Rattle.path_semantics.specs.declared.dues.Dues.{Dues}
 use Rattle.path_semantics.specs.Dues.{with_changed, global_of, changed_by_return, target_of}
 use Rattle.path_semantics.specs.Place.{Place, Stand, place_of, body_in, body_of, settled, stand_at}

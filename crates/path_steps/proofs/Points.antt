@@ -8,7 +8,10 @@ use Rattle.tal_tree.specs.declared.statement.Statement.{Statement}
 use Rattle.tal_tree.specs.declared.statement.What.{What, What-F, out-What}
 use Rattle.process_semantics.specs.declared.point.Point.{Point}
 use Rattle.process_semantics.specs.declared.point.Point.TheVariants as point
-use Rattle.process_semantics.specs.Program.{Entry, Run, Test, Last, Frame, ProgramState, first_of, next_of, with_hand, with_waiting, count_of, where_good, where_both_good, point_in, point_at, point_of, in_entry, in_next, took_in, got_in, file_in, after_answered, after_mark}
+use Rattle.process_semantics.specs.State.{Entry, Run, Test, Last, Frame, ProgramState, first_of, next_of, count_of, in_entry, in_next}
+use Rattle.process_semantics.specs.Changes.{with_hand, with_waiting}
+use Rattle.process_semantics.specs.Points.{where_good, where_both_good, point_in, point_at, point_of}
+use Rattle.process_semantics.specs.Calls.{took_in, got_in, file_in, after_answered, after_mark}
 use Rattle.path_semantics.specs.declared.dues.Dues.{Dues}
 use Rattle.path_semantics.specs.Dues.{no_dues, after_entry, after_statement}
 use Rattle.path_semantics.specs.Place.{Place, Stand, place_of, settled}

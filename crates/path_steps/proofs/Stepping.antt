@@ -4,8 +4,13 @@ use Rattle.tal_tree.specs.declared.program.Program.{Program}
 use Rattle.tal_tree.specs.declared.statement.Statement.{Statement}
 use Rattle.tal_tree.specs.declared.statement.What.{What, What-F, out-What}
 use Rattle.process_semantics.specs.declared.point.Point.TheVariants as point
-use Rattle.process_semantics.specs.Program as program
-use Rattle.process_semantics.specs.Program.{Entry, Run, Test, Last, Frame, ProgramState, first_of, next_of, count_of, point_of, in_next, inner, inner_entry, or_ends, after_took, after_asked, after_got, file_in, asked_file, after_answered, after_mark}
+use Rattle.process_semantics.specs.Calls as calls
+use Rattle.process_semantics.specs.Changes as changes
+use Rattle.process_semantics.specs.Steps as steps
+use Rattle.process_semantics.specs.State.{Entry, Run, Test, Last, Frame, ProgramState, first_of, next_of, count_of, in_next}
+use Rattle.process_semantics.specs.Points.{point_of}
+use Rattle.process_semantics.specs.Steps.{inner, inner_entry, or_ends}
+use Rattle.process_semantics.specs.Calls.{after_took, after_asked, after_got, file_in, asked_file, after_answered, after_mark}
 use Rattle.path_semantics.specs.declared.dues.Dues.{Dues}
 use Rattle.path_semantics.specs.Dues.{no_dues, after_entry}
 use Rattle.path_semantics.specs.Place.{Place, Stand, place_of, settled, successors, stands_after}
@@ -48,7 +53,7 @@ end-step program dues later s after callers place goes = record {
 no-frames : (code : Program) (s : ProgramState) → s.frames ≡ [] → (inner code s).ended ≡ true
 no-frames code s is =
     ap (λ (f : List Frame). (or_ends s (inner_entry code s (next_of f))).ended) is
-    ∙ ap (λ (f : List Frame). (or_ends s (program.given_to code (pos 0) (program.left s) (drop 1 f))).ended) is
+    ∙ ap (λ (f : List Frame). (or_ends s (steps.given_to code (pos 0) (changes.left s) (drop 1 f))).ended) is
 
 -- at Inner
 pub inner-steps : (code : Program) (dues : Dues) (s : ProgramState) → (inner code s).ended ≡ false → (later : Dues) × FollowsPath code dues later s (inner code s)
@@ -75,7 +80,7 @@ took-steps code dues s words at =
     let stands = stands-at code s point.Take (λ e. cc) (λ e. cc) at in
     let entry : Entry = Run stands.statement in
     let later : Dues = after_entry dues entry in
-    let next : after_took code s words ≡ program.took_in code s words (out-What stands.statement.what) = in-next s (program.took_in code s words) s.frames stands.statement stands.next in
+    let next : after_took code s words ≡ calls.took_in code s words (out-What stands.statement.what) = in-next s (calls.took_in code s words) s.frames stands.statement stands.next in
     let took = took-in code dues s stands.statement stands.rest stands.callers words stands.place (out-What stands.statement.what) refl stands.call in (
       later,
       led-step code dues later s (after_took code s words) entry stands.rest stands.callers stands.place
@@ -95,7 +100,7 @@ got-steps code dues s words at ready =
     let stands = stands-at code s point.Await (λ e. cc) (λ e. cc) at in
     let entry : Entry = Run stands.statement in
     let later : Dues = after_entry dues entry in
-    let next : after_got code s words ≡ program.got_in code s words (out-What stands.statement.what) = in-next s (program.got_in code s words) s.frames stands.statement stands.next in
+    let next : after_got code s words ≡ calls.got_in code s words (out-What stands.statement.what) = in-next s (calls.got_in code s words) s.frames stands.statement stands.next in
     let asks : asked_file s ≡ file_in (out-What stands.statement.what) = in-next 0 file_in s.frames stands.statement stands.next in
     let room : has_room_in code s (out-What stands.statement.what) ≡ true = sym (in-next true (has_room_in code s) s.frames stands.statement stands.next) ∙ ready (awaiting stands.call) in
     let got = got-in code dues s stands.statement stands.rest stands.callers words stands.place (out-What stands.statement.what) refl stands.call room in (

@@ -4,7 +4,7 @@ use Rattle.gd_words.specs.Members.{IsAmong, is_among}
 use Rattle.tal_tree.specs.declared.program.Program.{Program}
 use Rattle.tal_tree.specs.declared.statement.Statement.{Statement}
 use Rattle.tal_tree.specs.declared.statement.What.{What, What-F}
-use Rattle.process_semantics.specs.Program.{ProgramState, words_of, count_of, in_next}
+use Rattle.process_semantics.specs.State.{ProgramState, words_of, count_of, in_next}
 use Rattle.path_semantics.specs.declared.dues.Dues.{Dues}
 use Rattle.path_semantics.specs.Place.{Stand, place_of, settled, successors}
 use Rattle.path_semantics.specs.Break.{asked_count}

@@ -1,7 +1,10 @@
 ghost use Rattle.std.specs.Prelude.{◌≡◌, ◌<◌, false, true, List, ℤ};
 ghost use Rattle.tal_tree.specs.declared.program.Program.{Program};
 ghost use Rattle.process_semantics.specs.declared.point.Point.TheVariants.{Take, Ask, Await, Answer, Mark};
-ghost use Rattle.process_semantics.specs.Program.{ProgramState, point_of, inner, after_took, asked_file, after_asked, after_got, after_answered, after_mark};
+ghost use Rattle.process_semantics.specs.State.{ProgramState};
+ghost use Rattle.process_semantics.specs.Points.{point_of};
+ghost use Rattle.process_semantics.specs.Steps.{inner};
+ghost use Rattle.process_semantics.specs.Calls.{after_took, asked_file, after_asked, after_got, after_answered, after_mark};
 ghost use Rattle.path_semantics.specs.declared.dues.Dues.{Dues};
 ghost use Rattle.path_semantics.specs.Dues.{no_dues};
 ghost use Rattle.path_semantics.specs.Break.{asked_count};

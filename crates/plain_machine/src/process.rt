@@ -1,6 +1,6 @@
 ghost use Rattle.std.specs.Prelude.{◌≡◌, IfOk, OnOk, map, replicate, slice_set};
 ghost use Rattle.plain_semantics.specs.Openers.{openers_of};
-ghost use Rattle.process_semantics.specs.Program.{zeros};
+ghost use Rattle.process_semantics.specs.State.{zeros};
 ghost use Rattle.process_semantics.specs.Process.{point, after_inner, after_took, asked_file, asked_words, after_asked, after_got, answer_of, after_answered, after_mark, call_of, after_device};
 ghost use Rattle.plain_semantics.specs.Machine.{process_at_first, sectors_at_first, found_by, written_by};
 ghost use Rattle.plain_machine.specs.Rounds.{waiting_from};

@@ -5,7 +5,7 @@ use Rattle.tal_tree.specs.declared.site.Kind.TheVariants as kind
 use Rattle.process_semantics.specs.declared.disc.DiscState.{DiscState}
 use Rattle.process_semantics.specs.declared.point.Point.{Point}
 use Rattle.process_semantics.specs.Process.{Serves}
-use Rattle.process_semantics.specs.Program.{zeros}
+use Rattle.process_semantics.specs.State.{zeros}
 use Rattle.plain_semantics.specs.declared.slot.Slot.{Slot}
 use Rattle.plain_semantics.specs.Machine.{Plain}
 

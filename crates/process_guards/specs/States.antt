@@ -6,7 +6,7 @@ use Rattle.tal_tree.specs.declared.program.Shape.TheVariants as shape
 use Rattle.tal_tree.specs.declared.statement.Statement.{Statement}
 use Rattle.tal_tree.specs.declared.statement.What.{What}
 use Rattle.tal_tree.specs.declared.expression.Expr.{Expr, Number}
-use Rattle.process_semantics.specs.Program.{Entry, Run, Frame, ProgramState, zeros}
+use Rattle.process_semantics.specs.State.{Entry, Run, Frame, ProgramState, zeros}
 
 abbrev pub procedure_of : Bool → ℕ → List (List ℕ) → List Statement → Procedure
 procedure_of gives parameters locals body = record { name = 80 ∷ []; gives = gives; parameters = parameters; locals = locals; body = body }

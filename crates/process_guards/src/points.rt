@@ -2,7 +2,7 @@ ghost use Rattle.std.specs.Prelude.{◌≡◌, pos, negsuc, true, [], ◌∷◌}
 ghost use Rattle.tal_tree.specs.declared.statement.What.{ReadUpdate, Reply, WriteRead, Checkpoint, Assign, Stop};
 ghost use Rattle.tal_tree.specs.declared.expression.Variable.TheVariants.{Simple};
 ghost use Rattle.process_semantics.specs.declared.point.Point.TheVariants.{Inner, Take, Ask, Await, Answer, Mark, Ended};
-ghost use Rattle.process_semantics.specs.Program.{point_of};
+ghost use Rattle.process_semantics.specs.Points.{point_of};
 ghost use Rattle.process_guards.specs.States.{code, word, at_statement, in_hand, over};
 
 /// A count is from 0 to 16, and no more than its array has words; any other traps, in an inner step.

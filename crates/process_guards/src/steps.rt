@@ -5,7 +5,9 @@ ghost use Rattle.tal_tree.specs.declared.expression.Expr.{Two};
 ghost use Rattle.tal_tree.specs.declared.expression.Op.TheVariants.{Div};
 ghost use Rattle.tal_tree.specs.declared.expression.Spot as spot;
 ghost use Rattle.tal_tree.specs.declared.expression.Variable.TheVariants.{Simple};
-ghost use Rattle.process_semantics.specs.Program.{Run, Test, Last, inner, after_took};
+ghost use Rattle.process_semantics.specs.State.{Run, Test, Last};
+ghost use Rattle.process_semantics.specs.Steps.{inner};
+ghost use Rattle.process_semantics.specs.Calls.{after_took};
 ghost use Rattle.process_guards.specs.States.{code, word, does, at_statement, standing, with_frames, main_with, function_with, over};
 
 /// A WHILE whose test holds comes again after its body; else it is gone.

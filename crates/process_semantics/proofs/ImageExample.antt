@@ -8,7 +8,7 @@ use Rattle.tal_tree.specs.declared.statement.What.TheBlock.{shape-the_row-Statem
 use Rattle.tal_tree.specs.declared.expression.Expr.{Number}
 use Rattle.tal_tree.specs.declared.expression.Cond.{Truth}
 use denote.Hole.Carrier.{hidden, out}
-use Rattle.process_semantics.specs.Program.{Run, ProgramState, start}
+use Rattle.process_semantics.specs.State.{Run, ProgramState, start}
 use Rattle.process_semantics.specs.Process.{Runs}
 use Rattle.process_semantics.specs.Image.{image_of, restored}
 

@@ -3,7 +3,7 @@ use Rattle.std.proofs.Common.{◌≡◌, List, [], ◌∷◌, ◌++◌, map, ap,
 use Rattle.std.proofs.lemmas.List.{reverse-append, map-append}
 use Rattle.tal_tree.specs.declared.statement.Statement.{Statement}
 use Rattle.process_semantics.specs.declared.entry.Entry.{Entry as Borrowed}
-use Rattle.process_semantics.specs.Program.{Entry, Run, runs_of}
+use Rattle.process_semantics.specs.State.{Entry, Run, runs_of}
 use Rattle.process_semantics.specs.SeenEntries.{entry_of, stack}
 
 -- the last of the entries is the next

@@ -1,46 +1,23 @@
 -- The words of an image, by which a process that watches gets the state of one that acts, and the state that such words restore.
-use Rattle.std.specs.Prelude.{ℕ, zero, suc, ◌+◌, ◌-◌, ◌*◌, ◌/◌, ◌%◌, ◌==◌, ℤ, pos, negsuc, Bool, true, false, not, ◌&&◌, if◌then◌else◌, nat_le, List, [], ◌∷◌, ◌++◌, length, reverse, take, drop, slice_get, slice_set, Option, Some, None}
-use Rattle.std.specs.Option.{option_map, option_and_then}
 use Rattle.std.specs.List.{flat_map}
-use Rattle.gd_words.specs.Arithmetic.{wrap}
+use Rattle.std.specs.Option.{option_map, option_and_then}
+use Rattle.std.specs.Prelude.{ℕ, ℤ, pos, Bool, true, false, ◌&&◌, if◌then◌else◌, List, [], ◌∷◌, ◌++◌, length, slice_get, slice_set, Option, Some, None, zero, suc, ◌==◌, not, reverse}
 use Rattle.gd_words.specs.Members.{is_among}
-use Rattle.tal_tree.specs.Rows.{rows}
-use Rattle.tal_tree.specs.Statements.{last_of, called_in}
-use Rattle.tal_tree.specs.declared.program.Program.{Program}
-use Rattle.tal_tree.specs.declared.program.Procedure.{Procedure}
+use Rattle.tal_tree.specs.Shapes.{width, has_words}
 use Rattle.tal_tree.specs.declared.program.Item.{Item}
-use Rattle.tal_tree.specs.declared.program.Shape.{Shape}
-use Rattle.tal_tree.specs.declared.program.Shape.TheVariants as shape
+use Rattle.tal_tree.specs.declared.program.Procedure.{Procedure}
+use Rattle.tal_tree.specs.declared.program.Program.{Program}
 use Rattle.tal_tree.specs.declared.statement.Statement.{Statement}
-use Rattle.tal_tree.specs.declared.statement.What.{What, What-F, out-What, Assign, AssignCall, If', While', For', Call, Return, ReadUpdate, Reply, WriteRead, Checkpoint, CheckMonitor, Open, Stop, Row_of-Statement, end_of-Statement, more_of-Statement}
+use Rattle.tal_tree.specs.declared.statement.What.{What, What-F}
+use Rattle.process_semantics.specs.declared.disc.DiscState.{DiscState}
 use Rattle.process_semantics.specs.declared.point.Point.{Point}
 use Rattle.process_semantics.specs.declared.point.Point.TheVariants.{Take, Answer, Mark, Device}
-use Rattle.process_semantics.specs.declared.disc.DiscState.{DiscState}
-use Rattle.process_semantics.specs.Program.{Entry, Run, Test, Last, Frame, ProgramState, runs_of, width, words_of, in_next}
 use Rattle.process_semantics.specs.Process.{ProcessState, Runs, Serves, point, after_mark}
-
--- Numbers as words
-
--- a number of 32 bits: two words, the high half first, each as a pattern of 16 bits
-abbrev pub long : ℕ → List ℤ
-long n = wrap (pos (n / 65536)) ∷ wrap (pos (n % 65536)) ∷ []
-
--- how many, and the words
-abbrev pub counted : List ℤ → List ℤ
-counted words = pos (length words) ∷ words
+use Rattle.process_semantics.specs.Rests.{next_number, rest_from}
+use Rattle.process_semantics.specs.State.{Entry, Frame, ProgramState, words_of, in_next, called_by}
+use Rattle.process_semantics.specs.Words.{counted_in, long, counted_if, Front, count_in, words_in, whole, long_in}
 
 -- The words of a program's state
-
--- the number of an entry: a FOR's test has the one after its first assignment
-abbrev pub number_of : Entry → ℕ
-number_of (Run statement) = statement.number
-number_of (Test statement) = statement.number + 1
-number_of (Last statement) = last_of (out-What statement.what)
-
--- the number of the entry that comes next, 0 at a procedure's end
-abbrev pub next_number : List Entry → ℕ
-next_number [] = 0
-next_number (entry ∷ rest) = number_of entry
 
 -- a frame: its procedure, the number that comes next, or that of the call in progress, and its locals
 abbrev pub frame_words : Frame → List ℤ
@@ -56,11 +33,6 @@ program_words items s =
     pos (length s.frames) ∷ flat_map frame_words (reverse s.frames) ++ pos (length items) ∷ flat_map (item_words s) items
 
 -- The words of a disc's state
-
--- words that may be lacking, which count as none
-abbrev pub counted_if : Option (List ℤ) → List ℤ
-counted_if None = pos 0 ∷ []
-counted_if (Some words) = counted words
 
 -- the request in hand, the last write's number, and the reply
 abbrev pub disc_words : DiscState → List ℤ
@@ -106,66 +78,7 @@ abbrev pub listed_files : ProcessState → List ℕ
 listed_files (Runs code s) = in_next [] listed_files_in s.frames
 listed_files (Serves sectors s) = []
 
--- What remains from each number on
-
--- the statements of a list as entries
-abbrev pub runs_row : {n : _} → Row_of-Statement n → List Entry
-runs_row end_of-Statement = []
-runs_row (more_of-Statement number line what rest) = Run (record { number = number; line = line; what = what }) ∷ runs_row rest
-
-abbrev mutual
-  -- of the statements of a list: what remains from each entry in it on, where others come after the list
-  pub rests_row : {n : _} → Row_of-Statement n → List Entry → List (List Entry)
-  rests_row end_of-Statement after = []
-  rests_row (more_of-Statement number line what rest) after =
-      (Run (record { number = number; line = line; what = what }) ∷ (runs_row rest ++ after))
-      ∷ rests_in what (record { number = number; line = line; what = what }) (runs_row rest ++ after) ++ rests_row rest after
-
-  -- of the entries inside a statement
-  pub rests_in : What → Statement → List Entry → List (List Entry)
-  rests_in (If' test _ first _ second) self after = rests_row first after ++ rests_row second after
-  rests_in (While' test _ body) self after = rests_row body (Run self ∷ after)
-  rests_in (For' variable from to _ body last) self after =
-      (Test self ∷ after) ∷ rests_row body (Last self ∷ Test self ∷ after) ++ (Last self ∷ Test self ∷ after) ∷ []
-  rests_in (Assign to value) self after = []
-  rests_in (AssignCall to procedure arguments) self after = []
-  rests_in (Call procedure arguments) self after = []
-  rests_in (Return value) self after = []
-  rests_in CheckMonitor self after = []
-  rests_in (Open file) self after = []
-  rests_in Stop self after = []
-  rests_in (ReadUpdate buffer most got) self after = []
-  rests_in (Reply buffer count) self after = []
-  rests_in (WriteRead file buffer send room got) self after = []
-  rests_in (Checkpoint items files) self after = []
-
--- what remains from each entry of a procedure's body on
-abbrev pub rests_of : List Statement → List (List Entry)
-rests_of body = rests_row (rows body) []
-
--- the first that begins with an entry of this number
-abbrev pub rest_among : ℕ → List (List Entry) → Option (List Entry)
-rest_among number [] = None
-rest_among number (rest ∷ rests) = if next_number rest == number then Some rest else rest_among number rests
-
--- what remains of a body from a number on; 0 stands for its end
-abbrev pub rest_from : List Statement → ℕ → Option (List Entry)
-rest_from body number = if number == 0 then Some [] else rest_among number (rests_of body)
-
 -- Restoring. Each part takes its words from the front and leaves the others
-
--- what words begin with, and the words after it
-abbrev pub Front : Type 0 → Type 0
-Front A = Option (A × List ℤ)
-
--- a count or a number that isn't below 0
-abbrev pub count_in : List ℤ → Front ℕ
-count_in (pos n ∷ words) = Some (n, words)
-count_in _ = None
-
--- so many words
-abbrev pub words_in : ℕ → List ℤ → Front (List ℤ)
-words_in n words = if nat_le n (length words) then Some (take n words, drop n words) else None
 
 -- a frame, where what remains and the locals are there
 abbrev pub frame_with : ℕ → Option (List Entry) → Front (List ℤ) → Front Frame
@@ -188,11 +101,6 @@ frames_in program zero words = Some ([], words)
 frames_in program (suc n) words =
     option_and_then (λ (frame, left). option_map (λ (frames, rest). (frame ∷ frames, rest)) (frames_in program n left)) (frame_in program words)
 
--- the procedure that a frame has called: that of the call that stands first in it
-abbrev pub called_by : List Entry → Option ℕ
-called_by (Run statement ∷ rest) = called_in (out-What statement.what)
-called_by _ = None
-
 -- whether this procedure is the one that was called
 abbrev pub is_called : Option ℕ → ℕ → Bool
 is_called None procedure = false
@@ -202,11 +110,6 @@ is_called (Some called) procedure = called == procedure
 abbrev pub are_called : Option ℕ → List Frame → Bool
 are_called called [] = true
 are_called called (frame ∷ frames) = is_called called frame.procedure && are_called (called_by frame.rest) frames
-
--- whether a global may be listed: a file has no words
-abbrev pub has_words : Shape → Bool
-has_words (shape.File file) = false
-has_words _ = true
 
 -- a global that may be listed and wasn't named before: its words
 abbrev pub item_in : List ℕ → ℕ → Option Item → List ℤ → Front (List ℤ)
@@ -221,11 +124,6 @@ items_in program (suc n) named globals words =
     (λ (item, left). option_and_then (λ (found, rest). items_in program n (item ∷ named) (slice_set globals item found) rest)
     (item_in named item (slice_get program.items item) left))
     (count_in words)
-
--- nothing is left
-abbrev pub whole : {A : Type 0} → Front A → Option A
-whole (Some (found, [])) = Some found
-whole _ = None
 
 -- whether a list has no items
 abbrev pub is_empty : {A : Type 0} → List A → Bool
@@ -255,20 +153,6 @@ abbrev pub restored_program : Program → ProgramState → Bool → List ℤ →
 restored_program program s in_hand words =
     option_and_then (λ (frames, left). restored_items program s in_hand frames left)
     (option_and_then (λ (n, left). frames_in program n left) (count_in words))
-
--- a number of 16 bits from its pattern
-abbrev pub half_of : ℤ → ℕ
-half_of (pos n) = n
-half_of (negsuc n) = 65535 - n
-
--- a number of 32 bits
-abbrev pub long_in : List ℤ → Front ℕ
-long_in (high ∷ low ∷ words) = Some (half_of high * 65536 + half_of low, words)
-long_in _ = None
-
--- how many, at most 16, and the words
-abbrev pub counted_in : List ℤ → Front (List ℤ)
-counted_in words = option_and_then (λ (n, left). if nat_le n 16 then words_in n left else None) (count_in words)
 
 -- the disc with this request, number and reply: with nothing in hand it is at Take, without a reply at Device, and else at Answer
 abbrev pub disc_with : Bool → List ℤ → ℕ → List ℤ → Option DiscState

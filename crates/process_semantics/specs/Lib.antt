@@ -1,7 +1,14 @@
+pub mod Calls
+pub mod Changes
 pub mod Disc
 pub mod Image
+pub mod Points
 pub mod Process
-pub mod Program
+pub mod Remains
+pub mod Rests
 pub mod SeenEntries
 pub mod SeenFrames
 pub mod SeenProcess
+pub mod State
+pub mod Steps
+pub mod Words

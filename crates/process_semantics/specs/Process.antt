@@ -7,22 +7,25 @@ use Rattle.tal_tree.specs.declared.site.Kind.{Kind}
 use Rattle.tal_tree.specs.declared.site.Kind.TheVariants as kind
 use Rattle.process_semantics.specs.declared.disc.DiscState.{DiscState}
 use Rattle.process_semantics.specs.declared.point.Point.{Point}
-use Rattle.process_semantics.specs.Program as program
+use Rattle.process_semantics.specs.State.{ProgramState, start}
+use Rattle.process_semantics.specs.Points.{point_of}
+use Rattle.process_semantics.specs.Steps.{inner}
+use Rattle.process_semantics.specs.Calls as calls
 use Rattle.process_semantics.specs.Disc as disc
 
 -- the state of a process: of a program that runs, or of a disc with so many sectors
 pub data ProcessState : Type 0 where
-  Runs : Program → program.ProgramState → ProcessState
+  Runs : Program → ProgramState → ProcessState
   Serves : ℕ → DiscState → ProcessState
 
 -- a process at its beginning
 abbrev pub start_of : Kind → ProcessState
 start_of (kind.Disc sectors) = Serves sectors disc.disc_start
-start_of (kind.Pair code) = Runs code (program.start code)
+start_of (kind.Pair code) = Runs code (start code)
 
 -- where a process stands: what its next step is
 abbrev pub point : ProcessState → Point
-point (Runs code s) = program.point_of code s
+point (Runs code s) = point_of code s
 point (Serves sectors s) = s.label
 
 -- whether a request is in hand
@@ -32,47 +35,47 @@ in_hand (Serves sectors s) = is_some s.request
 
 -- the step at Inner
 abbrev pub after_inner : ProcessState → ProcessState
-after_inner (Runs code s) = Runs code (program.inner code s)
+after_inner (Runs code s) = Runs code (inner code s)
 after_inner (Serves sectors s) = Serves sectors s
 
 -- the step at Take, with the words of the request
 abbrev pub after_took : ProcessState → List ℤ → ProcessState
-after_took (Runs code s) words = Runs code (program.after_took code s words)
+after_took (Runs code s) words = Runs code (calls.after_took code s words)
 after_took (Serves sectors s) words = Serves sectors (disc.disc_took s words)
 
 -- what is asked at Ask: the file's number, and the words
 abbrev pub asked_file : ProcessState → ℕ
-asked_file (Runs code s) = program.asked_file s
+asked_file (Runs code s) = calls.asked_file s
 asked_file (Serves sectors s) = 0
 
 -- the words that are asked at Ask
 abbrev pub asked_words : ProcessState → List ℤ
-asked_words (Runs code s) = program.asked_words code s
+asked_words (Runs code s) = calls.asked_words code s
 asked_words (Serves sectors s) = []
 
 -- the step at Ask
 abbrev pub after_asked : ProcessState → ProcessState
-after_asked (Runs code s) = Runs code (program.after_asked s)
+after_asked (Runs code s) = Runs code (calls.after_asked s)
 after_asked (Serves sectors s) = Serves sectors s
 
 -- the step at Await, with the words of the reply
 abbrev pub after_got : ProcessState → List ℤ → ProcessState
-after_got (Runs code s) words = Runs code (program.after_got code s words)
+after_got (Runs code s) words = Runs code (calls.after_got code s words)
 after_got (Serves sectors s) words = Serves sectors s
 
 -- what is answered at Answer
 abbrev pub answer_of : ProcessState → List ℤ
-answer_of (Runs code s) = program.answer_of code s
+answer_of (Runs code s) = calls.answer_of code s
 answer_of (Serves sectors s) = disc.disc_answer s
 
 -- the step at Answer
 abbrev pub after_answered : ProcessState → ProcessState
-after_answered (Runs code s) = Runs code (program.after_answered s)
+after_answered (Runs code s) = Runs code (calls.after_answered s)
 after_answered (Serves sectors s) = Serves sectors (disc.disc_answered s)
 
 -- the step at Mark
 abbrev pub after_mark : ProcessState → ProcessState
-after_mark (Runs code s) = Runs code (program.after_mark s)
+after_mark (Runs code s) = Runs code (calls.after_mark s)
 after_mark (Serves sectors s) = Serves sectors (disc.disc_marked s)
 
 -- what is done to the device at Device

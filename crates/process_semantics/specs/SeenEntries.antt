@@ -2,7 +2,7 @@
 use Rattle.std.specs.Prelude.{List, map, reverse}
 use Rattle.process_semantics.specs.declared.entry.Entry.{Entry as Borrowed}
 use Rattle.process_semantics.specs.declared.entry.Entry.TheVariants as borrowed
-use Rattle.process_semantics.specs.Program.{Entry, Run, Test, Last}
+use Rattle.process_semantics.specs.State.{Entry, Run, Test, Last}
 
 -- the entry of a borrowed statement
 abbrev pub entry_of : Borrowed → Entry

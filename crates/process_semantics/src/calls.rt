@@ -1,7 +1,10 @@
 ghost use Rattle.std.specs.Prelude.{◌≡◌, ◌≤◌, [], length, IfOk, OnOk, IfSome};
 ghost use Rattle.tal_tree.specs.declared.statement.What.{out-What};
-ghost use Rattle.process_semantics.specs.Program.{words_of, good_count, count_of, where_good, where_both_good, point_in, point_of, received, took_in, got_in, first_words, file_in, asked_in, answer_in, after_took, asked_file, asked_words, after_asked, after_got, answer_of, after_answered, after_mark};
+ghost use Rattle.process_semantics.specs.State.{words_of, count_of};
+ghost use Rattle.process_semantics.specs.Points.{point_in, point_of};
+ghost use Rattle.process_semantics.specs.Calls.{received, took_in, got_in, first_words, file_in, asked_in, answer_in, after_took, asked_file, asked_words, after_asked, after_got, answer_of, after_answered, after_mark};
 
+use crate::counts::{front, good_count, where_both_good, where_good};
 use crate::entry::Entry;
 use crate::execution::Execution;
 use crate::inner::variable_cell;
@@ -269,61 +272,4 @@ fn file_in(statement: &Statement) -> u8
         } => *file,
         _ => 0,
     }
-}
-
-fn where_good(point: Point, count: Option<usize>) -> Point
-    ensures { result ≡ where_good point count }
-{
-    match count {
-        None => Point::Inner,
-        Some(_) => point,
-    }
-}
-
-fn where_both_good(point: Point, first: Option<usize>, second: Option<usize>) -> Point
-    ensures { result ≡ where_both_good point first second }
-{
-    match first {
-        None => Point::Inner,
-        Some(_) => where_good(point, second),
-    }
-}
-
-fn good_count(words: &[i16], count: i16) -> Option<usize>
-    ensures value { result ≡ good_count words.now count }
-    ensures within { IfSome result (λ n. n ≤ length words.now) }
-    ensures few { IfSome result (λ n. n ≤ 16) }
-{
-    if count < 0 {
-        return None;
-    }
-    let count = usize::from(count.unsigned_abs());
-    if count <= words.len() && count <= 16 {
-        Some(count)
-    } else {
-        None
-    }
-}
-
-fn front(words: &[i16], count: i16) -> Words
-    ensures { result ≡ first_words words.now (good_count words.now count) }
-{
-    match good_count(words, count) {
-        None => Words::new(),
-        Some(n) => {
-            let (front, _) = words.split_at(n);
-            few_words(front)
-        }
-    }
-}
-
-fn few_words(words: &[i16]) -> Words
-    requires { length words.now ≤ 16 }
-    ensures { result ≡ words.now }
-{
-    let mut all = Words::new();
-    for word in words {
-        let _full = all.push(*word);
-    }
-    all
 }

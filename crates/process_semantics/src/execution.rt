@@ -1,16 +1,18 @@
-ghost use Rattle.std.specs.Prelude.{◌≡◌, ◌≤◌, pos, ◌+ℤ◌, ◌-ℤ◌, ◌∷◌, ◌++◌, [], length, map, drop, slice_get, slice_set, IfOk, OnOk};
+ghost use Rattle.std.specs.Prelude.{◌≡◌, ◌≤◌, ◌∷◌, ◌++◌, [], length, map, drop, slice_get, slice_set, IfOk, OnOk};
 ghost use Rattle.std.specs.Option.{option_map};
 ghost use Rattle.tal_values.specs.Seen.{seen};
-ghost use Rattle.process_semantics.specs.Program.{start, first_frames, zeros, count_up, width, memory_of, next_of, words_of, with_word, with_words, with_hand, with_waiting, frame_of, first_of, runs_of, before, entering, left, done, ends};
+ghost use Rattle.process_semantics.specs.State.{start, first_frames, memory_of, next_of, words_of, frame_of, first_of, runs_of};
+ghost use Rattle.process_semantics.specs.Changes.{with_word, with_words, with_hand, with_waiting, before, entering, left, done, ends};
 ghost use Rattle.process_semantics.specs.SeenEntries.{entry_of};
 ghost use Rattle.process_semantics.specs.SeenFrames.{frames_of};
 
 use crate::entry::Entry;
 use crate::frame::{Frame, Frames};
+use crate::globals::{overwrite, zeroed};
 use gd_words::{List, NoMemory};
 use std::alloc::Global;
 use std::marker::Model;
-use tal_tree::{Item, Procedure, Program, Shape, Statement};
+use tal_tree::{Procedure, Program, Statement};
 use tal_values::{Cell, Memory};
 
 /// A program that runs, one step after the other. It is plain and slow: it evaluates the trees as they stand.
@@ -27,7 +29,7 @@ pub struct Execution<'a> {
 impl<'a> Model for Execution<'a> {
     ghost use Rattle.std.specs.Coded.{codes};
     ghost use Rattle.tal_tree.specs.contracts.statement.Statement as statement;
-    ghost use Rattle.process_semantics.specs.Program as semantics;
+    ghost use Rattle.process_semantics.specs.State as semantics;
     ghost use Rattle.process_semantics.specs.SeenFrames.{frames_of};
 
     ghost Value = { semantics.Execution };
@@ -236,15 +238,6 @@ impl<'a> Execution<'a> {
     }
 }
 
-fn overwrite<T: Copy>(cells: &mut List<T>, items: &[T])
-    requires { length items.now ≤ length cells.old }
-    ensures { cells.new ≡ items.now ++ drop (length items.now) cells.old }
-{
-    for (k, item) in items.iter().enumerate() {
-        cells.set(k, *item);
-    }
-}
-
 fn called<'a>(
     alloc: Global,
     frames: Option<Frames<'a>>,
@@ -298,45 +291,4 @@ fn first_frames(alloc: Global, program: &Program) -> Result<Option<Frames<'_>>, 
             Ok(Some(Frames { running, callers }))
         }
     }
-}
-
-fn zeroed(alloc: Global, items: &[Item]) -> Result<Vec<List<i16>>, NoMemory>
-    ensures { IfOk result (λ globals. globals.items ≡ map (λ item. zeros (width item.shape)) items.now) }
-{
-    let mut globals = Vec::new(alloc);
-    for item in items {
-        let words = zeros(alloc, width(item.shape))?;
-        globals.push(words)?;
-    }
-    Ok(globals)
-}
-
-fn width(shape: Shape) -> usize
-    ensures { result ≡ width shape }
-{
-    match shape {
-        Shape::Array { low, high } => array_width(low, high),
-        Shape::Simple => 1,
-        Shape::File(_) => 1,
-    }
-}
-
-fn array_width(low: i16, high: i16) -> usize
-    ensures { result ≡ count_up ((high -ℤ low) +ℤ pos 1) }
-{
-    if low <= high {
-        usize::from(high.abs_diff(low)) + 1
-    } else {
-        0
-    }
-}
-
-fn zeros(alloc: Global, len: usize) -> Result<List<i16>, NoMemory>
-    ensures { IfOk result (λ words. words ≡ zeros len) }
-{
-    let mut words = List::new(alloc);
-    for _ in 0..len {
-        words.push(0)?;
-    }
-    Ok(words)
 }

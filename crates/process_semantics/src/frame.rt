@@ -1,6 +1,6 @@
 ghost use Rattle.std.specs.Prelude.{◌≡◌, ◌-◌, ◌∷◌, ◌++◌, length, drop, slice_set, IfOk, OnOk};
 ghost use Rattle.std.specs.Option.{option_map};
-ghost use Rattle.process_semantics.specs.Program.{first_of, runs_of, frame_of, zeros};
+ghost use Rattle.process_semantics.specs.State.{first_of, runs_of, frame_of, zeros};
 ghost use Rattle.process_semantics.specs.SeenEntries.{entry_of};
 
 use crate::entry::Entry;
@@ -20,10 +20,10 @@ pub struct Frame<'a> {
 impl<'a> Model for Frame<'a> {
     ghost use Rattle.std.specs.Coded.{codes};
     ghost use Rattle.tal_tree.specs.contracts.statement.Statement as statement;
-    ghost use Rattle.process_semantics.specs.Program as program;
+    ghost use Rattle.process_semantics.specs.State as semantics;
     ghost use Rattle.process_semantics.specs.SeenEntries.{stack};
 
-    ghost Value = { program.Frame };
+    ghost Value = { semantics.Frame };
 
     ghost coded = { Prim.hlevel (codes, statement.the_row.coded) };
 

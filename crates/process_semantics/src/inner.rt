@@ -3,7 +3,9 @@ ghost use Rattle.std.specs.Option.{option_map};
 ghost use Rattle.tal_tree.specs.declared.statement.What.{out-What};
 ghost use Rattle.tal_values.specs.Seen.{seen};
 ghost use Rattle.tal_values.specs.Value.{value_of, cell_of, truth_of};
-ghost use Rattle.process_semantics.specs.Program.{Run, Test, Last, memory_of, runs_of, variable_cell, values_of, assigned, tested, entered, given, given_in, returned, result_of, for_begun, inner_in, goes_round, tested_in, counted_in, inner, or_ends};
+ghost use Rattle.process_semantics.specs.State.{Run, Test, Last, memory_of, runs_of};
+ghost use Rattle.process_semantics.specs.Changes.{variable_cell};
+ghost use Rattle.process_semantics.specs.Steps.{values_of, assigned, tested, entered, given, given_in, returned, result_of, for_begun, inner_in, goes_round, tested_in, counted_in, inner, or_ends};
 ghost use Rattle.process_semantics.specs.SeenEntries.{entry_of};
 
 use crate::entry::Entry;

@@ -1,8 +1,9 @@
 -- The lines of globals: what they declare, and their faults.
-use Rattle.std.specs.Prelude.{ℕ, ◌+◌, ◌||◌, min, nat_lt, nat_le, Bool, false, ℤ, pos, zero, ◌-ℤ◌, neg_ℤ, int_lt, unsigned_abs, List, [], ◌∷◌, ◌++◌, length, Option, Some, None, option_map, is_some, unwrap_or, if◌then◌else◌}
+use Rattle.std.specs.Prelude.{ℕ, ◌+◌, ◌||◌, min, nat_lt, nat_le, Bool, false, ℤ, pos, zero, neg_ℤ, int_lt, List, [], ◌∷◌, ◌++◌, length, Option, Some, None, option_map, is_some, unwrap_or, if◌then◌else◌}
 use Rattle.gd_words.specs.Arithmetic.{wrap}
 use Rattle.tal_tokens.specs.declared.token.At.{At}
 use Rattle.tal_syntax.specs.Grammar as g
+use Rattle.tal_tree.specs.Shapes.{width}
 use Rattle.tal_tree.specs.declared.program.Shape.{Shape}
 use Rattle.tal_tree.specs.declared.program.Shape.TheVariants as shape
 use Rattle.tal_names.specs.declared.fault.Rule.TheVariants.{Unknown, Twice, WrongKind, Limit}
@@ -96,7 +97,7 @@ bounds_faults names (g.bounded start low colon high close) =
 -- the shape of an item and how many words it takes; one whose bounds have a fault takes none, and its shape plays no part
 abbrev pub array_by : Option (ℤ × ℤ) → Extent
 array_by None = record { shape = shape.Simple; words = 0 }
-array_by (Some (low, high)) = record { shape = shape.Array low high; words = unsigned_abs (high -ℤ low) + 1 }
+array_by (Some (low, high)) = record { shape = shape.Array low high; words = width (shape.Array low high) }
 
 abbrev pub extent_of : Declarations → g.Bounds → Extent
 extent_of names g.unbounded = record { shape = shape.Simple; words = 1 }

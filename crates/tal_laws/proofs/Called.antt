@@ -30,8 +30,8 @@ use Rattle.tal_trees.specs.Calls.{procedure_by, meaning_by, call_what, item_by, 
 use Rattle.tal_trees.specs.Expressions.{value_of_expr, cond_of_expr, target_of_spot}
 use Rattle.tal_trees.specs.Programs.{body_statements}
 use Rattle.tal_trees.specs.Statements.{answer_of, assign_by, statements_of, else_statements, row_statements}
-use Rattle.tal_laws.specs.Named.{IsSpotThere, AllThere}
-use Rattle.tal_laws.specs.Regular.{IsCalled, IsRegularStatement}
+use Rattle.tal_tree.specs.Named.{IsSpotThere, AllThere}
+use Rattle.tal_tree.specs.Regular.{IsCalled, IsRegularStatement}
 use Rattle.tal_pieces.proofs.Common.Faultless.{no_fault, split, first_nil, refuted}
 use Rattle.tal_pieces.proofs.Standing.ArgumentsFit.{arguments_count, values_length}
 use Rattle.tal_laws.proofs.Everywhere.{Everywhere, everywhere_append, among_append, everywhere_one}

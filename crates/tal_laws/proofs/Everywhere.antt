@@ -5,8 +5,8 @@ use Rattle.tal_tree.specs.declared.statement.Statement.{Statement}
 use Rattle.tal_tree.specs.declared.statement.What.{What, What-F, out-What, roll-What}
 use Rattle.gd_words.specs.Members.{IsAmong}
 use Rattle.tal_tree.specs.Statements.{all_in, all_of}
-use Rattle.path_semantics.proofs.Reaching.{one-either}
-use Rattle.path_semantics.proofs.Within.{within_of, within-is}
+use Rattle.gd_words.proofs.Among.{among-either}
+use Rattle.tal_tree.proofs.Within.{within_of, within-is}
 use Rattle.tal_laws.proofs.Layers.{layer_of}
 
 module _ (P : What-F What Statement → Type 0) where
@@ -18,7 +18,7 @@ module _ (P : What-F What Statement → Type 0) where
   Everywhere xs = Among (all_of xs)
 
   pub among_append : (xs ys : List Statement) → Among xs → Among ys → Among (xs ++ ys)
-  among_append xs ys x y statement among = elim (one-either statement xs ys among) [ inl left ↦ x statement left | inr right ↦ y statement right ]
+  among_append xs ys x y statement among = elim (among-either statement xs ys among) [ inl left ↦ x statement left | inr right ↦ y statement right ]
 
   pub everywhere_append : (xs ys : List Statement) → Everywhere xs → Everywhere ys → Everywhere (xs ++ ys)
   everywhere_append xs ys x y = subst Among (sym (flat_map-append all_in xs ys)) (among_append (all_of xs) (all_of ys) x y)

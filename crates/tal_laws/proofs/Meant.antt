@@ -31,7 +31,7 @@ use Rattle.tal_pieces.proofs.Standing.Stands.{file_meaning}
 use Rattle.tal_laws.proofs.Known.{HasRoom, procedures_known}
 use Rattle.tal_laws.proofs.Ordered.{AreFaultless, faultless}
 use Rattle.tal_laws.proofs.WithinLimits.{procedures_within}
-use Rattle.tal_laws.specs.Named.{IsProcess}
+use Rattle.tal_tree.specs.Named.{IsProcess}
 use Rattle.gd_words.specs.Members.{IsAmong}
 use Rattle.tal_tree.specs.declared.program.Procedure.{Procedure}
 

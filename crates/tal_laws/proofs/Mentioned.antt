@@ -21,7 +21,8 @@ use Rattle.tal_trees.specs.Calls.{meaning_by, with_item, with_process, items_nam
 use Rattle.tal_pieces.proofs.Common.Faultless.{no_fault, split, refuted}
 use Rattle.tal_pieces.proofs.Scopes.Declared.{meaning_kept, meaning_new}
 use Rattle.gd_words.specs.Members.{AreDistinct, IsAmong}
-use Rattle.tal_laws.specs.Regular.{IsNoFile, AreListed}
+use Rattle.tal_tree.specs.Shapes.{has_words}
+use Rattle.tal_tree.specs.Regular.{AreListed}
 use Rattle.tal_laws.proofs.Meant.{AreThere}
 
 abbrev mention : Meaning
@@ -40,7 +41,7 @@ module _ (program : Program) (locals : ℕ) (s : Scope) (meant : AreThere progra
   record IsNew (before : Declarations) (k : ℕ) : Type 0 where
     item : Item
     there : slice_get program.items k ≡ Some item
-    no_file : IsNoFile item.shape
+    words : has_words item.shape ≡ true
     new : is_declared item.name before ≡ false
 
   -- a file that is opened to a process, of a name that wasn't mentioned before
@@ -61,16 +62,16 @@ module _ (program : Program) (locals : ℕ) (s : Scope) (meant : AreThere progra
     distinct = rest.distinct;
     each = λ k among.
         let one = rest.each k among in
-        record { item = one.item; there = one.there; no_file = one.no_file; new = undeclared one.item.name before name one.new };
+        record { item = one.item; there = one.there; words = one.words; new = undeclared one.item.name before name one.new };
     distinct_files = rest.distinct_files;
     each_file = λ k among.
         let one = rest.each_file k among in
         record { name = one.name; item = one.item; stands = one.stands; new = undeclared one.name before name one.new };
   }
 
-  one_item : (before : Declarations) (k : ℕ) (item : Item) → slice_get program.items k ≡ Some item → IsNoFile item.shape → is_declared item.name before ≡ false
+  one_item : (before : Declarations) (k : ℕ) (item : Item) → slice_get program.items k ≡ Some item → has_words item.shape ≡ true → is_declared item.name before ≡ false
       → (items files : List ℕ) → AreNew (with_name before item.name mention) items files → AreNew before (k ∷ items) files
-  one_item before k item there no_file new items files rest = record {
+  one_item before k item there words new items files rest = record {
     distinct = (apart, rest.distinct);
     each = each;
     distinct_files = rest.distinct_files;
@@ -87,7 +88,7 @@ module _ (program : Program) (locals : ℕ) (s : Scope) (meant : AreThere progra
           absurd (cc (known, fresh))
 
       each : (j : ℕ) → IsAmong j (k ∷ items) → IsNew before j
-      each j (inl same) = subst (IsNew before) (sym same) (record { item = item; there = there; no_file = no_file; new = new })
+      each j (inl same) = subst (IsNew before) (sym same) (record { item = item; there = there; words = words; new = new })
       each j (inr among) = (earlier before item.name items files rest).each j among
 
   one_file : (before : Declarations) (name : List ℕ) (item number : ℕ) → meaning_of s name ≡ Some (m.ProcessFile item number) → is_declared name before ≡ false
@@ -117,10 +118,10 @@ module _ (program : Program) (locals : ℕ) (s : Scope) (meant : AreThere progra
       → AreNew before (with_item found items) (with_process found files)
   by_meaning at name None is fine before new items files rest = no_fault fine
   by_meaning at name (Some (m.Simple k)) is fine before new items files rest =
-      one_item before k (record { name = name; shape = shape.Simple }) (meant.simple name k is) tt new items files rest
+      one_item before k (record { name = name; shape = shape.Simple }) (meant.simple name k is) refl new items files rest
   by_meaning at name (Some (m.Array k)) is fine before new items files rest =
       let own = meant.array name k is in
-      one_item before k (record { name = name; shape = shape.Array own.0 own.1 }) own.2 tt new items files rest
+      one_item before k (record { name = name; shape = shape.Array own.0 own.1 }) own.2 refl new items files rest
   by_meaning at name (Some (m.ProcessFile item number)) is fine before new items files rest =
       one_file before name item number is new items files rest
   by_meaning at name (Some (m.StrayFile item number)) is fine before new items files rest = earlier before name items files rest
@@ -146,7 +147,7 @@ module _ (program : Program) (locals : ℕ) (s : Scope) (meant : AreThere progra
       let all : AreNew [] (items_named s arguments) (files_named s arguments) = all_named [] arguments fine in
       record {
         distinct_items = all.distinct;
-        items_there = λ k among. let one = all.each k among in record { item = one.item; there = one.there; no_file = one.no_file };
+        items_there = λ k among. let one = all.each k among in record { item = one.item; there = one.there; words = one.words };
         distinct_files = all.distinct_files;
         files_there = λ k among. let one = all.each_file k among in meant.process one.name one.item k one.stands;
       }

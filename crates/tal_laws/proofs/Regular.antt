@@ -15,10 +15,10 @@ use Rattle.tal_pieces.proofs.Scopes.SourceScopes.{scope_in}
 use Rattle.tal_tree.specs.Limits.{IsWithinLimits}
 use Rattle.tal_tree.specs.Ordered.{IsOrdered}
 use Rattle.gd_words.specs.Members.{AreDistinct, IsAmong}
-use Rattle.tal_laws.specs.Regular.{IsRegularStatement, IsRegular}
+use Rattle.tal_tree.specs.Regular.{IsRegularStatement, IsRegular}
 use Rattle.tal_tree.specs.Statements.{numbers_of}
 use Rattle.tal_laws.proofs.Called.{body_right}
-use Rattle.path_semantics.proofs.Distinct.{given_at, given-all, given-distinct}
+use Rattle.gd_words.proofs.Distinct.{given_at, given-all, given-distinct}
 use Rattle.tal_laws.proofs.Everywhere.{Everywhere}
 use Rattle.tal_laws.proofs.Meant.{are_there}
 use Rattle.tal_laws.proofs.Ordered.{AreFaultless, faultless, is_ordered}

@@ -1,7 +1,7 @@
 ghost use Rattle.std.specs.Prelude.{ℕ, List};
 ghost use Rattle.tal_tree.specs.Ordered.{IsOrdered};
 ghost use Rattle.tal_tree.specs.Limits.{IsWithinLimits};
-ghost use Rattle.tal_laws.specs.Regular.{IsRegular};
+ghost use Rattle.tal_tree.specs.Regular.{IsRegular};
 ghost use Rattle.tal_reader.specs.Reads.{Reads};
 ghost use Rattle.tal_tree.specs.declared.program.Program.{Program};
 

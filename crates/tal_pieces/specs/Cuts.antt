@@ -1,6 +1,5 @@
 -- What the text of pieces is cut into.
-use Rattle.std.specs.Prelude.{◌≡◌, ℕ, List, [], ◌∷◌, Some, None}
-use Rattle.std.specs.Prelude.{FitsSigned}
+use Rattle.std.specs.Prelude.{◌≡◌, ℕ, List, [], ◌∷◌, Some, None, FitsSigned}
 use Rattle.std.specs.Int.{w16}
 use Rattle.gd_words.specs.Spelling.{ident_of, name_of}
 use Rattle.tal_tokens.specs.declared.token.At.{At}

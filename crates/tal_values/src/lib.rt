@@ -4,7 +4,7 @@
 //! `truth_of` and `cell_of` of `specs/Value.antt` in its own definitions, and that `value`, `truth` and `cell` give just these.
 #![tactic(auto)]
 
-mod chain;
+pub mod chain;
 pub mod condition;
 pub mod expression;
 pub mod memory;

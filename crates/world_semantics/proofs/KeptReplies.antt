@@ -13,7 +13,7 @@ use Rattle.world_semantics.specs.declared.receive.Standing.TheVariants.{Next, In
 use Rattle.world_semantics.specs.Receive.{is_place, holds, answered, reply_kept, kept_or_old, standing_in, standing_by, standing, after_taking, after_answering, last_ones, repeated_by, repeated}
 use Rattle.world_semantics.specs.Laws.{HasGrown}
 use Rattle.world_semantics.proofs.Lists.{some-same, Changed, is_new, is_same, changed}
-use Rattle.world_semantics.proofs.Members.{among-right}
+use Rattle.gd_words.proofs.Among.{among-right}
 
 -- the replies that one block of a table keeps, where its opener's request is in hand or not, were sent
 abbrev BlockSent : ℕ → List Reply → ℕ → Bool → OpenerBlock → Type 0

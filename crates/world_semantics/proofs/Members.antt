@@ -2,25 +2,8 @@
 use Rattle.std.proofs.Common.{◌≡◌, ◌⊎◌, inl, inr, ℕ, zero, suc, Bool, true, false, cond, List, [], ◌∷◌, ◌++◌, map, Some, slice_get, refl, sym}
 use Rattle.std.specs.List.{filter, flat_map}
 use Rattle.gd_words.specs.Members.{IsAmong}
+use Rattle.gd_words.proofs.Among.{among-either}
 use Rattle.world_semantics.proofs.Lists.{some-same}
-
-pub among-left : {A : Type 0} (x : A) (xs ys : List A) → IsAmong x xs → IsAmong x (xs ++ ys)
-among-left x [] ys i = absurd i
-among-left x (y ∷ xs) ys (inl same) = inl same
-among-left x (y ∷ xs) ys (inr i) = inr (among-left x xs ys i)
-
-pub among-right : {A : Type 0} (x : A) (xs ys : List A) → IsAmong x ys → IsAmong x (xs ++ ys)
-among-right x [] ys i = i
-among-right x (y ∷ xs) ys i = inr (among-right x xs ys i)
-
-pub among-append : {A : Type 0} (x : A) (xs ys : List A) → IsAmong x (xs ++ ys) → IsAmong x xs ⊎ IsAmong x ys
-among-append x [] ys i = inr i
-among-append x (y ∷ xs) ys (inl same) = inl (inl same)
-among-append x (y ∷ xs) ys (inr i) = up (among-append x xs ys i)
-  where
-    up : IsAmong x xs ⊎ IsAmong x ys → IsAmong x (y ∷ xs) ⊎ IsAmong x ys
-    up (inl j) = inl (inr j)
-    up (inr j) = inr j
 
 -- a member of the items that pass a test is one of them, and passes it
 pub among-filter : {A : Type 0} (x : A) (test : A → Bool) (xs : List A) → IsAmong x (filter test xs) → IsAmong x xs × (test x ≡ true)
@@ -60,7 +43,7 @@ pub record IsOf {A B : Type 0} (f : A → List B) (xs : List A) (y : B) : Type 0
 
 pub among-flat_map : {A B : Type 0} (f : A → List B) (xs : List A) (y : B) → IsAmong y (flat_map f xs) → IsOf f xs y
 among-flat_map f [] y i = absurd i
-among-flat_map f (x ∷ xs) y i = by-append (among-flat_map f xs y) (among-append y (f x) (flat_map f xs) i)
+among-flat_map f (x ∷ xs) y i = by-append (among-flat_map f xs y) (among-either y (f x) (flat_map f xs) i)
   where
     up : IsOf f xs y → IsOf f (x ∷ xs) y
     up of = record { place = suc of.place; item = of.item; there = of.there; among = inr of.among; within = of.within }

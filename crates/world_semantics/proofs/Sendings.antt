@@ -16,7 +16,8 @@ use Rattle.world_semantics.specs.Rules.{Change, by_own, by_checkpoint, by_reques
 use Rattle.world_semantics.specs.Follows.{IsRun}
 use Rattle.world_semantics.specs.Laws.{WasSent}
 use Rattle.world_semantics.proofs.Lists.{set-there}
-use Rattle.world_semantics.proofs.Members.{among-left, among-map, among-flat_map}
+use Rattle.gd_words.proofs.Among.{among-left}
+use Rattle.world_semantics.proofs.Members.{among-map, among-flat_map}
 use Rattle.world_semantics.proofs.KeptReplies.{repeated-sent}
 use Rattle.world_semantics.proofs.Fair.{AllFair, CopyIsFair, fair-of, run-fair}
 

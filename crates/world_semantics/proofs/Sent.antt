@@ -19,7 +19,7 @@ use Rattle.world_semantics.specs.Follows.{IsRun}
 use Rattle.world_semantics.specs.Laws.{HasGrown, last_checkpoint}
 use Rattle.world_semantics.proofs.Beginning.{all-begin}
 use Rattle.world_semantics.proofs.Lists.{some-same}
-use Rattle.world_semantics.proofs.Members.{among-right}
+use Rattle.gd_words.proofs.Among.{among-right}
 use Rattle.world_semantics.proofs.Runs.{holds-on}
 use Rattle.world_semantics.proofs.Later.{change-later}
 use Rattle.world_semantics.proofs.Becoming as becoming

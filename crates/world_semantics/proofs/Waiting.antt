@@ -8,7 +8,8 @@ use Rattle.world_semantics.specs.declared.receive.ReceiveBlock.{ReceiveBlock}
 use Rattle.world_semantics.specs.Receive.{Chosen, chosen, chosen_by, chosen_after, is_next, standing, is_waiting, is_outdone, is_same_opener, waits, came, still_waiting}
 use Rattle.world_semantics.specs.Laws.{waiting_of}
 use Rattle.world_semantics.proofs.Lists.{some-same}
-use Rattle.world_semantics.proofs.Members.{among-append, among-filter}
+use Rattle.gd_words.proofs.Among.{among-either}
+use Rattle.world_semantics.proofs.Members.{among-filter}
 
 -- of each opener at most one of these requests is
 pub record AreSingle (waiting : List Request) : Type 0 where
@@ -97,7 +98,7 @@ waits-all P waiting request new ok one i = by-out (is_outdone request waiting) i
 
     by-out : (out : Bool) → IsAmong one (if out then waiting else filter (λ other. not (is_same_opener request other)) waiting ++ request ∷ []) → P one
     by-out true j = ok one j
-    by-out false j = by-append (among-append one (filter (λ other. not (is_same_opener request other)) waiting) (request ∷ []) j)
+    by-out false j = by-append (among-either one (filter (λ other. not (is_same_opener request other)) waiting) (request ∷ []) j)
 
 -- Taking
 

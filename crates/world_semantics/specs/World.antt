@@ -11,7 +11,7 @@ use Rattle.tal_tree.specs.declared.site.Site.{Site}
 use Rattle.tal_tree.specs.declared.site.ProcessSpec.{ProcessSpec}
 use Rattle.tal_tree.specs.declared.site.Kind.{Kind}
 use Rattle.tal_tree.specs.declared.site.Kind.TheVariants as kind
-use Rattle.process_semantics.specs.Program.{zeros}
+use Rattle.process_semantics.specs.State.{zeros}
 use Rattle.world_semantics.specs.declared.message.ImageMessage.{ImageMessage}
 use Rattle.world_semantics.specs.declared.message.TakenMessage.{TakenMessage}
 use Rattle.world_semantics.specs.declared.role.Role.{Role}

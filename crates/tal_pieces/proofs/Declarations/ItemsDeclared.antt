@@ -1,9 +1,10 @@
 -- What the lines of globals of a text without faults declare: items alone, as the printed text has them.
 use Rattle.std.proofs.Common.{◌≡◌, ℕ, ◌+◌, min, Bool, true, false, nat_le, nat_lt, List, [], ◌∷◌, ◌++◌, length, append_assoc, append-nil, refl, sym, ap, ◌∙◌, subst, if◌then◌else◌}
-use Rattle.std.specs.Prelude.{ℤ, pos, zero, ◌-ℤ◌, int_lt, unsigned_abs, Option, Some, None, option_map, unwrap_or}
+use Rattle.std.specs.Prelude.{ℤ, pos, zero, int_lt, Option, Some, None, option_map, unwrap_or}
 use Rattle.std.proofs.lemmas.Bool.{true≢false}
 use Rattle.tal_tokens.specs.declared.token.At.{At}
 use Rattle.tal_tree.specs.declared.program.Item.{Item}
+use Rattle.tal_tree.specs.Shapes.{width}
 use Rattle.tal_tree.specs.declared.program.Shape.{Shape}
 use Rattle.tal_tree.specs.declared.program.Shape.TheVariants as shape
 use Rattle.tal_syntax.specs.Grammar as g
@@ -13,8 +14,7 @@ use Rattle.tal_names.specs.declared.meaning.Meaning.TheVariants as m
 use Rattle.tal_declarations.specs.declared.table.Declared.{Declared}
 use Rattle.tal_declarations.specs.declared.table.Extent.{Extent}
 use Rattle.tal_names.specs.Faults.{fault_at, if_so}
-use Rattle.tal_declarations.specs.Globals.{is_taken, taken_faults, bounds_faults, extent_of, array_by, bounds_by, is_reversed, negated, constant_value, constant_meaning, constant_faults, first_of_constant, atom_faults, atom_value, literal_faults, literal_value}
-use Rattle.tal_declarations.specs.Globals.{item_limits, item_faults, item_meaning, with_extent, with_item, literal_line_faults, with_literal, items_faults, with_items, literals_faults, with_literals, line_faults, with_line, lines_faults, with_lines}
+use Rattle.tal_declarations.specs.Globals.{is_taken, taken_faults, bounds_faults, extent_of, array_by, bounds_by, is_reversed, negated, constant_value, constant_meaning, constant_faults, first_of_constant, atom_faults, atom_value, literal_faults, literal_value, item_limits, item_faults, item_meaning, with_extent, with_item, literal_line_faults, with_literal, items_faults, with_items, literals_faults, with_literals, line_faults, with_line, lines_faults, with_lines}
 use Rattle.tal_names.specs.Names.{Declarations, is_declared}
 use Rattle.tal_pieces.proofs.Scopes.Agreement.{is_literal, printed_declared}
 use Rattle.tal_pieces.proofs.Scopes.DeclaredNames.{still_free, fresh_of_free, with_literal_name, with_other_name}
@@ -23,7 +23,7 @@ use Rattle.tal_pieces.proofs.Common.Faultless.{first_nil, second_nil, refuted, t
 -- the words of an item of a shape, as it is printed
 abbrev pub extent_by : Shape → Extent
 extent_by shape.Simple = record { shape = shape.Simple; words = 1 }
-extent_by (shape.Array low high) = record { shape = shape.Array low high; words = unsigned_abs (high -ℤ low) + 1 }
+extent_by (shape.Array low high) = record { shape = shape.Array low high; words = width (shape.Array low high) }
 extent_by (shape.File number) = record { shape = shape.Simple; words = 1 }
 
 -- an array has ordered bounds, and no item is declared as the variable of a file

@@ -1,13 +1,11 @@
 -- A text that begins with a spelled number begins with the number's token.
 use Rattle.std.proofs.Common.{◌≡◌, ℕ, ◌+◌, ◌-◌, ◌<◌, ◌≤◌, ◌^◌, suc, true, false, not, ◌&&◌, ◌||◌, ◌==◌, nat_le, nat_lt, List, [], ◌∷◌, ◌++◌, length, take, refl, sym, ap, ◌∙◌, arith, if◌then◌else◌}
-use Rattle.std.specs.Prelude.{ℤ, pos, negsuc, Some, None}
+use Rattle.std.specs.Prelude.{ℤ, pos, negsuc, Some, None, FitsSigned}
 use Rattle.std.specs.List.{list_all}
 use Rattle.std.specs.Char.{is_ascii_digit}
-use Rattle.std.specs.Prelude.{FitsSigned}
-use Rattle.std.specs.Int.{cast_signed, cast_unsigned, int_wrap, w16}
+use Rattle.std.specs.Int.{cast_signed, cast_unsigned, int_wrap, w16, is_in_range}
 use Rattle.std.specs.Fmt.{decimal}
 use Rattle.std.specs.Str.{all_ascii_digits}
-use Rattle.std.specs.Int.{is_in_range}
 use Rattle.std.proofs.lemmas.Bool.{and_parts, and_from, le-leb, leb-true, le-ltb, not_from_false, false_from_ne_true, true≢false}
 use Rattle.std.proofs.lemmas.Fmt.{digits_decimal, digits_value-decimal, decimal_nonempty}
 use Rattle.std.proofs.lemmas.Int.{ints, int_wrap_fits}

@@ -1,5 +1,5 @@
 use Rattle.std.proofs.Common.{◌≡◌, ◌++◌}
-use Rattle.process_semantics.specs.Program.{zeros}
+use Rattle.process_semantics.specs.State.{zeros}
 use Rattle.process_semantics.proofs.frame.with_zeros.Given as goal
 
 abbrev pub invariant-loop : goal.invariant-loop

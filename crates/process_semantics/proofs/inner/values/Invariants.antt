@@ -1,7 +1,7 @@
 use Rattle.std.proofs.Common.{◌≡◌, ◌++◌, drop}
 use Rattle.std.specs.Option.{option_map}
 use Rattle.tal_values.specs.Seen.{seen}
-use Rattle.process_semantics.specs.Program.{values_of}
+use Rattle.process_semantics.specs.Steps.{values_of}
 use Rattle.process_semantics.proofs.inner.values.Given as goal
 
 -- what is still to be evaluated stands after the words so far

@@ -1,17 +1,15 @@
 use Rattle.std.proofs.Common.{◌≡◌, ◌-◌, ◌+◌, suc, length, Some, None, refl, sym, ap, ◌∙◌, arith, subst}
 use Rattle.tal_syntax.specs.Grammar as g
-use Rattle.tal_syntax.specs.Seen.{link_ands, link_factors, link_ors, link_terms, seen_both, seen_factor, seen_neg, seen_product, seen_scale, seen_sign}
+use Rattle.tal_syntax.specs.Seen.{link_ands, link_factors, link_ors, link_terms, seen_both, seen_factor, seen_neg, seen_product, seen_scale, seen_sign, seen_expr, seen_ors, seen_ands, seen_terms, seen_factors, seen_sum, seen_rel}
 use Rattle.tal_builder.specs.Marks.{mark_of}
 use Rattle.tal_builder.specs.declared.mark.Mark.TheVariants as mark
 use Rattle.tal_builder.specs.First.{rel_of, scale_of, sign_of}
-use Rattle.tal_builder.specs.Parse.{both_at, factor_at, neg_at, product_at, sum_at}
+use Rattle.tal_builder.specs.Parse.{both_at, factor_at, neg_at, product_at, sum_at, expr_in, neg_in, factor_in}
 use Rattle.tal_builder.proofs.Turns.{ends, turns}
-use Rattle.tal_syntax.specs.Seen.{seen_expr, seen_ors, seen_ands, seen_terms, seen_factors, seen_sum, seen_rel}
 use Rattle.tal_syntax.proofs.SeenSteps.{seen-element, seen-next-both, seen-term}
 use Rattle.tal_syntax.specs.declared.expression.NextBoth.{roll-NextBoth}
 use Rattle.tal_syntax.specs.declared.expression.Term.{roll-Term}
 use Rattle.tal_builder.specs.Outcome.{Tells}
-use Rattle.tal_builder.specs.Parse.{expr_in, neg_in, factor_in}
 use Rattle.tal_builder.proofs.Steps.{expr-found, both-found, sum-found, product-found, negated-found, minus-found, parens-found, index-found, relation-goes, alone-found, compared-found}
 use Rattle.tal_builder.proofs.expression.+expression.Goals as goal
 

@@ -1,18 +1,16 @@
 use Rattle.std.proofs.Common.{◌≡◌, ◌-◌, ◌+◌, suc, true, length, Some, None, refl, sym, ap, ◌∙◌, arith, subst}
 use Rattle.tal_syntax.specs.Grammar as g
-use Rattle.tal_syntax.specs.Seen.{link_row, seen_statement}
+use Rattle.tal_syntax.specs.Seen.{link_row, seen_statement, seen_expr, seen_row, seen_otherwise}
 use Rattle.tal_builder.specs.Marks.{mark_of}
 use Rattle.tal_builder.specs.declared.mark.Mark.TheVariants as mark
-use Rattle.tal_builder.specs.Parse.{statement_at}
+use Rattle.tal_builder.specs.Parse.{statement_at, begun_by}
 use Rattle.tal_builder.proofs.Turns.{ends, turns}
-use Rattle.tal_syntax.specs.Seen.{seen_expr, seen_row, seen_otherwise}
 use Rattle.tal_syntax.specs.declared.statement.Test.{Test}
 use Rattle.tal_syntax.specs.declared.statement.ForHead.{ForHead}
 use Rattle.tal_syntax.proofs.SeenSteps.{seen-else}
 use Rattle.tal_builder.specs.Outcome.{Tells}
 use Rattle.std.specs.Prelude.{cond}
 use Rattle.tal_builder.specs.First.{is_begun}
-use Rattle.tal_builder.specs.Parse.{begun_by}
 use Rattle.tal_builder.proofs.Steps.{block-found, otherwise-found, if-found, while-found, for-found}
 use Rattle.tal_builder.proofs.statement.+statement.Goals as goal
 

@@ -1,9 +1,8 @@
 use Rattle.std.proofs.Common.{refl}
 use Rattle.tal_syntax.specs.declared.statement.NextArgument.{NextArgument}
 use Rattle.tal_syntax.specs.Seen.{seen_further, seen_argument}
-use Rattle.tal_rules.specs.Calls.{arguments_faults}
+use Rattle.tal_rules.specs.Calls.{arguments_faults, argument_faults}
 use Rattle.tal_names.specs.Places.{further_arguments}
-use Rattle.tal_rules.specs.Calls.{argument_faults}
 use Rattle.tal_names.proofs.Turns.{turn}
 use Rattle.tal_rules.proofs.call.judge_further.Goals as goal
 

@@ -1,5 +1,5 @@
 use Rattle.std.proofs.Common.{◌≡◌, ◌++◌, length}
-use Rattle.process_semantics.specs.Program.{runs_of}
+use Rattle.process_semantics.specs.State.{runs_of}
 use Rattle.process_semantics.specs.SeenEntries.{stack}
 use Rattle.path_semantics.proofs.frame.Frame.put_all.Given as goal
 

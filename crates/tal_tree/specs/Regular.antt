@@ -5,26 +5,19 @@ use Rattle.tal_tree.specs.declared.expression.Expr.{Expr}
 use Rattle.tal_tree.specs.declared.program.Item.{Item}
 use Rattle.tal_tree.specs.declared.program.Procedure.{Procedure}
 use Rattle.tal_tree.specs.declared.program.Program.{Program}
-use Rattle.tal_tree.specs.declared.program.Shape.{Shape}
-use Rattle.tal_tree.specs.declared.program.Shape.TheVariants as shape
 use Rattle.tal_tree.specs.declared.statement.Statement.{Statement}
 use Rattle.tal_tree.specs.declared.statement.What.{What, What-F, out-What}
+use Rattle.tal_tree.specs.Shapes.{has_words}
 use Rattle.tal_tree.specs.Statements.{numbers_of, all_of}
-use Rattle.tal_laws.specs.Named.{IsArray, IsProcess, IsVariableThere, IsThere, IsSpotThere, IsTestThere, AllThere}
+use Rattle.tal_tree.specs.Named.{IsArray, IsProcess, IsVariableThere, IsThere, IsSpotThere, IsTestThere, AllThere}
 
--- a global is simple or an array, and not the variable of a file
-abbrev pub IsNoFile : Shape → Type 0
-IsNoFile shape.Simple = Unit {0}
-IsNoFile (shape.Array low high) = Unit {0}
-IsNoFile (shape.File number) = ⊥
-
--- the item at a place is there and is no file
+-- the item at a place is there and has words
 pub record MayBeListed (program : Program) (k : ℕ) : Type 0 where
   pub item : Item
   pub there : slice_get program.items k ≡ Some item
-  pub no_file : IsNoFile item.shape
+  pub words : has_words item.shape ≡ true
 
--- a CHECKPOINT lists items that are no files, and files that are opened to a process, each once
+-- a CHECKPOINT lists items that have words, and files that are opened to a process, each once
 pub record AreListed (program : Program) (items files : List ℕ) : Type 0 where
   pub distinct_items : AreDistinct items
   pub items_there : (k : ℕ) → IsAmong k items → MayBeListed program k

@@ -1,11 +1,11 @@
 -- Lists of numbers of which none stands twice.
 use Rattle.std.proofs.Common.{inl, inr, ℕ, zero, suc, ◌<◌, arith, List, [], ◌∷◌, ◌++◌, Option, Some, None, slice_get, flat_map, subst}
 use Rattle.gd_words.specs.Members.{AreDistinct, IsAmong}
-use Rattle.path_semantics.proofs.Reaching.{one-left, one-right, one-given, one-giver}
+use Rattle.gd_words.proofs.Among.{among-left, among-right, among-given, among-giver}
 
 pub distinct-left : (xs ys : List ℕ) → AreDistinct (xs ++ ys) → AreDistinct xs
 distinct-left [] ys distinct = tt
-distinct-left (x ∷ xs) ys distinct = ((λ among. distinct.0 (one-left x xs ys among)), distinct-left xs ys distinct.1)
+distinct-left (x ∷ xs) ys distinct = ((λ among. distinct.0 (among-left x xs ys among)), distinct-left xs ys distinct.1)
 
 pub distinct-right : (xs ys : List ℕ) → AreDistinct (xs ++ ys) → AreDistinct ys
 distinct-right [] ys distinct = distinct
@@ -13,12 +13,12 @@ distinct-right (x ∷ xs) ys distinct = distinct-right xs ys distinct.1
 
 pub distinct-apart : (xs ys : List ℕ) → AreDistinct (xs ++ ys) → (n : ℕ) → IsAmong n xs → IsAmong n ys → ⊥
 distinct-apart [] ys distinct n first second = first
-distinct-apart (x ∷ xs) ys distinct n (inl same) second = distinct.0 (one-right x xs ys (subst (λ (m : ℕ). IsAmong m ys) same second))
+distinct-apart (x ∷ xs) ys distinct n (inl same) second = distinct.0 (among-right x xs ys (subst (λ (m : ℕ). IsAmong m ys) same second))
 distinct-apart (x ∷ xs) ys distinct n (inr first) second = distinct-apart xs ys distinct.1 n first second
 
 -- what some of these give is given by all of them
 pub given-part : {A : Type 0} (f : A → List ℕ) (xs ys : List A) → ((x : A) → IsAmong x xs → IsAmong x ys) → (n : ℕ) → IsAmong n (flat_map f xs) → IsAmong n (flat_map f ys)
-given-part f xs ys part n among = let found = one-giver f n xs among in one-given f found.0 n ys (part found.0 found.1) found.2
+given-part f xs ys part n among = let found = among-giver f n xs among in among-given f found.0 n ys (part found.0 found.1) found.2
 
 -- what the item at a place gives
 abbrev pub given_at : {A : Type 0} → (A → List ℕ) → Option A → List ℕ
@@ -27,8 +27,8 @@ given_at f (Some x) = f x
 
 pub given-all : {A : Type 0} (f : A → List ℕ) (xs : List A) (k n : ℕ) → IsAmong n (given_at f (slice_get xs k)) → IsAmong n (flat_map f xs)
 given-all f [] k n among = among
-given-all f (x ∷ xs) zero n among = one-left n (f x) (flat_map f xs) among
-given-all f (x ∷ xs) (suc k) n among = one-right n (f x) (flat_map f xs) (given-all f xs k n among)
+given-all f (x ∷ xs) zero n among = among-left n (f x) (flat_map f xs) among
+given-all f (x ∷ xs) (suc k) n among = among-right n (f x) (flat_map f xs) (given-all f xs k n among)
 
 -- a number that one item gives isn't given by a later one
 pub given-apart : {A : Type 0} (f : A → List ℕ) (xs : List A) (k j n : ℕ) → AreDistinct (flat_map f xs) → k < j

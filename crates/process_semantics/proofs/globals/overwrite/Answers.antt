@@ -1,6 +1,6 @@
 use Rattle.std.proofs.Common.{◌++◌, ◌∙◌, ap, set, take, drop}
 use Rattle.process_semantics.proofs.Overwriting.{overwrite-more}
-use Rattle.process_semantics.proofs.execution.overwrite.Goals as goal
+use Rattle.process_semantics.proofs.globals.overwrite.Goals as goal
 
 pub loop-k-preserved : goal.loop-k-preserved
 loop-k-preserved g c =

@@ -1,5 +1,5 @@
 use Rattle.std.proofs.Common.{◌≡◌, take}
-use Rattle.process_semantics.proofs.calls.few_words.Given as goal
+use Rattle.process_semantics.proofs.counts.few_words.Given as goal
 
 abbrev pub invariant-loop-word : goal.invariant-loop-word
 invariant-loop-word l = l.all ≡ take l.word-index l.words
