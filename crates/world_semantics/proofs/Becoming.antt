@@ -7,11 +7,11 @@ use Rattle.tal_tree.specs.declared.site.Site.{Site}
 use Rattle.process_semantics.specs.declared.point.Point.TheVariants as point
 use Rattle.process_semantics.specs.Process as process
 use Rattle.plain_semantics.specs.Openers.{openers_of}
-use Rattle.world_semantics.specs.declared.message.ImageMessage.{ImageMessage}
-use Rattle.world_semantics.specs.declared.message.TakenMessage.{TakenMessage}
+use Rattle.checkpoint_image.specs.declared.message.ImageMessage.{ImageMessage}
+use Rattle.checkpoint_image.specs.declared.message.TakenMessage.{TakenMessage}
 use Rattle.world_semantics.specs.declared.role.Role.{Role}
 use Rattle.world_semantics.specs.declared.role.Role.TheVariants.{Acting, Watching, Gone}
-use Rattle.world_semantics.specs.Receive.{waits, came}
+use Rattle.checkpoint_image.specs.Receive.{waits, came}
 use Rattle.world_semantics.specs.Core.{Core, Deed, Advances, put_in}
 use Rattle.world_semantics.specs.World.{Copy, Pair, World, Which, First, Second, copy_of, with_copy}
 use Rattle.world_semantics.specs.Kept.{Enters, holds_on, repeats, begins, keeps}

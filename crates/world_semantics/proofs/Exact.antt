@@ -10,12 +10,12 @@ use Rattle.tal_tree.specs.declared.act.Shown.TheVariants as shown
 use Rattle.tal_tree.specs.declared.site.Site.{Site}
 use Rattle.process_semantics.specs.Process as process
 use Rattle.plain_semantics.specs.Openers.{openers_of}
-use Rattle.world_semantics.specs.declared.message.ImageMessage.{ImageMessage}
-use Rattle.world_semantics.specs.declared.message.TakenMessage.{TakenMessage}
-use Rattle.world_semantics.specs.declared.receive.Standing.{Standing}
-use Rattle.world_semantics.specs.declared.receive.Standing.TheVariants.{Next, InHand, Kept, Old, Ahead}
+use Rattle.checkpoint_image.specs.declared.message.ImageMessage.{ImageMessage}
+use Rattle.checkpoint_image.specs.declared.message.TakenMessage.{TakenMessage}
+use Rattle.checkpoint_image.specs.declared.receive.Standing.{Standing}
+use Rattle.checkpoint_image.specs.declared.receive.Standing.TheVariants.{Next, InHand, Kept, Old, Ahead}
 use Rattle.world_semantics.specs.declared.role.Role.TheVariants.{Acting, Watching}
-use Rattle.world_semantics.specs.Receive.{standing, reply_to, repeated_by, repeated}
+use Rattle.checkpoint_image.specs.Receive.{standing, reply_to, repeated_by, repeated}
 use Rattle.world_semantics.specs.Core.{Core, Deed, Advances, gets}
 use Rattle.world_semantics.specs.World.{Copy, Pair, Mark, Terminal, World, Which, copy_of, other_of, terminal_node}
 use Rattle.world_semantics.specs.Messages.{Message, Asking, Replying, Checkpointing, Taking, Sending, sent_at, Cause, Handing, Marking}

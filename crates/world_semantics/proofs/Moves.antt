@@ -15,8 +15,8 @@ use Rattle.process_semantics.specs.Process as process
 use Rattle.plain_semantics.specs.declared.slot.Opener.{Opener}
 use Rattle.plain_semantics.specs.Openers.{opener_of}
 use Rattle.plain_semantics.specs.Machine.{next_request}
-use Rattle.world_semantics.specs.declared.message.ImageMessage.{ImageMessage}
-use Rattle.world_semantics.specs.declared.message.TakenMessage.{TakenMessage}
+use Rattle.checkpoint_image.specs.declared.message.ImageMessage.{ImageMessage}
+use Rattle.checkpoint_image.specs.declared.message.TakenMessage.{TakenMessage}
 use Rattle.world_semantics.specs.declared.role.Role.{Role}
 use Rattle.world_semantics.specs.declared.role.Role.TheVariants.{Acting, Watching, Gone}
 use Rattle.world_semantics.specs.Core.{put_in, next_on, gets}

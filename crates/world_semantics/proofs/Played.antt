@@ -9,8 +9,8 @@ use Rattle.tal_tree.specs.declared.act.Shown.{Shown}
 use Rattle.tal_tree.specs.declared.site.Site.{Site}
 use Rattle.schedule.specs.declared.event.Event.{Event}
 use Rattle.plain_semantics.specs.Machine.{IsPossible, shown_by}
-use Rattle.world_semantics.specs.declared.receive.Standing.{Standing}
-use Rattle.world_semantics.specs.declared.receive.Standing.TheVariants.{Ahead}
+use Rattle.checkpoint_image.specs.declared.receive.Standing.{Standing}
+use Rattle.checkpoint_image.specs.declared.receive.Standing.TheVariants.{Ahead}
 use Rattle.world_semantics.specs.declared.role.Role.{Role}
 use Rattle.world_semantics.specs.declared.role.Role.TheVariants.{Acting}
 use Rattle.world_semantics.specs.World.{Pair, World, First, Second, boot}

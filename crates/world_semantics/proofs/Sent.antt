@@ -8,7 +8,7 @@ use Rattle.tal_tree.specs.declared.site.OpenerSpec.{OpenerSpec}
 use Rattle.schedule.specs.declared.event.Event.{Event}
 use Rattle.process_semantics.specs.declared.point.Point.TheVariants as point
 use Rattle.process_semantics.specs.Process as process
-use Rattle.world_semantics.specs.declared.message.ImageMessage.{ImageMessage}
+use Rattle.checkpoint_image.specs.declared.message.ImageMessage.{ImageMessage}
 use Rattle.world_semantics.specs.declared.role.Role.TheVariants.{Acting, Watching}
 use Rattle.world_semantics.specs.Core.{Core, Deed, Marked, Advances, goes, marks, takes, asks, gets, answers, acts}
 use Rattle.world_semantics.specs.World.{Copy, Pair, World, Which, First, Second, copy_of, pair_at_boot, boot}

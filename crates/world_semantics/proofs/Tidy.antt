@@ -9,13 +9,13 @@ use Rattle.tal_tree.specs.declared.site.ProcessSpec.{ProcessSpec}
 use Rattle.tal_tree.specs.declared.site.OpenerSpec.{OpenerSpec}
 use Rattle.schedule.specs.declared.event.Event.{Event}
 use Rattle.plain_semantics.specs.Openers.{openers_of}
-use Rattle.world_semantics.specs.declared.message.ImageMessage.{ImageMessage}
-use Rattle.world_semantics.specs.declared.receive.OpenerBlock.{OpenerBlock}
-use Rattle.world_semantics.specs.declared.receive.ReceiveBlock.{ReceiveBlock}
-use Rattle.world_semantics.specs.declared.receive.Standing.TheVariants.{Next, InHand, Ahead}
+use Rattle.checkpoint_image.specs.declared.message.ImageMessage.{ImageMessage}
+use Rattle.checkpoint_image.specs.declared.receive.OpenerBlock.{OpenerBlock}
+use Rattle.checkpoint_image.specs.declared.receive.ReceiveBlock.{ReceiveBlock}
+use Rattle.checkpoint_image.specs.declared.receive.Standing.TheVariants.{Next, InHand, Ahead}
 use Rattle.world_semantics.specs.declared.role.Role.{Role}
 use Rattle.world_semantics.specs.declared.role.Role.TheVariants.{Acting, Watching}
-use Rattle.world_semantics.specs.Receive.{holds, answered, reply_kept, kept_or_old, standing_in, standing_by, standing, after_taking, after_answering, last_ones, Chosen, chosen, is_waiting, waits, came, still_waiting}
+use Rattle.checkpoint_image.specs.Receive.{holds, answered, reply_kept, kept_or_old, standing_in, standing_by, standing, after_taking, after_answering, last_ones, Chosen, chosen, is_waiting, waits, came, still_waiting}
 use Rattle.world_semantics.specs.Core.{Core, Deed, Took, Answered, Advances, goes, takes, asks, gets, answers, acts}
 use Rattle.world_semantics.specs.World.{Copy, Pair, World, Which, First, Second, copy_of, pair_at_boot, boot}
 use Rattle.world_semantics.specs.Messages.{Message, Sending, Cause}

@@ -9,11 +9,11 @@ use Rattle.process_semantics.specs.declared.point.Point.TheVariants as point
 use Rattle.process_semantics.specs.Process as process
 use Rattle.process_semantics.specs.Image.{image_of, listed_items, listed_files, restored}
 use Rattle.plain_semantics.specs.Openers.{files_of, openers_of}
-use Rattle.world_semantics.specs.declared.receive.OpenerBlock.{OpenerBlock}
-use Rattle.world_semantics.specs.declared.receive.ReceiveBlock.{ReceiveBlock}
-use Rattle.world_semantics.specs.declared.message.FileNumber.{FileNumber}
-use Rattle.world_semantics.specs.declared.message.Image.{Image}
-use Rattle.world_semantics.specs.Receive.{after_taking, after_answering}
+use Rattle.checkpoint_image.specs.declared.receive.OpenerBlock.{OpenerBlock}
+use Rattle.checkpoint_image.specs.declared.receive.ReceiveBlock.{ReceiveBlock}
+use Rattle.checkpoint_image.specs.declared.message.FileNumber.{FileNumber}
+use Rattle.checkpoint_image.specs.declared.message.Image.{Image}
+use Rattle.checkpoint_image.specs.Receive.{after_taking, after_answering}
 
 -- what a process is with its files and openers: its state, the number of the next request on each of its files, and its receive table
 pub record Core : Type 0 where

@@ -20,9 +20,9 @@ use Rattle.tal_tree.specs.declared.site.Site.{Site}
 use Rattle.tal_tree.specs.declared.site.Kind.TheVariants as kind
 use Rattle.schedule.specs.declared.event.Event.{Event}
 use Rattle.schedule.specs.declared.event.Event.TheVariants as event
-use Rattle.world_semantics.specs.declared.receive.Standing.{Standing}
+use Rattle.checkpoint_image.specs.declared.receive.Standing.{Standing}
 use Rattle.world_semantics.specs.declared.role.Role.{Role}
-use Rattle.world_semantics.specs.Receive.{standing}
+use Rattle.checkpoint_image.specs.Receive.{standing}
 use Rattle.world_semantics.specs.World.{Copy, World}
 use Rattle.world_semantics.specs.Kept.{closed}
 use Rattle.world_semantics.specs.Follows.{IsRun}

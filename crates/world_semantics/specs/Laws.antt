@@ -9,11 +9,11 @@ use Rattle.process_semantics.specs.declared.point.Point.TheVariants as point
 use Rattle.process_semantics.specs.Process as process
 use Rattle.plain_semantics.specs.Openers.{opener_of}
 use Rattle.plain_semantics.specs.Machine.{next_request}
-use Rattle.world_semantics.specs.declared.message.ImageMessage.{ImageMessage}
-use Rattle.world_semantics.specs.declared.message.TakenMessage.{TakenMessage}
-use Rattle.world_semantics.specs.declared.receive.Standing.TheVariants.{Kept}
+use Rattle.checkpoint_image.specs.declared.message.ImageMessage.{ImageMessage}
+use Rattle.checkpoint_image.specs.declared.message.TakenMessage.{TakenMessage}
+use Rattle.checkpoint_image.specs.declared.receive.Standing.TheVariants.{Kept}
 use Rattle.world_semantics.specs.declared.role.Role.TheVariants.{Acting}
-use Rattle.world_semantics.specs.Receive.{standing}
+use Rattle.checkpoint_image.specs.Receive.{standing}
 use Rattle.world_semantics.specs.Core.{next_on, carried, put_in}
 use Rattle.world_semantics.specs.World.{Copy, Pair, Terminal, World, Which, copy_of}
 use Rattle.world_semantics.specs.Messages.{Message, Asking, Replying, Checkpointing, Taking}

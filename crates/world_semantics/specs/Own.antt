@@ -14,8 +14,8 @@ use Rattle.tal_tree.specs.declared.site.Who.TheVariants as who
 use Rattle.plain_semantics.specs.declared.slot.Opener.{Opener}
 use Rattle.plain_semantics.specs.Openers.{opener_of}
 use Rattle.plain_semantics.specs.Machine.{found_by}
-use Rattle.world_semantics.specs.declared.receive.OpenerBlock.{OpenerBlock}
-use Rattle.world_semantics.specs.Receive.{Chosen, chosen}
+use Rattle.checkpoint_image.specs.declared.receive.OpenerBlock.{OpenerBlock}
+use Rattle.checkpoint_image.specs.Receive.{Chosen, chosen}
 use Rattle.world_semantics.specs.Core.{Core, Deed, Went, Took, Asked, Got, Answered, Acted, next_on}
 use Rattle.world_semantics.specs.World.{Copy, Stored, Pair, World}
 use Rattle.world_semantics.specs.Messages.{Message, Asking, Replying, Cause, Running, Handing}

@@ -5,8 +5,8 @@ use Rattle.tal_tree.specs.declared.act.Act.{Act}
 use Rattle.tal_tree.specs.declared.act.Act.TheVariants.{Step}
 use Rattle.process_semantics.specs.declared.point.Point.TheVariants as point
 use Rattle.process_semantics.specs.Process as process
-use Rattle.world_semantics.specs.declared.message.ImageMessage.{ImageMessage}
-use Rattle.world_semantics.specs.declared.message.TakenMessage.{TakenMessage}
+use Rattle.checkpoint_image.specs.declared.message.ImageMessage.{ImageMessage}
+use Rattle.checkpoint_image.specs.declared.message.TakenMessage.{TakenMessage}
 use Rattle.world_semantics.specs.declared.role.Role.TheVariants.{Acting, Watching}
 use Rattle.world_semantics.specs.Core.{Core, after_passing, carried, put_in}
 use Rattle.world_semantics.specs.World.{Copy, Pair, Mark, has_marked, Which, other_of, copy_of, with_copy, may_pass}

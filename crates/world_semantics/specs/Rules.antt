@@ -16,7 +16,7 @@ use Rattle.plain_semantics.specs.Openers.{openers_of, opener_of}
 use Rattle.plain_semantics.specs.Machine.{next_request}
 use Rattle.world_semantics.specs.declared.role.Role.{Role}
 use Rattle.world_semantics.specs.declared.role.Role.TheVariants.{Acting, Watching, Gone}
-use Rattle.world_semantics.specs.Receive.{waits, came, repeated, still_waiting, all_repeated}
+use Rattle.checkpoint_image.specs.Receive.{waits, came, repeated, still_waiting, all_repeated}
 use Rattle.world_semantics.specs.Core.{Core, Deed, Advances}
 use Rattle.world_semantics.specs.World.{Copy, Pair, Terminal, World, terminal_node, is_running, has_marked, Which, First, Second, other_of, copy_of, with_copy, with_pair}
 use Rattle.world_semantics.specs.Kept.{Enters}

@@ -1,16 +1,14 @@
 //! The world of copies: each process as two copies in two processors, the messages that were ever sent between them, the
 //! processors that stopped, and what may change in it. It says what the machines do, and has no packets, channels or ticks.
 //!
-//! Below stand `process_semantics` with the states and steps of processes, `plain_semantics` with acts and openers, and
-//! `schedule` with the events of a run. The layer above shows that one event of its machine `Follows` here, and uses the laws
+//! Below stand `process_semantics` with the states and steps of processes, `checkpoint_image` with checkpoints and receive
+//! tables, `plain_semantics` with acts and openers, and `schedule` with the events of a run. The layer above shows that one event of its machine `Follows` here, and uses the laws
 //! of this crate's public functions over whole runs.
 #![tactic(auto)]
 
 pub mod examples;
 pub mod laws;
-pub mod message;
 pub mod message_laws;
-pub mod receive;
 pub mod role;
 
 pub use examples::{
@@ -23,7 +21,6 @@ pub use laws::{
     numbers_never_fall, one_copy_acts, positions_are_kept, shown_and_kept_stay, stops_stay,
     what_comes_was_sent, what_is_sent_stays,
 };
-pub use message::{FileNumber, Image, ImageMessage, TakenMessage};
 pub use message_laws::{
     a_copy_has_sent_what_it_has, a_takeover_begins_an_era, a_terminal_awaits_one_reply,
     a_terminal_enters_its_next_request, a_watching_copy_keeps_up, checkpoints_are_applied_in_order,
@@ -31,5 +28,4 @@ pub use message_laws::{
     only_a_sent_checkpoint_is_acknowledged, only_the_awaited_reply_is_got,
     only_the_awaited_reply_is_printed, what_was_taken_does_not_wait,
 };
-pub use receive::{OpenerBlock, ReceiveBlock, Standing};
 pub use role::Role;

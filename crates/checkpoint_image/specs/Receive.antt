@@ -5,10 +5,10 @@ use Rattle.std.specs.Option.{option_map}
 use Rattle.std.specs.List.{filter, flat_map, list_any}
 use Rattle.gd_words.specs.declared.message.Request.{Request}
 use Rattle.gd_words.specs.declared.message.Reply.{Reply}
-use Rattle.world_semantics.specs.declared.receive.OpenerBlock.{OpenerBlock}
-use Rattle.world_semantics.specs.declared.receive.ReceiveBlock.{ReceiveBlock}
-use Rattle.world_semantics.specs.declared.receive.Standing.{Standing}
-use Rattle.world_semantics.specs.declared.receive.Standing.TheVariants.{Next, InHand, Kept, Old, Ahead}
+use Rattle.checkpoint_image.specs.declared.receive.OpenerBlock.{OpenerBlock}
+use Rattle.checkpoint_image.specs.declared.receive.ReceiveBlock.{ReceiveBlock}
+use Rattle.checkpoint_image.specs.declared.receive.Standing.{Standing}
+use Rattle.checkpoint_image.specs.declared.receive.Standing.TheVariants.{Next, InHand, Kept, Old, Ahead}
 
 -- Standing
 
