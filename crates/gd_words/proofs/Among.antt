@@ -1,5 +1,5 @@
 -- Members of lists that are put together.
-use Rattle.std.proofs.Common.{◌≡◌, ◌⊎◌, inl, inr, List, [], ◌∷◌, ◌++◌, flat_map, refl, subst}
+use Rattle.std.proofs.Common.{◌⊎◌, inl, inr, List, [], ◌∷◌, ◌++◌, flat_map, refl, subst, sym}
 use Rattle.gd_words.specs.Members.{IsAmong}
 
 pub among-left : {A : Type 0} (x : A) (xs ys : List A) → IsAmong x xs → IsAmong x (xs ++ ys)
@@ -31,3 +31,8 @@ giver-more f y z xs (inr among) later = let found = later among in (found.0, inr
 pub among-giver : {A B : Type 0} (f : A → List B) (y : B) (xs : List A) → IsAmong y (flat_map f xs) → (x : A) × IsAmong x xs × IsAmong y (f x)
 among-giver f y [] among = absurd among
 among-giver f y (z ∷ xs) among = giver-more f y z xs (among-either y (f z) (flat_map f xs) among) (λ later. among-giver f y xs later)
+
+-- what holds of one holds of each among it alone
+pub among-one : {A : Type 0} (P : A → Type 0) (x y : A) → IsAmong x (y ∷ []) → P y → P x
+among-one P x y (inl same) holds = subst P (sym same) holds
+among-one P x y (inr among) holds = absurd among

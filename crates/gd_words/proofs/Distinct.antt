@@ -1,7 +1,7 @@
 -- Lists of numbers of which none stands twice.
-use Rattle.std.proofs.Common.{inl, inr, ℕ, zero, suc, ◌<◌, arith, List, [], ◌∷◌, ◌++◌, Option, Some, None, slice_get, flat_map, subst}
+use Rattle.std.proofs.Common.{inl, inr, ℕ, zero, suc, ◌<◌, arith, List, [], ◌∷◌, ◌++◌, Option, Some, None, slice_get, flat_map, refl, subst}
 use Rattle.gd_words.specs.Members.{AreDistinct, IsAmong}
-use Rattle.gd_words.proofs.Among.{among-left, among-right, among-given, among-giver}
+use Rattle.gd_words.proofs.Among.{among-left, among-right, among-either, among-given, among-giver}
 
 pub distinct-left : (xs ys : List ℕ) → AreDistinct (xs ++ ys) → AreDistinct xs
 distinct-left [] ys distinct = tt
@@ -15,6 +15,13 @@ pub distinct-apart : (xs ys : List ℕ) → AreDistinct (xs ++ ys) → (n : ℕ)
 distinct-apart [] ys distinct n first second = first
 distinct-apart (x ∷ xs) ys distinct n (inl same) second = distinct.0 (among-right x xs ys (subst (λ (m : ℕ). IsAmong m ys) same second))
 distinct-apart (x ∷ xs) ys distinct n (inr first) second = distinct-apart xs ys distinct.1 n first second
+
+pub distinct-both : (xs ys : List ℕ) → AreDistinct xs → AreDistinct ys → ((n : ℕ) → IsAmong n xs → IsAmong n ys → ⊥) → AreDistinct (xs ++ ys)
+distinct-both [] ys first second apart = second
+distinct-both (x ∷ xs) ys first second apart = (
+  (λ among. elim (among-either x xs ys among) [ inl here' ↦ first.0 here' | inr there' ↦ apart x (inl refl) there' ]),
+  distinct-both xs ys first.1 second (λ n here' there'. apart n (inr here') there'),
+)
 
 -- what some of these give is given by all of them
 pub given-part : {A : Type 0} (f : A → List ℕ) (xs ys : List A) → ((x : A) → IsAmong x xs → IsAmong x ys) → (n : ℕ) → IsAmong n (flat_map f xs) → IsAmong n (flat_map f ys)
