@@ -1,3 +1,8 @@
 pub mod ImageExample
+pub mod Leading
+pub mod Numbers
 pub mod Overwriting
+pub mod Rests
 pub mod Stacks
+pub mod Standing
+pub mod Told
