@@ -9,13 +9,9 @@ use Rattle.tal_tree.specs.Statements.{all_in, all_of}
 use Rattle.path_semantics.specs.Place.{Place, body_in, body_of, ways_of, rounds_of, ways}
 use Rattle.gd_words.specs.Members.{IsAmong}
 use Rattle.path_semantics.proofs.Kept.{IsKept}
-use Rattle.gd_words.proofs.Among.{among-left, among-right}
+use Rattle.gd_words.proofs.Among.{among-left, among-right, among-one}
+use Rattle.process_semantics.proofs.Standing.{statement_of}
 use Rattle.tal_tree.proofs.Within.{within_of, within-is}
-
-abbrev pub statement_of : Entry → Statement
-statement_of (Run statement) = statement
-statement_of (Test statement) = statement
-statement_of (Last statement) = statement
 
 abbrev pub HoldsIn : (Statement → Type 0) → List Statement → Type 0
 HoldsIn P statements = (statement : Statement) → IsAmong statement (all_of statements) → P statement
@@ -49,13 +45,9 @@ for-drop : (P : Statement → Type 0) (frame : List Entry) → HoldsFor P frame 
 for-drop P [] holds = tt
 for-drop P (entry ∷ rest) holds = holds.1
 
-pub only-way : {A : Type 0} (P : A → Type 0) (way one : A) → IsAmong way (one ∷ []) → P one → P way
-only-way P way one (inl same) holds = subst P (sym same) holds
-only-way P way one (inr among) holds = absurd among
-
 pub either-way : {A : Type 0} (P : A → Type 0) (way one other : A) → IsAmong way (one ∷ other ∷ []) → P one → P other → P way
 either-way P way one other (inl same) first second = subst P (sym same) first
-either-way P way one other (inr among) first second = only-way P way other among second
+either-way P way one other (inr among) first second = among-one P way other among second
 
 body-holds : (P : Statement → Type 0) (program : Program)
     → ((procedure : Procedure) (statement : Statement) → IsAmong procedure program.procedures → IsAmong statement (all_of procedure.body) → P statement)
@@ -81,24 +73,24 @@ statement-way P program all self rest callers way (What-F.While test body) is ow
     either-way (HoldsAt P) way ((runs_of body ++ Run self ∷ rest) ∷ callers) (rest ∷ callers) among
     (for-runs P body (Run self ∷ rest) (in-layer P self (What-F.While test body) own is) (own, later), above) (later, above)
 statement-way P program all self rest callers way (What-F.For variable from to body last) is own later above among =
-    only-way (HoldsAt P) way ((Test self ∷ rest) ∷ callers) among ((own, later), above)
+    among-one (HoldsAt P) way ((Test self ∷ rest) ∷ callers) among ((own, later), above)
 statement-way P program all self rest callers way (What-F.AssignCall to procedure arguments) is own later above among =
-    only-way (HoldsAt P) way (body_of program procedure ∷ (Run self ∷ rest) ∷ callers) among
+    among-one (HoldsAt P) way (body_of program procedure ∷ (Run self ∷ rest) ∷ callers) among
     (body-holds P program all (slice_get program.procedures procedure) (got-is-one program.procedures procedure), ((own, later), above))
 statement-way P program all self rest callers way (What-F.Call procedure arguments) is own later above among =
-    only-way (HoldsAt P) way (body_of program procedure ∷ (Run self ∷ rest) ∷ callers) among
+    among-one (HoldsAt P) way (body_of program procedure ∷ (Run self ∷ rest) ∷ callers) among
     (body-holds P program all (slice_get program.procedures procedure) (got-is-one program.procedures procedure), ((own, later), above))
 statement-way P program all self rest callers way (What-F.Return value) is own later above among =
-    only-way (HoldsAt P) way ([] ∷ callers) among (tt, above)
-statement-way P program all self rest callers way What-F.Stop is own later above among = only-way (HoldsAt P) way [] among tt
-statement-way P program all self rest callers way _ is own later above among = only-way (HoldsAt P) way (rest ∷ callers) among (later, above)
+    among-one (HoldsAt P) way ([] ∷ callers) among (tt, above)
+statement-way P program all self rest callers way What-F.Stop is own later above among = among-one (HoldsAt P) way [] among tt
+statement-way P program all self rest callers way _ is own later above among = among-one (HoldsAt P) way (rest ∷ callers) among (later, above)
 
 round-way : (P : Statement → Type 0) (self : Statement) (rest : List Entry) (callers way : Place) (what : What-F What Statement) → out-What self.what ≡ what
     → HoldsOf P (Run self) → HoldsFor P rest → HoldsAt P callers → IsAmong way (rounds_of self rest callers what) → HoldsAt P way
 round-way P self rest callers way (What-F.For variable from to body last) is own later above among =
     either-way (HoldsAt P) way ((runs_of body ++ Last self ∷ Test self ∷ rest) ∷ callers) (rest ∷ callers) among
     (for-runs P body (Last self ∷ Test self ∷ rest) (in-layer P self (What-F.For variable from to body last) own is) (own, (own, later)), above) (later, above)
-round-way P self rest callers way _ is own later above among = only-way (HoldsAt P) way (rest ∷ callers) among (later, above)
+round-way P self rest callers way _ is own later above among = among-one (HoldsAt P) way (rest ∷ callers) among (later, above)
 
 entry-way : (P : Statement → Type 0) (program : Program)
     → ((procedure : Procedure) (statement : Statement) → IsAmong procedure program.procedures → IsAmong statement (all_of procedure.body) → P statement)
@@ -107,7 +99,7 @@ entry-way P program all (Run self) rest callers way holds among =
     statement-way P program all self rest callers way (out-What self.what) refl holds.0.0 holds.0.1 holds.1 among
 entry-way P program all (Test self) rest callers way holds among =
     round-way P self rest callers way (out-What self.what) refl holds.0.0 holds.0.1 holds.1 among
-entry-way P program all (Last self) rest callers way holds among = only-way (HoldsAt P) way (rest ∷ callers) among (holds.0.1, holds.1)
+entry-way P program all (Last self) rest callers way holds among = among-one (HoldsAt P) way (rest ∷ callers) among (holds.0.1, holds.1)
 
 pub entries-kept : (P : Statement → Type 0) (program : Program)
     → ((procedure : Procedure) (statement : Statement) → IsAmong procedure program.procedures → IsAmong statement (all_of procedure.body) → P statement)

@@ -12,7 +12,7 @@ use Rattle.path_semantics.specs.Place.{Place, body_in}
 use Rattle.gd_words.specs.Members.{AreDistinct, IsAmong}
 use Rattle.tal_tree.specs.Ordered.{IsOrdered}
 use Rattle.gd_words.proofs.Distinct.{distinct-left, distinct-right, distinct-apart, given-part, given_at, given-distinct}
-use Rattle.path_semantics.proofs.Entries.{statement_of}
+use Rattle.process_semantics.proofs.Standing.{statement_of}
 use Rattle.gd_words.proofs.Among.{among-either, among-given}
 use Rattle.tal_tree.proofs.Within.{within_of, within-is}
 

@@ -11,10 +11,10 @@ use Rattle.path_semantics.specs.Place.{Place, body_of, ways_of, rounds_of, ways}
 use Rattle.gd_words.specs.Members.{AreDistinct, IsAmong}
 use Rattle.tal_tree.specs.Ordered.{IsOrdered}
 use Rattle.gd_words.proofs.Distinct.{distinct-left, distinct-right, given-part}
-use Rattle.path_semantics.proofs.Entries.{only-way, either-way}
+use Rattle.path_semantics.proofs.Entries.{either-way}
 use Rattle.path_semantics.proofs.Kept.{IsKept}
 use Rattle.path_semantics.proofs.Levels.{inside, inside_test, numbers_at, calls_at, BelongsTo, IsFrameOf, AreLevels, apart-join, apart-runs, run-numbers, run-calls, dropped, body-frame}
-use Rattle.gd_words.proofs.Among.{among-left, among-right, among-either}
+use Rattle.gd_words.proofs.Among.{among-left, among-right, among-either, among-one}
 use Rattle.tal_tree.proofs.Within.{within_of, within-is}
 
 -- the statements of a branch or a body, within a statement of some entry
@@ -198,27 +198,27 @@ statement-levels program ordered self rest callers way (What-F.While test body) 
     either-way (AreLevels program 0) way ((runs_of body ++ Run self ∷ rest) ∷ callers) (rest ∷ callers) among
     (k, omega arith, while-frame program k self test body rest is frame, above) (k, omega arith, tail-frame program k (Run self) rest frame, above)
 statement-levels program ordered self rest callers way (What-F.For variable from to body last) is k frame above among =
-    only-way (AreLevels program 0) way ((Test self ∷ rest) ∷ callers) among (k, omega arith, for-frame program k self variable from to body last rest is frame, above)
+    among-one (AreLevels program 0) way ((Test self ∷ rest) ∷ callers) among (k, omega arith, for-frame program k self variable from to body last rest is frame, above)
 statement-levels program ordered self rest callers way (What-F.AssignCall to procedure arguments) is k frame above among =
     let before : procedure < k = (frame.belong (Run self) (inl refl)).calls procedure (inl-call (ap call_in is)) in
-    only-way (AreLevels program 0) way (body_of program procedure ∷ (Run self ∷ rest) ∷ callers) among
+    among-one (AreLevels program 0) way (body_of program procedure ∷ (Run self ∷ rest) ∷ callers) among
     (procedure, omega arith, body-frame program ordered procedure (slice_get program.procedures procedure) refl, (k, omega arith, frame, above))
   where
     inl-call : own_calls self ≡ procedure ∷ [] → IsAmong procedure (calls_at (Run self))
     inl-call equal = among-left procedure (own_calls self) (flat_map own_calls (within self.what)) (subst (IsAmong procedure) (sym equal) (inl refl))
 statement-levels program ordered self rest callers way (What-F.Call procedure arguments) is k frame above among =
     let before : procedure < k = (frame.belong (Run self) (inl refl)).calls procedure (inl-call (ap call_in is)) in
-    only-way (AreLevels program 0) way (body_of program procedure ∷ (Run self ∷ rest) ∷ callers) among
+    among-one (AreLevels program 0) way (body_of program procedure ∷ (Run self ∷ rest) ∷ callers) among
     (procedure, omega arith, body-frame program ordered procedure (slice_get program.procedures procedure) refl, (k, omega arith, frame, above))
   where
     inl-call : own_calls self ≡ procedure ∷ [] → IsAmong procedure (calls_at (Run self))
     inl-call equal = among-left procedure (own_calls self) (flat_map own_calls (within self.what)) (subst (IsAmong procedure) (sym equal) (inl refl))
 statement-levels program ordered self rest callers way (What-F.Return value) is k frame above among =
-    only-way (AreLevels program 0) way ([] ∷ callers) among
+    among-one (AreLevels program 0) way ([] ∷ callers) among
     (k, omega arith, record { apart = tt; belong = λ entry there'. absurd there' }, above)
-statement-levels program ordered self rest callers way What-F.Stop is k frame above among = only-way (AreLevels program 0) way [] among tt
+statement-levels program ordered self rest callers way What-F.Stop is k frame above among = among-one (AreLevels program 0) way [] among tt
 statement-levels program ordered self rest callers way _ is k frame above among =
-    only-way (AreLevels program 0) way (rest ∷ callers) among (k, omega arith, tail-frame program k (Run self) rest frame, above)
+    among-one (AreLevels program 0) way (rest ∷ callers) among (k, omega arith, tail-frame program k (Run self) rest frame, above)
 
 round-levels : (program : Program) (self : Statement) (rest : List Entry) (callers way : Place) (what : What-F What Statement) → out-What self.what ≡ what
     → (k : ℕ) → IsFrameOf program k (Test self ∷ rest) → AreLevels program (k + 1) callers → IsAmong way (rounds_of self rest callers what) → AreLevels program 0 way
@@ -226,7 +226,7 @@ round-levels program self rest callers way (What-F.For variable from to body las
     either-way (AreLevels program 0) way ((runs_of body ++ Last self ∷ Test self ∷ rest) ∷ callers) (rest ∷ callers) among
     (k, omega arith, round-frame program k self variable from to body last rest is frame, above) (k, omega arith, tail-frame program k (Test self) rest frame, above)
 round-levels program self rest callers way _ is k frame above among =
-    only-way (AreLevels program 0) way (rest ∷ callers) among (k, omega arith, tail-frame program k (Test self) rest frame, above)
+    among-one (AreLevels program 0) way (rest ∷ callers) among (k, omega arith, tail-frame program k (Test self) rest frame, above)
 
 way-levels : (program : Program) → IsOrdered program → (entry : Entry) (rest : List Entry) (callers way : Place) → AreLevels program 0 ((entry ∷ rest) ∷ callers)
     → IsAmong way (ways program entry rest callers) → AreLevels program 0 way
@@ -235,7 +235,7 @@ way-levels program ordered (Run self) rest callers way levels among =
 way-levels program ordered (Test self) rest callers way levels among =
     round-levels program self rest callers way (out-What self.what) refl levels.0 levels.2 levels.3 among
 way-levels program ordered (Last self) rest callers way levels among =
-    only-way (AreLevels program 0) way (rest ∷ callers) among (levels.0, omega arith, tail-frame program levels.0 (Last self) rest levels.2, levels.3)
+    among-one (AreLevels program 0) way (rest ∷ callers) among (levels.0, omega arith, tail-frame program levels.0 (Last self) rest levels.2, levels.3)
 
 pub levels-kept : (program : Program) → IsOrdered program → IsKept program (AreLevels program 0)
 levels-kept program ordered = record {

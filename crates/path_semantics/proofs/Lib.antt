@@ -8,4 +8,5 @@ pub mod Levels
 pub mod LevelsKept
 pub mod QuietPrograms
 pub mod Reaching
+pub mod ToldPlaces
 pub mod Walks

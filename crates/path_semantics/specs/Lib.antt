@@ -6,3 +6,4 @@ pub mod Path
 pub mod Place
 pub mod Quiet
 pub mod Reached
+pub mod Told

@@ -13,7 +13,9 @@ ghost use Rattle.path_semantics.specs.Path.{number_at, Leads, IsPath};
 ghost use Rattle.path_semantics.specs.Break.{Breaks, breaks_at};
 ghost use Rattle.path_semantics.specs.Bounds.{depth_from, size_from, depths, sizes, IsWithinBounds};
 ghost use Rattle.tal_tree.specs.Ordered.{IsOrdered};
+ghost use Rattle.tal_tree.specs.Regular.{IsRegular};
 ghost use Rattle.path_semantics.specs.Quiet.{IsQuiet};
+ghost use Rattle.path_semantics.specs.Told.{RemainsAt, next_numbers, AreNumbered};
 ghost use Rattle.path_semantics.specs.Accepted.{IsAccepted};
 
 /// The front of a path is a path.
@@ -29,6 +31,16 @@ pub fn successors_differ()
 /// A path fixes the place and the dues at each of its entries: where its front leads and its next number stands.
 pub fn path_fixes_its_stand()
     ensures { (program : Program) (path : List ℕ) (one other : Stand) → IsOrdered program → Leads program path one → Leads program path other → number_at one ≡ number_at other → one ≡ other }
+{}
+
+/// Wherever a path leads, each frame remains in the body of the procedure that the frame below it has called, and the last in
+/// MAIN's. Two such places with the same next numbers are one, where within each procedure each number stands once and none is
+/// 0, as in a regular program: so a place is told by its numbers alone.
+pub fn places_are_told()
+    ensures remains { (program : Program) (path : List ℕ) (stand : Stand) → Leads program path stand → RemainsAt program stand.place }
+    ensures told { (program : Program) (one other : Place) → AreNumbered program → RemainsAt program one → RemainsAt program other
+        → next_numbers one ≡ next_numbers other → one ≡ other }
+    ensures regular { (program : Program) → IsRegular program → AreNumbered program }
 {}
 
 /// What breaks is a path.

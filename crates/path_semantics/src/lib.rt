@@ -19,7 +19,7 @@ pub use depth::call_depth;
 pub use dues::Dues;
 pub use laws::{
     accepted_breaks_nowhere, bounds_follow_calls, break_is_path, checkpoint_clears, front_is_path,
-    path_fixes_its_stand, quiet_programs_are_bounded, successors_differ,
+    path_fixes_its_stand, places_are_told, quiet_programs_are_bounded, successors_differ,
 };
 pub use paths::{breaks, is_path};
 pub use reason::{Reason, Refusal};

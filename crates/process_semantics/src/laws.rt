@@ -8,12 +8,12 @@ ghost use Rattle.process_semantics.specs.Rests.{next_number, rests_of, rest_from
 ghost use Rattle.process_semantics.specs.State.{Entry, runs_of};
 
 /// What remains in a procedure is told by the number of the entry that comes next, where each number of its body stands once
-/// there and none is 0: so a frame of an image needs this number alone, and a number that isn't the body's restores nothing.
-/// A frame begins with the whole body, and where its next entry leads within the procedure remains in the body too. The numbers
-/// that tell a frame are those of the body in the order of the text.
+/// there and none is 0: so an image has to say no more of it, and a number that neither is 0 nor stands in the body restores
+/// nothing. The whole body remains at first, and then whatever its entries lead to within the procedure. The numbers by which
+/// it is told are those of the body in the order of the text, one for each entry.
 pub fn what_remains_is_told()
-    ensures told { (body : List Statement) (rest : List Entry) → AreDistinct (numbers_of body) → ((n : ℕ) → IsAmong n (numbers_of body) → 1 ≤ n) → Remains body rest
-        → rest_from body (next_number rest) ≡ Some rest }
+    ensures told { (body : List Statement) (rest : List Entry) → AreDistinct (numbers_of body) → ((n : ℕ) → IsAmong n (numbers_of body) → 1 ≤ n)
+        → Remains body rest → rest_from body (next_number rest) ≡ Some rest }
     ensures found { (body : List Statement) (number : ℕ) (rest : List Entry) → rest_from body number ≡ Some rest → Remains body rest }
     ensures number { (body : List Statement) (number : ℕ) (rest : List Entry) → rest_from body number ≡ Some rest → next_number rest ≡ number }
     ensures first { (body : List Statement) → Remains body (runs_of body) }
