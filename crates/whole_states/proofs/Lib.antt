@@ -1,0 +1,9 @@
+pub mod Awake
+pub mod Calls
+pub mod Discs
+pub mod Frames
+pub mod Globals
+pub mod Hands
+pub mod Inner
+pub mod Named
+pub mod Processes
