@@ -7,9 +7,10 @@ use Rattle.process_semantics.specs.declared.point.Point.TheVariants as point
 use Rattle.process_semantics.specs.Calls as calls
 use Rattle.process_semantics.specs.Changes as changes
 use Rattle.process_semantics.specs.Steps as steps
-use Rattle.process_semantics.specs.State.{Entry, Run, Test, Last, Frame, ProgramState, first_of, next_of, count_of, in_next}
+use Rattle.process_semantics.specs.State.{Entry, Run, Frame, ProgramState, first_of, next_of}
 use Rattle.process_semantics.specs.Points.{point_of}
 use Rattle.process_semantics.specs.Steps.{inner, inner_entry, or_ends}
+use Rattle.process_semantics.proofs.Points.{AtCall, at_ask, stands-at, awaits-at, in-next}
 use Rattle.process_semantics.specs.Calls.{after_took, after_asked, after_got, file_in, asked_file, after_answered, after_mark}
 use Rattle.path_semantics.specs.declared.dues.Dues.{Dues}
 use Rattle.path_semantics.specs.Dues.{no_dues, after_entry}
@@ -20,7 +21,7 @@ use Rattle.path_steps.specs.Step.{stand_of, StaysOrGoesOn, FollowsPath, has_room
 use Rattle.path_steps.proofs.Growing.{not-both}
 use Rattle.path_steps.proofs.Moving.{GoesBy, GoesTo, end-goes}
 use Rattle.path_steps.proofs.Going.{entry-goes}
-use Rattle.path_steps.proofs.Points.{AtCall, at_ask, stands-at, awaiting, in-next, took-in, got-in, answered-in, marked-in}
+use Rattle.path_steps.proofs.Points.{place-at, took-in, got-in, answered-in, marked-in}
 
 -- a stand to which the next entry leads
 led-on : (program : Program) (dues : Dues) (there : Stand) (s : ProgramState) (entry : Entry) (rest : List Entry) (callers : Place) → place_of s.frames ≡ (entry ∷ rest) ∷ callers
@@ -81,10 +82,10 @@ took-steps code dues s words at =
     let entry : Entry = Run stands.statement in
     let later : Dues = after_entry dues entry in
     let next : after_took code s words ≡ calls.took_in code s words (out-What stands.statement.what) = in-next s (calls.took_in code s words) s.frames stands.statement stands.next in
-    let took = took-in code dues s stands.statement stands.rest stands.callers words stands.place (out-What stands.statement.what) refl stands.call in (
+    let took = took-in code dues s stands.statement stands.rest (place_of stands.callers) words (place-at stands) (out-What stands.statement.what) refl stands.call in (
       later,
-      led-step code dues later s (after_took code s words) entry stands.rest stands.callers stands.place
-          (subst (λ (t : ProgramState). GoesBy (λ stand. IsAmong stand (stands_after code dues ((entry ∷ stands.rest) ∷ stands.callers))) dues later s t) (sym next) took.0),
+      led-step code dues later s (after_took code s words) entry stands.rest (place_of stands.callers) (place-at stands)
+          (subst (λ (t : ProgramState). GoesBy (λ stand. IsAmong stand (stands_after code dues ((entry ∷ stands.rest) ∷ place_of stands.callers))) dues later s t) (sym next) took.0),
       took.1,
     )
 
@@ -102,11 +103,11 @@ got-steps code dues s words at ready =
     let later : Dues = after_entry dues entry in
     let next : after_got code s words ≡ calls.got_in code s words (out-What stands.statement.what) = in-next s (calls.got_in code s words) s.frames stands.statement stands.next in
     let asks : asked_file s ≡ file_in (out-What stands.statement.what) = in-next 0 file_in s.frames stands.statement stands.next in
-    let room : has_room_in code s (out-What stands.statement.what) ≡ true = sym (in-next true (has_room_in code s) s.frames stands.statement stands.next) ∙ ready (awaiting stands.call) in
-    let got = got-in code dues s stands.statement stands.rest stands.callers words stands.place (out-What stands.statement.what) refl stands.call room in (
+    let room : has_room_in code s (out-What stands.statement.what) ≡ true = sym (in-next true (has_room_in code s) s.frames stands.statement stands.next) ∙ ready (awaits-at stands.call) in
+    let got = got-in code dues s stands.statement stands.rest (place_of stands.callers) words (place-at stands) (out-What stands.statement.what) refl stands.call room in (
       later,
-      led-step code dues later s (after_got code s words) entry stands.rest stands.callers stands.place
-          (subst (λ (t : ProgramState). GoesBy (λ stand. IsAmong stand (stands_after code dues ((entry ∷ stands.rest) ∷ stands.callers))) dues later s t) (sym next) got.0),
+      led-step code dues later s (after_got code s words) entry stands.rest (place_of stands.callers) (place-at stands)
+          (subst (λ (t : ProgramState). GoesBy (λ stand. IsAmong stand (stands_after code dues ((entry ∷ stands.rest) ∷ place_of stands.callers))) dues later s t) (sym next) got.0),
       subst (λ (file : ℕ). asked_count file dues < asked_count file later) (sym asks) got.1,
     )
 
@@ -116,16 +117,16 @@ answered-steps code dues s at =
     let stands = stands-at code s point.Answer (λ e. cc) (λ e. cc) at in
     let entry : Entry = Run stands.statement in (
       after_entry dues entry,
-      led-step code dues (after_entry dues entry) s (after_answered s) entry stands.rest stands.callers stands.place
-          (answered-in code dues s stands.statement stands.rest stands.callers stands.place (out-What stands.statement.what) refl stands.call),
+      led-step code dues (after_entry dues entry) s (after_answered s) entry stands.rest (place_of stands.callers) (place-at stands)
+          (answered-in code dues s stands.statement stands.rest (place_of stands.callers) (place-at stands) (out-What stands.statement.what) refl stands.call),
     )
 
 -- at Mark nothing is due afterwards
 pub marked-steps : (code : Program) (dues : Dues) (s : ProgramState) → point_of code s ≡ point.Mark → StaysOrGoesOn code (stand_of dues s) (stand_of no_dues (after_mark s))
 marked-steps code dues s at =
     let stands = stands-at code s point.Mark (λ e. cc) (λ e. cc) at in
-    let led = marked-in code dues s stands.statement stands.rest stands.callers stands.place (out-What stands.statement.what) refl stands.call in
-    led-on code dues (stand_of no_dues (after_mark s)) s (Run stands.statement) stands.rest stands.callers stands.place led
+    let led = marked-in code dues s stands.statement stands.rest (place_of stands.callers) (place-at stands) (out-What stands.statement.what) refl stands.call in
+    led-on code dues (stand_of no_dues (after_mark s)) s (Run stands.statement) stands.rest (place_of stands.callers) (place-at stands) led
 
 -- after Ask there is room for the reply
 pub asked-room : (code : Program) (s : ProgramState) → point_of code s ≡ point.Ask → HasRoom code (after_asked s)
