@@ -1,5 +1,6 @@
 -- Members of lists that are put together.
-use Rattle.std.proofs.Common.{◌⊎◌, inl, inr, List, [], ◌∷◌, ◌++◌, flat_map, refl, subst, sym}
+use Rattle.std.proofs.Common.{◌≡◌, ◌⊎◌, inl, inr, ℕ, zero, suc, List, [], ◌∷◌, ◌++◌, Some, slice_get, reverse, flat_map, refl, subst, sym}
+use Rattle.std.proofs.lemmas.Grind.{reverse_onto}
 use Rattle.gd_words.specs.Members.{IsAmong}
 
 pub among-left : {A : Type 0} (x : A) (xs ys : List A) → IsAmong x xs → IsAmong x (xs ++ ys)
@@ -36,3 +37,16 @@ among-giver f y (z ∷ xs) among = giver-more f y z xs (among-either y (f z) (fl
 pub among-one : {A : Type 0} (P : A → Type 0) (x y : A) → IsAmong x (y ∷ []) → P y → P x
 among-one P x y (inl same) holds = subst P (sym same) holds
 among-one P x y (inr among) holds = absurd among
+
+-- what stands at a place
+pub among-at : {A : Type 0} (xs : List A) (k : ℕ) (x : A) → slice_get xs k ≡ Some x → IsAmong x xs
+among-at [] k x there = absurd (cc)
+among-at (y ∷ xs) zero x there = inl (let same : x ≡ y = cc in same)
+among-at (y ∷ xs) (suc k) x there = inr (among-at xs k x there)
+
+pub among-reverse : {A : Type 0} (x : A) (xs : List A) → IsAmong x (reverse xs) → IsAmong x xs
+among-reverse x [] among = among
+among-reverse x (y ∷ xs) among = elim (among-either x (reverse xs) (y ∷ []) (subst (IsAmong x) (reverse_onto xs y []) among)) [
+  | inl early ↦ inr (among-reverse x xs early)
+  | inr last ↦ among-one (λ z. IsAmong z (y ∷ xs)) x y last (inl refl)
+]

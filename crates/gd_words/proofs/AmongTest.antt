@@ -20,3 +20,10 @@ pub among_back : (n : ℕ) (ns : List ℕ) → IsAmong n ns → is_among n ns �
 among_back n [] h = elim h [ ]
 among_back n (m ∷ ms) (inl h) = ap (λ b. b || is_among n ms) (eq-eqb m n (sym h))
 among_back n (m ∷ ms) (inr h) = or_right (m == n) (is_among n ms) (among_back n ms h)
+
+pub not_among : (n : ℕ) (ns : List ℕ) → (IsAmong n ns → ⊥) → is_among n ns ≡ false
+not_among n ns apart = which (is_among n ns) refl
+  where
+    which : (b : Bool) → is_among n ns ≡ b → is_among n ns ≡ false
+    which true there = absurd (apart (among_there n ns there))
+    which false there = there

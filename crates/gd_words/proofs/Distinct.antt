@@ -1,5 +1,9 @@
 -- Lists of numbers of which none stands twice.
-use Rattle.std.proofs.Common.{inl, inr, ℕ, zero, suc, ◌<◌, arith, List, [], ◌∷◌, ◌++◌, Option, Some, None, slice_get, flat_map, refl, subst}
+use Rattle.std.proofs.Common.{◌≡◌, inl, inr, ℕ, zero, suc, ◌<◌, ◌≤◌, arith, Bool, true, false, ◌||◌, List, [], ◌∷◌, ◌++◌, length, Option, Some, None, slice_get, flat_map, refl, subst}
+use Rattle.std.specs.List.{AllByRecursion, IsDistinct, list_any}
+use Rattle.std.proofs.Math.Dec.{eqb}
+use Rattle.std.proofs.lemmas.Bool.{eqb-true, ne_eqb}
+use Rattle.std.proofs.lemmas.Map.Steps.{length-le_from_distinct_below}
 use Rattle.gd_words.specs.Members.{AreDistinct, IsAmong}
 use Rattle.gd_words.proofs.Among.{among-left, among-right, among-either, among-given, among-giver}
 
@@ -50,3 +54,24 @@ pub given-distinct : {A : Type 0} (f : A → List ℕ) (xs : List A) (k : ℕ) �
 given-distinct f [] k distinct = tt
 given-distinct f (x ∷ xs) zero distinct = distinct-left (f x) (flat_map f xs) distinct
 given-distinct f (x ∷ xs) (suc k) distinct = given-distinct f xs k (distinct-right (f x) (flat_map f xs) distinct)
+
+all-apart : (n : ℕ) (ns : List ℕ) → (IsAmong n ns → ⊥) → AllByRecursion (λ m. eqb n m ≡ false) ns
+all-apart n [] apart = tt
+all-apart n (m ∷ ns) apart = (ne_eqb n m (λ same. apart (inl same)), all-apart n ns (λ among. apart (inr among)))
+
+distinct-by : (ns : List ℕ) → AreDistinct ns → IsDistinct eqb ns
+unfolding IsDistinct
+distinct-by [] distinct = tt
+distinct-by (n ∷ ns) distinct = (all-apart n ns distinct.0, distinct-by ns distinct.1)
+
+among-by : (n : ℕ) (ns : List ℕ) → list_any (eqb n) ns ≡ true → IsAmong n ns
+among-by n [] is = absurd (cc)
+among-by n (m ∷ ns) is = which (eqb n m) refl is (among-by n ns)
+  where
+    which : (b : Bool) → eqb n m ≡ b → (b || list_any (eqb n) ns) ≡ true → (list_any (eqb n) ns ≡ true → IsAmong n ns) → IsAmong n (m ∷ ns)
+    which true same is later = inl (eqb-true n m same)
+    which false differs is later = inr (later is)
+
+-- distinct numbers below one are no more than it
+pub distinct-few : (ns : List ℕ) (n : ℕ) → AreDistinct ns → ((k : ℕ) → IsAmong k ns → k < n) → length ns ≤ n
+distinct-few ns n distinct below = length-le_from_distinct_below ns n (distinct-by ns distinct) (λ k there. below k (among-by k ns there))
