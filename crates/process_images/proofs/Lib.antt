@@ -1,0 +1,10 @@
+pub mod Discs
+pub mod Everything
+pub mod Frames
+pub mod Fronts
+pub mod Globals
+pub mod Items
+pub mod Lengths
+pub mod Processes
+pub mod Programs
+pub mod Stacks
