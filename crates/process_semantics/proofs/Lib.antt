@@ -1,4 +1,3 @@
-pub mod ImageExample
 pub mod Leading
 pub mod Numbers
 pub mod Overwriting

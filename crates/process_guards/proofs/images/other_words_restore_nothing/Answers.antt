@@ -1,0 +1,20 @@
+use Rattle.std.proofs.Common.{refl}
+use Rattle.tal_tree.specs.declared.statement.What.{out-What}
+use Rattle.tal_tree.specs.declared.statement.What.TheBlock.{shown-the_row-Statement-0, shape-the_row-Statement-0, hidden-the_row-Statement-0}
+use denote.Hole.Carrier.{shown, hidden, out}
+use Rattle.process_guards.proofs.images.other_words_restore_nothing.Goals as goal
+
+pub returns : goal.returns
+unfolding shown-the_row-Statement-0 shown out-What out shape-the_row-Statement-0 hidden-the_row-Statement-0 hidden
+returns c = record {
+  too_many = refl;
+  too_few = refl;
+  no_procedure = refl;
+  not_main = refl;
+  not_called = refl;
+  no_number = refl;
+  below = refl;
+  no_item = refl;
+  file = refl;
+  twice = refl;
+}
