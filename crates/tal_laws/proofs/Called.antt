@@ -32,8 +32,8 @@ use Rattle.tal_trees.specs.Programs.{body_statements}
 use Rattle.tal_trees.specs.Statements.{answer_of, assign_by, statements_of, else_statements, row_statements}
 use Rattle.tal_tree.specs.Named.{IsSpotThere, AllThere}
 use Rattle.tal_tree.specs.Regular.{IsCalled, IsRegularStatement}
-use Rattle.tal_pieces.proofs.Common.Faultless.{no_fault, split, first_nil, refuted}
-use Rattle.tal_pieces.proofs.Standing.ArgumentsFit.{arguments_count, values_length}
+use Rattle.tal_faultless.proofs.Common.Faultless.{no_fault, split, first_nil, refuted}
+use Rattle.tal_faultless.proofs.Common.ArgumentCounts.{arguments_count, values_length}
 use Rattle.tal_laws.proofs.Everywhere.{Everywhere, everywhere_append, among_append, everywhere_one}
 use Rattle.tal_laws.proofs.Known.{HasRoom}
 use Rattle.tal_laws.proofs.Meant.{AreThere}

@@ -12,10 +12,10 @@ use Rattle.tal_names.specs.Names.{Declarations, meaning_in, with_name}
 use Rattle.tal_names.specs.Systems.{system_of}
 use Rattle.tal_rules.specs.Texts.{headed_after, after_procedure, first_progress}
 use Rattle.tal_trees.specs.Programs.{texts_of, tree_of_procedure, trees_of}
-use Rattle.tal_pieces.proofs.Common.Faultless.{split}
-use Rattle.tal_pieces.proofs.Common.Names.{texts_append}
-use Rattle.tal_pieces.proofs.Scopes.Declared.{meaning_with}
-use Rattle.tal_pieces.proofs.Scopes.GlobalNames.{global_names}
+use Rattle.tal_faultless.proofs.Common.Faultless.{split}
+use Rattle.tal_faultless.proofs.Common.Names.{texts_append}
+use Rattle.tal_faultless.proofs.Scopes.Declared.{meaning_with}
+use Rattle.tal_faultless.proofs.Scopes.GlobalNames.{global_names}
 use Rattle.tal_laws.proofs.Locals.{texts_length}
 use Rattle.tal_laws.proofs.Procedures.{heading_few, heading_counted}
 

@@ -20,16 +20,16 @@ use Rattle.tal_names.specs.Names.{Declarations, meaning_in}
 use Rattle.tal_names.specs.Scopes.{or_else, meaning_of, is_file}
 use Rattle.tal_rules.specs.Texts.{faults, headed_text, files_by, heading_locals_faults, first_progress}
 use Rattle.tal_trees.specs.Programs.{shape_by, items_with, texts_of, parameters_by, trees_of, tree_of}
-use Rattle.tal_pieces.proofs.Scopes.Declared.{meaning_there}
-use Rattle.tal_pieces.proofs.Scopes.FileNames.{IsOpened}
-use Rattle.tal_pieces.proofs.Scopes.GlobalNames.{Means}
-use Rattle.tal_pieces.proofs.Scopes.LocalNames.{IsLocal, local_names}
-use Rattle.tal_pieces.proofs.Scopes.ScopesAgree.{are_globals, at_end}
-use Rattle.tal_pieces.proofs.Scopes.SourceScopes.{scope_in}
-use Rattle.tal_pieces.proofs.Scopes.TextNames.{source_names}
-use Rattle.tal_pieces.proofs.Standing.Stands.{file_meaning}
+use Rattle.tal_faultless.proofs.Scopes.Declared.{meaning_there}
+use Rattle.tal_faultless.proofs.Files.FileNames.{IsOpened}
+use Rattle.tal_faultless.proofs.Scopes.GlobalNames.{Means}
+use Rattle.tal_faultless.proofs.Scopes.LocalNames.{IsLocal, local_names}
+use Rattle.tal_faultless.proofs.Scopes.TextGlobals.{are_globals, at_end}
+use Rattle.tal_faultless.proofs.Scopes.SourceScopes.{scope_in}
+use Rattle.tal_faultless.proofs.Scopes.TextNames.{source_names}
+use Rattle.tal_faultless.proofs.Files.FileMeanings.{file_meaning}
 use Rattle.tal_laws.proofs.Known.{HasRoom, procedures_known}
-use Rattle.tal_laws.proofs.Ordered.{AreFaultless, faultless}
+use Rattle.tal_faultless.proofs.Common.TextParts.{AreFaultless, faultless}
 use Rattle.tal_laws.proofs.WithinLimits.{procedures_within}
 use Rattle.tal_tree.specs.Named.{IsProcess}
 use Rattle.gd_words.specs.Members.{IsAmong}

@@ -1,5 +1,5 @@
 -- What a text reads as is regular.
-use Rattle.std.proofs.Common.{◌≡◌, ℕ, zero, suc, ◌<◌, arith, List, [], ◌∷◌, ◌++◌, length, slice_get, Option, Some, refl, sym, subst}
+use Rattle.std.proofs.Common.{◌≡◌, ℕ, zero, suc, List, [], ◌++◌, length, slice_get, Option, Some, sym, subst}
 use Rattle.tal_tokens.specs.declared.token.At.{At}
 use Rattle.tal_syntax.specs.Grammar as g
 use Rattle.tal_tree.specs.declared.program.Procedure.{Procedure}
@@ -10,8 +10,8 @@ use Rattle.tal_names.specs.Names.{Declarations}
 use Rattle.tal_rules.specs.Texts.{faults, headed_text, files_by, entered, after_procedure, procedure_faults, procedures_faults, first_progress}
 use Rattle.tal_trees.specs.Programs.{tree_of, trees_of, tree_of_procedure, texts_of, parameters_by}
 use Rattle.tal_reader.specs.Reads.{Reads}
-use Rattle.tal_pieces.proofs.Common.Faultless.{split}
-use Rattle.tal_pieces.proofs.Scopes.SourceScopes.{scope_in}
+use Rattle.tal_faultless.proofs.Common.Faultless.{split}
+use Rattle.tal_faultless.proofs.Scopes.SourceScopes.{scope_in}
 use Rattle.tal_tree.specs.Limits.{IsWithinLimits}
 use Rattle.tal_tree.specs.Ordered.{IsOrdered}
 use Rattle.gd_words.specs.Members.{AreDistinct, IsAmong}
@@ -21,14 +21,10 @@ use Rattle.tal_laws.proofs.Called.{body_right}
 use Rattle.gd_words.proofs.Distinct.{given_at, given-all, given-distinct}
 use Rattle.tal_laws.proofs.Everywhere.{Everywhere}
 use Rattle.tal_laws.proofs.Meant.{are_there}
-use Rattle.tal_laws.proofs.Ordered.{AreFaultless, faultless, is_ordered}
+use Rattle.tal_faultless.proofs.Common.TextParts.{AreFaultless, faultless}
+use Rattle.tal_laws.proofs.Ordered.{is_ordered}
+use Rattle.tal_laws.proofs.Uses.{at_place}
 use Rattle.tal_laws.proofs.WithinLimits.{is_within}
-
--- what stands at a place of a list
-at_place : {A : Type 0} (xs : List A) (k : ℕ) → k < length xs → (x : A) × (slice_get xs k ≡ Some x)
-at_place [] k low = absurd (omega (arith, low))
-at_place (x ∷ rest) zero low = (x, refl)
-at_place (x ∷ rest) (suc k) low = at_place rest k (omega (arith, low))
 
 abbrev numbers_at : Procedure → List ℕ
 numbers_at procedure = numbers_of procedure.body

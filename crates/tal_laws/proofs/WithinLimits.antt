@@ -16,12 +16,12 @@ use Rattle.tal_trees.specs.Programs.{items_with, tree_of, trees_of, tree_of_proc
 use Rattle.tal_reader.specs.Reads.{Reads}
 use Rattle.tal_tree.specs.Ordered.{numbers_in_all}
 use Rattle.gd_words.specs.Members.{IsAmong}
-use Rattle.tal_pieces.proofs.Common.Faultless.{split, no_fault}
+use Rattle.tal_faultless.proofs.Common.Faultless.{split, no_fault}
 use Rattle.tal_tree.specs.Limits.{IsProcedureWithinLimits, IsWithinLimits}
 use Rattle.tal_laws.proofs.Between.{AreBetween}
 use Rattle.tal_laws.proofs.Items.{declared_within, filed_within, same_length}
 use Rattle.tal_laws.proofs.Locals.{locals_within}
-use Rattle.tal_laws.proofs.Ordered.{AreFaultless, faultless}
+use Rattle.tal_faultless.proofs.Common.TextParts.{AreFaultless, faultless}
 use Rattle.tal_laws.proofs.Procedures.{heading_few, heading_counted, headings_count, procedures_numbers}
 use Rattle.tal_laws.proofs.Uses.{few_files, each_file}
 

@@ -1,8 +1,8 @@
 //! Laws of the programs that texts read as: their numbers and calls are in order, they keep the limits, and they are regular.
 //!
-//! Below stand `tal_reader`, which says what it is that a text reads as a program, `tal_tree`, which says what an ordered program
-//! is and what the limits are, and `tal_pieces`, whose lemmas on texts without faults are used in the proofs. The layer above
-//! relies on the three laws, and on `IsRegular` of `specs/Regular.antt`.
+//! Below stand `tal_reader`, which says what it is that a text reads as a program, `tal_tree`, which says what ordered and regular
+//! programs are and what the limits are, and `tal_faultless`, whose lemmas on texts without faults are used in the proofs. The
+//! layer above relies on the three laws.
 #![tactic(auto)]
 
 pub mod laws;

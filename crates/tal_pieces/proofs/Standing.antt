@@ -8,7 +8,6 @@ pub mod LevelsAfter
 pub mod LoneStands
 pub mod Lower
 pub mod MentionsStand
-pub mod OpenDepths
 pub mod OpenStands
 pub mod SourceStands
 pub mod Stands

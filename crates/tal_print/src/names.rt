@@ -1,7 +1,8 @@
 ghost use Rattle.std.specs.Prelude.{◌≡◌};
 ghost use Rattle.std.specs.List.{position};
 ghost use Rattle.std.specs.Option.{option_copied};
-ghost use Rattle.tal_pieces.specs.Printed.Names.{file_name, item_name, procedure_name, receive_name, receives, variable_name};
+ghost use Rattle.tal_faultless.specs.Targets.{receives};
+ghost use Rattle.tal_pieces.specs.Printed.Names.{file_name, item_name, procedure_name, receive_name, variable_name};
 
 use gd_words::Ident;
 use tal_tree::{FileUse, Program, Target, Variable};

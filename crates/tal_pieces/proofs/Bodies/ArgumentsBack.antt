@@ -30,7 +30,7 @@ use Rattle.tal_pieces.proofs.Bodies.Fronts.{behind, past}
 use Rattle.tal_pieces.proofs.Values.ListBack.{lists_read_back}
 use Rattle.tal_pieces.proofs.Bodies.PartsBack.{value_back}
 use Rattle.tal_pieces.proofs.Standing.Stands.{FitsArguments}
-use Rattle.tal_pieces.proofs.Common.Faultless.{nils}
+use Rattle.tal_faultless.proofs.Common.Faultless.{nils}
 
 -- the values of a list as arguments
 abbrev further_of : g.Values → g.Further

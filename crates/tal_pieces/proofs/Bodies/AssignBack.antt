@@ -35,8 +35,9 @@ use Rattle.tal_pieces.proofs.Bodies.Counted.{counted}
 use Rattle.tal_pieces.proofs.Bodies.Fronts.{behind, past_spot}
 use Rattle.tal_pieces.proofs.Bodies.PartsBack.{lone_name, value_back, target_back}
 use Rattle.tal_pieces.proofs.Standing.Stands.{IsCounted, IsCallable, FitsValue, FitsSpot, FitsArguments, first_files}
-use Rattle.tal_pieces.proofs.Bodies.StatementsBack.{without_files, StatementBack}
-use Rattle.tal_pieces.proofs.Common.Faultless.{nils}
+use Rattle.tal_faultless.proofs.Scopes.SourceScopes.{without_files}
+use Rattle.tal_pieces.proofs.Bodies.StatementsBack.{StatementBack}
+use Rattle.tal_faultless.proofs.Common.Faultless.{nils}
 
 module _ (p : Program) (locals : List (List ℕ)) (s : Scope) (f : Files) where
   -- one statement reads back

@@ -30,10 +30,10 @@ use Rattle.tal_pieces.specs.Printed.Statements.{close, more_items, more_files, w
 use Rattle.tal_pieces.proofs.Values.Back.{first}
 use Rattle.tal_pieces.proofs.Bodies.Fronts.{behind}
 use Rattle.tal_pieces.proofs.Bodies.PartsBack.{lone_name}
-use Rattle.tal_pieces.proofs.Standing.Stands.{IsCounted, IsItem, simple, array, Mentions, none, file, item}
+use Rattle.tal_pieces.proofs.Standing.Stands.{IsCounted, simple, array, Mentions, none, file, item, IsItem}
 use Rattle.tal_pieces.proofs.Bodies.StatementsBack.{StatementBack}
 use Rattle.tal_pieces.proofs.Bodies.SystemCallBack.{called_back, system_back}
-use Rattle.tal_pieces.proofs.Common.Faultless.{nils}
+use Rattle.tal_faultless.proofs.Common.Faultless.{nils}
 
 -- an item may be named, and is one and no file
 kept_item : (at : At) (number : ℕ) (found : Option Meaning) → IsItem number found → kind_faults need.Kept at found ≡ []

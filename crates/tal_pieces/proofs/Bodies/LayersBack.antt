@@ -30,10 +30,11 @@ use Rattle.tal_pieces.proofs.Bodies.Counted.{counted}
 use Rattle.tal_pieces.proofs.Values.Layers.{pieces_if, pieces_while, pieces_for}
 use Rattle.tal_pieces.proofs.Bodies.PartsBack.{value_back, variable_back}
 use Rattle.tal_pieces.proofs.Standing.Stands.{IsCounted, IsNamedVariable, FitsTest, FitsValue}
-use Rattle.tal_pieces.proofs.Bodies.StatementsBack.{without_files, StatementBack}
+use Rattle.tal_faultless.proofs.Scopes.SourceScopes.{without_files}
+use Rattle.tal_pieces.proofs.Bodies.StatementsBack.{StatementBack}
 use Rattle.tal_pieces.proofs.Values.TestBack.{tests_read_back}
 use Rattle.tal_pieces.proofs.Bodies.UnlinedLayers.{unlined_if, unlined_while, unlined_for}
-use Rattle.tal_pieces.proofs.Common.Faultless.{nils}
+use Rattle.tal_faultless.proofs.Common.Faultless.{nils}
 
 module _ (p : Program) (locals : List (List ℕ)) (s : Scope) (f : Files) where
   -- statements in the place of one read back before all pieces

@@ -19,7 +19,7 @@ use Rattle.tal_trees.specs.Calls.{meaning_by}
 use Rattle.tal_trees.specs.Expressions.{target_of_spot, value_of_expr}
 use Rattle.tal_trees.specs.Statements.{assign_by}
 use Rattle.std.specs.Option.{option_and_then}
-use Rattle.tal_pieces.proofs.Common.Faultless.{no_fault, first_nil}
+use Rattle.tal_faultless.proofs.Common.Faultless.{no_fault, first_nil}
 
 module _ (s : Scope) where
   -- the name, where there is one, may be read

@@ -28,17 +28,21 @@ use Rattle.tal_trees.specs.Calls.{file_by}
 use Rattle.tal_pieces.specs.declared.piece.Piece.{Piece}
 use Rattle.tal_pieces.specs.declared.piece.Piece.TheVariants as piece
 use Rattle.tal_pieces.specs.Cuts.{AreTokens}
-use Rattle.tal_pieces.specs.Printed.Names.{named, item_name, is_receive, target_piece}
+use Rattle.tal_pieces.specs.Printed.Names.{named, item_name, target_piece}
+use Rattle.tal_faultless.specs.Targets.{is_receive}
 use Rattle.tal_pieces.specs.Printed.Statements.{comma, close, open_pieces, what_pieces}
 use Rattle.tal_pieces.proofs.Values.Back.{first}
 use Rattle.tal_pieces.proofs.Bodies.Fronts.{behind}
-use Rattle.tal_pieces.proofs.Bodies.OpenedFiles.{depth_is, with_next}
+use Rattle.tal_faultless.proofs.Files.OpenDepths.{depth_is}
+use Rattle.tal_pieces.proofs.Bodies.OpenedFiles.{with_next}
 use Rattle.tal_pieces.proofs.Bodies.PartsBack.{lone_name, only}
-use Rattle.tal_pieces.proofs.Standing.Stands.{IsCounted, Opens, file_meaning, first_files}
-use Rattle.tal_pieces.proofs.Bodies.StatementsBack.{without_files, StatementBack}
+use Rattle.tal_pieces.proofs.Standing.Stands.{IsCounted, Opens, first_files}
+use Rattle.tal_faultless.proofs.Files.FileMeanings.{file_meaning}
+use Rattle.tal_faultless.proofs.Scopes.SourceScopes.{without_files}
+use Rattle.tal_pieces.proofs.Bodies.StatementsBack.{StatementBack}
 use Rattle.tal_pieces.proofs.Bodies.SystemCallBack.{called_back, system_back}
-use Rattle.tal_pieces.proofs.Common.Faultless.{nils}
-use Rattle.tal_pieces.proofs.Common.Limits.{next_is}
+use Rattle.tal_faultless.proofs.Common.Faultless.{nils}
+use Rattle.tal_faultless.proofs.Common.Limits.{next_is}
 
 -- the string of an OPEN
 record StringBack (s : Scope) (t : Target) (ks : List Piece) (tokens : List Token) : Type 0 where

@@ -1,32 +1,17 @@
 -- The files with one more that an OPEN in the order of the files opens.
-use Rattle.std.proofs.Common.{◌≡◌, ℕ, zero, suc, List, [], ◌∷◌, ◌++◌, refl, sym, ap, ◌∙◌, arith}
-use Rattle.std.proofs.lemmas.Bool.{and_right, false≢true, leb-false, lt-leb}
+use Rattle.std.proofs.Common.{◌≡◌, ℕ, suc, List, [], ◌∷◌, ◌++◌, sym, ap, ◌∙◌, arith}
+use Rattle.std.proofs.lemmas.Bool.{leb-false}
 use Rattle.std.proofs.lemmas.List.{length-take-le}
 use Rattle.std.proofs.lemmas.Option.{slice_get_within}
-use Rattle.std.specs.Prelude.{Bool, true, false, nat_le, min, pos, length, take, slice_get, Some, if◌then◌else◌}
+use Rattle.std.specs.Prelude.{false, nat_le, min, length, take, slice_get, Some, if◌then◌else◌}
 use Rattle.tal_syntax.specs.Grammar as g
 use Rattle.tal_tree.specs.declared.program.FileUse.{FileUse}
 use Rattle.tal_names.specs.declared.meaning.Meaning.{Meaning}
 use Rattle.tal_declarations.specs.declared.table.Files.{Files}
-use Rattle.tal_rules.specs.Calls.{is_depth}
-use Rattle.tal_declarations.specs.Files.{depth_of, file_by, target_of, with_file}
+use Rattle.tal_declarations.specs.Files.{file_by, target_of, with_file}
 use Rattle.tal_names.specs.Names.{is_declared, with_name}
 use Rattle.tal_pieces.proofs.Standing.Stands.{first_files}
 use Rattle.tal_pieces.proofs.Common.Entries.{take_next}
-
--- a depth from 1 to 4 is the number itself
-pub depth_is : (receive : Bool) (d : ℕ) → is_depth receive (pos d) ≡ true → depth_of (Some (pos d)) ≡ d
-depth_is true zero h = cc
-depth_is true (suc zero) h = refl
-depth_is true (suc (suc d)) h = absurd (false≢true (sym (and_right (nat_le 1 (suc (suc d))) (nat_le (suc (suc d)) 1) (lt-leb (suc (suc d)) 1 (omega arith))) ∙ h))
-depth_is false zero h = cc
-depth_is false (suc zero) h = refl
-depth_is false (suc (suc zero)) h = refl
-depth_is false (suc (suc (suc zero))) h = refl
-depth_is false (suc (suc (suc (suc zero)))) h = refl
-depth_is false (suc (suc (suc (suc (suc d))))) h =
-    let more = suc (suc (suc (suc (suc d)))) in
-    absurd (false≢true (sym (and_right (nat_le 1 more) (nat_le more 4) (lt-leb more 4 (omega arith))) ∙ h))
 
 -- the files with the next one
 module _ (f : Files) (k item depth : ℕ) (name : List ℕ) (string : g.Argument) (x : Meaning) (used : FileUse) where

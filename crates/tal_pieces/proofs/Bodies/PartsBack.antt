@@ -35,7 +35,7 @@ use Rattle.tal_pieces.proofs.Values.ReadsBack.{StandsFor}
 use Rattle.tal_pieces.proofs.Values.Back.{first, ends, values_read_back}
 use Rattle.tal_pieces.proofs.Bodies.NoCall.{no_call_faults, no_call_what}
 use Rattle.tal_pieces.proofs.Standing.Stands.{FitsValue, FitsSpot, IsNamedVariable}
-use Rattle.tal_pieces.proofs.Common.Faultless.{nils}
+use Rattle.tal_faultless.proofs.Common.Faultless.{nils}
 
 -- a sum as an expression
 abbrev pub only : g.Sum → g.Expr

@@ -24,9 +24,10 @@ use Rattle.tal_pieces.proofs.Bodies.LayersBack.{if_back, while_back, for_back}
 use Rattle.tal_pieces.proofs.Bodies.LoneBack.{lone_back}
 use Rattle.tal_pieces.proofs.Bodies.OpenBack.{monitor_back, open_back}
 use Rattle.tal_pieces.proofs.Standing.Stands.{Stands, lone, monitors, opens, tests, loops, counts, StandsIn, empty, one, several, Row, ended, goes_on}
-use Rattle.tal_pieces.proofs.Bodies.StatementsBack.{without_files, StatementBack, RowBack, BodyBack, InnerReadBack, RowsReadBack, BodiesReadBack}
+use Rattle.tal_faultless.proofs.Scopes.SourceScopes.{without_files}
+use Rattle.tal_pieces.proofs.Bodies.StatementsBack.{StatementBack, RowBack, BodyBack, InnerReadBack, RowsReadBack, BodiesReadBack}
 use Rattle.tal_pieces.proofs.Bodies.UnlinedLayers.{unlined_append}
-use Rattle.tal_pieces.proofs.Common.Faultless.{nils}
+use Rattle.tal_faultless.proofs.Common.Faultless.{nils}
 
 module _ (s : Scope) (f : Files) where
   -- the lists of a statement and of those after it

@@ -19,10 +19,7 @@ use Rattle.tal_pieces.specs.Cuts.{AreTokens}
 use Rattle.tal_pieces.specs.Printed.Statements.{inner_pieces, more_statements, body_pieces}
 use Rattle.tal_pieces.specs.Unlined.{unlined_statements}
 use Rattle.tal_pieces.proofs.Standing.Stands.{StandsIn, Row, first_files}
-
--- the same scope before the files are known
-abbrev pub without_files : Scope → Scope
-without_files s = record s { files = [] }
+use Rattle.tal_faultless.proofs.Scopes.SourceScopes.{without_files}
 
 module _ (s : Scope) (f : Files) (n : ℕ) (w : Walk) (xs : List Statement) (v : Walk) (ks : List Piece) (tokens : List Token) where
   -- the tokens begin with one statement that has no fault and stands for these, and those after it are the later pieces

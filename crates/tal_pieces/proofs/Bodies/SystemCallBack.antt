@@ -28,8 +28,9 @@ use Rattle.tal_pieces.proofs.Values.Back.{first}
 use Rattle.tal_pieces.proofs.Bodies.Counted.{counted}
 use Rattle.tal_pieces.proofs.Bodies.Fronts.{behind}
 use Rattle.tal_pieces.proofs.Standing.Stands.{IsCounted, first_files}
-use Rattle.tal_pieces.proofs.Bodies.StatementsBack.{without_files, StatementBack}
-use Rattle.tal_pieces.proofs.Common.Faultless.{nils}
+use Rattle.tal_faultless.proofs.Scopes.SourceScopes.{without_files}
+use Rattle.tal_pieces.proofs.Bodies.StatementsBack.{StatementBack}
+use Rattle.tal_faultless.proofs.Common.Faultless.{nils}
 
 -- the names of the system's calls
 system_named : (x : System) → system_of (system_text x) ≡ Some x

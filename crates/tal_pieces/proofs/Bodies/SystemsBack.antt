@@ -30,7 +30,7 @@ use Rattle.tal_pieces.proofs.Bodies.PartsBack.{name_back, lone_name, value_back,
 use Rattle.tal_pieces.proofs.Standing.Stands.{IsCounted, IsNamedArray, IsNamedVariable, FitsValue}
 use Rattle.tal_pieces.proofs.Bodies.StatementsBack.{StatementBack}
 use Rattle.tal_pieces.proofs.Bodies.SystemCallBack.{called_back, system_back}
-use Rattle.tal_pieces.proofs.Common.Faultless.{nils}
+use Rattle.tal_faultless.proofs.Common.Faultless.{nils}
 
 module _ (p : Program) (locals : List (List ℕ)) (s : Scope) (f : Files) where
   -- one statement reads back

@@ -28,12 +28,13 @@ use Rattle.tal_pieces.specs.Printed.Procedures.{word_if, parameters_pieces, loca
 use Rattle.tal_pieces.proofs.Scopes.Agreement.{without_literals}
 use Rattle.tal_pieces.proofs.Values.Back.{first}
 use Rattle.tal_pieces.proofs.Declarations.DeclarationsBack.{HeadingBack, HeadingsReadBack}
-use Rattle.tal_pieces.proofs.Scopes.DeclaredNames.{still_free, fresh_of_free, with_other_name, with_free_procedure}
+use Rattle.tal_pieces.proofs.Scopes.DeclaredNames.{still_free, fresh_of_free, with_other_name}
+use Rattle.tal_faultless.proofs.Scopes.Declared.{with_free_procedure}
 use Rattle.tal_pieces.proofs.Declarations.ItemsBack.{low_level}
 use Rattle.tal_pieces.proofs.Declarations.LocalsBack.{parameters_back, locals_back, gives_back, main_back}
 use Rattle.tal_pieces.proofs.Declarations.LocalsFaults.{NamesFine, with_texts, by_texts, names_fine, locals_fine}
-use Rattle.tal_pieces.proofs.Common.Names.{texts_append}
-use Rattle.tal_pieces.proofs.Common.Faultless.{nils, refuted, silent, three}
+use Rattle.tal_faultless.proofs.Common.Names.{texts_append}
+use Rattle.tal_faultless.proofs.Common.Faultless.{nils, refuted, silent, three}
 
 -- the names of a list by their spelling alone
 texts_length : (ns : List Named) → length (texts_of ns) ≡ length ns

@@ -24,8 +24,9 @@ use Rattle.tal_pieces.specs.Cuts.{AreTokens}
 use Rattle.tal_pieces.specs.Printed.Procedures.{items_pieces, shape_pieces}
 use Rattle.tal_pieces.proofs.Values.Back.{first, ends}
 use Rattle.tal_pieces.proofs.Declarations.DeclarationsBack.{FilesAreSimple, LinesReadBack}
-use Rattle.tal_pieces.proofs.Declarations.ItemsDeclared.{extent_by, IsOrdered, IsDeclarable, AreDeclarable, with_declared, declared_by, lines_declare}
-use Rattle.tal_pieces.proofs.Common.Faultless.{nils, silent}
+use Rattle.tal_faultless.proofs.Declarations.ItemsDeclarable.{extent_by, IsOrdered, IsDeclarable}
+use Rattle.tal_pieces.proofs.Declarations.ItemsDeclared.{AreDeclarable, with_declared, declared_by, lines_declare}
+use Rattle.tal_faultless.proofs.Common.Faultless.{nils, silent}
 
 -- a declaration opens no level
 pub low_level : 0 ≤ 33

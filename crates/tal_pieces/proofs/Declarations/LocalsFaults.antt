@@ -10,7 +10,7 @@ use Rattle.tal_declarations.specs.Headings.{with_local, with_locals, count_fault
 use Rattle.tal_names.specs.Names.{Declarations, is_declared}
 use Rattle.tal_trees.specs.Programs.{texts_of}
 use Rattle.tal_pieces.proofs.Scopes.DeclaredNames.{stays, is_there, fresh_of_free, one_more}
-use Rattle.tal_pieces.proofs.Common.Faultless.{nils, first_nil, second_nil, refuted, silent, three}
+use Rattle.tal_faultless.proofs.Common.Faultless.{nils, first_nil, second_nil, refuted, silent, three}
 
 -- with these names declared as locals
 abbrev pub with_texts : Declarations → List (List ℕ) → Declarations

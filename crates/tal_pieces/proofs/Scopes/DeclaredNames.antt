@@ -1,14 +1,13 @@
 -- What a declared name does to the names that are declared, and to those without the LITERALs'.
 use Rattle.std.proofs.Common.{◌≡◌, ℕ, ◌+◌, Bool, true, false, List, [], ◌∷◌, ◌++◌, length, length-append, append-nil, refl, sym, ap, ◌∙◌, if◌then◌else◌}
 use Rattle.std.proofs.lemmas.Bool.{true≢false, or_parts, or_from}
-use Rattle.std.specs.Prelude.{is_some}
+use Rattle.std.specs.Prelude.{is_some, Some}
 use Rattle.tal_names.specs.declared.meaning.Meaning.{Meaning}
 use Rattle.tal_declarations.specs.Globals.{is_taken}
-use Rattle.tal_declarations.specs.Headings.{with_procedure}
-use Rattle.tal_names.specs.Names.{Declarations, same, is_declared, with_name}
+use Rattle.tal_names.specs.Names.{Declarations, same, is_declared, with_name, meaning_in}
 use Rattle.tal_names.specs.Systems.{system_of}
 use Rattle.tal_pieces.proofs.Scopes.Agreement.{is_literal, kept_by, without_literals}
-use Rattle.tal_pieces.proofs.Common.Names.{same_self}
+use Rattle.tal_faultless.proofs.Common.Names.{same_self}
 
 -- a name that isn't declared goes last
 pub appended : (ds : Declarations) (name : List ℕ) (m : Meaning) → is_declared name ds ≡ false → with_name ds name m ≡ ds ++ (name, m) ∷ []
@@ -91,11 +90,6 @@ is_there ds name m = by (is_declared name ds) refl
     by true e = rw e e
     by false e = rw e (last_there ds name m)
 
--- the name of a procedure that can be declared is
-pub with_free_procedure : (ds : Declarations) (name : List ℕ) (m : Meaning) → is_taken ds name ≡ false → with_procedure ds name m ≡ with_name ds name m
-with_free_procedure ds name m free =
-    ap (λ b. if b then ds else with_name ds name m) (or_parts (is_some (system_of name)) (is_declared name ds) free).0
-
 -- a name that can be declared can be declared where the LITERALs are gone
 pub still_free : (ds : Declarations) (name : List ℕ) → is_taken ds name ≡ false → is_taken (without_literals ds) name ≡ false
 still_free ds name free =
@@ -104,3 +98,16 @@ still_free ds name free =
 
 pub fresh_of_free : (ds : Declarations) (name : List ℕ) → is_taken ds name ≡ false → is_declared name ds ≡ false
 fresh_of_free ds name free = (or_parts (is_some (system_of name)) (is_declared name ds) free).1
+
+module _ (name : List ℕ) where
+  -- what isn't a LITERAL stays without the LITERALs
+  pub lasting_in : (ds : Declarations) (x : Meaning) → is_literal x ≡ false → meaning_in name ds ≡ Some x → meaning_in name (without_literals ds) ≡ Some x
+  lasting_in [] x plain e = absurd (cc e)
+  lasting_in (d ∷ ds) x plain e = by (lasting_in ds x plain) (same name d.0) refl (is_literal d.1) refl e
+    where
+      by : (meaning_in name ds ≡ Some x → meaning_in name (without_literals ds) ≡ Some x) → (b : Bool) → same name d.0 ≡ b → (literal : Bool) → is_literal d.1 ≡ literal → (if b then Some d.1 else meaning_in name ds) ≡ Some x
+          → meaning_in name (kept_by literal d (without_literals ds)) ≡ Some x
+      by rest true s true l e = absurd (cc e)
+      by rest true s false l e = rw s e
+      by rest false s true l e = rest e
+      by rest false s false l e = rw s (rest e)

@@ -18,23 +18,25 @@ use Rattle.tal_declarations.specs.declared.table.Files.{Files}
 use Rattle.tal_rules.specs.declared.walk.Progress.{Progress}
 use Rattle.tal_names.specs.declared.scope.Scope.{Scope}
 use Rattle.tal_rules.specs.Calls.{file_number}
-use Rattle.tal_declarations.specs.Globals.{lines_faults, with_lines, nothing_declared}
-use Rattle.tal_declarations.specs.Headings.{locals_of, heading_of, headings_faults}
+use Rattle.tal_declarations.specs.Globals.{with_lines, nothing_declared}
+use Rattle.tal_declarations.specs.Headings.{locals_of, heading_of}
 use Rattle.tal_names.specs.Names.{Declarations, meaning_in}
 use Rattle.tal_names.specs.Scopes.{or_else, meaning_of}
-use Rattle.tal_rules.specs.Texts.{faults, headed_after, headed_text, files_by, bodies_faults, main_missing, locals_by, after_procedure, first_progress, heading_locals_faults}
+use Rattle.tal_rules.specs.Texts.{faults, headed_text, files_by, locals_by, after_procedure, first_progress, heading_locals_faults}
 use Rattle.tal_trees.specs.Programs.{items_with, texts_of, name_by, parameters_by, trees_of, tree_of_procedure, tree_of}
-use Rattle.tal_pieces.specs.Printed.Names.{item_name, procedure_name, file_name, is_receive, receives, receive_name}
+use Rattle.tal_pieces.specs.Printed.Names.{item_name, procedure_name, file_name, receive_name}
+use Rattle.tal_faultless.specs.Targets.{is_receive, receives}
 use Rattle.tal_pieces.proofs.Scopes.Agreement.{Agreement, is_literal, without_literals}
-use Rattle.tal_pieces.proofs.Scopes.Declared.{lasting_in, meaning_there}
-use Rattle.tal_pieces.proofs.Scopes.FileGlobals.{files_are_globals}
-use Rattle.tal_pieces.proofs.Scopes.FileNames.{IsOpened}
-use Rattle.tal_pieces.proofs.Scopes.FileWalks.{AtEnd, files_opened}
-use Rattle.tal_pieces.proofs.Scopes.GlobalNames.{Means, AreGlobals, heading_names, global_names}
-use Rattle.tal_pieces.proofs.Scopes.LocalNames.{IsLocal, local_names}
-use Rattle.tal_pieces.proofs.Scopes.SourceScopes.{scope_in, ScopesAgree, FileItemsAreSimple}
-use Rattle.tal_pieces.proofs.Standing.Stands.{file_meaning}
-use Rattle.tal_pieces.proofs.Common.Faultless.{first_nil, second_nil}
+use Rattle.tal_pieces.proofs.Scopes.DeclaredNames.{lasting_in}
+use Rattle.tal_faultless.proofs.Scopes.Declared.{meaning_there}
+use Rattle.tal_faultless.proofs.Files.FileGlobals.{files_are_globals}
+use Rattle.tal_faultless.proofs.Files.FileNames.{IsOpened}
+use Rattle.tal_faultless.proofs.Scopes.GlobalNames.{Means, heading_names}
+use Rattle.tal_faultless.proofs.Scopes.LocalNames.{IsLocal, local_names}
+use Rattle.tal_faultless.proofs.Scopes.SourceScopes.{scope_in}
+use Rattle.tal_pieces.proofs.Scopes.SourceScopes.{ScopesAgree, FileItemsAreSimple}
+use Rattle.tal_faultless.proofs.Files.FileMeanings.{file_meaning}
+use Rattle.tal_faultless.proofs.Scopes.TextGlobals.{are_globals, at_end}
 
 -- what a name stands for is the program's
 abbrev IsRight : Program → List (List ℕ) → List ℕ → Meaning → Type 0
@@ -103,18 +105,6 @@ module _ (lines : g.Lines) (ps : g.Procedures) (finish : At) (faultless : faults
   abbrev program : Program
   program = tree_of (g.text lines ps finish)
 
-  three : lines_faults nothing_declared lines ++ headings_faults (headed_after (with_lines nothing_declared lines)) ps ++ bodies_faults (headed_text lines ps) ps ≡ []
-  three = first_nil _ (main_missing (headed_text lines ps).main finish) faultless
-
-  two : lines_faults nothing_declared lines ++ headings_faults (headed_after (with_lines nothing_declared lines)) ps ≡ []
-  two = first_nil _ (bodies_faults (headed_text lines ps) ps) three
-
-  pub are_globals : AreGlobals globals (with_lines nothing_declared lines).items (heading_names ps)
-  are_globals = global_names lines ps (first_nil _ _ two) (second_nil (lines_faults nothing_declared lines) _ two)
-
-  pub at_end : AtEnd globals files.names files
-  at_end = files_opened lines ps (second_nil (lines_faults nothing_declared lines ++ headings_faults (headed_after (with_lines nothing_declared lines)) ps) _ three)
-
   -- items
   named_by : (item : ℕ) (name : List ℕ) (form : Shape) → slice_get (with_lines nothing_declared lines).items item ≡ Some (record { name = name; shape = form }) → item_name program item ≡ Some name
   named_by item name form e = item_kept files.names (with_lines nothing_declared lines).items item ∙ ap (option_map (λ (i : Item). i.name)) e
@@ -133,13 +123,13 @@ module _ (lines : g.Lines) (ps : g.Procedures) (finish : At) (faultless : faults
   opened_name : (name : List ℕ) (x : Meaning) (i : ℕ) (o : IsOpened globals files.uses i (name, x)) → file_name program i ≡ Some name
   opened_name name x i o =
       ap (option_and_then (λ (u : FileUse). item_name program u.item)) o.there
-      ∙ named_by o.use_of.item name shape.Simple (are_globals.means name (m.Simple o.use_of.item) o.global)
+      ∙ named_by o.use_of.item name shape.Simple ((are_globals lines ps finish faultless).means name (m.Simple o.use_of.item) o.global)
 
   target_right : (locals : List (List ℕ)) (name : List ℕ) (to : Target) (item i : ℕ) (u : FileUse) → slice_get files.uses i ≡ Some u → u.target ≡ to → file_name program i ≡ Some name
       → IsRight program locals name (file_meaning to item i)
   target_right locals name (target.Process process) item i u there is e = e
   target_right locals name target.Receive item i u there is e =
-      ap (option_and_then (file_name program)) (only_position receives files.uses i u there opens (λ j v also so. at_end.opened.one j i v u also there so opens)) ∙ e
+      ap (option_and_then (file_name program)) (only_position receives files.uses i u there opens (λ j v also so. (at_end lines ps finish faultless).opened.one j i v u also there so opens)) ∙ e
     where
       opens : receives u ≡ true
       opens = ap is_receive is
@@ -147,7 +137,7 @@ module _ (lines : g.Lines) (ps : g.Procedures) (finish : At) (faultless : faults
   file_right : (locals : List (List ℕ)) (name : List ℕ) (x : Meaning) → meaning_in name files.names ≡ Some x → IsRight program locals name x
   file_right locals name x e =
       let at : (i : ℕ) × (slice_get files.names i ≡ Some (name, x)) = meaning_there name files.names x e in
-      let o : IsOpened globals files.uses at.0 (name, x) = at_end.opened.each at.0 (name, x) at.1 in
+      let o : IsOpened globals files.uses at.0 (name, x) = (at_end lines ps finish faultless).opened.each at.0 (name, x) at.1 in
       subst (λ y. IsRight program locals name y) (sym o.is)
       (target_right locals name o.use_of.target o.use_of.item at.0 o.use_of o.there refl (opened_name name x at.0 o))
 
@@ -170,7 +160,7 @@ module _ (lines : g.Lines) (ps : g.Procedures) (finish : At) (faultless : faults
             → IsRight program locals name x
         by (Some y) f is_local is_file d = local_right name x (is_local ∙ d)
         by None (Some y) is_local is_file d = file_right locals name x (is_file ∙ d)
-        by None None is_local is_file d = global_right locals name x (are_globals.means name x d)
+        by None None is_local is_file d = global_right locals name x ((are_globals lines ps finish faultless).means name x d)
 
     agreement : Agreement program locals scope
     agreement = record {
@@ -182,7 +172,7 @@ module _ (lines : g.Lines) (ps : g.Procedures) (finish : At) (faultless : faults
       receive = λ item number name e. right name (m.ReceiveFile item number) e;
       process = λ item number name e. right name (m.ProcessFile item number) e;
       stray = λ item number name e. right name (m.StrayFile item number) e;
-      global = λ item name e. global_right locals name (m.Simple item) (are_globals.means name (m.Simple item) e);
+      global = λ item name e. global_right locals name (m.Simple item) ((are_globals lines ps finish faultless).means name (m.Simple item) e);
       global_lasts = λ item name e. lasting_in name globals (m.Simple item) refl e;
     }
       where

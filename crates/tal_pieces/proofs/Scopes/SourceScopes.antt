@@ -2,17 +2,13 @@
 use Rattle.std.specs.Prelude.{◌≡◌, ℕ, [], ◌++◌}
 use Rattle.tal_tokens.specs.declared.token.At.{At}
 use Rattle.tal_syntax.specs.Grammar as g
-use Rattle.tal_names.specs.declared.scope.Scope.{Scope}
 use Rattle.tal_declarations.specs.Globals.{with_lines, nothing_declared}
 use Rattle.tal_declarations.specs.Headings.{locals_of}
-use Rattle.tal_rules.specs.Texts.{faults, headed_text, files_by, scope_of, heading_locals_faults}
+use Rattle.tal_rules.specs.Texts.{faults, headed_text, files_by, heading_locals_faults}
 use Rattle.tal_trees.specs.Programs.{tree_of, texts_of, parameters_by}
 use Rattle.tal_pieces.proofs.Scopes.Agreement.{Agreement}
 use Rattle.tal_pieces.proofs.Declarations.DeclarationsBack.{FilesAreSimple}
-
--- the scope of a procedure of this number in a text
-abbrev pub scope_in : g.Lines → g.Procedures → ℕ → g.Heading → g.Locals → Scope
-scope_in lines ps number h inner = scope_of (headed_text lines ps).names (files_by (headed_text lines ps) ps).names number h inner
+use Rattle.tal_faultless.proofs.Scopes.SourceScopes.{scope_in}
 
 -- names stand for what the program has under their numbers, and for the same in the printed text
 abbrev pub ScopesAgree : Type 0

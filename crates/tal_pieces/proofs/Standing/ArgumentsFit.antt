@@ -1,5 +1,5 @@
 -- The arguments of a call in a text without faults: values within the levels, and names that suit their places.
-use Rattle.std.proofs.Common.{◌≡◌, ◌≤◌, ℕ, ◌+◌, suc, List, [], ◌∷◌, length, refl, arith}
+use Rattle.std.proofs.Common.{◌≡◌, ◌≤◌, ℕ, ◌+◌, suc, List, [], ◌∷◌, refl, arith}
 use Rattle.std.specs.Prelude.{Option, Some, None}
 use Rattle.tal_tree.specs.declared.program.Program.{Program}
 use Rattle.tal_tokens.specs.declared.token.At.{At}
@@ -11,7 +11,7 @@ use Rattle.tal_names.specs.declared.meaning.Meaning.TheVariants as m
 use Rattle.tal_names.specs.declared.meaning.Need.TheVariants as need
 use Rattle.tal_names.specs.declared.scope.Named.{Named}
 use Rattle.tal_names.specs.declared.scope.Scope.{Scope}
-use Rattle.tal_rules.specs.Calls.{named_faults, values_count}
+use Rattle.tal_rules.specs.Calls.{named_faults}
 use Rattle.tal_names.specs.Places.{further_arguments, arguments_of}
 use Rattle.tal_names.specs.Scopes.{meaning_of, kind_faults}
 use Rattle.tal_trees.specs.Calls.{value_of_argument, values_of_arguments, values_of, meaning_by, item_by, variable_by, file_by}
@@ -25,7 +25,7 @@ use Rattle.tal_pieces.proofs.Values.Deepest.{low_expr}
 use Rattle.tal_pieces.proofs.Standing.Fitting.{named_value, named_variable, named_array}
 use Rattle.tal_pieces.proofs.Standing.LevelsAfter.{after_argument}
 use Rattle.tal_pieces.proofs.Standing.Stands.{FitsValue, FitsArguments, IsNamedVariable, IsNamedArray}
-use Rattle.tal_pieces.proofs.Common.Faultless.{no_fault, split}
+use Rattle.tal_faultless.proofs.Common.Faultless.{no_fault, split}
 
 -- the values of arguments stand within the levels
 abbrev pub AreLow : Scope → ℕ → List g.Argument → Type 0
@@ -60,14 +60,6 @@ module _ (s : Scope) where
   low_values (g.more_values comma e rest) n ls room low =
       let r = low_expr s 33 e n (nest_values n rest ls) low.1 in
       omega (arith, r.0, low_values rest n ls room r.1)
-
-  pub arguments_count : (arguments : List g.Argument) → length (values_of_arguments s arguments) ≡ length arguments
-  arguments_count [] = refl
-  arguments_count (a ∷ rest) = omega (arith, arguments_count rest)
-
-  pub values_length : (vs : g.Values) → length (values_of s vs) ≡ values_count vs
-  values_length g.no_values = refl
-  values_length (g.more_values comma e rest) = omega (arith, values_length rest)
 
 module _ (p : Program) (locals : List (List ℕ)) (s : Scope) (agreed : Agreement p locals s) where
   named_argument : (a : g.Argument) → IsNamed p locals (printed_scope s) (value_of_argument s a)

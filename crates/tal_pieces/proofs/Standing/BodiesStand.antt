@@ -23,11 +23,11 @@ use Rattle.tal_pieces.proofs.Standing.Fitting.{fits_value, fits_test, named_vari
 use Rattle.tal_pieces.proofs.Standing.LevelsAfter as levels
 use Rattle.tal_pieces.proofs.Standing.LoneStands.{return_stands, assign_stands, assign_call_stands}
 use Rattle.tal_pieces.proofs.Standing.Lower.{low_row, row_append, of_block}
-use Rattle.tal_pieces.proofs.Scopes.SourceNames.{SourceNames}
+use Rattle.tal_faultless.proofs.Scopes.SourceNames.{SourceNames}
 use Rattle.tal_pieces.proofs.Standing.SourceStands.{BodiesStand}
 use Rattle.tal_pieces.proofs.Standing.Stands.{Stands, lone, tests, loops, counts, StandsIn, empty, one, Row, ended, goes_on}
-use Rattle.tal_pieces.proofs.Bodies.StatementsBack.{without_files}
-use Rattle.tal_pieces.proofs.Common.Faultless.{split, refuted}
+use Rattle.tal_faultless.proofs.Scopes.SourceScopes.{without_files}
+use Rattle.tal_faultless.proofs.Common.Faultless.{split, refuted}
 
 module _ (p : Program) (locals : List (List ℕ)) (s : Scope) (all : Files) (agreed : Agreement p locals s) (names : SourceNames s)
     (files_are : p.files ≡ all.uses) (names_are : s.files ≡ all.names) where

@@ -30,12 +30,13 @@ use Rattle.tal_pieces.proofs.Standing.ArgumentsFit.{AreLow}
 use Rattle.tal_pieces.proofs.Standing.FilesGrow.{extends_on, opened_grows}
 use Rattle.tal_pieces.proofs.Standing.LoneStands.{call_stands, read_update_stands, reply_stands, write_read_stands, counted}
 use Rattle.tal_pieces.proofs.Standing.MentionsStand.{checkpoint_stands}
-use Rattle.tal_pieces.proofs.Standing.OpenDepths.{open_depth}
-use Rattle.tal_pieces.proofs.Standing.OpenStands.{CallStands, opens_file, open_stands}
-use Rattle.tal_pieces.proofs.Scopes.SourceNames.{SourceNames}
+use Rattle.tal_faultless.proofs.Files.OpenDepths.{open_depth}
+use Rattle.tal_pieces.proofs.Standing.OpenStands.{CallStands, open_stands}
+use Rattle.tal_faultless.proofs.Files.FileMeanings.{opens_file}
+use Rattle.tal_faultless.proofs.Scopes.SourceNames.{SourceNames}
 use Rattle.tal_pieces.proofs.Standing.Stands.{IsCounted, Stands, lone, monitors, stops}
-use Rattle.tal_pieces.proofs.Bodies.StatementsBack.{without_files}
-use Rattle.tal_pieces.proofs.Common.Faultless.{no_fault, split, refuted}
+use Rattle.tal_faultless.proofs.Scopes.SourceScopes.{without_files}
+use Rattle.tal_faultless.proofs.Common.Faultless.{no_fault, split, refuted}
 use Rattle.std.proofs.lemmas.Bool.{not-false, or_parts}
 
 started : (x : Stage) → is_start x ≡ true → x ≡ stage.Start

@@ -13,6 +13,7 @@ use Rattle.tal_names.specs.Systems.{system_of}
 use Rattle.tal_names.specs.Names.{is_declared}
 use Rattle.tal_names.specs.Places.{name_of_argument, arguments_of}
 use Rattle.tal_pieces.proofs.Scopes.Agreement.{Extends}
+use Rattle.tal_faultless.proofs.Files.FileMeanings.{new_file, old_file}
 
 pub extends_itself : (f : Files) → Extends f f
 extends_itself f = record { names = []; uses = []; names_are = sym (append-nil f.names); uses_are = sym (append-nil f.uses) }
@@ -24,18 +25,6 @@ extends_on {c} x y = record {
   names_are = x.names_are ∙ ap (λ front. front ++ x.names) y.names_are ∙ append_assoc c.names y.names x.names;
   uses_are = x.uses_are ∙ ap (λ front. front ++ x.uses) y.uses_are ∙ append_assoc c.uses y.uses x.uses;
 }
-
--- where the name isn't that of a file before, one file goes last
-pub new_file : (f : Files) (name : List ℕ) (item : ℕ) (string : g.Argument) (depth : ℕ) → is_declared name f.names ≡ false
-    → with_file f name item string depth ≡ record {
-      names = f.names ++ (name, file_by string item (min 8 (length f.uses))) ∷ [];
-      uses = f.uses ++ record { item = item; target = target_of string; depth = depth } ∷ [];
-    }
-new_file f name item string depth e = rw e refl
-
--- where it is, there is none more
-pub old_file : (f : Files) (name : List ℕ) (item : ℕ) (string : g.Argument) (depth : ℕ) → is_declared name f.names ≡ true → with_file f name item string depth ≡ f
-old_file f name item string depth e = rw e refl
 
 extended_by : {a b f : Files} → a ≡ b → Extends b f → Extends a f
 extended_by e x = record { names = x.names; uses = x.uses; names_are = ap (λ y. y.names) e ∙ x.names_are; uses_are = ap (λ y. y.uses) e ∙ x.uses_are }

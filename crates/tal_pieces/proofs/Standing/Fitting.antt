@@ -23,7 +23,7 @@ use Rattle.tal_pieces.proofs.Values.Deepest.{low_expr}
 use Rattle.tal_pieces.proofs.Values.NamedIn.{named_expr, test_expr}
 use Rattle.tal_pieces.proofs.Standing.Stands.{FitsValue, FitsTest, FitsSpot, IsNamedVariable, IsNamedArray}
 use Rattle.tal_pieces.proofs.Values.TestDeepest.{deep_expr}
-use Rattle.tal_pieces.proofs.Common.Faultless.{no_fault, split}
+use Rattle.tal_faultless.proofs.Common.Faultless.{no_fault, split}
 
 module _ (p : Program) (locals : List (List ℕ)) (s : Scope) (agreed : Agreement p locals s) where
   pub named_value : (e : g.Expr) → IsNamed p locals (printed_scope s) (value_of_expr s e)

@@ -24,12 +24,13 @@ use Rattle.tal_trees.specs.Calls.{procedure_by, values_of, values_of_arguments, 
 use Rattle.tal_trees.specs.Expressions.{value_of_expr, target_of_spot}
 use Rattle.tal_trees.specs.Statements.{answer_of, assign_by}
 use Rattle.tal_pieces.proofs.Scopes.Agreement.{Agreement, printed_scope}
-use Rattle.tal_pieces.proofs.Standing.ArgumentsFit.{AreLow, low_values, arguments_count, values_length, values_named, fits_argument, fits_arguments, variable_at, array_at, receive_at, process_at}
+use Rattle.tal_pieces.proofs.Standing.ArgumentsFit.{AreLow, low_values, values_named, fits_argument, fits_arguments, variable_at, array_at, receive_at, process_at}
+use Rattle.tal_faultless.proofs.Common.ArgumentCounts.{arguments_count, values_length}
 use Rattle.tal_pieces.proofs.Standing.Fitting.{fits_value, fits_target}
 use Rattle.tal_pieces.proofs.Standing.LevelsAfter as levels
-use Rattle.tal_pieces.proofs.Scopes.SourceNames.{SourceNames}
+use Rattle.tal_faultless.proofs.Scopes.SourceNames.{SourceNames}
 use Rattle.tal_pieces.proofs.Standing.Stands.{FitsSpot, IsCallable, Lone, assigns, assigns_call, calls, returns, gives, reads, replies, asks}
-use Rattle.tal_pieces.proofs.Common.Faultless.{no_fault, split, refuted}
+use Rattle.tal_faultless.proofs.Common.Faultless.{no_fault, split, refuted}
 
 module _ (p : Program) (locals : List (List ℕ)) (s : Scope) (agreed : Agreement p locals s) (names : SourceNames s) where
   -- a procedure that may be called, and whether it gives a value

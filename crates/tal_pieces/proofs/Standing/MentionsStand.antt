@@ -22,8 +22,8 @@ use Rattle.tal_pieces.specs.Printed.Names.{file_name}
 use Rattle.tal_pieces.proofs.Scopes.Agreement.{Agreement, printed_scope}
 use Rattle.tal_pieces.proofs.Scopes.DeclaredNames.{appended}
 use Rattle.tal_pieces.proofs.Standing.ArgumentsFit.{AreLow}
-use Rattle.tal_pieces.proofs.Standing.Stands.{Mentions, none, file, item, IsItem, simple, array, Lone, keeps_nothing, keeps}
-use Rattle.tal_pieces.proofs.Common.Faultless.{no_fault, split, refuted}
+use Rattle.tal_pieces.proofs.Standing.Stands.{Mentions, none, file, item, simple, array, Lone, keeps_nothing, keeps, IsItem}
+use Rattle.tal_faultless.proofs.Common.Faultless.{no_fault, split, refuted}
 use Rattle.std.proofs.lemmas.Bool.{or_parts}
 
 -- two names are the same whichever stands first

@@ -17,34 +17,23 @@ use Rattle.tal_declarations.specs.declared.table.Files.{Files}
 use Rattle.tal_names.specs.declared.scope.Scope.{Scope}
 use Rattle.tal_rules.specs.declared.walk.Stage.TheVariants as stage
 use Rattle.tal_rules.specs.declared.walk.Walk.{Walk}
-use Rattle.tal_rules.specs.Calls.{file_number, number_below, is_depth, string_faults}
+use Rattle.tal_rules.specs.Calls.{file_number, number_below, is_depth}
 use Rattle.tal_declarations.specs.Files as files
 use Rattle.tal_declarations.specs.Files.{file_by, target_of, depth_of, depth_value, opened_as, simple_by, simple_global}
 use Rattle.tal_names.specs.Names.{meaning_in, is_declared}
 use Rattle.tal_names.specs.Scopes.{or_else, meaning_of}
 use Rattle.tal_rules.specs.Statements.{next_number, next_file, stage_after_open}
 use Rattle.tal_trees.specs.Calls as trees
-use Rattle.tal_pieces.specs.Printed.Names.{is_receive}
+use Rattle.tal_faultless.specs.Targets.{is_receive}
 use Rattle.tal_pieces.proofs.Scopes.Agreement.{Agreement, Extends, OpenedSoFar, is_literal, printed_scope}
-use Rattle.tal_pieces.proofs.Standing.FilesGrow.{new_file}
-use Rattle.tal_pieces.proofs.Scopes.SourceNames.{SourceNames}
-use Rattle.tal_pieces.proofs.Standing.Stands.{IsCounted, Opens, file_meaning, Stands, opens}
-use Rattle.tal_pieces.proofs.Bodies.StatementsBack.{without_files}
-use Rattle.tal_pieces.proofs.Common.Limits.{next_is}
-use Rattle.tal_pieces.proofs.Common.Faultless.{no_fault, split}
-use Rattle.tal_pieces.proofs.Common.Entries.{none_of, get_added, take_before, get_either}
-use Rattle.tal_pieces.proofs.Scopes.Declared.{meaning_front, meaning_there, meaning_added}
-
--- a string that opens a file
-pub record OpensFile (string : g.Argument) : Type 0 where
-  pub meant : (item number : ℕ) → file_by string item number ≡ file_meaning (target_of string) item number
-  pub receives : files.is_receive string ≡ is_receive (target_of string)
-
-pub opens_file : (s : Scope) (string : g.Argument) → string_faults s (Some string) ≡ [] → OpensFile string
-opens_file s (g.receive at) faultless = record { meant = λ item number. refl; receives = refl }
-opens_file s (g.process at name) faultless = record { meant = λ item number. refl; receives = refl }
-opens_file s (g.quoted at) faultless = no_fault faultless
-opens_file s (g.value e) faultless = no_fault (split faultless).1
+use Rattle.tal_faultless.proofs.Files.FileMeanings.{new_file, file_meaning, OpensFile}
+use Rattle.tal_faultless.proofs.Scopes.SourceNames.{SourceNames}
+use Rattle.tal_pieces.proofs.Standing.Stands.{IsCounted, Opens, Stands, opens}
+use Rattle.tal_faultless.proofs.Scopes.SourceScopes.{without_files}
+use Rattle.tal_faultless.proofs.Common.Limits.{next_is}
+use Rattle.tal_faultless.proofs.Common.Entries.{none_of, get_either}
+use Rattle.tal_pieces.proofs.Common.Entries.{get_added, take_before}
+use Rattle.tal_faultless.proofs.Scopes.Declared.{meaning_front, meaning_there, meaning_added}
 
 file_numbered : (string : g.Argument) (item number : ℕ) → file_number (Some (file_by string item number)) ≡ Some number
 file_numbered (g.receive at) item number = refl

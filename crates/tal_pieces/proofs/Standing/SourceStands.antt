@@ -12,7 +12,7 @@ use Rattle.tal_rules.specs.Texts.{body_after, body_faults}
 use Rattle.tal_trees.specs.Programs.{body_statements}
 use Rattle.tal_pieces.proofs.Scopes.Agreement.{Agreement, Extends, OpenedSoFar, printed_scope}
 use Rattle.tal_pieces.proofs.Standing.Stands.{Row}
-use Rattle.tal_pieces.proofs.Bodies.StatementsBack.{without_files}
+use Rattle.tal_faultless.proofs.Scopes.SourceScopes.{without_files}
 
 -- the files that the statements of a procedure open after others
 abbrev pub body_files : Scope → Files → g.Statement → g.Row → Files

@@ -8,8 +8,6 @@ use Rattle.tal_tree.specs.declared.expression.Variable.{Variable}
 use Rattle.tal_tree.specs.declared.expression.Variable.TheVariants as variable
 use Rattle.tal_tree.specs.declared.program.FileUse.{FileUse}
 use Rattle.tal_tree.specs.declared.program.Program.{Program}
-use Rattle.tal_tree.specs.declared.program.Target.{Target}
-use Rattle.tal_tree.specs.declared.program.Target.TheVariants as target
 use Rattle.tal_tree.specs.declared.statement.Statement.{Statement}
 use Rattle.tal_tree.specs.declared.statement.What.{What}
 use Rattle.tal_tree.specs.declared.statement.What.TheVariants as what
@@ -27,16 +25,13 @@ use Rattle.tal_rules.specs.Statements.{next_number, next_file, stepped}
 use Rattle.tal_pieces.specs.declared.rank.TestRank.TheVariants as test
 use Rattle.tal_pieces.specs.declared.rank.ValueRank.TheVariants as value
 use Rattle.tal_pieces.proofs.Values.Depths.{value_depth, spot_depth}
-use Rattle.tal_pieces.specs.Printed.Names.{item_name, procedure_name, file_name, receive_name, is_receive}
+use Rattle.tal_pieces.specs.Printed.Names.{item_name, procedure_name, file_name, receive_name}
+use Rattle.tal_faultless.specs.Targets.{is_receive}
 use Rattle.tal_pieces.proofs.Values.ReadsBack.{StandsFor, IsNamed, IsNamedSpot}
 use Rattle.tal_pieces.proofs.Values.TestDepths.{test_depth}
 use Rattle.tal_pieces.proofs.Values.TestsReadBack.{IsNamedTest}
 use Rattle.tal_pieces.proofs.Values.ValueLists.{AllNamed, values_depth}
-
--- what the variable of a file opened to a target is declared as
-abbrev pub file_meaning : Target → ℕ → ℕ → Meaning
-file_meaning target.Receive item number = m.ReceiveFile item number
-file_meaning (target.Process name) item number = m.ProcessFile item number
+use Rattle.tal_faultless.proofs.Files.FileMeanings.{file_meaning}
 
 -- the variables of the first files
 abbrev pub first_files : Files → ℕ → Files

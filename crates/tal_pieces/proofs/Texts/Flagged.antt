@@ -16,7 +16,7 @@ use Rattle.tal_rules.specs.Texts.{after_procedure, has_word_main}
 use Rattle.tal_trees.specs.Programs.{trees_of, tree_of_procedure}
 use Rattle.tal_pieces.specs.declared.piece.Piece.{Piece}
 use Rattle.tal_pieces.specs.Printed.Procedures.{procedure_pieces, procedures_pieces, main_pieces}
-use Rattle.tal_pieces.proofs.Common.Faultless.{no_fault, refuted, first_nil, second_nil}
+use Rattle.tal_faultless.proofs.Common.Faultless.{no_fault, refuted, first_nil, second_nil}
 use Rattle.std.proofs.lemmas.Bool.{leb-false, false≢true}
 use Rattle.std.proofs.lemmas.Option.{none-some}
 

@@ -31,13 +31,14 @@ use Rattle.tal_pieces.proofs.Scopes.Agreement.{Extends, OpenedSoFar, printed_sco
 use Rattle.tal_pieces.proofs.Values.Back.{first}
 use Rattle.tal_pieces.proofs.Declarations.DeclarationsBack.{HeadingsReadBack}
 use Rattle.tal_pieces.proofs.Texts.LaterLevels.{after_heading, after_locals}
-use Rattle.tal_pieces.proofs.Scopes.SourceNames.{SourceNames}
-use Rattle.tal_pieces.proofs.Scopes.SourceScopes.{ScopesAgree, scope_in}
+use Rattle.tal_faultless.proofs.Scopes.SourceNames.{SourceNames}
+use Rattle.tal_pieces.proofs.Scopes.SourceScopes.{ScopesAgree}
+use Rattle.tal_faultless.proofs.Scopes.SourceScopes.{scope_in, without_files}
 use Rattle.tal_pieces.proofs.Standing.SourceStands.{BodiesStand}
 use Rattle.tal_pieces.proofs.Standing.Stands.{first_files}
-use Rattle.tal_pieces.proofs.Scopes.TextNames.{source_names}
-use Rattle.tal_pieces.proofs.Bodies.StatementsBack.{BodiesReadBack, without_files}
-use Rattle.tal_pieces.proofs.Common.Faultless.{nils, first_nil, second_nil, refuted}
+use Rattle.tal_faultless.proofs.Scopes.TextNames.{source_names}
+use Rattle.tal_pieces.proofs.Bodies.StatementsBack.{BodiesReadBack}
+use Rattle.tal_faultless.proofs.Common.Faultless.{nils, first_nil, second_nil, refuted}
 
 module _ (lines : g.Lines) (all : g.Procedures) (finish : At) (fine : faults (g.text lines all finish) ≡ [])
     (bodies : (p : Program) (locals : List (List ℕ)) (s : Scope) (f : Files) → BodiesReadBack p locals s f)

@@ -26,12 +26,12 @@ use Rattle.tal_pieces.proofs.Texts.Flagged.{flagged, marked}
 use Rattle.tal_pieces.proofs.Texts.LaterLevels.{after_heading, after_locals}
 use Rattle.tal_pieces.proofs.Standing.LevelsAfter.{after_statement, after_row}
 use Rattle.tal_pieces.proofs.Texts.OneProcedureBack.{program, names, printed_names, files, procedure_back}
-use Rattle.tal_pieces.proofs.Scopes.SourceNames.{SourceNames}
+use Rattle.tal_faultless.proofs.Scopes.SourceNames.{SourceNames}
 use Rattle.tal_pieces.proofs.Scopes.SourceScopes.{ScopesAgree}
 use Rattle.tal_pieces.proofs.Standing.SourceStands.{BodiesStand}
 use Rattle.tal_pieces.proofs.Standing.Stands.{first_files}
 use Rattle.tal_pieces.proofs.Bodies.StatementsBack.{BodiesReadBack}
-use Rattle.tal_pieces.proofs.Common.Faultless.{nils, first_nil, second_nil}
+use Rattle.tal_faultless.proofs.Common.Faultless.{nils, first_nil, second_nil}
 
 -- what stands after all procedures
 abbrev pub last_progress : Declarations → Declarations → Progress → g.Procedures → Progress

@@ -28,12 +28,12 @@ use Rattle.tal_pieces.proofs.Texts.Flagged.{flagged, marked, main_at}
 use Rattle.tal_pieces.proofs.Declarations.ItemsBack.{low_level}
 use Rattle.tal_pieces.proofs.Texts.LaterLevels.{after_lines}
 use Rattle.tal_pieces.proofs.Texts.ProceduresBack.{last_progress, procedures_back}
-use Rattle.tal_pieces.proofs.Scopes.SourceNames.{SourceNames}
+use Rattle.tal_faultless.proofs.Scopes.SourceNames.{SourceNames}
 use Rattle.tal_pieces.proofs.Scopes.SourceScopes.{ScopesAgree, FileItemsAreSimple}
 use Rattle.tal_pieces.proofs.Standing.SourceStands.{BodiesStand}
 use Rattle.tal_pieces.proofs.Standing.Stands.{first_files}
 use Rattle.tal_pieces.proofs.Bodies.StatementsBack.{BodiesReadBack}
-use Rattle.tal_pieces.proofs.Common.Faultless.{no_fault, nils, first_nil, second_nil}
+use Rattle.tal_faultless.proofs.Common.Faultless.{no_fault, nils, first_nil, second_nil}
 use Rattle.std.proofs.lemmas.Option.{none-some}
 
 -- the syntax of a printed text: it has no fault, and stands for the same program but for lines

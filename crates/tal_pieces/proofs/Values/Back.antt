@@ -38,7 +38,7 @@ use Rattle.tal_pieces.proofs.Values.Chains.{one_term, of_one_term, value_one_ter
 use Rattle.tal_pieces.proofs.Values.Deepest.{depth_read, depth_minus, depth_two}
 use Rattle.tal_pieces.proofs.Values.Layers.{pieces_read, pieces_minus, pieces_two, weight_read, weight_minus, weight_two}
 use Rattle.tal_pieces.proofs.Values.Views.{View, is_number, is_read, is_minus, is_two, view}
-use Rattle.tal_pieces.proofs.Common.Faultless.{nils}
+use Rattle.tal_faultless.proofs.Common.Faultless.{nils}
 
 enclosed_depth : (o : Op) (left right : Expr) → value_depth value.Sum (Two o left right) + 1 ≤ value_depth value.Factor (Two o left right)
 enclosed_depth op.Add left right = omega (arith, depth_two value.Sum op.Add left right, depth_two value.Factor op.Add left right)

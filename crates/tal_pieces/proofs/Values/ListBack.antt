@@ -10,7 +10,7 @@ use Rattle.tal_names.specs.Places.{first_of_sum}
 use Rattle.tal_pieces.specs.Printed.Expressions.{more_values}
 use Rattle.tal_pieces.proofs.Values.ValueLists.{ListsReadBack}
 use Rattle.tal_pieces.proofs.Values.Back.{first, ends, values_read_back}
-use Rattle.tal_pieces.proofs.Common.Faultless.{nils}
+use Rattle.tal_faultless.proofs.Common.Faultless.{nils}
 
 pub lists_read_back : (p : Program) (locals : List (List ℕ)) (s : Scope) → ListsReadBack p locals s
 lists_read_back p locals s [] ks tokens h a = record {

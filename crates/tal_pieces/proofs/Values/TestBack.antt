@@ -35,7 +35,7 @@ use Rattle.tal_pieces.proofs.Values.TestDeepest.{depth_not, depth_and, depth_or}
 use Rattle.tal_pieces.proofs.Values.TestChains.{nest_one_and, nest_one_or, one_and, of_one_and, test_one_and, faults_one_and, both_fine, one_or, of_one_or, test_one_or, faults_one_or, expr_fine}
 use Rattle.tal_pieces.proofs.Values.Layers.{pieces_not, pieces_and, pieces_or, weight_not, weight_and, weight_or}
 use Rattle.tal_pieces.proofs.Values.Views.{TestView, is_truth, is_compare, is_not, is_and, is_or, test_view}
-use Rattle.tal_pieces.proofs.Common.Faultless.{nils}
+use Rattle.tal_faultless.proofs.Common.Faultless.{nils}
 
 -- the relation of a symbol
 record RelBack (o : Rel) (at : At) : Type 0 where

@@ -11,7 +11,7 @@ use Rattle.tal_names.specs.declared.meaning.Wanted.TheVariants.{Condition}
 use Rattle.tal_names.specs.declared.scope.Scope.{Scope}
 use Rattle.tal_rules.specs.Expressions.{expr_faults, both_faults, neg_faults, ands_faults, ors_faults}
 use Rattle.tal_trees.specs.Expressions.{cond_of_both, cond_of_neg, cond_of_ands, cond_of_ors}
-use Rattle.tal_pieces.proofs.Common.Faultless.{nils, first_nil, second_nil}
+use Rattle.tal_faultless.proofs.Common.Faultless.{nils, first_nil, second_nil}
 
 abbrev pub one_and : g.Ands → At → g.Neg → g.Ands
 one_and g.no_ands at n = g.more_ands at n g.no_ands

@@ -1,15 +1,15 @@
 -- The names that stand in a printed text in the place of a program's numbers.
-use Rattle.std.specs.Prelude.{ℕ, Bool, true, false, List, ◌∷◌, slice_get, Option, Some, None, option_map}
+use Rattle.std.specs.Prelude.{ℕ, List, ◌∷◌, slice_get, Option, Some, None, option_map}
 use Rattle.std.specs.List.{position}
 use Rattle.std.specs.Option.{option_and_then}
 use Rattle.tal_tree.specs.declared.expression.Variable.{Variable}
 use Rattle.tal_tree.specs.declared.expression.Variable.TheVariants as variable
-use Rattle.tal_tree.specs.declared.program.FileUse.{FileUse}
 use Rattle.tal_tree.specs.declared.program.Program.{Program}
 use Rattle.tal_tree.specs.declared.program.Target.{Target}
 use Rattle.tal_tree.specs.declared.program.Target.TheVariants as target
 use Rattle.tal_pieces.specs.declared.piece.Piece.{Piece}
 use Rattle.tal_pieces.specs.declared.piece.Piece.TheVariants as piece
+use Rattle.tal_faultless.specs.Targets.{receives}
 
 -- a name, where there is one
 abbrev pub named : Option (List ℕ) → List Piece → List Piece
@@ -30,13 +30,6 @@ procedure_name p number = option_map (λ q. q.name) (slice_get p.procedures numb
 -- the name of a file's variable
 abbrev pub file_name : Program → ℕ → Option (List ℕ)
 file_name p number = option_and_then (λ opened. item_name p opened.item) (slice_get p.files number)
-
-abbrev pub is_receive : Target → Bool
-is_receive target.Receive = true
-is_receive (target.Process name) = false
-
-abbrev pub receives : FileUse → Bool
-receives opened = is_receive opened.target
 
 -- the name of the first variable that is opened to `$RECEIVE`
 abbrev pub receive_name : Program → Option (List ℕ)

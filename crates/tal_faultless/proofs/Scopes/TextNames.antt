@@ -11,24 +11,23 @@ use Rattle.tal_names.specs.declared.meaning.Meaning.TheVariants as m
 use Rattle.tal_declarations.specs.declared.table.Files.{Files}
 use Rattle.tal_names.specs.declared.scope.Scope.{Scope}
 use Rattle.tal_declarations.specs.Files.{simple_global, simple_by}
-use Rattle.tal_declarations.specs.Globals.{lines_faults, with_lines, nothing_declared}
-use Rattle.tal_declarations.specs.Headings.{locals_of, headings_faults}
+use Rattle.tal_declarations.specs.Headings.{locals_of}
 use Rattle.tal_names.specs.Names.{Declarations, meaning_in}
 use Rattle.tal_names.specs.Scopes.{or_else, is_file}
 use Rattle.tal_names.specs.Systems.{system_of}
-use Rattle.tal_rules.specs.Texts.{faults, headed_after, headed_text, files_by, bodies_faults, main_missing, heading_locals_faults}
+use Rattle.tal_rules.specs.Texts.{faults, headed_text, files_by, heading_locals_faults}
 use Rattle.tal_trees.specs.Programs.{texts_of, parameters_by}
-use Rattle.tal_pieces.proofs.Scopes.Declared.{meaning_there}
-use Rattle.tal_pieces.proofs.Scopes.FileGlobals.{files_are_globals}
-use Rattle.tal_pieces.proofs.Scopes.FileNames.{IsOpened}
-use Rattle.tal_pieces.proofs.Scopes.FreeNames.{names_free}
-use Rattle.tal_pieces.proofs.Scopes.GlobalNames.{Means}
-use Rattle.tal_pieces.proofs.Scopes.LocalNames.{IsLocal, local_names}
-use Rattle.tal_pieces.proofs.Scopes.ScopesAgree.{are_globals, at_end}
-use Rattle.tal_pieces.proofs.Scopes.SourceNames.{SourceNames}
-use Rattle.tal_pieces.proofs.Scopes.SourceScopes.{scope_in}
-use Rattle.tal_pieces.proofs.Standing.Stands.{file_meaning}
-use Rattle.tal_pieces.proofs.Common.Faultless.{first_nil, second_nil}
+use Rattle.tal_faultless.proofs.Scopes.Declared.{meaning_there}
+use Rattle.tal_faultless.proofs.Files.FileGlobals.{files_are_globals}
+use Rattle.tal_faultless.proofs.Files.FileNames.{IsOpened}
+use Rattle.tal_faultless.proofs.Scopes.FreeNames.{names_free}
+use Rattle.tal_faultless.proofs.Scopes.GlobalNames.{Means}
+use Rattle.tal_faultless.proofs.Scopes.LocalNames.{IsLocal, local_names}
+use Rattle.tal_faultless.proofs.Scopes.TextGlobals.{are_globals, at_end}
+use Rattle.tal_faultless.proofs.Scopes.SourceNames.{SourceNames}
+use Rattle.tal_faultless.proofs.Scopes.SourceScopes.{scope_in}
+use Rattle.tal_faultless.proofs.Files.FileMeanings.{file_meaning}
+use Rattle.tal_faultless.proofs.Common.TextParts.{faultless}
 
 -- what a target's file is declared as is a file
 opened_is_file : (to : Target) (item number : ℕ) → is_file (file_meaning to item number) ≡ true
@@ -67,12 +66,7 @@ module _ (lines : g.Lines) (ps : g.Procedures) (finish : At) (fine : faults (g.t
       ap is_file o.is ∙ opened_is_file o.use_of.target o.use_of.item at.0
 
   free : (name : List ℕ) (x : Meaning) → meaning_in name globals ≡ Some x → system_of name ≡ None
-  free =
-      let lf = lines_faults nothing_declared lines in
-      let hf = headings_faults (headed_after (with_lines nothing_declared lines)) ps in
-      let bf = bodies_faults (headed_text lines ps) ps in
-      let two : lf ++ hf ≡ [] = first_nil (lf ++ hf) bf (first_nil (lf ++ hf ++ bf) (main_missing (headed_text lines ps).main finish) fine) in
-      names_free lines ps (first_nil lf hf two) (second_nil lf hf two)
+  free = names_free lines ps (faultless lines ps finish fine).lines_fine (faultless lines ps finish fine).headings
 
   pub source_names : SourceNames scope
   source_names = record {

@@ -17,9 +17,9 @@ use Rattle.tal_names.specs.Names.{Declarations}
 use Rattle.tal_names.specs.Places.{arguments_of}
 use Rattle.tal_rules.specs.Statements.{stepped, after, after_else, after_row, after_call, number_faults, test_faults, for_head_faults, statement_faults, else_faults, row_faults}
 use Rattle.tal_rules.specs.Texts.{scope_of, next_procedure, procedure_files, files_from, files_by, headed_text, no_files, entered, body_after, body_faults, heading_locals_faults, lacks_monitor, name_place, procedure_faults, after_procedure, procedures_faults, first_progress, bodies_faults}
-use Rattle.tal_pieces.proofs.Scopes.FileNames.{AreOpened, open_opened}
-use Rattle.tal_pieces.proofs.Bodies.StatementsBack.{without_files}
-use Rattle.tal_pieces.proofs.Common.Faultless.{first_nil, second_nil}
+use Rattle.tal_faultless.proofs.Files.FileNames.{AreOpened, open_opened}
+use Rattle.tal_faultless.proofs.Scopes.SourceScopes.{without_files}
+use Rattle.tal_faultless.proofs.Common.Faultless.{first_nil, second_nil}
 
 module _ (s : Scope) where
   abbrev filing : Scope

@@ -9,10 +9,9 @@ use Rattle.tal_declarations.specs.Headings.{heading_of, heading_faults, headings
 use Rattle.tal_names.specs.Names.{Declarations, meaning_in, with_name}
 use Rattle.tal_names.specs.Systems.{system_of}
 use Rattle.tal_rules.specs.Texts.{headed_after, headed_text}
-use Rattle.tal_pieces.proofs.Scopes.Declared.{meaning_with}
-use Rattle.tal_pieces.proofs.Scopes.DeclaredNames.{with_free_procedure}
-use Rattle.tal_pieces.proofs.Scopes.GlobalNames.{free_name, not_taken}
-use Rattle.tal_pieces.proofs.Common.Faultless.{first_nil, second_nil}
+use Rattle.tal_faultless.proofs.Scopes.Declared.{meaning_with, with_free_procedure}
+use Rattle.tal_faultless.proofs.Scopes.GlobalNames.{free_name, not_taken}
+use Rattle.tal_faultless.proofs.Common.Faultless.{first_nil, second_nil}
 
 abbrev pub AreFree : Declarations → Type 0
 AreFree names = (name : List ℕ) (x : Meaning) → meaning_in name names ≡ Some x → system_of name ≡ None

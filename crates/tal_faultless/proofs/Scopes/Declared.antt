@@ -1,10 +1,14 @@
--- What a name is declared as after a further declaration, and among declarations but for those of LITERALs.
-use Rattle.std.proofs.Common.{◌≡◌, ℕ, suc, Bool, true, false, List, [], ◌∷◌, ◌++◌, slice_get, Some, None, if◌then◌else◌, ◌⊎◌, inl, inr, refl, sym}
+-- What a name is declared as after a further declaration.
+use Rattle.std.proofs.Common.{◌≡◌, ℕ, suc, Bool, true, false, List, [], ◌∷◌, ◌++◌, slice_get, Some, None, if◌then◌else◌, ◌⊎◌, inl, inr, refl, sym, ap}
 use Rattle.tal_names.specs.declared.meaning.Meaning.{Meaning}
+use Rattle.tal_declarations.specs.Globals.{is_taken}
+use Rattle.tal_declarations.specs.Headings.{with_procedure}
+use Rattle.tal_names.specs.Systems.{system_of}
+use Rattle.std.specs.Prelude.{is_some}
+use Rattle.std.proofs.lemmas.Bool.{or_parts}
 use Rattle.tal_names.specs.Names.{Declarations, same, meaning_in, is_declared, with_name}
-use Rattle.tal_pieces.proofs.Scopes.Agreement.{is_literal, kept_by, without_literals}
-use Rattle.tal_pieces.proofs.Common.Entries.{none_of}
-use Rattle.tal_pieces.proofs.Common.Names.{same_is, same_self}
+use Rattle.tal_faultless.proofs.Common.Entries.{none_of}
+use Rattle.tal_faultless.proofs.Common.Names.{same_is, same_self}
 
 module _ (name : List ℕ) where
   -- what a name stands for with more declarations after these
@@ -64,18 +68,6 @@ module _ (name : List ℕ) where
       by true e = inl e
       by false e = meaning_either ds other x y e
 
-  -- what isn't a LITERAL stays without the LITERALs
-  pub lasting_in : (ds : Declarations) (x : Meaning) → is_literal x ≡ false → meaning_in name ds ≡ Some x → meaning_in name (without_literals ds) ≡ Some x
-  lasting_in [] x plain e = absurd (cc e)
-  lasting_in (d ∷ ds) x plain e = by (lasting_in ds x plain) (same name d.0) refl (is_literal d.1) refl e
-    where
-      by : (meaning_in name ds ≡ Some x → meaning_in name (without_literals ds) ≡ Some x) → (b : Bool) → same name d.0 ≡ b → (literal : Bool) → is_literal d.1 ≡ literal → (if b then Some d.1 else meaning_in name ds) ≡ Some x
-          → meaning_in name (kept_by literal d (without_literals ds)) ≡ Some x
-      by rest true s true l e = absurd (cc e)
-      by rest true s false l e = rw s e
-      by rest false s true l e = rest e
-      by rest false s false l e = rw s (rest e)
-
   -- a name that is declared stands there
   pub meaning_there : (ds : Declarations) (x : Meaning) → meaning_in name ds ≡ Some x → (i : ℕ) × (slice_get ds i ≡ Some (name, x))
   meaning_there [] x e = absurd (cc e)
@@ -87,3 +79,8 @@ module _ (name : List ℕ) where
           let value : d.1 ≡ x = cc e in
           (0, λ j. Some (sym (same_is name d.0 s) j, value j))
       by rest false s e = (suc (rest e).0, (rest e).1)
+
+-- the name of a procedure that can be declared is
+pub with_free_procedure : (ds : Declarations) (name : List ℕ) (m : Meaning) → is_taken ds name ≡ false → with_procedure ds name m ≡ with_name ds name m
+with_free_procedure ds name m free =
+    ap (λ b. if b then ds else with_name ds name m) (or_parts (is_some (system_of name)) (is_declared name ds) free).0

@@ -18,12 +18,11 @@ use Rattle.tal_names.specs.Names.{Declarations, meaning_in, is_declared, with_na
 use Rattle.tal_names.specs.Systems.{system_of}
 use Rattle.tal_rules.specs.Texts.{headed_after, headed_text}
 use Rattle.tal_trees.specs.Programs.{name_by}
-use Rattle.tal_pieces.proofs.Scopes.Declared.{meaning_kept, meaning_new, meaning_with}
-use Rattle.tal_pieces.proofs.Scopes.DeclaredNames.{with_free_procedure}
-use Rattle.tal_pieces.proofs.Common.Limits.{limit_is, min_is}
+use Rattle.tal_faultless.proofs.Scopes.Declared.{meaning_kept, meaning_new, meaning_with, with_free_procedure}
+use Rattle.tal_faultless.proofs.Common.Limits.{limit_is, min_is}
 use Rattle.std.proofs.lemmas.Bool.{leb-false, or_parts}
-use Rattle.tal_pieces.proofs.Common.Faultless.{first_nil, second_nil, refuted}
-use Rattle.tal_pieces.proofs.Common.Entries.{none_of, get_front, get_last, get_either}
+use Rattle.tal_faultless.proofs.Common.Faultless.{first_nil, second_nil, refuted}
+use Rattle.tal_faultless.proofs.Common.Entries.{none_of, get_front, get_last, get_either}
 
 -- what a name is declared as among the globals is an item or a procedure of this name
 abbrev pub Means : List Item → List (List ℕ) → List ℕ → Meaning → Type 0

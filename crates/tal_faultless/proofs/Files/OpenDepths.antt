@@ -1,8 +1,8 @@
 -- The depth of an OPEN in a text without faults.
-use Rattle.std.proofs.Common.{◌≡◌, ℕ, Bool, true, false, not, nat_le, List, [], refl, sym, ap, ◌∙◌, if◌then◌else◌}
+use Rattle.std.proofs.Common.{◌≡◌, ℕ, zero, suc, Bool, true, false, not, nat_le, List, [], refl, sym, ap, ◌∙◌, arith, if◌then◌else◌}
 use Rattle.std.specs.Prelude.{ℤ, pos, negsuc, Option, Some, None}
 use Rattle.std.specs.Option.{option_and_then}
-use Rattle.std.proofs.lemmas.Bool.{not-false}
+use Rattle.std.proofs.lemmas.Bool.{and_right, false≢true, lt-leb, not-false}
 use Rattle.tal_tokens.specs.declared.token.At.{At}
 use Rattle.tal_syntax.specs.Grammar as g
 use Rattle.tal_names.specs.declared.fault.Rule.TheVariants.{Limit}
@@ -15,10 +15,23 @@ use Rattle.tal_declarations.specs.Globals.{atom_of, constant_value, atom_faults,
 use Rattle.tal_names.specs.Names.{meaning_in}
 use Rattle.tal_names.specs.Places.{first_of_argument, constant_of}
 use Rattle.tal_names.specs.Scopes.{or_else, meaning_of, is_file}
-use Rattle.tal_pieces.proofs.Scopes.SourceNames.{SourceNames}
-use Rattle.tal_pieces.proofs.Bodies.OpenedFiles.{depth_is}
-use Rattle.tal_pieces.proofs.Bodies.StatementsBack.{without_files}
-use Rattle.tal_pieces.proofs.Common.Faultless.{no_fault, split, refuted}
+use Rattle.tal_faultless.proofs.Scopes.SourceNames.{SourceNames}
+use Rattle.tal_faultless.proofs.Scopes.SourceScopes.{without_files}
+use Rattle.tal_faultless.proofs.Common.Faultless.{no_fault, split, refuted}
+
+-- a depth from 1 to 4 is the number itself
+pub depth_is : (receive : Bool) (d : ℕ) → is_depth receive (pos d) ≡ true → depth_of (Some (pos d)) ≡ d
+depth_is true zero h = cc
+depth_is true (suc zero) h = refl
+depth_is true (suc (suc d)) h = absurd (false≢true (sym (and_right (nat_le 1 (suc (suc d))) (nat_le (suc (suc d)) 1) (lt-leb (suc (suc d)) 1 (omega arith))) ∙ h))
+depth_is false zero h = cc
+depth_is false (suc zero) h = refl
+depth_is false (suc (suc zero)) h = refl
+depth_is false (suc (suc (suc zero))) h = refl
+depth_is false (suc (suc (suc (suc zero)))) h = refl
+depth_is false (suc (suc (suc (suc (suc d))))) h =
+    let more = suc (suc (suc (suc (suc d)))) in
+    absurd (false≢true (sym (and_right (nat_le 1 more) (nat_le more 4) (lt-leb more 4 (omega arith))) ∙ h))
 
 -- a depth that is allowed is what the tree has
 kept_depth : (receive : Bool) (value : Option ℤ) (a : g.Argument) → depth_limit receive a value ≡ [] → is_depth receive (pos (depth_of value)) ≡ true

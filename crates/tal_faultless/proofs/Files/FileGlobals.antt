@@ -13,7 +13,7 @@ use Rattle.tal_names.specs.Systems.{system_of}
 use Rattle.tal_names.specs.Names.{Declarations, meaning_in, is_declared}
 use Rattle.tal_names.specs.Places.{name_of_argument, arguments_of}
 use Rattle.tal_rules.specs.Texts.{scope_of, next_procedure, procedure_files, files_from, files_by, headed_text, no_files}
-use Rattle.tal_pieces.proofs.Common.Entries.{get_either}
+use Rattle.tal_faultless.proofs.Common.Entries.{get_either}
 
 -- the item of a simple global
 pub simple_is : (o : Option Meaning) (item : ℕ) → simple_by o ≡ Some item → o ≡ Some (m.Simple item)

@@ -1,4 +1,4 @@
--- What else holds of the names of a text's procedure.
+-- What holds of the names of a procedure of a text without faults.
 use Rattle.std.specs.Prelude.{◌≡◌, ℕ, Bool, true, List, Some, None}
 use Rattle.tal_names.specs.declared.meaning.Meaning.{Meaning}
 use Rattle.tal_names.specs.declared.meaning.Meaning.TheVariants as m

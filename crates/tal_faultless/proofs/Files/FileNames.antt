@@ -20,14 +20,14 @@ use Rattle.tal_declarations.specs.Files.{is_receive, file_by, target_of, with_fi
 use Rattle.tal_names.specs.Names.{Declarations, meaning_in, is_declared}
 use Rattle.tal_names.specs.Places.{name_of_argument, front_name_of_argument, first_of_argument}
 use Rattle.tal_rules.specs.Statements.{next_file}
-use Rattle.tal_pieces.specs.Printed.Names as printed
-use Rattle.tal_pieces.proofs.Scopes.FileGlobals.{global_is}
-use Rattle.tal_pieces.proofs.Standing.Stands.{file_meaning}
-use Rattle.tal_pieces.proofs.Bodies.StatementsBack.{without_files}
+use Rattle.tal_faultless.specs.Targets as targets
+use Rattle.tal_faultless.proofs.Files.FileGlobals.{global_is}
+use Rattle.tal_faultless.proofs.Files.FileMeanings.{file_meaning}
+use Rattle.tal_faultless.proofs.Scopes.SourceScopes.{without_files}
 use Rattle.std.proofs.lemmas.Bool.{not-false, leb-false, or_parts}
-use Rattle.tal_pieces.proofs.Common.Limits.{next_is, min_is}
-use Rattle.tal_pieces.proofs.Common.Faultless.{first_nil, second_nil, refuted}
-use Rattle.tal_pieces.proofs.Common.Entries.{get_front, get_last, get_either}
+use Rattle.tal_faultless.proofs.Common.Limits.{next_is, min_is}
+use Rattle.tal_faultless.proofs.Common.Faultless.{first_nil, second_nil, refuted}
+use Rattle.tal_faultless.proofs.Common.Entries.{get_front, get_last, get_either}
 
 -- the variable of a file, which is a simple global, with the file's number
 pub record IsOpened (globals : Declarations) (uses : List FileUse) (i : ℕ) (d : List ℕ × Meaning) : Type 0 where
@@ -42,8 +42,8 @@ pub record AreOpened (globals : Declarations) (f : Files) (count : ℕ) (receive
   pub paired : length f.names ≡ length f.uses
   pub counted : length f.uses ≤ count
   pub few : count ≤ 8
-  pub none : receive ≡ false → (i : ℕ) (u : FileUse) → slice_get f.uses i ≡ Some u → printed.receives u ≡ false
-  pub one : (i j : ℕ) (u v : FileUse) → slice_get f.uses i ≡ Some u → slice_get f.uses j ≡ Some v → printed.receives u ≡ true → printed.receives v ≡ true → i ≡ j
+  pub none : receive ≡ false → (i : ℕ) (u : FileUse) → slice_get f.uses i ≡ Some u → targets.receives u ≡ false
+  pub one : (i j : ℕ) (u v : FileUse) → slice_get f.uses i ≡ Some u → slice_get f.uses j ≡ Some v → targets.receives u ≡ true → targets.receives v ≡ true → i ≡ j
 
 and_true : (a b : Bool) → (a && b) ≡ false → b ≡ true → a ≡ false
 and_true true b e d = absurd (cc (e, d))
@@ -62,10 +62,10 @@ module _ (globals : Declarations) where
   }
 
   -- an OPEN that adds one
-  added : (f : Files) (k : ℕ) (r : Bool) (name : List ℕ) (item depth : ℕ) (to : Target) → nat_le 8 k ≡ false → (r && printed.is_receive to) ≡ false
+  added : (f : Files) (k : ℕ) (r : Bool) (name : List ℕ) (item depth : ℕ) (to : Target) → nat_le 8 k ≡ false → (r && targets.is_receive to) ≡ false
       → meaning_in name globals ≡ Some (m.Simple item) → AreOpened globals f k r
       → AreOpened globals (record { names = f.names ++ (name, file_meaning to item (min 8 (length f.uses))) ∷ []; uses = f.uses ++ record { item = item; target = to; depth = depth } ∷ [] })
-      (next_file k) (r || printed.is_receive to)
+      (next_file k) (r || targets.is_receive to)
   added f k r name item depth to low once global a = record {
     each = λ i d e. by_each i d (get_either f.names variable d i e);
     paired = length-append f.names (variable ∷ []) ∙ ap (λ n. n + 1) a.paired ∙ sym (length-append f.uses (new ∷ []));
@@ -96,16 +96,16 @@ module _ (globals : Declarations) where
       by_each i d (inr e) =
           subst (λ c. IsOpened globals (f.uses ++ new ∷ []) i c) e.1 (subst (λ n. IsOpened globals (f.uses ++ new ∷ []) n variable) (sym (e.0 ∙ a.paired)) last)
 
-      by_none : (r || printed.is_receive to) ≡ false → (i : ℕ) (u : FileUse) → (slice_get f.uses i ≡ Some u) ⊎ ((i ≡ length f.uses) × (new ≡ u)) → printed.receives u ≡ false
-      by_none e i u (inl there) = a.none (or_parts r (printed.is_receive to) e).0 i u there
-      by_none e i u (inr there) = subst (λ x. printed.receives x ≡ false) there.1 (or_parts r (printed.is_receive to) e).1
+      by_none : (r || targets.is_receive to) ≡ false → (i : ℕ) (u : FileUse) → (slice_get f.uses i ≡ Some u) ⊎ ((i ≡ length f.uses) × (new ≡ u)) → targets.receives u ≡ false
+      by_none e i u (inl there) = a.none (or_parts r (targets.is_receive to) e).0 i u there
+      by_none e i u (inr there) = subst (λ x. targets.receives x ≡ false) there.1 (or_parts r (targets.is_receive to) e).1
 
-      both : (i : ℕ) (u v : FileUse) → slice_get f.uses i ≡ Some u → new ≡ v → printed.receives u ≡ true → printed.receives v ≡ true → ⊥
+      both : (i : ℕ) (u v : FileUse) → slice_get f.uses i ≡ Some u → new ≡ v → targets.receives u ≡ true → targets.receives v ≡ true → ⊥
       both i u v there is opens also =
-          let no : printed.receives u ≡ false = a.none (and_true r (printed.is_receive to) once (subst (λ x. printed.receives x ≡ true) (sym is) also)) i u there in
+          let no : targets.receives u ≡ false = a.none (and_true r (targets.is_receive to) once (subst (λ x. targets.receives x ≡ true) (sym is) also)) i u there in
           cc (opens, no)
 
-      by_one : (i j : ℕ) (u v : FileUse) → printed.receives u ≡ true → printed.receives v ≡ true → (slice_get f.uses i ≡ Some u) ⊎ ((i ≡ length f.uses) × (new ≡ u))
+      by_one : (i j : ℕ) (u v : FileUse) → targets.receives u ≡ true → targets.receives v ≡ true → (slice_get f.uses i ≡ Some u) ⊎ ((i ≡ length f.uses) × (new ≡ u))
           → (slice_get f.uses j ≡ Some v) ⊎ ((j ≡ length f.uses) × (new ≡ v)) → i ≡ j
       by_one i j u v opens also (inl x) (inl y) = a.one i j u v x y opens also
       by_one i j u v opens also (inl x) (inr y) = absurd (both i u v x y.1 opens also)

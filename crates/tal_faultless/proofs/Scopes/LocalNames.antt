@@ -14,12 +14,12 @@ use Rattle.tal_names.specs.Names.{Declarations, meaning_in, is_declared}
 use Rattle.tal_names.specs.Systems.{system_of}
 use Rattle.tal_rules.specs.Texts.{locals_by, heading_locals_faults}
 use Rattle.tal_trees.specs.Programs.{parameters_by, texts_of}
-use Rattle.tal_pieces.proofs.Scopes.Declared.{meaning_with}
-use Rattle.tal_pieces.proofs.Scopes.GlobalNames.{not_taken}
-use Rattle.tal_pieces.proofs.Common.Limits.{limit_is}
-use Rattle.tal_pieces.proofs.Common.Names.{texts_append}
-use Rattle.tal_pieces.proofs.Common.Faultless.{first_nil, second_nil, refuted}
-use Rattle.tal_pieces.proofs.Common.Entries.{get_front, get_last}
+use Rattle.tal_faultless.proofs.Scopes.Declared.{meaning_with}
+use Rattle.tal_faultless.proofs.Scopes.GlobalNames.{not_taken}
+use Rattle.tal_faultless.proofs.Common.Limits.{limit_is}
+use Rattle.tal_faultless.proofs.Common.Names.{texts_append}
+use Rattle.tal_faultless.proofs.Common.Faultless.{first_nil, second_nil, refuted}
+use Rattle.tal_faultless.proofs.Common.Entries.{get_front, get_last}
 use Rattle.std.proofs.lemmas.Bool.{or_parts}
 
 -- a name stands for a local in its place

@@ -1,0 +1,2 @@
+-- What the lines of globals declare.
+pub mod ItemsDeclarable
