@@ -1,21 +1,26 @@
--- Why the laws hold. `Between`, `Layers`, `Plain` and `Bodies`: the numbers and calls of statements without faults. `Procedures` and `Ordered`: so
--- a program is ordered. `Items`, `Locals`, `Depths` and `Uses`: what its parts are. `WithinLimits` puts these together. `Known` and `Meant`: what
--- the names of a scope stand for is there. `There`, `Mentioned`, `Called` and `Everywhere`: so is what statements name. `Regular` puts these together.
-pub mod Between
+-- Why the laws hold. `Numbers`, `Times` and `InOrder`: where a program's numbers count up in the order of its text, each stands once. `Following`,
+-- `Layers`, `Plain` and `Bodies`: those of statements without faults go on, and earlier procedures are called. `Procedures` and `Ordered`: so a
+-- program is numbered and ordered. `Items`, `Locals`, `Depths` and `Uses`: what its parts are. `WithinLimits` puts these together. `Known` and
+-- `Meant`: what the names of a scope stand for is there. `There`, `Mentioned`, `Called` and `Everywhere`: so is what statements name. `Regular`
+-- puts these together.
 pub mod Bodies
 pub mod Called
 pub mod Depths
 pub mod Everywhere
+pub mod Following
+pub mod InOrder
 pub mod Items
 pub mod Known
 pub mod Layers
 pub mod Locals
 pub mod Meant
 pub mod Mentioned
+pub mod Numbers
 pub mod Ordered
 pub mod Plain
 pub mod Procedures
 pub mod Regular
 pub mod There
+pub mod Times
 pub mod Uses
 pub mod WithinLimits

@@ -14,15 +14,17 @@ use Rattle.tal_names.specs.Names.{Declarations}
 use Rattle.tal_rules.specs.Texts.{faults, headed_after, headed_text, files_by, main_missing, procedure_faults, after_procedure, procedures_faults, first_progress, scope_of, entered}
 use Rattle.tal_trees.specs.Programs.{items_with, tree_of, trees_of, tree_of_procedure, body_statements}
 use Rattle.tal_reader.specs.Reads.{Reads}
-use Rattle.tal_tree.specs.Ordered.{numbers_in_all}
 use Rattle.gd_words.specs.Members.{IsAmong}
 use Rattle.tal_faultless.proofs.Common.Faultless.{split, no_fault}
 use Rattle.tal_tree.specs.Limits.{IsProcedureWithinLimits, IsWithinLimits}
-use Rattle.tal_laws.proofs.Between.{AreBetween}
+use Rattle.tal_tree.specs.Numbered.{text_numbers}
+use Rattle.tal_laws.proofs.Following.{few}
+use Rattle.tal_laws.proofs.InOrder.{numbered_within}
+use Rattle.tal_laws.proofs.Ordered.{text_goes_on, is_numbered}
 use Rattle.tal_laws.proofs.Items.{declared_within, filed_within, same_length}
 use Rattle.tal_laws.proofs.Locals.{locals_within}
 use Rattle.tal_faultless.proofs.Common.TextParts.{AreFaultless, faultless}
-use Rattle.tal_laws.proofs.Procedures.{heading_few, heading_counted, headings_count, procedures_numbers}
+use Rattle.tal_laws.proofs.Procedures.{heading_few, heading_counted, headings_count}
 use Rattle.tal_laws.proofs.Uses.{few_files, each_file}
 
 -- the main procedure is one of those that are headed
@@ -78,8 +80,9 @@ is_within (g.text lines ps finish) fine =
     let main = main_there (headed_text lines ps).main finish parts.main in
     let placed : main.0 < (headed_text lines ps).count = all_headed hd ps parts.headings (λ k e. absurd (cc e)) main.0 main.1 in
     let main_is : unwrap_or (headed_text lines ps).main 0 ≡ main.0 = ap (λ o. unwrap_or o 0) main.1 in
-    let numbers : (to : ℕ) × AreBetween 1 to (numbers_in_all all) = procedures_numbers globals files.names first_progress ps parts.bodies in
-    let last : numbers.0 ≤ 2001 = numbers.1.few (omega arith) in
+    let program : Program = tree_of (g.text lines ps finish) in
+    let goes_on = text_goes_on lines ps finish fine in
+    let short : 1 + length (text_numbers program) ≤ 2001 = few 1 goes_on.0 (text_numbers program) goes_on.1 (omega arith) in
     record {
       items = items.few;
       words = items.words;
@@ -89,7 +92,7 @@ is_within (g.text lines ps finish) fine =
       procedures = (omega (arith, placed, count.0), omega (arith, count.1));
       main = omega (arith, placed, count.0, main_is);
       each_procedure = procedures_within globals files.names first_progress ps parts.bodies;
-      numbers = λ n among. let own = numbers.1.within n among in (omega (arith, own.0), omega (arith, own.1, last));
+      numbers = λ n among. let own = numbered_within program (is_numbered (g.text lines ps finish) fine) n among in (own.0, omega (arith, own.1, short));
     }
 
 pub read_is_within : (text : List ℕ) (program : Program) → Reads text program → IsWithinLimits program
