@@ -1,3 +1,4 @@
+pub mod Coming
 pub mod Leading
 pub mod Numbers
 pub mod Overwriting

@@ -49,3 +49,8 @@ abbrev pub leads_to : Entry → List Entry → List (List Entry)
 leads_to (Run statement) after = after ∷ ways_into statement after (out-What statement.what)
 leads_to (Test statement) after = after ∷ ways_round statement after (out-What statement.what)
 leads_to (Last statement) after = after ∷ []
+
+-- what a body comes to, whatever its tests say: the whole body, and where the next entry of what it comes to leads
+pub data ComesTo (body : List Statement) : List Entry → Type 0 where
+  whole : ComesTo body (runs_of body)
+  onward : {entry : Entry} {rest way : List Entry} → ComesTo body (entry ∷ rest) → IsAmong way (leads_to entry rest) → ComesTo body way
