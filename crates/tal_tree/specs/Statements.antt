@@ -1,6 +1,7 @@
 -- The statements of a program, at any level, with their numbers and calls.
 use Rattle.std.specs.Prelude.{ℕ, ◌+◌, List, [], ◌∷◌, ◌++◌, flat_map, Option, Some, None}
 use Rattle.std.specs.Option.{option_to_list}
+use Rattle.tal_tree.specs.Rows.{rows}
 use Rattle.tal_tree.specs.declared.statement.Statement.{Statement}
 use Rattle.tal_tree.specs.declared.statement.What.{What, What-F, out-What, Assign, AssignCall, If', While', For', Call, Return, ReadUpdate, Reply, WriteRead, Checkpoint, CheckMonitor, Open, Stop, Row_of-Statement, end_of-Statement, more_of-Statement}
 
@@ -39,29 +40,32 @@ abbrev pub last_of : What-F What Statement → ℕ
 last_of (What-F.For variable from to body last) = last
 last_of _ = 0
 
--- the numbers of a statement alone: a FOR's first assignment, its test and its last assignment have one each
-abbrev pub numbers_in : ℕ → What-F What Statement → List ℕ
-numbers_in number (What-F.For variable from to body last) = number ∷ (number + 1) ∷ last ∷ []
-numbers_in number (What-F.Assign _ _) = number ∷ []
-numbers_in number (What-F.AssignCall _ _ _) = number ∷ []
-numbers_in number (What-F.If _ _ _) = number ∷ []
-numbers_in number (What-F.While _ _) = number ∷ []
-numbers_in number (What-F.Call _ _) = number ∷ []
-numbers_in number (What-F.Return _) = number ∷ []
-numbers_in number (What-F.ReadUpdate _ _ _) = number ∷ []
-numbers_in number (What-F.Reply _ _) = number ∷ []
-numbers_in number (What-F.WriteRead _ _ _ _ _) = number ∷ []
-numbers_in number (What-F.Checkpoint _ _) = number ∷ []
-numbers_in number What-F.CheckMonitor = number ∷ []
-numbers_in number (What-F.Open _) = number ∷ []
-numbers_in number What-F.Stop = number ∷ []
+abbrev mutual
+  -- the numbers of a list of statements in the order of the text: each one's own, then those within it
+  pub numbers_row : {n : _} → Row_of-Statement n → List ℕ
+  numbers_row end_of-Statement = []
+  numbers_row (more_of-Statement number line what rest) = number ∷ numbers_within number what ++ numbers_row rest
 
-abbrev pub own_numbers : Statement → List ℕ
-own_numbers statement = numbers_in statement.number (out-What statement.what)
+  -- the numbers within a statement of this number: a FOR's test has the next one, and its last assignment one that stands behind its body
+  pub numbers_within : ℕ → What → List ℕ
+  numbers_within number (If' test _ first _ second) = numbers_row first ++ numbers_row second
+  numbers_within number (While' test _ body) = numbers_row body
+  numbers_within number (For' variable from to _ body last) = (number + 1) ∷ numbers_row body ++ last ∷ []
+  numbers_within number (Assign to value) = []
+  numbers_within number (AssignCall to procedure arguments) = []
+  numbers_within number (Call procedure arguments) = []
+  numbers_within number (Return value) = []
+  numbers_within number (ReadUpdate buffer most got) = []
+  numbers_within number (Reply buffer count) = []
+  numbers_within number (WriteRead file buffer send room got) = []
+  numbers_within number (Checkpoint items files) = []
+  numbers_within number CheckMonitor = []
+  numbers_within number (Open file) = []
+  numbers_within number Stop = []
 
--- the numbers of statements and of those that stand in them
+-- the numbers of statements and of those that stand in them, in the order of the text
 abbrev pub numbers_of : List Statement → List ℕ
-numbers_of statements = flat_map own_numbers (all_of statements)
+numbers_of statements = numbers_row (rows statements)
 
 -- the procedure that a statement calls
 abbrev pub called_in : What-F What Statement → Option ℕ
