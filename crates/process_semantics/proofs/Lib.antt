@@ -1,6 +1,5 @@
 pub mod Coming
 pub mod Leading
-pub mod Numbers
 pub mod Overwriting
 pub mod Points
 pub mod Rests

@@ -4,14 +4,13 @@ use Rattle.std.proofs.lemmas.Bool.{eqb-true}
 use Rattle.std.proofs.lemmas.List.{map-append}
 use Rattle.gd_words.specs.Members.{IsAmong, AreDistinct}
 use Rattle.tal_tree.specs.ByStatements.{HoldsInside, by-statements}
-use Rattle.tal_tree.specs.Numbered.{numbers_in_order}
 use Rattle.tal_tree.specs.Statements.{last_of, numbers_of}
 use Rattle.tal_tree.specs.declared.statement.Statement.{Statement}
 use Rattle.tal_tree.specs.declared.statement.What.{What, What-F, out-What}
+use Rattle.tal_tree.proofs.Numbers.{numbers_inside, numbers-more}
 use Rattle.process_semantics.specs.Remains.{Remains}
 use Rattle.process_semantics.specs.Rests.{next_number, rests, rests_of, rest_among, rest_from}
 use Rattle.process_semantics.specs.State.{Entry, Run, Test, Last}
-use Rattle.process_semantics.proofs.Numbers.{numbers_by, numbers-more, numbers-come}
 use Rattle.process_semantics.proofs.Rests.{rests_by, rests-more, behind}
 
 -- The numbers that come next
@@ -20,10 +19,10 @@ abbrev nexts : List (List Entry) → List ℕ
 nexts all = map next_number all
 
 abbrev InOrder : List Statement → Type 0
-InOrder statements = (after : List Entry) → nexts (rests statements after) ≡ numbers_in_order statements
+InOrder statements = (after : List Entry) → nexts (rests statements after) ≡ numbers_of statements
 
 layer-order : (self : Statement) (after : List Entry) (layer : What-F What Statement) → out-What self.what ≡ layer → HoldsInside InOrder layer
-    → nexts (rests_by layer self after) ≡ numbers_by self.number layer
+    → nexts (rests_by layer self after) ≡ numbers_inside self.number layer
 layer-order self after (What-F.If test first second) is holds =
     map-append next_number (rests first after) (rests second after) ∙ ap₂ (λ (ns ms : List ℕ). ns ++ ms) (holds.0 after) (holds.1 after)
 layer-order self after (What-F.While test body) is holds = holds (Run self ∷ after)
@@ -43,7 +42,7 @@ more-order statement rest inside later after =
 all-order : (statements : List Statement) → InOrder statements
 all-order = by-statements InOrder (record { none = λ after. refl; more = more-order })
 
-pub in-order : (body : List Statement) → map next_number (rests_of body) ≡ numbers_in_order body
+pub in-order : (body : List Statement) → map next_number (rests_of body) ≡ numbers_of body
 in-order body = all-order body []
 
 next-among : (rest : List Entry) (all : List (List Entry)) → IsAmong rest all → IsAmong (next_number rest) (nexts all)
@@ -74,9 +73,9 @@ told body distinct positive rest (inl none) = ap (λ (r : List Entry). rest_from
 told body distinct positive rest (inr among) =
     if-both (next_number rest == 0) (Some []) (rest_among (next_number rest) (rests_of body)) (Some rest)
     (λ is. absurd (let none : next_number rest ≡ 0 = eqb-true (next_number rest) 0 is in
-    let some : 1 ≤ next_number rest = positive (next_number rest) ((numbers-come body).0 (next_number rest)
-    (subst (IsAmong (next_number rest)) (in-order body) (next-among rest (rests_of body) among))) in omega arith))
-    (λ is. among-told rest (rests_of body) (subst AreDistinct (sym (in-order body)) ((numbers-come body).1 distinct)) among)
+    let some : 1 ≤ next_number rest = positive (next_number rest)
+    (subst (IsAmong (next_number rest)) (in-order body) (next-among rest (rests_of body) among)) in omega arith))
+    (λ is. among-told rest (rests_of body) (subst AreDistinct (sym (in-order body)) distinct) among)
 
 found-among : (number : ℕ) (all : List (List Entry)) (rest : List Entry) → rest_among number all ≡ Some rest → IsAmong rest all × (next_number rest ≡ number)
 found-among number [] rest is = absurd (cc)

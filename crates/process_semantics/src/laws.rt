@@ -1,6 +1,5 @@
 ghost use Rattle.std.specs.Prelude.{◌≡◌, ◌≤◌, ℕ, List, ◌∷◌, map, Some};
 ghost use Rattle.gd_words.specs.Members.{IsAmong, AreDistinct};
-ghost use Rattle.tal_tree.specs.Numbered.{numbers_in_order};
 ghost use Rattle.tal_tree.specs.Statements.{numbers_of};
 ghost use Rattle.tal_tree.specs.declared.statement.Statement.{Statement};
 ghost use Rattle.process_semantics.specs.Remains.{Remains, leads_to, ComesTo};
@@ -20,5 +19,5 @@ pub fn what_remains_is_told()
     ensures leads { (body : List Statement) (entry : Entry) (tail way : List Entry) → Remains body (entry ∷ tail) → IsAmong way (leads_to entry tail)
         → Remains body way }
     ensures only { (body : List Statement) (rest : List Entry) → Remains body rest → ComesTo body rest }
-    ensures order { (body : List Statement) → map next_number (rests_of body) ≡ numbers_in_order body }
+    ensures order { (body : List Statement) → map next_number (rests_of body) ≡ numbers_of body }
 {}
