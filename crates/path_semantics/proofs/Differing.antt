@@ -17,7 +17,7 @@ use Rattle.tal_tree.specs.Ordered.{IsOrdered}
 use Rattle.gd_words.proofs.Distinct.{distinct-apart, given-apart}
 use Rattle.path_semantics.proofs.Kept.{one-mapped, kept-led, kept-after}
 use Rattle.path_semantics.proofs.Levels.{inside, inside_test, numbers_at, AreLevels, number-own, run-numbers, numbers_of_procedure}
-use Rattle.path_semantics.proofs.LevelsKept.{if-first, if-second, while-body, for-body, if-numbers, levels-kept}
+use Rattle.path_semantics.proofs.LevelsKept.{if-first, if-second, while-body, for-body, levels-kept}
 use Rattle.gd_words.proofs.Among.{among-left, among-right, among-either}
 use Rattle.path_semantics.proofs.Walks.{numbered}
 
@@ -154,7 +154,7 @@ statement-differ : (program : Program) → IsOrdered program → (self : Stateme
     → IsAmong one (ways_of program self rest callers what) → IsAmong other (ways_of program self rest callers what) → Differ dues one other
 statement-differ program ordered self rest callers dues one other (What-F.If test first second) is levels among also =
     let distinct = levels.2.apart.0 in
-    let parts : AreDistinct (numbers_of first ++ numbers_of second) = if-numbers self.number first second (subst AreDistinct (ap (inside self.number) is) distinct) in
+    let parts : AreDistinct (numbers_of first ++ numbers_of second) = (subst AreDistinct (ap (inside self.number) is) distinct).1 in
     let in_first = if-first self test first second is distinct in
     let in_second = if-second self test first second is distinct in
     both-differ dues one other ((runs_of first ++ rest) ∷ callers) ((runs_of second ++ rest) ∷ callers)
@@ -187,7 +187,8 @@ test-differ program ordered self rest callers dues one other (What-F.For variabl
     let part = for-body self variable from to body last is levels.2.apart.0 in
     both-differ dues one other ((runs_of body ++ Last self ∷ Test self ∷ rest) ∷ callers) (rest ∷ callers)
     (round-differ (Test self) rest callers dues body (Last self) (Test self ∷ []) (λ n inner. part.numbers n inner)
-    (subst (IsAmong (last_of (out-What self.what))) (sym (ap (inside_test self.number) is)) (inr (inl (ap last_of is))))
+    (subst (IsAmong (last_of (out-What self.what))) (sym (ap (inside_test self.number) is))
+    (inr (among-right (last_of (out-What self.what)) (numbers_of body) (last ∷ []) (inl (ap last_of is)))))
     (λ next later inner. next-apart program ordered (Test self) rest callers dues next levels later inner)) among also
 test-differ program ordered self rest callers dues one other _ is levels among also = only-differ dues one other (rest ∷ callers) among also
 

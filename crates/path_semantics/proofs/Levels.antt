@@ -1,27 +1,26 @@
 -- The numbers of the entries that remain at a place: those of one frame are apart, and each frame has those of a procedure of its own.
-use Rattle.std.proofs.Common.{◌≡◌, inl, inr, ℕ, ◌+◌, ◌<◌, ◌≤◌, List, [], ◌∷◌, ◌++◌, drop, Option, Some, None, slice_get, flat_map, refl, ap, subst, sym, ◌∙◌}
-use Rattle.std.proofs.lemmas.Grind.{flat_map-append}
+use Rattle.std.proofs.Common.{◌≡◌, inl, inr, ℕ, ◌+◌, ◌<◌, ◌≤◌, List, [], ◌∷◌, ◌++◌, drop, Option, Some, None, slice_get, flat_map, refl, ap, subst, sym}
 use Rattle.tal_tree.specs.declared.program.Program.{Program}
 use Rattle.tal_tree.specs.declared.program.Procedure.{Procedure}
 use Rattle.tal_tree.specs.declared.statement.Statement.{Statement}
 use Rattle.tal_tree.specs.declared.statement.What.{What, What-F, out-What}
 use Rattle.process_semantics.specs.State.{Entry, Run, Test, Last, runs_of}
 use Rattle.process_semantics.specs.Rests.{number_of}
-use Rattle.tal_tree.specs.Statements.{last_of, all_in, all_of, numbers_in, own_numbers, numbers_of, own_calls, calls_of}
+use Rattle.tal_tree.specs.Statements.{last_of, all_in, all_of, numbers_of, own_calls, calls_of}
 use Rattle.path_semantics.specs.Place.{Place, body_in}
 use Rattle.gd_words.specs.Members.{AreDistinct, IsAmong}
 use Rattle.tal_tree.specs.Ordered.{IsOrdered}
 use Rattle.gd_words.proofs.Distinct.{distinct-left, distinct-right, distinct-apart, given-part, given_at, given-distinct}
 use Rattle.process_semantics.proofs.Standing.{statement_of}
-use Rattle.gd_words.proofs.Among.{among-either, among-given}
-use Rattle.tal_tree.proofs.Within.{within_of, within-is}
+use Rattle.gd_words.proofs.Among.{among-left, among-right, among-either, among-given}
+use Rattle.tal_tree.proofs.Numbers.{numbers_inside, numbers-more}
 
 -- the numbers in a statement, at any level
 abbrev pub inside : ℕ → What-F What Statement → List ℕ
-inside number what = numbers_in number what ++ flat_map own_numbers (within_of what)
+inside number what = number ∷ numbers_inside number what
 
 abbrev pub inside_test : ℕ → What-F What Statement → List ℕ
-inside_test number (What-F.For variable from to body last) = (number + 1) ∷ last ∷ numbers_of body
+inside_test number (What-F.For variable from to body last) = (number + 1) ∷ numbers_of body ++ last ∷ []
 inside_test number _ = (number + 1) ∷ []
 
 -- the numbers of an entry and of what it leads into
@@ -34,25 +33,14 @@ numbers_at (Last statement) = last_of (out-What statement.what) ∷ []
 abbrev pub calls_at : Entry → List ℕ
 calls_at entry = flat_map own_calls (all_in (statement_of entry))
 
-number-in : (number : ℕ) (what : What-F What Statement) → IsAmong number (inside number what)
-number-in number (What-F.For variable from to body last) = inl refl
-number-in number _ = inl refl
-
 number-in-test : (number : ℕ) (what : What-F What Statement) → IsAmong (number + 1) (inside_test number what)
 number-in-test number (What-F.For variable from to body last) = inl refl
 number-in-test number _ = inl refl
 
 pub number-own : (entry : Entry) → IsAmong (number_of entry) (numbers_at entry)
-number-own (Run statement) = number-in statement.number (out-What statement.what)
+number-own (Run statement) = inl refl
 number-own (Test statement) = number-in-test statement.number (out-What statement.what)
 number-own (Last statement) = inl refl
-
-numbers-self : (statement : Statement) → flat_map own_numbers (all_in statement) ≡ numbers_at (Run statement)
-numbers-self statement = ap (λ (parts : List Statement). own_numbers statement ++ flat_map own_numbers parts) (within-is statement.what)
-
-numbers-cons : (statement : Statement) (rest : List Statement) → numbers_of (statement ∷ rest) ≡ numbers_at (Run statement) ++ numbers_of rest
-numbers-cons statement rest =
-    flat_map-append own_numbers (all_in statement) (all_of rest) ∙ ap (λ (ns : List ℕ). ns ++ numbers_of rest) (numbers-self statement)
 
 -- Frames
 
@@ -91,11 +79,12 @@ all-one statement part statements among inner = among-given all_in statement par
 
 -- what a statement of some has, they all have
 pub run-numbers : (entry : Entry) (statements : List Statement) (n : ℕ) → IsAmong entry (runs_of statements) → IsAmong n (numbers_at entry) → IsAmong n (numbers_of statements)
-run-numbers entry statements n among inner =
-    let found = run-of entry statements among in
-    let own : IsAmong n (flat_map own_numbers (all_in found.0)) =
-    subst (IsAmong n) (sym (numbers-self found.0)) (subst (λ (e : Entry). IsAmong n (numbers_at e)) found.2 inner) in
-    given-part own_numbers (all_in found.0) (all_of statements) (λ part inner. all-one found.0 part statements found.1 inner) n own
+run-numbers entry [] n among inner = absurd among
+run-numbers entry (statement ∷ rest) n (inl same) inner =
+    subst (IsAmong n) (sym (numbers-more statement rest))
+    (among-left n (numbers_at (Run statement)) (numbers_of rest) (subst (λ (e : Entry). IsAmong n (numbers_at e)) same inner))
+run-numbers entry (statement ∷ rest) n (inr among) inner =
+    subst (IsAmong n) (sym (numbers-more statement rest)) (among-right n (numbers_at (Run statement)) (numbers_of rest) (run-numbers entry rest n among inner))
 
 pub run-calls : (entry : Entry) (statements : List Statement) (n : ℕ) → IsAmong entry (runs_of statements) → IsAmong n (calls_at entry) → IsAmong n (calls_of statements)
 run-calls entry statements n among inner =
@@ -115,7 +104,7 @@ apart-join (entry ∷ first) second one two cross = (
 pub apart-runs : (statements : List Statement) → AreDistinct (numbers_of statements) → AreApart (runs_of statements)
 apart-runs [] distinct = tt
 apart-runs (statement ∷ rest) distinct =
-    let split : AreDistinct (numbers_at (Run statement) ++ numbers_of rest) = subst AreDistinct (numbers-cons statement rest) distinct in (
+    let split : AreDistinct (numbers_at (Run statement) ++ numbers_of rest) = subst AreDistinct (numbers-more statement rest) distinct in (
       distinct-left (numbers_at (Run statement)) (numbers_of rest) split,
       (λ later among inner. distinct-apart (numbers_at (Run statement)) (numbers_of rest) split (number_of later) inner
           (run-numbers later rest (number_of later) among (number-own later))),

@@ -1,16 +1,15 @@
 -- Every step keeps the frames apart.
 use Rattle.std.proofs.Common.{◌≡◌, inl, inr, ℕ, ◌+◌, ◌<◌, arith, List, [], ◌∷◌, ◌++◌, slice_get, flat_map, refl, ap, subst, sym, ◌∙◌}
-use Rattle.std.proofs.lemmas.Grind.{flat_map-append}
 use Rattle.tal_tree.specs.declared.program.Program.{Program}
 use Rattle.tal_tree.specs.declared.statement.Statement.{Statement}
 use Rattle.tal_tree.specs.declared.statement.What.{What, What-F, out-What}
 use Rattle.process_semantics.specs.State.{Entry, Run, Test, Last, runs_of}
 use Rattle.process_semantics.specs.Rests.{number_of}
-use Rattle.tal_tree.specs.Statements.{last_of, within, all_in, all_of, own_numbers, numbers_of, call_in, own_calls, calls_of}
+use Rattle.tal_tree.specs.Statements.{last_of, within, all_in, all_of, numbers_of, call_in, own_calls, calls_of}
 use Rattle.path_semantics.specs.Place.{Place, body_of, ways_of, rounds_of, ways}
 use Rattle.gd_words.specs.Members.{AreDistinct, IsAmong}
 use Rattle.tal_tree.specs.Ordered.{IsOrdered}
-use Rattle.gd_words.proofs.Distinct.{distinct-left, distinct-right, given-part}
+use Rattle.gd_words.proofs.Distinct.{distinct-left, distinct-right, distinct-apart, given-part}
 use Rattle.path_semantics.proofs.Entries.{either-way}
 use Rattle.path_semantics.proofs.Kept.{IsKept}
 use Rattle.path_semantics.proofs.Levels.{inside, inside_test, numbers_at, calls_at, BelongsTo, IsFrameOf, AreLevels, apart-join, apart-runs, run-numbers, run-calls, dropped, body-frame}
@@ -67,19 +66,14 @@ part-calls self what part is among called inner =
     (subst (λ (parts : List Statement). IsAmong called (flat_map own_calls parts)) (sym (within-is self.what ∙ ap within_of is))
     (given-part own_calls (all_of part) (within_of what) among called inner))
 
-pub if-numbers : (number : ℕ) (first second : List Statement) → AreDistinct (number ∷ flat_map own_numbers (all_of first ++ all_of second))
-    → AreDistinct (numbers_of first ++ numbers_of second)
-if-numbers number first second distinct = subst AreDistinct (flat_map-append own_numbers (all_of first) (all_of second)) distinct.1
-
 pub if-first : (self : Statement) (test : _) (first second : List Statement) → out-What self.what ≡ What-F.If test first second → AreDistinct (numbers_at (Run self))
     → ArePartOf (Run self) first
 if-first self test first second is distinct =
     let numbers : numbers_at (Run self) ≡ inside self.number (What-F.If test first second) = ap (inside self.number) is in
     record {
-      numbers = λ n inner. subst (IsAmong n) (sym numbers)
-          (inr (given-part own_numbers (all_of first) (all_of first ++ all_of second) (λ s among. among-left s (all_of first) (all_of second) among) n inner));
+      numbers = λ n inner. subst (IsAmong n) (sym numbers) (inr (among-left n (numbers_of first) (numbers_of second) inner));
       calls = part-calls self (What-F.If test first second) first is (λ s among. among-left s (all_of first) (all_of second) among);
-      distinct = distinct-left (numbers_of first) (numbers_of second) (if-numbers self.number first second (subst AreDistinct numbers distinct));
+      distinct = distinct-left (numbers_of first) (numbers_of second) (subst AreDistinct numbers distinct).1;
     }
 
 pub if-second : (self : Statement) (test : _) (first second : List Statement) → out-What self.what ≡ What-F.If test first second → AreDistinct (numbers_at (Run self))
@@ -87,10 +81,9 @@ pub if-second : (self : Statement) (test : _) (first second : List Statement) �
 if-second self test first second is distinct =
     let numbers : numbers_at (Run self) ≡ inside self.number (What-F.If test first second) = ap (inside self.number) is in
     record {
-      numbers = λ n inner. subst (IsAmong n) (sym numbers)
-          (inr (given-part own_numbers (all_of second) (all_of first ++ all_of second) (λ s among. among-right s (all_of first) (all_of second) among) n inner));
+      numbers = λ n inner. subst (IsAmong n) (sym numbers) (inr (among-right n (numbers_of first) (numbers_of second) inner));
       calls = part-calls self (What-F.If test first second) second is (λ s among. among-right s (all_of first) (all_of second) among);
-      distinct = distinct-right (numbers_of first) (numbers_of second) (if-numbers self.number first second (subst AreDistinct numbers distinct));
+      distinct = distinct-right (numbers_of first) (numbers_of second) (subst AreDistinct numbers distinct).1;
     }
 
 pub while-body : (self : Statement) (test : _) (body : List Statement) → out-What self.what ≡ What-F.While test body → AreDistinct (numbers_at (Run self)) → ArePartOf (Run self) body
@@ -107,9 +100,9 @@ pub for-body : (self : Statement) (variable : _) (from to : _) (body : List Stat
 for-body self variable from to body last is distinct =
     let numbers : numbers_at (Test self) ≡ inside_test self.number (What-F.For variable from to body last) = ap (inside_test self.number) is in
     record {
-      numbers = λ n inner. subst (IsAmong n) (sym numbers) (inr (inr inner));
+      numbers = λ n inner. subst (IsAmong n) (sym numbers) (inr (among-left n (numbers_of body) (last ∷ []) inner));
       calls = part-calls self (What-F.For variable from to body last) body is (λ s among. among);
-      distinct = (subst AreDistinct numbers distinct).1.1;
+      distinct = distinct-left (numbers_of body) (last ∷ []) (subst AreDistinct numbers distinct).1;
     }
 
 -- Ways
@@ -160,19 +153,22 @@ round-frame program k self variable from to body last rest is frame =
     (λ later among inner. apart-from later among inner part distinct count)
   where
     last-apart : (later : Entry) → IsAmong later (Test self ∷ rest) → IsAmong (number_of later) (last_of (out-What self.what) ∷ [])
-        → numbers_at (Test self) ≡ (self.number + 1) ∷ last ∷ numbers_of body → AreDistinct ((self.number + 1) ∷ last ∷ numbers_of body) → last_of (out-What self.what) ≡ last → ⊥
-    last-apart later (inl same) (inl equal) test distinct count = distinct.0 (inl (sym (ap number_of same) ∙ equal ∙ count))
+        → numbers_at (Test self) ≡ (self.number + 1) ∷ numbers_of body ++ last ∷ [] → AreDistinct ((self.number + 1) ∷ numbers_of body ++ last ∷ [])
+        → last_of (out-What self.what) ≡ last → ⊥
+    last-apart later (inl same) (inl equal) test distinct count =
+        distinct.0 (among-right (self.number + 1) (numbers_of body) (last ∷ []) (inl (sym (ap number_of same) ∙ equal ∙ count)))
     last-apart later (inl same) (inr among) test distinct count = among
     last-apart later (inr there') (inl equal) test distinct count =
-        frame.apart.1 later there' (subst (IsAmong (number_of later)) (sym test) (inr (inl (equal ∙ count))))
+        frame.apart.1 later there' (subst (IsAmong (number_of later)) (sym test)
+        (inr (among-right (number_of later) (numbers_of body) (last ∷ []) (inl (equal ∙ count)))))
     last-apart later (inr there') (inr among) test distinct count = among
 
-    in-test : (n : ℕ) → IsAmong n (last_of (out-What self.what) ∷ []) → numbers_at (Test self) ≡ (self.number + 1) ∷ last ∷ numbers_of body
+    in-test : (n : ℕ) → IsAmong n (last_of (out-What self.what) ∷ []) → numbers_at (Test self) ≡ (self.number + 1) ∷ numbers_of body ++ last ∷ []
         → last_of (out-What self.what) ≡ last → IsAmong n (numbers_at (Test self))
-    in-test n (inl equal) test count = subst (IsAmong n) (sym test) (inr (inl (equal ∙ count)))
+    in-test n (inl equal) test count = subst (IsAmong n) (sym test) (inr (among-right n (numbers_of body) (last ∷ []) (inl (equal ∙ count))))
     in-test n (inr among) test count = absurd among
 
-    last-or-later : (one : Entry) → IsAmong one (Last self ∷ Test self ∷ rest) → numbers_at (Test self) ≡ (self.number + 1) ∷ last ∷ numbers_of body
+    last-or-later : (one : Entry) → IsAmong one (Last self ∷ Test self ∷ rest) → numbers_at (Test self) ≡ (self.number + 1) ∷ numbers_of body ++ last ∷ []
         → last_of (out-What self.what) ≡ last → BelongsTo program k one
     last-or-later one (inl same) test count = subst (BelongsTo program k) (sym same) (record {
       numbers = λ n inner. (frame.belong (Test self) (inl refl)).numbers n (in-test n inner test count);
@@ -181,11 +177,11 @@ round-frame program k self variable from to body last rest is frame =
     last-or-later one (inr among) test count = frame.belong one among
 
     apart-from : (later : Entry) → IsAmong later (Last self ∷ Test self ∷ rest) → IsAmong (number_of later) (numbers_of body) → ArePartOf (Test self) body
-        → AreDistinct ((self.number + 1) ∷ last ∷ numbers_of body) → last_of (out-What self.what) ≡ last → ⊥
+        → AreDistinct ((self.number + 1) ∷ numbers_of body ++ last ∷ []) → last_of (out-What self.what) ≡ last → ⊥
     apart-from later (inl same) inner part distinct count =
-        distinct.1.0 (subst (λ (n : ℕ). IsAmong n (numbers_of body)) (ap number_of same ∙ count) inner)
+        distinct-apart (numbers_of body) (last ∷ []) distinct.1 last (subst (λ (n : ℕ). IsAmong n (numbers_of body)) (ap number_of same ∙ count) inner) (inl refl)
     apart-from later (inr (inl same)) inner part distinct count =
-        distinct.0 (inr (subst (λ (n : ℕ). IsAmong n (numbers_of body)) (ap number_of same) inner))
+        distinct.0 (among-left (self.number + 1) (numbers_of body) (last ∷ []) (subst (λ (n : ℕ). IsAmong n (numbers_of body)) (ap number_of same) inner))
     apart-from later (inr (inr among)) inner part distinct count = frame.apart.1 later among (part.numbers (number_of later) inner)
 
 statement-levels : (program : Program) → IsOrdered program → (self : Statement) (rest : List Entry) (callers way : Place) (what : What-F What Statement) → out-What self.what ≡ what
