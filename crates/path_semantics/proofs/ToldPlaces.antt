@@ -14,7 +14,7 @@ use Rattle.process_semantics.proofs.Leading.{body-remains, leads-remains}
 use Rattle.process_semantics.proofs.Told.{told}
 use Rattle.path_semantics.specs.Path.{Leads}
 use Rattle.path_semantics.specs.Place.{Place, Stand, body_in, body_of, ways_of, rounds_of, ways}
-use Rattle.path_semantics.specs.Told.{statements_in, RemainsIn, called_above, RemainsAt, next_numbers, AreNumbered}
+use Rattle.path_semantics.specs.Told.{statements_in, RemainsIn, called_above, RemainsAt, next_numbers, HasDistinctNumbers}
 use Rattle.path_semantics.proofs.Entries.{either-way}
 use Rattle.path_semantics.proofs.Kept.{IsKept, kept-led}
 
@@ -116,7 +116,7 @@ abbrev found_in : Program → Option ℕ → ℕ → Option (List Entry)
 found_in program None number = None
 found_in program (Some procedure) number = rest_from (statements_in (slice_get program.procedures procedure)) number
 
-told-in : (program : Program) → AreNumbered program → (called : Option ℕ) (frame : List Entry) → RemainsIn program called frame
+told-in : (program : Program) → HasDistinctNumbers program → (called : Option ℕ) (frame : List Entry) → RemainsIn program called frame
     → found_in program called (next_number frame) ≡ Some frame
 told-in program numbered None frame remains = absurd remains
 told-in program numbered (Some k) frame remains = which (slice_get program.procedures k) refl remains
@@ -126,7 +126,7 @@ told-in program numbered (Some k) frame remains = which (slice_get program.proce
     which None there remains = told [] tt (λ n among. absurd among) frame remains
     which (Some procedure) there remains = told procedure.body (numbered.distinct k procedure there) (numbered.positive k procedure there) frame remains
 
-pub places-told : (program : Program) → AreNumbered program → (one other : Place) → RemainsAt program one → RemainsAt program other
+pub places-told : (program : Program) → HasDistinctNumbers program → (one other : Place) → RemainsAt program one → RemainsAt program other
     → next_numbers one ≡ next_numbers other → one ≡ other
 places-told program numbered [] [] first second same = refl
 places-told program numbered [] (frame ∷ callers) first second same = absurd (cc)

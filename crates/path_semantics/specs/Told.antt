@@ -34,6 +34,6 @@ abbrev pub next_numbers : Place → List ℕ
 next_numbers place = map next_number place
 
 -- within each procedure each number stands once, and none is 0
-pub record AreNumbered (program : Program) : Type 0 where
+pub record HasDistinctNumbers (program : Program) : Type 0 where
   pub distinct : (k : ℕ) (procedure : Procedure) → slice_get program.procedures k ≡ Some procedure → AreDistinct (numbers_of procedure.body)
   pub positive : (k : ℕ) (procedure : Procedure) → slice_get program.procedures k ≡ Some procedure → (n : ℕ) → IsAmong n (numbers_of procedure.body) → 1 ≤ n

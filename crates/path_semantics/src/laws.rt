@@ -15,7 +15,7 @@ ghost use Rattle.path_semantics.specs.Bounds.{depth_from, size_from, depths, siz
 ghost use Rattle.tal_tree.specs.Ordered.{IsOrdered};
 ghost use Rattle.tal_tree.specs.Regular.{IsRegular};
 ghost use Rattle.path_semantics.specs.Quiet.{IsQuiet};
-ghost use Rattle.path_semantics.specs.Told.{RemainsAt, next_numbers, AreNumbered};
+ghost use Rattle.path_semantics.specs.Told.{RemainsAt, next_numbers, HasDistinctNumbers};
 ghost use Rattle.path_semantics.specs.Accepted.{IsAccepted};
 
 /// The front of a path is a path.
@@ -38,9 +38,9 @@ pub fn path_fixes_its_stand()
 /// 0, as in a regular program: so a place is told by its numbers alone.
 pub fn places_are_told()
     ensures remains { (program : Program) (path : List ℕ) (stand : Stand) → Leads program path stand → RemainsAt program stand.place }
-    ensures told { (program : Program) (one other : Place) → AreNumbered program → RemainsAt program one → RemainsAt program other
+    ensures told { (program : Program) (one other : Place) → HasDistinctNumbers program → RemainsAt program one → RemainsAt program other
         → next_numbers one ≡ next_numbers other → one ≡ other }
-    ensures regular { (program : Program) → IsRegular program → AreNumbered program }
+    ensures regular { (program : Program) → IsRegular program → HasDistinctNumbers program }
 {}
 
 /// What breaks is a path.
