@@ -7,23 +7,22 @@ use Rattle.tal_declarations.specs.Globals.{with_lines, nothing_declared}
 use Rattle.tal_rules.specs.Texts.{faults, headed_after, headed_text, files_by, first_progress}
 use Rattle.tal_trees.specs.Programs.{tree_of}
 use Rattle.tal_reader.specs.Reads.{Reads}
-use Rattle.tal_tree.specs.Ordered.{IsOrdered}
+use Rattle.tal_tree.specs.Ordered.{numbers_in_all, IsNumbered, IsOrdered}
 use Rattle.tal_faultless.proofs.Common.TextParts.{AreFaultless, faultless}
-use Rattle.tal_tree.specs.Numbered.{text_numbers, IsNumbered}
+use Rattle.tal_laws.proofs.Counting.{counted-distinct}
 use Rattle.tal_laws.proofs.Following.{GoOn, counts_up}
-use Rattle.tal_laws.proofs.InOrder.{numbered_distinct}
 use Rattle.tal_laws.proofs.Procedures.{procedures_numbers, procedures_calls}
 
 -- its numbers go on from 1
 pub text_goes_on : (lines : g.Lines) (ps : g.Procedures) (finish : At) → faults (g.text lines ps finish) ≡ []
-    → (to : ℕ) × GoOn 1 (text_numbers (tree_of (g.text lines ps finish))) to
+    → (to : ℕ) × GoOn 1 (numbers_in_all (tree_of (g.text lines ps finish)).procedures) to
 text_goes_on lines ps finish fine =
     procedures_numbers (headed_text lines ps).names (files_by (headed_text lines ps) ps).names first_progress ps (faultless lines ps finish fine).bodies
 
 pub is_numbered : (t : g.Text) → faults t ≡ [] → IsNumbered (tree_of t)
 is_numbered (g.text lines ps finish) fine =
     let numbers = text_goes_on lines ps finish fine in
-    counts_up 1 numbers.0 (text_numbers (tree_of (g.text lines ps finish))) numbers.1
+    counts_up 1 numbers.0 (numbers_in_all (tree_of (g.text lines ps finish)).procedures) numbers.1
 
 pub is_ordered : (t : g.Text) → faults t ≡ [] → IsOrdered (tree_of t)
 is_ordered (g.text lines ps finish) fine =
@@ -31,7 +30,7 @@ is_ordered (g.text lines ps finish) fine =
     let globals = (headed_text lines ps).names in
     let files = (files_by (headed_text lines ps) ps).names in
     record {
-      numbers = numbered_distinct (tree_of (g.text lines ps finish)) (is_numbered (g.text lines ps finish) fine);
+      numbers = counted-distinct 1 (numbers_in_all (tree_of (g.text lines ps finish)).procedures) (is_numbered (g.text lines ps finish) fine);
       calls = λ k procedure found called among.
           let low : called < 0 + k =
           procedures_calls globals files (headed_after (with_lines nothing_declared lines)) first_progress ps parts.headings parts.bodies refl k procedure found called among in

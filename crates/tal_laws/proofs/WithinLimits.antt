@@ -17,9 +17,9 @@ use Rattle.tal_reader.specs.Reads.{Reads}
 use Rattle.gd_words.specs.Members.{IsAmong}
 use Rattle.tal_faultless.proofs.Common.Faultless.{split, no_fault}
 use Rattle.tal_tree.specs.Limits.{IsProcedureWithinLimits, IsWithinLimits}
-use Rattle.tal_tree.specs.Numbered.{text_numbers}
+use Rattle.tal_tree.specs.Ordered.{numbers_in_all}
+use Rattle.tal_laws.proofs.Counting.{counted-within}
 use Rattle.tal_laws.proofs.Following.{few}
-use Rattle.tal_laws.proofs.InOrder.{numbered_within}
 use Rattle.tal_laws.proofs.Ordered.{text_goes_on, is_numbered}
 use Rattle.tal_laws.proofs.Items.{declared_within, filed_within, same_length}
 use Rattle.tal_laws.proofs.Locals.{locals_within}
@@ -82,7 +82,7 @@ is_within (g.text lines ps finish) fine =
     let main_is : unwrap_or (headed_text lines ps).main 0 ≡ main.0 = ap (λ o. unwrap_or o 0) main.1 in
     let program : Program = tree_of (g.text lines ps finish) in
     let goes_on = text_goes_on lines ps finish fine in
-    let short : 1 + length (text_numbers program) ≤ 2001 = few 1 goes_on.0 (text_numbers program) goes_on.1 (omega arith) in
+    let short : 1 + length (numbers_in_all program.procedures) ≤ 2001 = few 1 goes_on.0 (numbers_in_all program.procedures) goes_on.1 (omega arith) in
     record {
       items = items.few;
       words = items.words;
@@ -92,7 +92,8 @@ is_within (g.text lines ps finish) fine =
       procedures = (omega (arith, placed, count.0), omega (arith, count.1));
       main = omega (arith, placed, count.0, main_is);
       each_procedure = procedures_within globals files.names first_progress ps parts.bodies;
-      numbers = λ n among. let own = numbered_within program (is_numbered (g.text lines ps finish) fine) n among in (own.0, omega (arith, own.1, short));
+      numbers = λ n among.
+          let own = counted-within 1 (numbers_in_all program.procedures) (is_numbered (g.text lines ps finish) fine) n among in (own.0, omega (arith, own.1, short));
     }
 
 pub read_is_within : (text : List ℕ) (program : Program) → Reads text program → IsWithinLimits program

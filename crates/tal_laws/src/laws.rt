@@ -1,6 +1,5 @@
 ghost use Rattle.std.specs.Prelude.{ℕ, List};
-ghost use Rattle.tal_tree.specs.Numbered.{IsNumbered};
-ghost use Rattle.tal_tree.specs.Ordered.{IsOrdered};
+ghost use Rattle.tal_tree.specs.Ordered.{IsNumbered, IsOrdered};
 ghost use Rattle.tal_tree.specs.Limits.{IsWithinLimits};
 ghost use Rattle.tal_tree.specs.Regular.{IsRegular};
 ghost use Rattle.tal_reader.specs.Reads.{Reads};
