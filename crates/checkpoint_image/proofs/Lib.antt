@@ -1,0 +1,4 @@
+pub mod Messages
+pub mod Patterns
+pub mod Readers
+pub mod Turns
