@@ -1,4 +1,5 @@
 pub mod Counted
+pub mod Lone
 pub mod Lookups
 pub mod Opens
 pub mod Order

@@ -106,6 +106,21 @@ fn suits(need: Need, meaning: Meaning) -> bool
     }
 }
 
+/// Judges what a name stands for where something of a kind is needed.
+pub fn judge_kind(
+    need: Need,
+    at: At,
+    found: Option<Meaning>,
+    so_far: Option<RuleFault>,
+) -> Option<RuleFault>
+    ensures { result ≡ least so_far (kind_faults need at found) }
+{
+    match found {
+        None => with_fault(so_far, at, Rule::Unknown),
+        Some(meaning) => with_fault_if(so_far, !suits(need, meaning), at, Rule::WrongKind),
+    }
+}
+
 /// Judges a name where something of a kind is needed.
 pub fn judge_name(
     scope: &Scope,
@@ -116,8 +131,5 @@ pub fn judge_name(
 ) -> Option<RuleFault>
     ensures { result ≡ least so_far (name_faults scope.now need at name) }
 {
-    match meaning_of(scope, name) {
-        None => with_fault(so_far, at, Rule::Unknown),
-        Some(meaning) => with_fault_if(so_far, !suits(need, meaning), at, Rule::WrongKind),
-    }
+    judge_kind(need, at, meaning_of(scope, name), so_far)
 }
