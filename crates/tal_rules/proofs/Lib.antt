@@ -1,3 +1,4 @@
 pub mod Counted
+pub mod Lone
 pub mod Parts
 pub mod StatementSteps

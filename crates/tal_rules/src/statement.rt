@@ -1,9 +1,13 @@
 ghost use Rattle.std.specs.Prelude.{◌≡◌, ◌+◌, OnOk, IfOk};
 ghost use Rattle.tal_rules.specs.Calls.{values_count};
+ghost use Rattle.tal_rules.specs.Expressions.{value_faults};
 ghost use Rattle.tal_names.specs.Faults.{least};
+ghost use Rattle.tal_names.specs.Scopes.{kind_faults};
 ghost use Rattle.tal_names.specs.Systems.{system_of};
+ghost use Rattle.tal_names.specs.declared.meaning.Need.TheVariants.{Readable};
 ghost use Rattle.tal_names.specs.Places.{arguments_of, first_of_spot};
-ghost use Rattle.tal_rules.specs.Statements.{next_number, stage_after, stage_after_monitor, stage_after_open, next_file, stepped, after_call, number_faults, return_faults, right_by, right_named, right_faults, call_statement_faults, return_statement_faults, assign_faults, assign_call_faults, for_head_faults, test_faults, after, after_else, after_row, statement_faults, else_faults, row_faults};
+ghost use Rattle.tal_rules.specs.Statements.{next_number, stage_after, stage_after_monitor, stage_after_open, next_file, stepped, after_call, number_faults, return_faults, right_by, right_faults, call_statement_faults, return_statement_faults, assign_faults, assign_call_faults, for_head_faults, test_faults, after, after_else, after_row, statement_faults, else_faults, row_faults};
+ghost use Rattle.tal_syntax.specs.Grammar as g;
 ghost use Rattle.tal_syntax.specs.Seen.{seen_spot, seen_expr, seen_arguments, seen_values, seen_answer, seen_statement, seen_otherwise, seen_row};
 
 use crate::call::{judge_call, judge_called, judge_values, opens_receive};
@@ -14,7 +18,7 @@ use std::alloc::Global;
 use tal_names::alone::{argument, name_of_expr};
 use tal_names::fault::{Rule, RuleFault};
 use tal_names::least::with_fault_if;
-use tal_names::lookup::{judge_name, meaning_of};
+use tal_names::lookup::{judge_kind, judge_name, meaning_of};
 use tal_names::meaning::{Meaning, Need, Wanted};
 use tal_names::scope::Scope;
 use tal_names::system::{System, system_of};
@@ -141,25 +145,24 @@ fn judge_return(
     }
 }
 
+/// Judges a right side that is a name alone, by what the name stands for.
 fn judge_right_by(
     scope: &Scope,
-    value: &Expr,
     at: At,
     found: Option<Meaning>,
     so_far: Option<RuleFault>,
 ) -> Option<RuleFault>
-    ensures { result ≡ least so_far (right_by scope.now (seen_expr value.now) at found) }
+    ensures { (e : g.Expr) → value_faults scope.now e ≡ kind_faults Readable at found → result ≡ least so_far (right_by scope.now e at found) }
 {
     match found {
-        None => judge_value(value, scope, so_far),
-        Some(meaning) => match meaning {
+        Some(
             Meaning::Procedure {
                 number: _,
                 gives: _,
                 parameters: _,
-            } => judge_called(scope, true, at, 0, Some(meaning), so_far),
-            _ => judge_value(value, scope, so_far),
-        },
+            },
+        ) => judge_called(scope, true, at, 0, found, so_far),
+        _ => judge_kind(Need::Readable, at, found, so_far),
     }
 }
 
@@ -169,13 +172,7 @@ fn judge_right(scope: &Scope, value: &Expr, so_far: Option<RuleFault>) -> Option
 {
     match name_of_expr(value) {
         None => judge_value(value, scope, so_far),
-        Some(named) => judge_right_by(
-            scope,
-            value,
-            named.at,
-            meaning_of(scope, named.name),
-            so_far,
-        ),
+        Some(named) => judge_right_by(scope, named.at, meaning_of(scope, named.name), so_far),
     }
 }
 
