@@ -1,16 +1,16 @@
-ghost use Rattle.std.specs.Prelude.{◌≡◌, [], OnOk, IfOk, option_map, length};
+ghost use Rattle.std.specs.Prelude.{◌≡◌, [], OnOk, IfOk, Some, option_map, length};
 ghost use Rattle.std.specs.Option.{option_copied};
-ghost use Rattle.tal_rules.specs.Calls.{called_faults, argument_faults, arguments_faults, values_faults, undeclared_faults, misfit_faults, named_faults, name_in, value_in, count_faults, read_update_faults, reply_faults, write_read_faults, repeated_faults, with_mention, mention_faults, checkpoint_faults, string_faults, opens_receive, file_number, number_below, name_opened, is_opened, file_limit, is_depth, depth_limit, depth_form, depth_faults, is_start, takes_open, open_faults, monitor_faults, system_faults, procedure_call_faults, call_faults};
+ghost use Rattle.tal_rules.specs.Calls.{called_faults, argument_faults, arguments_faults, values_faults, undeclared_faults, misfit_faults, named_faults, name_in, value_in, count_faults, read_update_faults, reply_faults, write_read_faults, repeated_faults, with_mention, mention_faults, checkpoint_faults, string_faults, opens_receive, file_number, number_below, name_opened, is_opened, file_limit, is_depth, depth_limit, depth_faults, is_start, takes_open, open_faults, monitor_faults, system_faults, procedure_call_faults, call_faults};
 ghost use Rattle.tal_names.specs.Faults.{least};
-ghost use Rattle.tal_names.specs.Places.{arguments_of, further_arguments};
+ghost use Rattle.tal_names.specs.Places.{arguments_of, further_arguments, name_of_argument, constant_of};
 ghost use Rattle.tal_syntax.specs.Seen.{seen_argument, seen_further, seen_arguments, seen_values, seen_constant};
 
 use crate::expression::judge_value;
 use crate::walk::{Stage, Walk};
 use gd_words::{Ident, NoMemory};
 use std::alloc::Global;
-use tal_declarations::files::{depth_value, is_receive, named_in};
-use tal_declarations::globals::{atom_of, judge_constant};
+use tal_declarations::files::{is_receive, named_in};
+use tal_declarations::globals::{atom_of, constant_value, judge_constant};
 use tal_names::alone::{
     argument, argument_count, constant_of, front_name_of_argument, name_of_argument,
 };
@@ -249,48 +249,34 @@ fn judge_write_read(
     judge_name_in(scope, Need::Variable, argument(arguments, 4), so_far)
 }
 
-/// Judges whether a name stands in a CHECKPOINT before.
+/// Judges whether a name stands in a CHECKPOINT before, and puts it with those before.
 fn judge_repeated(
-    before: &Names,
+    before: &mut Names,
     named: Option<Named>,
     so_far: Option<RuleFault>,
-) -> Option<RuleFault>
-    ensures { result ≡ least so_far (repeated_faults before.now named) }
+) -> Result<Option<RuleFault>, NoMemory>
+    ensures least { IfOk result (λ o. o ≡ least so_far (repeated_faults before.old named)) }
+    ensures names { OnOk result (before.new ≡ with_mention before.old named) }
 {
     match named {
-        None => so_far,
+        None => Ok(so_far),
         Some(named) => {
-            with_fault_if(
-                so_far,
-                before.is_declared(named.name),
-                named.at,
-                Rule::Twice,
-            )
+            let repeated = before.declare(named.name, Meaning::Literal(0))?;
+            Ok(with_fault_if(so_far, repeated, named.at, Rule::Twice))
         }
     }
 }
 
-fn mention(before: &mut Names, named: Option<Named>) -> Result<(), NoMemory>
-    ensures { OnOk result (before.new ≡ with_mention before.old named) }
-{
-    match named {
-        None => Ok(()),
-        Some(named) => {
-            before.declare(named.name, Meaning::Literal(0))?;
-            Ok(())
-        }
-    }
-}
-
-/// Judges one argument of a CHECKPOINT after those before.
+/// Judges one argument of a CHECKPOINT after those before, and puts its name with theirs.
 #[tactic(auto, using(crate::proofs::Parts::parts))]
 fn judge_mention(
     scope: &Scope,
-    before: &Names,
+    before: &mut Names,
     argument: &Argument,
     so_far: Option<RuleFault>,
-) -> Option<RuleFault>
-    ensures { result ≡ least so_far (mention_faults scope.now before.now (seen_argument argument.now)) }
+) -> Result<Option<RuleFault>, NoMemory>
+    ensures least { IfOk result (λ o. o ≡ least so_far (mention_faults scope.now before.old (seen_argument argument.now))) }
+    ensures names { OnOk result (before.new ≡ with_mention before.old (name_of_argument (seen_argument argument.now))) }
 {
     let so_far = judge_named(
         scope,
@@ -299,7 +285,8 @@ fn judge_mention(
         name_of_argument(argument),
         so_far,
     );
-    judge_repeated(before, name_of_argument(argument), so_far)
+    let least = judge_repeated(before, name_of_argument(argument), so_far)?;
+    Ok(least)
 }
 
 fn judge_mentions(
@@ -312,8 +299,7 @@ fn judge_mentions(
 {
     let mut so_far = so_far;
     for next in more {
-        so_far = judge_mention(scope, before, &next.argument, so_far);
-        mention(before, name_of_argument(&next.argument))?;
+        so_far = judge_mention(scope, before, &next.argument, so_far)?;
     }
     Ok(so_far)
 }
@@ -331,8 +317,7 @@ fn judge_checkpoint(
         Arguments::Absent => Ok(so_far),
         Arguments::Listed(list) => {
             let mut before = Names::new(alloc);
-            let so_far = judge_mention(scope, &before, &list.first, so_far);
-            mention(&mut before, name_of_argument(&list.first))?;
+            let so_far = judge_mention(scope, &mut before, &list.first, so_far)?;
             judge_mentions(scope, &mut before, list.more.as_slice(), so_far)
         }
     }
@@ -458,25 +443,29 @@ fn judge_depth_value(
     }
 }
 
-fn judge_depth_form(
+/// Judges the depth of an OPEN by the constant that it is.
+#[tactic(auto, using(crate::proofs::Parts::parts))]
+fn judge_depth_by(
     scope: &Scope,
+    receive: bool,
     argument: &Argument,
     constant: Option<Constant>,
     so_far: Option<RuleFault>,
 ) -> Option<RuleFault>
-    ensures { result ≡ least so_far (depth_form scope.now (seen_argument argument.now) (option_map seen_constant constant)) }
+    requires { option_map seen_constant constant ≡ constant_of (seen_argument argument.now) }
+    ensures { result ≡ least so_far (depth_faults scope.now receive (Some (seen_argument argument.now))) }
 {
     match constant {
         None => with_fault(so_far, at_of_argument(argument), Rule::WrongKind),
         Some(constant) => {
             let named = named_in(scope, atom_of(&constant));
-            judge_constant(&constant, named, so_far)
+            let so_far = judge_constant(&constant, named, so_far);
+            judge_depth_value(receive, argument, constant_value(&constant, named), so_far)
         }
     }
 }
 
 /// Judges the depth of an OPEN.
-#[tactic(auto, using(crate::proofs::Parts::parts))]
 fn judge_depth(
     scope: &Scope,
     receive: bool,
@@ -488,8 +477,7 @@ fn judge_depth(
     match argument {
         None => so_far,
         Some(argument) => {
-            let so_far = judge_depth_form(scope, argument, constant_of(argument), so_far);
-            judge_depth_value(receive, argument, depth_value(scope, argument), so_far)
+            judge_depth_by(scope, receive, argument, constant_of(argument), so_far)
         }
     }
 }
