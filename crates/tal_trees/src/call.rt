@@ -90,7 +90,7 @@ fn value_at(alloc: Global, scope: &Scope, argument: Option<&Argument>) -> Result
 }
 
 /// What a name that may be missing stands for.
-pub fn meaning_by(scope: &Scope, named: Option<Named>) -> Option<Meaning>
+fn meaning_by(scope: &Scope, named: Option<Named>) -> Option<Meaning>
     ensures { result ≡ meaning_by scope.now named }
 {
     match named {

@@ -88,7 +88,7 @@ fn target_by(found: Option<Meaning>, index: Option<tal_tree::Expr>) -> tal_tree:
 }
 
 /// What a name reads with the value of its index, if it has one.
-fn read_by(
+pub fn read_by(
     alloc: Global,
     found: Option<Meaning>,
     index: Option<tal_tree::Expr>,

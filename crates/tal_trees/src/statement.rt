@@ -1,16 +1,17 @@
-ghost use Rattle.std.specs.Prelude.{◌≡◌, [], ◌++◌, ◌∷◌, OnOk, IfOk};
+ghost use Rattle.std.specs.Prelude.{◌≡◌, [], ◌++◌, ◌∷◌, None, OnOk, IfOk};
 ghost use Rattle.tal_names.specs.Systems.{system_of};
 ghost use Rattle.tal_names.specs.Places.{arguments_of, first_of_spot, name_of_expr};
 ghost use Rattle.tal_names.specs.Scopes.{meaning_of};
 ghost use Rattle.tal_rules.specs.Statements.{stepped, after_call, after, after_else, after_row};
+ghost use Rattle.tal_syntax.specs.Grammar as g;
 ghost use Rattle.tal_syntax.specs.Seen.{seen_spot, seen_expr, seen_answer, seen_arguments, seen_values, seen_statement, seen_otherwise, seen_row};
 ghost use Rattle.tal_tree.specs.declared.statement.What.TheVariants as what;
 ghost use Rattle.tal_trees.specs.Calls.{values_of, procedure_by, variable_by, call_what, meaning_by};
-ghost use Rattle.tal_trees.specs.Expressions.{value_of_expr, cond_of_expr, target_of_spot};
+ghost use Rattle.tal_trees.specs.Expressions.{read_by, value_of_expr, cond_of_expr, target_of_spot};
 ghost use Rattle.tal_trees.specs.Statements.{one, answer_of, assign_by, statements_of, else_statements, row_statements};
 
-use crate::call::{call_what, meaning_by, procedure_by, push_values, variable_by};
-use crate::expression::{cond_of_expr, target_of_spot, value_of_expr};
+use crate::call::{call_what, procedure_by, push_values, variable_by};
+use crate::expression::{cond_of_expr, read_by, target_of_spot, value_of_expr};
 use gd_words::{List, NoMemory};
 use std::alloc::Global;
 use tal_names::alone::name_of_expr;
@@ -60,27 +61,23 @@ fn answer_of(
     }
 }
 
-fn assign_value(
-    alloc: Global,
-    scope: &Scope,
-    to: tal_tree::Spot,
-    value: &Expr,
-) -> Result<What, NoMemory>
-    ensures { IfOk result (λ w. w ≡ what.Assign to (value_of_expr scope.now (seen_expr value.now))) }
+/// An assignment of a value.
+fn assign_value(alloc: Global, scope: &Scope, target: &Spot, value: &Expr) -> Result<What, NoMemory>
+    ensures { IfOk result (λ w. w ≡ what.Assign (target_of_spot scope.now (seen_spot target.now)) (value_of_expr scope.now (seen_expr value.now))) }
 {
+    let to = target_of_spot(target, alloc, scope)?;
     let value = value_of_expr(value, alloc, scope)?;
     Ok(What::Assign { to, value })
 }
 
-/// An assignment. A right side that is a procedure's name alone is a call of it.
+/// An assignment of a right side that is a name alone, by what the name stands for. That of a procedure is a call of it.
 fn assign_by(
     alloc: Global,
     scope: &Scope,
     target: &Spot,
-    value: &Expr,
     found: Option<Meaning>,
 ) -> Result<What, NoMemory>
-    ensures { IfOk result (λ w. w ≡ assign_by scope.now (seen_spot target.now) (seen_expr value.now) found) }
+    ensures { (e : g.Expr) → value_of_expr scope.now e ≡ read_by found None → IfOk result (λ w. w ≡ assign_by scope.now (seen_spot target.now) e found) }
 {
     let to = target_of_spot(target, alloc, scope)?;
     match found {
@@ -95,7 +92,20 @@ fn assign_by(
             procedure: number,
             arguments: List::new(alloc),
         }),
-        _ => assign_value(alloc, scope, to, value),
+        _ => {
+            let value = read_by(alloc, found, None)?;
+            Ok(What::Assign { to, value })
+        }
+    }
+}
+
+/// An assignment.
+fn assign(alloc: Global, scope: &Scope, target: &Spot, value: &Expr) -> Result<What, NoMemory>
+    ensures { IfOk result (λ w. w ≡ assign_by scope.now (seen_spot target.now) (seen_expr value.now) (meaning_by scope.now (name_of_expr (seen_expr value.now)))) }
+{
+    match name_of_expr(value) {
+        None => assign_value(alloc, scope, target, value),
+        Some(named) => assign_by(alloc, scope, target, meaning_of(scope, named.name)),
     }
 }
 
@@ -125,8 +135,7 @@ fn push_assign(
     ensures walk { IfOk result (λ w. w ≡ stepped walk) }
     ensures statements { OnOk result (all.new ≡ all.old ++ one walk (first_of_spot (seen_spot said.now.target)) (assign_by scope.now (seen_spot said.now.target) (seen_expr said.now.value) (meaning_by scope.now (name_of_expr (seen_expr said.now.value))))) }
 {
-    let found = meaning_by(scope, name_of_expr(&said.value));
-    let what = assign_by(alloc, scope, &said.target, &said.value, found)?;
+    let what = assign(alloc, scope, &said.target, &said.value)?;
     push_one(all, walk, said.target.at, what)?;
     Ok(stepped(walk))
 }
