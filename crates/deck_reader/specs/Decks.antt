@@ -1,5 +1,5 @@
 -- The deck that bytes spell.
-use Rattle.std.specs.Prelude.{◌≡◌, ◌<◌, ◌≤◌, ℕ, Bool, true, false, List, [], ◌∷◌, length, Some, option_map, slice_get}
+use Rattle.std.specs.Prelude.{◌≡◌, ◌<◌, ◌≤◌, ℕ, Bool, true, List, [], ◌∷◌, length, Some, option_map, slice_get}
 use Rattle.tal_tree.specs.declared.fault.DeckFault.{DeckFault}
 use Rattle.tal_tree.specs.declared.fault.DeckFault.TheVariants as fault
 use Rattle.tal_tree.specs.declared.fault.TalFault.{TalFault}
@@ -7,8 +7,7 @@ use Rattle.tal_tree.specs.declared.fault.TalFault.TheVariants as tal
 use Rattle.std.specs.List.{list_all}
 use Rattle.tal_tree.specs.declared.program.FileUse.{FileUse}
 use Rattle.tal_tree.specs.declared.program.Program.{Program}
-use Rattle.tal_tree.specs.declared.program.Target.{Target}
-use Rattle.tal_tree.specs.declared.program.Target.TheVariants as target
+use Rattle.tal_tree.specs.Targets.{is_receive}
 use Rattle.tal_tree.specs.declared.site.ProcessSpec.{ProcessSpec}
 use Rattle.tal_tree.specs.declared.site.TerminalSpec.{TerminalSpec}
 use Rattle.tal_tree.specs.declared.site.Kind.TheVariants as kind
@@ -26,11 +25,6 @@ EachWith R [] [] = Unit {0}
 EachWith R (x ∷ xs) (y ∷ ys) = R x y × EachWith R xs ys
 EachWith R [] (y ∷ ys) = ⊥
 EachWith R (x ∷ xs) [] = ⊥
-
--- a file that is opened to `$RECEIVE`
-abbrev pub is_receive : Target → Bool
-is_receive target.Receive = true
-is_receive (target.Process name) = false
 
 -- files that are all opened to `$RECEIVE`: the program asks no process
 abbrev pub are_receive : List FileUse → Bool

@@ -1,7 +1,8 @@
 ghost use Rattle.std.specs.Prelude.{◌≡◌, ◌<◌, ◌≤◌, ◌↔◌, ℕ, length, IfOk, IfErr, IsTrue, MatchOption, Some, option_map};
 ghost use Rattle.deck_reader.specs.Lines.{lines_of};
 ghost use Rattle.deck_reader.specs.Outlined.{outline_of};
-ghost use Rattle.deck_reader.specs.Decks.{Decks, IsDeckOf, AreProcessesOf, AreTerminalsOf, IsPlaceOf, IsProcessOf, IsTerminalOf, IsFaultOfToday, IsRefusedBy, refusal_of, are_receive, is_receive};
+ghost use Rattle.deck_reader.specs.Decks.{Decks, IsDeckOf, AreProcessesOf, AreTerminalsOf, IsPlaceOf, IsProcessOf, IsTerminalOf, IsFaultOfToday, IsRefusedBy, refusal_of, are_receive};
+ghost use Rattle.tal_tree.specs.Targets.{is_receive};
 ghost use Rattle.deck_reader.specs.declared.deck.Deck.{Deck};
 
 use crate::lines::next_line;

@@ -1,5 +1,5 @@
 -- What holds of each statement of a program holds of those that remain at each place.
-use Rattle.std.proofs.Common.{◌≡◌, inl, inr, ℕ, List, [], ◌∷◌, ◌++◌, drop, Option, Some, None, slice_get, refl, ap, subst, sym, ◌∙◌, append-nil, zero, suc}
+use Rattle.std.proofs.Common.{◌≡◌, inl, inr, List, [], ◌∷◌, ◌++◌, drop, Option, Some, None, slice_get, refl, ap, subst, sym, ◌∙◌, append-nil}
 use Rattle.tal_tree.specs.declared.program.Program.{Program}
 use Rattle.tal_tree.specs.declared.program.Procedure.{Procedure}
 use Rattle.tal_tree.specs.declared.statement.Statement.{Statement}
@@ -9,7 +9,7 @@ use Rattle.tal_tree.specs.Statements.{all_in, all_of}
 use Rattle.path_semantics.specs.Place.{Place, body_in, body_of, ways_of, rounds_of, ways}
 use Rattle.gd_words.specs.Members.{IsAmong}
 use Rattle.path_semantics.proofs.Kept.{IsKept}
-use Rattle.gd_words.proofs.Among.{among-left, among-right, among-one}
+use Rattle.gd_words.proofs.Among.{among-left, among-right, among-one, among-at}
 use Rattle.process_semantics.proofs.Standing.{statement_of}
 use Rattle.tal_tree.proofs.Within.{within_of, within-is}
 
@@ -56,11 +56,6 @@ body-holds P program all None there = tt
 body-holds P program all (Some procedure) there =
     subst (HoldsFor P) (append-nil (runs_of procedure.body)) (for-runs P procedure.body [] (λ statement among. all procedure statement (there procedure refl) among) tt)
 
-got-is-one : {A : Type 0} (xs : List A) (k : ℕ) (x : A) → slice_get xs k ≡ Some x → IsAmong x xs
-got-is-one [] k x got = absurd (cc)
-got-is-one (y ∷ xs) zero x got = inl (let same : x ≡ y = cc in same)
-got-is-one (y ∷ xs) (suc k) x got = inr (got-is-one xs k x got)
-
 statement-way : (P : Statement → Type 0) (program : Program)
     → ((procedure : Procedure) (statement : Statement) → IsAmong procedure program.procedures → IsAmong statement (all_of procedure.body) → P statement)
     → (self : Statement) (rest : List Entry) (callers way : Place) (what : What-F What Statement) → out-What self.what ≡ what
@@ -76,10 +71,10 @@ statement-way P program all self rest callers way (What-F.For variable from to b
     among-one (HoldsAt P) way ((Test self ∷ rest) ∷ callers) among ((own, later), above)
 statement-way P program all self rest callers way (What-F.AssignCall to procedure arguments) is own later above among =
     among-one (HoldsAt P) way (body_of program procedure ∷ (Run self ∷ rest) ∷ callers) among
-    (body-holds P program all (slice_get program.procedures procedure) (got-is-one program.procedures procedure), ((own, later), above))
+    (body-holds P program all (slice_get program.procedures procedure) (among-at program.procedures procedure), ((own, later), above))
 statement-way P program all self rest callers way (What-F.Call procedure arguments) is own later above among =
     among-one (HoldsAt P) way (body_of program procedure ∷ (Run self ∷ rest) ∷ callers) among
-    (body-holds P program all (slice_get program.procedures procedure) (got-is-one program.procedures procedure), ((own, later), above))
+    (body-holds P program all (slice_get program.procedures procedure) (among-at program.procedures procedure), ((own, later), above))
 statement-way P program all self rest callers way (What-F.Return value) is own later above among =
     among-one (HoldsAt P) way ([] ∷ callers) among (tt, above)
 statement-way P program all self rest callers way What-F.Stop is own later above among = among-one (HoldsAt P) way [] among tt
@@ -105,7 +100,7 @@ pub entries-kept : (P : Statement → Type 0) (program : Program)
     → ((procedure : Procedure) (statement : Statement) → IsAmong procedure program.procedures → IsAmong statement (all_of procedure.body) → P statement)
     → IsKept program (HoldsAt P)
 entries-kept P program all = record {
-  first = (body-holds P program all (slice_get program.procedures program.main) (got-is-one program.procedures program.main), tt);
+  first = (body-holds P program all (slice_get program.procedures program.main) (among-at program.procedures program.main), tt);
   way = entry-way P program all;
   leaving = λ caller callers holds. (for-drop P caller holds.1.0, holds.1.1);
   ended = tt;

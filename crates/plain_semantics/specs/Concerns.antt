@@ -1,5 +1,5 @@
 -- Which processes an act concerns: those whose state or slots it reads or changes.
-use Rattle.std.specs.Prelude.{◌≡◌, ◌⊎◌, ℕ, List, [], ◌∷◌, slice_get, Option, Some, None}
+use Rattle.std.specs.Prelude.{ℕ, List, [], ◌∷◌, slice_get, Option, Some, None}
 use Rattle.gd_words.specs.Members.{IsAmong}
 use Rattle.tal_tree.specs.declared.act.Act.{Act}
 use Rattle.tal_tree.specs.declared.act.Act.TheVariants.{Step, Take, Enter, Print}

@@ -39,7 +39,8 @@ at-call program s (What-F.WriteRead file buffer send room got) = by s.awaits ref
     by false free (Some m) (Some n) count = at_ask file buffer send room got free (ap is_some count)
 at-call program s (What-F.Reply buffer count) = by s.in_hand refl (count_of program s buffer count)
   where
-    by : (held : Bool) → s.in_hand ≡ held → (n : Option ℕ) → AtCall program s (What-F.Reply buffer count) (if held then where_good point.Answer n else point.Inner)
+    by : (held : Bool) → s.in_hand ≡ held → (n : Option ℕ)
+        → AtCall program s (What-F.Reply buffer count) (if held then where_good point.Answer n else point.Inner)
     by false free n = inside
     by true held None = inside
     by true held (Some n) = at_reply buffer count held
@@ -58,15 +59,15 @@ pub record StandsAt (program : Program) (s : ProgramState) (p : Point) : Type 0 
   pub alive : s.ended ≡ false
   pub call : AtCall program s (out-What statement.what) p
 
-pub if-ended : (ended : Bool) (p q : Point) → q ≢ point.Ended → (if ended then point.Ended else p) ≡ q → (ended ≡ false) × (p ≡ q)
+if-ended : (ended : Bool) (p q : Point) → q ≢ point.Ended → (if ended then point.Ended else p) ≡ q → (ended ≡ false) × (p ≡ q)
 if-ended true p q not_ended is = absurd (not_ended (sym is))
 if-ended false p q not_ended is = (refl, is)
 
 pub stands-at : (program : Program) (s : ProgramState) (p : Point) → p ≢ point.Inner → p ≢ point.Ended → point_of program s ≡ p → StandsAt program s p
 stands-at program s p inner ended is = let runs = if-ended s.ended (point_at program s (next_of s.frames)) p ended is in by_frames runs.0 s.frames refl runs.1
   where
-    by_rest : s.ended ≡ false → (frame : Frame) (callers : List Frame) → s.frames ≡ frame ∷ callers → (rest : List Entry) → frame.rest ≡ rest → point_at program s (first_of rest) ≡ p
-        → StandsAt program s p
+    by_rest : s.ended ≡ false → (frame : Frame) (callers : List Frame) → s.frames ≡ frame ∷ callers → (rest : List Entry) → frame.rest ≡ rest
+        → point_at program s (first_of rest) ≡ p → StandsAt program s p
     by_rest alive frame callers frames [] first is = absurd (inner (sym is))
     by_rest alive frame callers frames (Run statement ∷ rest) first is = record {
       statement = statement;
@@ -90,9 +91,6 @@ stands-at program s p inner ended is = let runs = if-ended s.ended (point_at pro
 pub in-next : {A : Type 0} (none : A) (f : What-F What Statement → A) (frames : List Frame) (statement : Statement) → next_of frames ≡ Some (Run statement)
     → in_next none f frames ≡ f (out-What statement.what)
 in-next none f frames statement next = ap (in_entry none f) next
-
-pub held-at : {program : Program} {s : ProgramState} {what : What-F What Statement} → AtCall program s what point.Answer → s.in_hand ≡ true
-held-at (at_reply buffer count held) = held
 
 pub free-at : {program : Program} {s : ProgramState} {what : What-F What Statement} → AtCall program s what point.Take → s.in_hand ≡ false
 free-at (at_read buffer most got free good) = free

@@ -1,5 +1,5 @@
 -- What the names of a text without faults stand for are parts of its program, of their kinds.
-use Rattle.std.proofs.Common.{◌≡◌, inl, inr, ℕ, ℤ, zero, suc, ◌<◌, ◌≤◌, arith, Bool, true, false, List, [], ◌∷◌, ◌++◌, length, slice_get, Option, Some, None, refl, ap, sym, ◌∙◌, subst}
+use Rattle.std.proofs.Common.{◌≡◌, ℕ, ℤ, zero, suc, ◌<◌, ◌≤◌, arith, Bool, true, false, List, [], ◌∷◌, ◌++◌, length, slice_get, Option, Some, None, refl, ap, sym, ◌∙◌, subst}
 use Rattle.std.proofs.lemmas.Option.{slice_get_within}
 use Rattle.tal_tokens.specs.declared.token.At.{At}
 use Rattle.tal_syntax.specs.Grammar as g
@@ -32,7 +32,7 @@ use Rattle.tal_laws.proofs.Known.{HasRoom, procedures_known}
 use Rattle.tal_faultless.proofs.Common.TextParts.{AreFaultless, faultless}
 use Rattle.tal_laws.proofs.WithinLimits.{procedures_within}
 use Rattle.tal_tree.specs.Named.{IsProcess}
-use Rattle.gd_words.specs.Members.{IsAmong}
+use Rattle.gd_words.proofs.Among.{among-at}
 use Rattle.tal_tree.specs.declared.program.Procedure.{Procedure}
 
 -- what the names of a scope stand for is there, and is of its kind
@@ -46,12 +46,6 @@ pub record AreThere (program : Program) (locals : ℕ) (s : Scope) : Type 0 wher
   pub single : (name other : List ℕ) (item again number : ℕ) → meaning_of s name ≡ Some (m.ProcessFile item number) → meaning_of s other ≡ Some (m.ProcessFile again number)
       → name ≡ other
   pub procedure : (name : List ℕ) (k : ℕ) (gives : Bool) (count : ℕ) → meaning_of s name ≡ Some (m.Procedure k gives count) → HasRoom program.procedures k count gives
-
--- what stands at a place of a list is one of it
-pub one_at : {A : Type 0} (xs : List A) (k : ℕ) (x : A) → slice_get xs k ≡ Some x → IsAmong x xs
-one_at [] k x there = absurd (cc there)
-one_at (y ∷ rest) zero x there = inl (let same : x ≡ y = cc there in same)
-one_at (y ∷ rest) (suc k) x there = inr (one_at rest k x there)
 
 -- an item that no OPEN names stays as it is
 item_at : (files : Declarations) (items : List Item) (k : ℕ) (name : List ℕ) (form : Shape) → slice_get items k ≡ Some (record { name = name; shape = form })
@@ -191,7 +185,7 @@ module _ (lines : g.Lines) (ps : g.Procedures) (finish : At) (fine : faults (g.t
       ap listed_name (sym one ∙ two)
 
   short : (k : ℕ) (procedure : Procedure) → slice_get (trees_of globals files.names first_progress ps) k ≡ Some procedure → length procedure.locals ≤ 12
-  short k procedure there = (procedures_within globals files.names first_progress ps (faultless lines ps finish fine).bodies procedure (one_at _ k procedure there)).locals
+  short k procedure there = (procedures_within globals files.names first_progress ps (faultless lines ps finish fine).bodies procedure (among-at _ k procedure there)).locals
 
   pub are_there : AreThere (tree_of (g.text lines ps finish)) (length texts) scope
   are_there = record {

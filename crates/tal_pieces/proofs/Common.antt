@@ -1,2 +1,2 @@
--- Small lemmas on faults, entries of lists and limits, for the other groups.
+-- Small lemmas on entries of lists, for the other groups.
 pub mod Entries

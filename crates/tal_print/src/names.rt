@@ -1,7 +1,7 @@
 ghost use Rattle.std.specs.Prelude.{◌≡◌};
 ghost use Rattle.std.specs.List.{position};
 ghost use Rattle.std.specs.Option.{option_copied};
-ghost use Rattle.tal_faultless.specs.Targets.{receives};
+ghost use Rattle.tal_tree.specs.Targets.{receives};
 ghost use Rattle.tal_pieces.specs.Printed.Names.{file_name, item_name, procedure_name, receive_name, variable_name};
 
 use gd_words::Ident;

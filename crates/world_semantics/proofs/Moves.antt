@@ -2,6 +2,7 @@
 use Rattle.std.proofs.Common.{◌≡◌, ℕ, ◌+◌, ◌==◌, ◌&&◌, Bool, true, false, List, [], ◌∷◌, map, Option, Some, None, slice_get, refl, ap, ◌∙◌}
 use Rattle.std.proofs.lemmas.Bool.{eqb-true}
 use Rattle.gd_words.specs.Members.{IsAmong}
+use Rattle.gd_words.proofs.Among.{among-at}
 use Rattle.gd_words.specs.declared.message.Request.{Request}
 use Rattle.gd_words.specs.declared.message.Reply.{Reply}
 use Rattle.tal_tree.specs.declared.act.Act.TheVariants as act
@@ -27,7 +28,6 @@ use Rattle.world_semantics.specs.Own.{by_reply}
 use Rattle.world_semantics.specs.Rules.{by_own, by_checkpoint, by_request, by_early_request, by_enter, by_print, by_stop, by_mark}
 use Rattle.world_semantics.specs.Follows.{marks_none, marks_one, Follows, runs, enters, delivers, ticks, fails, Leads, stays, goes_on}
 use Rattle.world_semantics.specs.Running.{run_done}
-use Rattle.world_semantics.proofs.Members.{at-place}
 use Rattle.world_semantics.proofs.Running.{enters-as}
 use Rattle.world_semantics.proofs.Roles.{both-true}
 use Rattle.world_semantics.proofs.Ran.{run-may}
@@ -110,7 +110,7 @@ abbrev bring_move : (site : Site) (w : World) (place : ℕ) (k : Which) → Perh
 bring_move site w place k =
     with_reason (slice_get w.requests place) (λ request sent.
     with_reason (slice_get w.processes request.process) (λ pair there.
-    bring_as site w request k pair (copy_of k pair).role (at-place w.requests place request sent) there refl))
+    bring_as site w request k pair (copy_of k pair).role (among-at w.requests place request sent) there refl))
 
 abbrev is_opener : Opener → Reply → Bool
 is_opener opener reply = opener.server == reply.process && opener.place == reply.opener
@@ -132,7 +132,7 @@ print_move site w place number =
       world = _;
       sendings = _;
       follows =
-          delivers _ _ (by_print number terminal reply there (eqb-true _ _ awaits) (at-place w.replies place reply sent)
+          delivers _ _ (by_print number terminal reply there (eqb-true _ _ awaits) (among-at w.replies place reply sent)
           (opens ∙ ap Some (opener-is opener reply own)) (eqb-true _ _ same));
     })))))))
 
@@ -162,7 +162,7 @@ abbrev get_move : (site : Site) (w : World) (number place : ℕ) (k : Which) →
 get_move site w number place k =
     with_reason (slice_get w.replies place) (λ reply sent.
     with_reason (slice_get w.processes number) (λ pair there.
-    get_as site w number reply k pair (copy_of k pair).role there (at-place w.replies place reply sent) refl))
+    get_as site w number reply k pair (copy_of k pair).role there (among-at w.replies place reply sent) refl))
 
 abbrev apply_as : (site : Site) (w : World) (number : ℕ) (message : ImageMessage) (k : Which) (pair : Pair) (role : Role) → slice_get w.processes number ≡ Some pair
     → IsAmong message pair.checkpoints → (copy_of k pair).role ≡ role → Perhaps site w (event.Deliver false 0)
@@ -181,7 +181,7 @@ abbrev apply_move : (site : Site) (w : World) (number place : ℕ) (k : Which) �
 apply_move site w number place k =
     with_reason (slice_get w.processes number) (λ pair there.
     with_reason (slice_get pair.checkpoints place) (λ message sent.
-    apply_as site w number message k pair (copy_of k pair).role there (at-place pair.checkpoints place message sent) refl))
+    apply_as site w number message k pair (copy_of k pair).role there (among-at pair.checkpoints place message sent) refl))
 
 abbrev tell_as : (site : Site) (w : World) (number : ℕ) (taken : TakenMessage) (k : Which) (pair : Pair) (role : Role) → slice_get w.processes number ≡ Some pair
     → IsAmong taken pair.takens → (copy_of k pair).role ≡ role → Perhaps site w (event.Deliver false 0)
@@ -200,7 +200,7 @@ abbrev tell_move : (site : Site) (w : World) (number place : ℕ) (k : Which) �
 tell_move site w number place k =
     with_reason (slice_get w.processes number) (λ pair there.
     with_reason (slice_get pair.takens place) (λ taken sent.
-    tell_as site w number taken k pair (copy_of k pair).role there (at-place pair.takens place taken sent) refl))
+    tell_as site w number taken k pair (copy_of k pair).role there (among-at pair.takens place taken sent) refl))
 
 abbrev fail_as : (site : Site) (w : World) (processor : ℕ) (stopped : Option Bool) → slice_get w.stopped processor ≡ stopped → Perhaps site w (event.Fail processor)
 fail_as site w processor (Some false) e = Some (record { world = _; sendings = _; follows = fails (by_stop processor e) })

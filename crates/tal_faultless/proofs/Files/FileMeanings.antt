@@ -11,7 +11,7 @@ use Rattle.tal_rules.specs.Calls.{string_faults}
 use Rattle.tal_declarations.specs.Files as files
 use Rattle.tal_declarations.specs.Files.{file_by, target_of, with_file}
 use Rattle.tal_names.specs.Names.{is_declared}
-use Rattle.tal_faultless.specs.Targets.{is_receive}
+use Rattle.tal_tree.specs.Targets.{is_receive}
 use Rattle.tal_faultless.proofs.Common.Faultless.{no_fault, split}
 
 -- what the variable of a file opened to a target is declared as

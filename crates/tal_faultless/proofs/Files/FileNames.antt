@@ -20,7 +20,7 @@ use Rattle.tal_declarations.specs.Files.{is_receive, file_by, target_of, with_fi
 use Rattle.tal_names.specs.Names.{Declarations, meaning_in, is_declared}
 use Rattle.tal_names.specs.Places.{name_of_argument, front_name_of_argument, first_of_argument}
 use Rattle.tal_rules.specs.Statements.{next_file}
-use Rattle.tal_faultless.specs.Targets as targets
+use Rattle.tal_tree.specs.Targets as targets
 use Rattle.tal_faultless.proofs.Files.FileGlobals.{global_is}
 use Rattle.tal_faultless.proofs.Files.FileMeanings.{file_meaning}
 use Rattle.tal_faultless.proofs.Scopes.SourceScopes.{without_files}

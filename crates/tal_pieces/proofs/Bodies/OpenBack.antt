@@ -29,7 +29,7 @@ use Rattle.tal_pieces.specs.declared.piece.Piece.{Piece}
 use Rattle.tal_pieces.specs.declared.piece.Piece.TheVariants as piece
 use Rattle.tal_pieces.specs.Cuts.{AreTokens}
 use Rattle.tal_pieces.specs.Printed.Names.{named, item_name, target_piece}
-use Rattle.tal_faultless.specs.Targets.{is_receive}
+use Rattle.tal_tree.specs.Targets.{is_receive}
 use Rattle.tal_pieces.specs.Printed.Statements.{comma, close, open_pieces, what_pieces}
 use Rattle.tal_pieces.proofs.Values.Back.{first}
 use Rattle.tal_pieces.proofs.Bodies.Fronts.{behind}

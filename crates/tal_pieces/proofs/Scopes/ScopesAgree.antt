@@ -25,7 +25,7 @@ use Rattle.tal_names.specs.Scopes.{or_else, meaning_of}
 use Rattle.tal_rules.specs.Texts.{faults, headed_text, files_by, locals_by, after_procedure, first_progress, heading_locals_faults}
 use Rattle.tal_trees.specs.Programs.{items_with, texts_of, name_by, parameters_by, trees_of, tree_of_procedure, tree_of}
 use Rattle.tal_pieces.specs.Printed.Names.{item_name, procedure_name, file_name, receive_name}
-use Rattle.tal_faultless.specs.Targets.{is_receive, receives}
+use Rattle.tal_tree.specs.Targets.{is_receive, receives}
 use Rattle.tal_pieces.proofs.Scopes.Agreement.{Agreement, is_literal, without_literals}
 use Rattle.tal_pieces.proofs.Scopes.DeclaredNames.{lasting_in}
 use Rattle.tal_faultless.proofs.Scopes.Declared.{meaning_there}

@@ -26,7 +26,7 @@ use Rattle.tal_pieces.specs.declared.rank.TestRank.TheVariants as test
 use Rattle.tal_pieces.specs.declared.rank.ValueRank.TheVariants as value
 use Rattle.tal_pieces.proofs.Values.Depths.{value_depth, spot_depth}
 use Rattle.tal_pieces.specs.Printed.Names.{item_name, procedure_name, file_name, receive_name}
-use Rattle.tal_faultless.specs.Targets.{is_receive}
+use Rattle.tal_tree.specs.Targets.{is_receive}
 use Rattle.tal_pieces.proofs.Values.ReadsBack.{StandsFor, IsNamed, IsNamedSpot}
 use Rattle.tal_pieces.proofs.Values.TestDepths.{test_depth}
 use Rattle.tal_pieces.proofs.Values.TestsReadBack.{IsNamedTest}

@@ -25,7 +25,7 @@ use Rattle.tal_pieces.specs.declared.rank.TestRank.TheVariants as test
 use Rattle.tal_pieces.specs.Cuts.{IsSpellable, AreSpellable}
 use Rattle.tal_pieces.specs.Printed.Expressions.{opening, closing, value_needs, left_rank, right_rank, and_needs, or_needs, value_pieces, spot_pieces, test_pieces, more_values, arguments}
 use Rattle.tal_pieces.specs.Printed.Names.{named, item_name, variable_name, procedure_name, file_name, receive_name, target_piece}
-use Rattle.tal_faultless.specs.Targets.{receives}
+use Rattle.tal_tree.specs.Targets.{receives}
 use Rattle.tal_pieces.specs.Printed.Statements.{what_pieces, inner_pieces, more_statements, body_pieces, more_files, more_items, kept, open_pieces}
 use Rattle.tal_pieces.proofs.Values.Layers.{pieces_read, pieces_minus, pieces_two, pieces_not, pieces_and, pieces_or, pieces_if, pieces_while, pieces_for}
 use Rattle.tal_pieces.proofs.Common.Entries.{Each}

@@ -9,7 +9,7 @@ use Rattle.tal_tree.specs.declared.program.Target.{Target}
 use Rattle.tal_tree.specs.declared.program.Target.TheVariants as target
 use Rattle.tal_pieces.specs.declared.piece.Piece.{Piece}
 use Rattle.tal_pieces.specs.declared.piece.Piece.TheVariants as piece
-use Rattle.tal_faultless.specs.Targets.{receives}
+use Rattle.tal_tree.specs.Targets.{receives}
 
 -- a name, where there is one
 abbrev pub named : Option (List ℕ) → List Piece → List Piece
