@@ -1,3 +1,4 @@
+pub mod Behaving
 pub mod Layout
 pub mod Reading
 pub mod Receive

@@ -1,18 +1,21 @@
-//! What a checkpoint carries: the words of an image, the files that it names with their numbers, and the receive table; and the
-//! words in which a checkpoint goes.
+//! Processes as a machine of copies sees them: `Behaviour`, the one interface to programs and discs; and what a checkpoint
+//! carries: the words of an image, the files that it names with their numbers, and the receive table, and the words in which it
+//! goes.
 //!
-//! Below stand `gd_words` with requests and replies, and of `process_semantics` how numbers and counted words stand in words. The
-//! layers above use the types, and of `specs/Receive.antt` how a request that comes stands to a receive table, what taking and
-//! answering change in one, and which requests wait; and that a checkpoint has its words and words at most one checkpoint
-//! (`to_words`, `from_words`).
+//! Below stand `gd_words` with requests and replies, `process_semantics` with the states of processes, their steps and images,
+//! and `whole_states`, which says what may be listed. The layers above use the types; of `Behaviour`, that each call is the step of
+//! its definition; of `specs/Receive.antt` how a request that comes stands to a receive table, what taking and answering change in
+//! one, and which requests wait; and that a checkpoint has its words and words at most one checkpoint (`to_words`, `from_words`).
 #![tactic(auto)]
 
+pub mod behaviour;
 pub mod layout;
 pub mod message;
-mod putting;
+pub mod putting;
 mod reading;
 pub mod receive;
 
+pub use behaviour::{Behaviour, Listed};
 pub use layout::{from_words, to_words, words_tell_their_message};
 pub use message::{FileNumber, Image, ImageMessage, TakenMessage};
 pub use receive::{OpenerBlock, ReceiveBlock, Standing};

@@ -23,7 +23,8 @@ fn pattern(number: u16) -> i16
     number.cast_signed()
 }
 
-fn put_long(number: u32, out: &mut List<i16>) -> Result<(), NoMemory>
+/// Puts a number of 32 bits behind words.
+pub fn put_long(number: u32, out: &mut List<i16>) -> Result<(), NoMemory>
     ensures { OnOk result (out.new ≡ out.old ++ long number) }
 {
     out.push(pattern((number / 65_536) as u16))?;
@@ -31,7 +32,8 @@ fn put_long(number: u32, out: &mut List<i16>) -> Result<(), NoMemory>
     Ok(())
 }
 
-fn put_counted(words: &[i16], out: &mut List<i16>) -> Result<(), NoMemory>
+/// Puts words, with how many they are, behind others.
+pub fn put_counted(words: &[i16], out: &mut List<i16>) -> Result<(), NoMemory>
     requires { length words.now ≤ 32767 }
     ensures { OnOk result (out.new ≡ out.old ++ counted words.now) }
 {

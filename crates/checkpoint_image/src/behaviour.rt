@@ -1,0 +1,94 @@
+ghost use Rattle.std.specs.Prelude.{◌≡◌, ◌+◌, ◌<◌, ◌^◌, IfOk, Some, None};
+ghost use Rattle.std.specs.Bool.{OnTrue, OnFalse};
+ghost use Rattle.process_semantics.specs.declared.point.Point.TheVariants.{Inner, Take, Ask, Await, Answer, Mark, Device};
+ghost use Rattle.process_semantics.specs.Image.{image_of, listed_items, listed_files, restored};
+ghost use Rattle.process_semantics.specs.Process.{ProcessState, point, in_hand, after_inner, after_took, asked_file, asked_words, after_asked, after_got, answer_of, after_answered, after_mark, call_of, after_device};
+ghost use Rattle.whole_states.specs.Listing.{MayList};
+ghost use Rattle.checkpoint_image.specs.Behaving.{last_write_of};
+
+use gd_words::{DeviceCall, List, NoMemory, Sector, Words};
+use process_semantics::{Asked, Point};
+use std::alloc::Global;
+
+/// What a checkpoint names: items and files by their numbers, in the order in which they stand in it.
+#[derive(Drop)]
+pub struct Listed {
+    pub items: List<u16>,
+    pub files: List<u8>,
+}
+
+/// A process, program or disc, seen from the machine that runs it: where it stands, its step there, and its image, as in
+/// Bartlett's "A NonStop Kernel". No call but `image` takes memory.
+pub trait Behaviour: Drop {
+    ghost state: { Self → ProcessState };
+
+    /// Where it stands, which says what its next step is.
+    fn at(&self) -> Point
+        ensures { result ≡ point (state self.now) };
+
+    /// Whether a request is in hand.
+    fn in_hand(&self) -> bool
+        ensures { result ≡ in_hand (state self.now) };
+
+    /// The step inside.
+    fn inner(&mut self)
+        requires { point (state self.old) ≡ Inner }
+        ensures { state self.new ≡ after_inner (state self.old) };
+
+    /// Takes a request.
+    fn took(&mut self, words: &Words)
+        requires { point (state self.old) ≡ Take }
+        ensures { state self.new ≡ after_took (state self.old) words.now };
+
+    /// Asks on a file, and awaits the reply from now on.
+    fn asked(&mut self) -> Asked
+        requires { point (state self.old) ≡ Ask }
+        ensures file { result.file ≡ asked_file (state self.old) }
+        ensures words { result.words ≡ asked_words (state self.old) }
+        ensures state { state self.new ≡ after_asked (state self.old) };
+
+    /// Gets the reply that it awaits.
+    fn got(&mut self, words: &Words)
+        requires { point (state self.old) ≡ Await }
+        ensures { state self.new ≡ after_got (state self.old) words.now };
+
+    /// Answers the request in hand.
+    fn answered(&mut self) -> Words
+        requires { point (state self.old) ≡ Answer }
+        ensures words { result ≡ answer_of (state self.old) }
+        ensures state { state self.new ≡ after_answered (state self.old) };
+
+    /// What it does to its device.
+    fn device(&self) -> DeviceCall
+        requires point { point (state self.now) ≡ Device }
+        requires numbers { last_write_of (state self.now) + 1 < 2 ^ 32 }
+        ensures { result ≡ call_of (state self.now) };
+
+    /// The step at its device, with the words that stood on the sector.
+    fn device_done(&mut self, found: &Sector)
+        requires point { point (state self.old) ≡ Device }
+        requires numbers { last_write_of (state self.old) + 1 < 2 ^ 32 }
+        ensures { state self.new ≡ after_device (state self.old) found.now };
+
+    /// What it names at a mark.
+    fn listed(&self) -> &Listed
+        requires { point (state self.now) ≡ Mark }
+        ensures items { result.now.items ≡ listed_items (state self.now) }
+        ensures files { result.now.files ≡ listed_files (state self.now) };
+
+    /// Goes on after a mark.
+    fn marked(&mut self)
+        requires { point (state self.old) ≡ Mark }
+        ensures { state self.new ≡ after_mark (state self.old) };
+
+    /// The words of its image with what is listed: at a mark that of the state after it.
+    fn image(&self, alloc: Global, listed: &Listed) -> Result<List<i16>, NoMemory>
+        requires { MayList (state self.now) listed.now.items listed.now.files }
+        ensures { IfOk result (λ words. words ≡ image_of listed.now.items (state self.now)) };
+
+    /// Puts an image into it, with a request in hand or none; false where the words are no image of it, and then nothing changes.
+    fn apply(&mut self, words: &[i16], in_hand: bool) -> bool
+        ensures applied { OnTrue result (restored (state self.old) in_hand words.now ≡ Some (state self.new)) }
+        ensures refused { OnFalse result (restored (state self.old) in_hand words.now ≡ None) }
+        ensures unchanged { OnFalse result (state self.new ≡ state self.old) };
+}
