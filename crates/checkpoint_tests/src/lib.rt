@@ -1,7 +1,9 @@
-//! Tests of the layout of checkpoints: a checkpoint's words both ways, and words that no checkpoint has.
+//! Tests of checkpoints: their words both ways, words that no checkpoint has, and a disc that goes on in the other copy.
 //!
 //! Below stand the crates that are tested; nothing stands above.
 #![tactic(auto)]
 
+#[cfg(test)]
+mod disc;
 #[cfg(test)]
 mod layout;
