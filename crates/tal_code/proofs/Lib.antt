@@ -1,0 +1,5 @@
+pub mod Growing
+pub mod Places
+pub mod Room
+pub mod Shown
+pub mod Tops

@@ -1,0 +1,4 @@
+pub mod Parts
+pub mod Room
+pub mod Spots
+pub mod Words
