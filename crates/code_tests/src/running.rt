@@ -1,0 +1,94 @@
+use gd_words::{Boxed, Ident, List, NoMemory};
+use std::alloc::Global;
+use std::test::Fail;
+use tal_code::{
+    cell, code_of, limit_code_of, next_code_of, spot_code_of, test_code_of, truth, value,
+};
+use tal_tree::{Cond, Expr, Item, Op, Shape, Spot, Variable};
+use tal_values::{Cell, Memory};
+
+fn nothing() -> Memory<'static> {
+    Memory {
+        items: &[],
+        globals: &[],
+        locals: &[],
+    }
+}
+
+fn two(alloc: Global, op: Op, left: Expr, right: Expr) -> Result<Expr, NoMemory> {
+    let left = Boxed::new(alloc, left)?;
+    let right = Boxed::new(alloc, right)?;
+    Ok(Expr::Two { op, left, right })
+}
+
+/// `1 / 0`
+fn trap(alloc: Global) -> Result<Expr, NoMemory> {
+    two(alloc, Op::Div, Expr::Number(1), Expr::Number(0))
+}
+
+#[test]
+fn code_gives_the_value_of_its_expression(rt: HostRuntime) -> Result<(), Fail> {
+    let alloc = rt.alloc();
+    let left = two(alloc, Op::Sub, Expr::Number(5), Expr::Number(3))?;
+    let right = two(alloc, Op::Mul, Expr::Number(2), Expr::Number(-4))?;
+    let expr = two(alloc, Op::Mul, left, right)?;
+    let code = code_of(alloc, &expr)?;
+    assert!(rt; value(nothing(), &code) == Some(-16));
+    let code = code_of(alloc, &trap(alloc)?)?;
+    assert!(rt; value(nothing(), &code).is_none());
+    Ok(())
+}
+
+#[test]
+fn a_trap_that_nobody_looks_at_is_none(rt: HostRuntime) -> Result<(), Fail> {
+    let alloc = rt.alloc();
+    let left = Boxed::new(alloc, Cond::Truth(Expr::Number(0)))?;
+    let right = Boxed::new(alloc, Cond::Truth(trap(alloc)?))?;
+    let code = test_code_of(alloc, &Cond::And(left, right))?;
+    assert!(rt; truth(nothing(), &code) == Some(false));
+    let left = Boxed::new(alloc, Cond::Truth(Expr::Number(0)))?;
+    let right = Boxed::new(alloc, Cond::Truth(trap(alloc)?))?;
+    let code = test_code_of(alloc, &Cond::Or(left, right))?;
+    assert!(rt; truth(nothing(), &code).is_none());
+    Ok(())
+}
+
+#[test]
+fn spots_and_variables_have_code(rt: HostRuntime) -> Result<(), Fail> {
+    let alloc = rt.alloc();
+    let name = Ident::read(b"A").ok_or("no identifier")?;
+    let items = [Item {
+        name,
+        shape: Shape::Array { low: -1, high: 1 },
+    }];
+    let globals = [List::from_vec(vec![in alloc; 10, 20, 30]?)];
+    let memory = Memory {
+        items: &items,
+        globals: &globals,
+        locals: &[1, 32_767],
+    };
+    let index = Expr::Read(Boxed::new(alloc, Spot::Local(0))?);
+    let spot = spot_code_of(alloc, &Spot::Element { item: 0, index })?;
+    assert!(rt; cell(memory, &spot) == Some(Cell::Global { item: 0, offset: 2 }));
+    let index = Expr::Number(2);
+    let spot = spot_code_of(alloc, &Spot::Element { item: 0, index })?;
+    assert!(rt; cell(memory, &spot).is_none());
+    let limit = limit_code_of(alloc, Variable::Local(0), &Expr::Number(1))?;
+    assert!(rt; truth(memory, &limit) == Some(true));
+    let next = next_code_of(alloc, Variable::Local(1))?;
+    assert!(rt; value(memory, &next) == Some(-32_768));
+    Ok(())
+}
+
+#[test]
+fn long_chains_need_no_stack(rt: HostRuntime) -> Result<(), Fail> {
+    let alloc = rt.alloc();
+    let mut sum = Expr::Number(0);
+    for _ in 0..150_000 {
+        let right = two(alloc, Op::Mul, Expr::Number(1), Expr::Number(1))?;
+        sum = two(alloc, Op::Add, sum, right)?;
+    }
+    let code = code_of(alloc, &sum)?;
+    assert!(rt; value(nothing(), &code) == Some(18_928));
+    Ok(())
+}
