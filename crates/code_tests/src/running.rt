@@ -92,3 +92,26 @@ fn long_chains_need_no_stack(rt: HostRuntime) -> Result<(), Fail> {
     assert!(rt; value(nothing(), &code) == Some(18_928));
     Ok(())
 }
+
+/// `1 - -(1 - -(1 - -1))` and so on, in which so many left sides wait for right sides that are no numbers.
+fn nested(alloc: Global, depth: usize) -> Result<Expr, NoMemory> {
+    let mut expr = Expr::Number(1);
+    for _ in 0..depth {
+        expr = two(
+            alloc,
+            Op::Sub,
+            Expr::Number(1),
+            Expr::Minus(Boxed::new(alloc, expr)?),
+        )?;
+    }
+    Ok(expr)
+}
+
+#[test]
+fn seventy_nine_left_sides_wait_for_their_right_ones(rt: HostRuntime) -> Result<(), Fail> {
+    let alloc = rt.alloc();
+    let code = code_of(alloc, &nested(alloc, 79)?)?;
+    assert!(rt; value(nothing(), &code) == Some(80));
+    assert!(rt; code_of(alloc, &nested(alloc, 80)?).is_err());
+    Ok(())
+}
