@@ -12,7 +12,8 @@ use Rattle.tal_values.proofs.ValueSteps.{value-read, value-two}
 use Rattle.process_semantics.specs.Changes.{variable_cell, variable_of}
 use Rattle.process_semantics.specs.State.{Entry, Run, Test, Last, Frame, ProgramState, memory_of, rest_of, runs_of}
 use Rattle.process_semantics.specs.Steps.{tested, for_begun, counted_up, tested_in, counted_in, goes_round, inner_in, inner, or_ends, result_of}
-use Rattle.program_deeds.specs.Deed.{Deed, spot_of, deed_run, deed_test, deed_last, deed_of}
+use Rattle.tal_values.specs.Spots.{spot_of}
+use Rattle.program_deeds.specs.Deed.{Deed, deed_run, deed_test, deed_last, deed_of}
 use Rattle.program_deeds.specs.Doing.{stored, chosen, deed_inner}
 use Rattle.program_deeds.proofs.Given.{assigned-goes, returned-gives}
 

@@ -6,11 +6,11 @@ use Rattle.tal_tree.specs.declared.expression.Expr.{Expr}
 use Rattle.tal_tree.specs.declared.expression.Expr.TheVariants.{Number, Read, Two}
 use Rattle.tal_tree.specs.declared.expression.Op.TheVariants.{Add}
 use Rattle.tal_tree.specs.declared.expression.Rel.TheVariants.{AtMost}
-use Rattle.tal_tree.specs.declared.expression.Spot.{Spot, Local, Simple}
+use Rattle.tal_tree.specs.declared.expression.Spot.{Spot}
 use Rattle.tal_tree.specs.declared.expression.Variable.{Variable}
-use Rattle.tal_tree.specs.declared.expression.Variable.TheVariants as variable
 use Rattle.tal_tree.specs.declared.statement.Statement.{Statement}
 use Rattle.tal_tree.specs.declared.statement.What.{What, What-F, out-What}
+use Rattle.tal_values.specs.Spots.{spot_of}
 use Rattle.process_semantics.specs.State.{Entry, Run, Test, Last, runs_of}
 
 -- what is done at an entry. An assignment and a test have the entries that come next. Where any other deed goes on in its procedure,
@@ -36,11 +36,6 @@ pub data Deed : Type 0 where
   Answers : ℕ → Expr → Deed
   -- CHECKPOINT: the items and the files that it names
   Marks : List ℕ → List ℕ → Deed
-
--- a simple variable as a spot
-abbrev pub spot_of : Variable → Spot
-spot_of (variable.Local local) = Local local
-spot_of (variable.Simple item) = Simple item
 
 -- what is done at a statement, where these entries stand after it
 abbrev pub deed_run : List Entry → Statement → What-F What Statement → Deed

@@ -1,6 +1,4 @@
--- The spots that codes and variables stand for.
-use Rattle.tal_tree.specs.declared.expression.Variable.{Variable}
-use Rattle.tal_tree.specs.declared.expression.Variable.TheVariants as variable
+-- The spots that codes stand for.
 use Rattle.tal_tree.specs.declared.expression.Spot.{Spot}
 use Rattle.tal_tree.specs.declared.expression.Spot.TheVariants as spot
 use Rattle.tal_code.specs.declared.spot.Aim.{Aim}
@@ -11,8 +9,3 @@ abbrev pub spot_in : Aim → Spot
 spot_in (aim.Local k) = spot.Local k
 spot_in (aim.Simple item) = spot.Simple item
 spot_in (aim.Element item index) = spot.Element item index
-
--- the spot of a simple variable
-abbrev pub spot_of : Variable → Spot
-spot_of (variable.Local k) = spot.Local k
-spot_of (variable.Simple item) = spot.Simple item

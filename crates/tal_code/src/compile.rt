@@ -2,9 +2,9 @@ ghost use Rattle.std.specs.Prelude.{◌≡◌, pos, IfOk, OnOk, IfSome};
 ghost use Rattle.tal_tree.specs.declared.expression.Expr.TheVariants as expr;
 ghost use Rattle.tal_tree.specs.declared.expression.Cond.TheVariants as cond;
 ghost use Rattle.tal_values.specs.Chain.{expr_of, cond_of};
+ghost use Rattle.tal_values.specs.Spots.{spot_of};
 ghost use Rattle.tal_code.specs.Words.{operand_expr};
 ghost use Rattle.tal_code.specs.Parts.{Valued, Tested, with_part, two_part, compared_part, joined_part};
-ghost use Rattle.tal_code.specs.Spots.{spot_of};
 
 use crate::code::{Code, Draft, TestCode};
 use crate::spot::{Aim, SpotCode};

@@ -6,7 +6,7 @@ ghost use Rattle.tal_code.specs.Spots.{spot_in};
 use crate::code::{Code, TestCode};
 use crate::run::run;
 use crate::spot::{Aim, SpotCode};
-use crate::work::element_cell;
+use tal_values::operators::element;
 use tal_values::{Cell, Memory};
 
 /// The value of an expression. None is a trap: a zero divisor, or an index outside the bounds of its array.
@@ -40,6 +40,6 @@ fn aim_cell(memory: Memory<'_>, aim: &Aim) -> Option<Cell>
             let item = *item;
             Some(Cell::Global { item, offset: 0 })
         }
-        Aim::Element { item, index } => element_cell(memory, *item, value(memory, index)),
+        Aim::Element { item, index } => element(memory, *item, value(memory, index)),
     }
 }

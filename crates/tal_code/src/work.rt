@@ -1,14 +1,13 @@
-ghost use Rattle.std.specs.Prelude.{◌≡◌, length, neg_ℤ, option_map, option_and_then};
-ghost use Rattle.gd_words.specs.Arithmetic.{wrap};
+ghost use Rattle.std.specs.Prelude.{◌≡◌, length};
 ghost use Rattle.tal_values.specs.Seen.{seen};
-ghost use Rattle.tal_values.specs.Value.{value_of, both, holds, result_of, place_of, word_at};
+ghost use Rattle.tal_values.specs.Value.{value_of};
 ghost use Rattle.tal_code.specs.Words.{operand_expr, element_word, truth_word, compared_word, not_word, and_word, or_word, as_word, words_after, light_word};
 ghost use Rattle.tal_code.specs.Room.{IsRoom};
 
 use crate::stack::Stack;
 use crate::step::{Operand, Step};
-use gd_words::{div_trunc, wrap_add, wrap_mul, wrap_neg, wrap_sub};
-use tal_tree::{Op, Rel};
+use tal_tree::Rel;
+use tal_values::operators::{applied, element, holds, negated};
 use tal_values::{Cell, Memory};
 
 /// Makes one step of code.
@@ -24,7 +23,7 @@ pub fn work(memory: Memory<'_>, step: Step, stack: &mut Stack)
             stack.set_top(applied(op, left, stack.top()));
         }
         Step::Minus => stack.set_top(negated(stack.top())),
-        Step::Element(item) => stack.set_top(element(memory, item, stack.top())),
+        Step::Element(item) => stack.set_top(element_word(memory, item, stack.top())),
         Step::Truth => stack.set_top(truth_word(stack.top())),
         Step::CompareWith(rel, operand) => {
             stack.set_top(compared(rel, stack.top(), word(memory, operand)));
@@ -52,7 +51,7 @@ pub fn light_word(memory: Memory<'_>, step: Step, top: Option<i16>) -> Option<Op
     match step {
         Step::With(op, operand) => Some(applied(op, top, word(memory, operand))),
         Step::Minus => Some(negated(top)),
-        Step::Element(item) => Some(element(memory, item, top)),
+        Step::Element(item) => Some(element_word(memory, item, top)),
         Step::Truth => Some(truth_word(top)),
         Step::CompareWith(rel, operand) => Some(compared(rel, top, word(memory, operand))),
         Step::Not => Some(not_word(top)),
@@ -71,38 +70,12 @@ pub fn word(memory: Memory<'_>, operand: Operand) -> Option<i16>
     }
 }
 
-/// The cell of the element of an item at an index.
-pub fn element_cell(memory: Memory<'_>, item: u16, index: Option<i16>) -> Option<Cell>
-    ensures { result ≡ option_map (Cell.Global item) (option_and_then (place_of (seen memory.entry) item) index) }
-{
-    let offset = memory.place(item, index?)?;
-    Some(Cell::Global { item, offset })
-}
-
-fn element(memory: Memory<'_>, item: u16, index: Option<i16>) -> Option<i16>
+/// The word of the element of an item at an index.
+fn element_word(memory: Memory<'_>, item: u16, index: Option<i16>) -> Option<i16>
     ensures { result ≡ element_word (seen memory.entry) item index }
 {
-    let cell = element_cell(memory, item, index)?;
+    let cell = element(memory, item, index)?;
     memory.word(cell)
-}
-
-fn applied(op: Op, left: Option<i16>, right: Option<i16>) -> Option<i16>
-    ensures { result ≡ both (result_of op) left right }
-{
-    let left = left?;
-    let right = right?;
-    match op {
-        Op::Add => Some(wrap_add(left, right)),
-        Op::Sub => Some(wrap_sub(left, right)),
-        Op::Mul => Some(wrap_mul(left, right)),
-        Op::Div => div_trunc(left, right),
-    }
-}
-
-fn negated(word: Option<i16>) -> Option<i16>
-    ensures { result ≡ option_map (λ x. wrap (neg_ℤ x)) word }
-{
-    Some(wrap_neg(word?))
 }
 
 fn as_word(truth: bool) -> i16
@@ -145,17 +118,4 @@ fn compared(rel: Rel, left: Option<i16>, right: Option<i16>) -> Option<i16>
     let left = left?;
     let right = right?;
     Some(as_word(holds(rel, left, right)))
-}
-
-fn holds(rel: Rel, left: i16, right: i16) -> bool
-    ensures { result ≡ holds rel left right }
-{
-    match rel {
-        Rel::Equal => left == right,
-        Rel::Differs => left != right,
-        Rel::Less => left < right,
-        Rel::AtMost => left <= right,
-        Rel::Greater => left > right,
-        Rel::AtLeast => left >= right,
-    }
 }

@@ -1,3 +1,4 @@
 pub mod Chain
 pub mod Seen
+pub mod Spots
 pub mod Value

@@ -7,6 +7,7 @@ ghost use Rattle.tal_values.specs.Value.{both, holds, truth_of};
 use crate::chain::{Junction, Link, Test, cond_chain};
 use crate::expression::value;
 use crate::memory::Memory;
+use crate::operators::holds;
 use gd_words::NoMemory;
 use std::alloc::Global;
 use tal_tree::{Cond, Rel};
@@ -90,17 +91,4 @@ fn compared(rel: Rel, left: Option<i16>, right: Option<i16>) -> Option<bool>
     let left = left?;
     let right = right?;
     Some(holds(rel, left, right))
-}
-
-fn holds(rel: Rel, left: i16, right: i16) -> bool
-    ensures { result ≡ holds rel left right }
-{
-    match rel {
-        Rel::Equal => left == right,
-        Rel::Differs => left != right,
-        Rel::Less => left < right,
-        Rel::AtMost => left <= right,
-        Rel::Greater => left > right,
-        Rel::AtLeast => left >= right,
-    }
 }

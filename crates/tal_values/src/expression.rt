@@ -1,14 +1,14 @@
-ghost use Rattle.std.specs.Prelude.{◌≡◌, neg_ℤ, IfOk, option_map, option_and_then};
-ghost use Rattle.gd_words.specs.Arithmetic.{wrap};
+ghost use Rattle.std.specs.Prelude.{◌≡◌, IfOk, option_and_then};
 ghost use Rattle.tal_values.specs.Chain.{expr_of};
 ghost use Rattle.tal_values.specs.Seen.{seen};
-ghost use Rattle.tal_values.specs.Value.{both, cell_of, place_of, result_of, value_of, word_at};
+ghost use Rattle.tal_values.specs.Value.{cell_of, value_of, word_at};
 
 use crate::chain::{Operand, expr_chain};
 use crate::memory::{Cell, Memory};
-use gd_words::{NoMemory, div_trunc, wrap_add, wrap_mul, wrap_neg, wrap_sub};
+use crate::operators::{applied, element, negated};
+use gd_words::NoMemory;
 use std::alloc::Global;
-use tal_tree::{Expr, Op, Spot};
+use tal_tree::{Expr, Spot};
 
 /// The value of an expression. None is a trap: a zero divisor, or an index outside the bounds of its array.
 #[cycle(value)]
@@ -60,34 +60,8 @@ fn operand(alloc: Global, memory: Memory<'_>, first: Operand<'_>) -> Result<Opti
     }
 }
 
-fn element(memory: Memory<'_>, item: u16, index: Option<i16>) -> Option<Cell>
-    ensures { result ≡ option_map (Cell.Global item) (option_and_then (place_of (seen memory.entry) item) index) }
-{
-    let offset = memory.place(item, index?)?;
-    Some(Cell::Global { item, offset })
-}
-
 fn read(memory: Memory<'_>, cell: Option<Cell>) -> Option<i16>
     ensures { result ≡ option_and_then (word_at (seen memory.entry)) cell }
 {
     memory.word(cell?)
-}
-
-fn negated(value: Option<i16>) -> Option<i16>
-    ensures { result ≡ option_map (λ x. wrap (neg_ℤ x)) value }
-{
-    Some(wrap_neg(value?))
-}
-
-fn applied(op: Op, left: Option<i16>, right: Option<i16>) -> Option<i16>
-    ensures { result ≡ both (result_of op) left right }
-{
-    let left = left?;
-    let right = right?;
-    match op {
-        Op::Add => Some(wrap_add(left, right)),
-        Op::Sub => Some(wrap_sub(left, right)),
-        Op::Mul => Some(wrap_mul(left, right)),
-        Op::Div => div_trunc(left, right),
-    }
 }
