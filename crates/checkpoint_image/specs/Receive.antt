@@ -46,9 +46,13 @@ abbrev pub standing_by : Bool → Option OpenerBlock → ℕ → Standing
 standing_by held None number = Old
 standing_by held (Some block) number = standing_in held block number
 
+-- how a number of the opener at a place stands to a receive table
+abbrev pub standing_at : ReceiveBlock → ℕ → ℕ → Standing
+standing_at table opener number = standing_by (holds table opener) (slice_get table.openers opener) number
+
 -- how a request stands to a receive table
 abbrev pub standing : ReceiveBlock → Request → Standing
-standing table request = standing_by (holds table request.opener) (slice_get table.openers request.opener) request.number
+standing table request = standing_at table request.opener request.number
 
 -- Taking and answering
 
