@@ -12,6 +12,7 @@ use Rattle.process_semantics.specs.declared.point.Point.{Point}
 use Rattle.process_semantics.specs.declared.point.Point.TheVariants as point
 use Rattle.process_semantics.specs.Process as process
 use Rattle.plain_semantics.specs.Openers.{openers_of}
+use Rattle.disc_device.specs.Sectors.{stored_after}
 use Rattle.checkpoint_image.specs.declared.receive.OpenerBlock.{OpenerBlock}
 use Rattle.world_semantics.specs.declared.role.Role.{Role}
 use Rattle.world_semantics.specs.declared.role.Role.TheVariants.{Acting, Watching, Gone}
@@ -104,7 +105,7 @@ own_answer site number core before (Some place) =
 
 abbrev pub around_write : ℕ → Around → DeviceCall → Around
 around_write number before (Write sector words write) = record before {
-  sectors = slice_set before.sectors sector (record { words = words; number = write });
+  sectors = stored_after before.sectors sector words write;
   shown = shown.Write number sector words ∷ before.shown;
 }
 around_write number before call = before

@@ -1,7 +1,7 @@
 -- The world of copies: all that it has. Pairs in two processors, checkpoints and takeover are Bartlett's; eras, bases, positions and held acts are our
 -- own. Lists of what happened (acts, what is shown, messages, marks) have the newest first, so what is added stands before what was there; processes,
 -- terminals, sectors and waiting requests stand in their order.
-use Rattle.std.specs.Prelude.{ℕ, ◌+◌, ◌==◌, ◌&&◌, ℤ, Bool, false, not, ◌||◌, List, [], ◌∷◌, map, replicate, slice_get, slice_set, Option, Some, None}
+use Rattle.std.specs.Prelude.{ℕ, ◌+◌, ◌==◌, ◌&&◌, Bool, false, not, ◌||◌, List, [], ◌∷◌, map, replicate, slice_get, slice_set, Option, Some, None}
 use Rattle.std.specs.List.{list_any}
 use Rattle.gd_words.specs.declared.message.Request.{Request}
 use Rattle.gd_words.specs.declared.message.Reply.{Reply}
@@ -11,7 +11,8 @@ use Rattle.tal_tree.specs.declared.site.Site.{Site}
 use Rattle.tal_tree.specs.declared.site.ProcessSpec.{ProcessSpec}
 use Rattle.tal_tree.specs.declared.site.Kind.{Kind}
 use Rattle.tal_tree.specs.declared.site.Kind.TheVariants as kind
-use Rattle.process_semantics.specs.State.{zeros}
+use Rattle.disc_device.specs.declared.stored.Stored.{Stored}
+use Rattle.disc_device.specs.Sectors.{blank}
 use Rattle.checkpoint_image.specs.declared.message.ImageMessage.{ImageMessage}
 use Rattle.checkpoint_image.specs.declared.message.TakenMessage.{TakenMessage}
 use Rattle.world_semantics.specs.declared.role.Role.{Role}
@@ -32,11 +33,6 @@ pub record Copy : Type 0 where
   pub waiting : List Request
   pub position : ℕ
   pub held : List Act
-
--- a sector of a disc's device: its words, and the number of the write that put them
-pub record Stored : Type 0 where
-  pub words : List ℤ
-  pub number : ℕ
 
 -- a process: its copies in its two processors, how many of its kept acts the last applied checkpoint covers, the checkpoints that its copies ever sent and
 -- the messages that those were taken, and the sectors of its device
@@ -87,7 +83,7 @@ copy_at_boot role processor core = record {
 }
 
 abbrev pub device_at_boot : Kind → List Stored
-device_at_boot (kind.Disc sectors) = replicate sectors (record { words = zeros 8; number = 0 })
+device_at_boot (kind.Disc sectors) = replicate sectors blank
 device_at_boot (kind.Pair program) = []
 
 -- a process at the beginning: the copy in its first-named processor acts, the other one watches, and both are at the beginning of the program
