@@ -1,0 +1,5 @@
+pub mod Filled
+pub mod Nodes
+pub mod Numbered
+pub mod Own
+pub mod Small
