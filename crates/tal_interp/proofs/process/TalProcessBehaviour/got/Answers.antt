@@ -1,0 +1,12 @@
+use Rattle.std.proofs.Common.{◌≡◌, sym, subst}
+use Rattle.process_semantics.specs.Points.{point_of}
+use Rattle.process_semantics.specs.State.{Execution}
+use Rattle.process_semantics.specs.declared.point.Point.TheVariants.{Await}
+use Rattle.tal_interp.specs.Sound.{IsSound}
+use Rattle.tal_interp.proofs.Keeps.{got-sound}
+use Rattle.tal_interp.proofs.process.TalProcessBehaviour.got.Goals as goal
+
+pub invariant_of-self : goal.invariant_of-self
+invariant_of-self c =
+    let at = subst (λ (e : Execution). point_of e.program e.state ≡ Await) (sym c.self.view_is) c.requires in
+    subst IsSound (sym c.got.ensures) (got-sound c.self.inside.interpreter c.self.invariant c.args.words.now at)
