@@ -1,4 +1,5 @@
-//! Tests of checkpoints: their words both ways, words that no checkpoint has, and a disc that goes on in the other copy.
+//! Tests of checkpoints: their words both ways, words that no checkpoint has, a disc that goes on in the other copy,
+//! and the sectors of a disc.
 //!
 //! Below stand the crates that are tested; nothing stands above.
 #![tactic(auto)]
@@ -7,3 +8,5 @@
 mod disc;
 #[cfg(test)]
 mod layout;
+#[cfg(test)]
+mod sectors;

@@ -1,16 +1,18 @@
 ghost use Rattle.std.specs.Prelude.{◌≡◌, ◌≤◌, ◌++◌, length, true, Some, IfOk, IfSome, OnOk};
+ghost use Rattle.std.specs.Option.{option_copied};
 ghost use Rattle.process_semantics.specs.Words.{counted_if, counted_in, long_in};
 ghost use Rattle.process_semantics.specs.Image.{disc_words, disc_with, restored_disc};
 ghost use Rattle.checkpoint_image.specs.Reading.{Gives};
 
+use crate::phase::Phase;
+use crate::progress::Progress;
 use checkpoint_image::putting::{put_counted, put_long};
 use gd_words::{List, NoMemory, Words};
 use process_semantics::counts::few_words;
-use process_semantics::{DiscState, Point};
 use std::alloc::Global;
 
-fn put_counted_if(all: &mut List<i16>, words: &Option<Words>) -> Result<(), NoMemory>
-    ensures { OnOk result (all.new ≡ all.old ++ counted_if words.now) }
+fn put_counted_if(all: &mut List<i16>, words: Option<&Words>) -> Result<(), NoMemory>
+    ensures { OnOk result (all.new ≡ all.old ++ counted_if (option_copied words.entry)) }
 {
     match words {
         None => all.push(0)?,
@@ -20,13 +22,13 @@ fn put_counted_if(all: &mut List<i16>, words: &Option<Words>) -> Result<(), NoMe
 }
 
 /// The words of a disc: the request in hand, the number of the last write, and the reply.
-pub fn disc_words(alloc: Global, state: &DiscState) -> Result<List<i16>, NoMemory>
-    ensures { IfOk result (λ words. words ≡ disc_words state.now) }
+pub fn disc_words(alloc: Global, progress: &Progress) -> Result<List<i16>, NoMemory>
+    ensures { IfOk result (λ words. words ≡ disc_words progress.now) }
 {
     let mut all = List::new(alloc);
-    put_counted_if(&mut all, &state.request)?;
-    put_long(state.last_write, &mut all)?;
-    put_counted_if(&mut all, &state.reply)?;
+    put_counted_if(&mut all, progress.request())?;
+    put_long(progress.last_write(), &mut all)?;
+    put_counted_if(&mut all, progress.reply())?;
     Ok(all)
 }
 
@@ -61,49 +63,29 @@ fn long_in(words: &[i16]) -> Option<(u32, &[i16])>
     }
 }
 
-/// The disc of a request in hand, a number and a reply.
-fn disc_with(in_hand: bool, request: &[i16], number: u32, reply: &[i16]) -> Option<DiscState>
+/// The disc of a request in hand, a number and a reply: without a reply it is to act.
+fn disc_with(in_hand: bool, request: &[i16], number: u32, reply: &[i16]) -> Option<Progress>
     requires request { length request.now ≤ 16 }
     requires reply { length reply.now ≤ 16 }
     ensures { result ≡ disc_with in_hand request.now number reply.now }
 {
-    if in_hand {
-        return Some(busy(few_words(request), number, reply));
-    }
-    match (request, reply) {
-        ([], []) => Some(DiscState {
-            label: Point::Take,
-            request: None,
-            reply: None,
-            last_write: number,
-        }),
-        _ => None,
-    }
-}
-
-/// A disc with a request in hand: without a reply it is at its device.
-fn busy(request: Words, number: u32, reply: &[i16]) -> DiscState
-    requires { length reply.now ≤ 16 }
-    ensures { Some result ≡ disc_with true request number reply.now }
-{
-    match reply {
-        [] => DiscState {
-            label: Point::Device,
-            request: Some(request),
-            reply: None,
-            last_write: number,
+    let phase = match (in_hand, request, reply) {
+        (false, [], []) => Phase::Idle,
+        (false, _, _) => return None,
+        (true, _, []) => Phase::Acting(few_words(request)),
+        (true, _, _) => Phase::Answering {
+            request: few_words(request),
+            reply: few_words(reply),
         },
-        _ => DiscState {
-            label: Point::Answer,
-            request: Some(request),
-            reply: Some(few_words(reply)),
-            last_write: number,
-        },
-    }
+    };
+    Some(Progress {
+        phase,
+        last_write: number,
+    })
 }
 
 /// The disc that an image restores; none where the words are no image of a disc with a request in hand or none.
-pub fn disc_in(words: &[i16], in_hand: bool) -> Option<DiscState>
+pub fn disc_in(words: &[i16], in_hand: bool) -> Option<Progress>
     ensures { result ≡ restored_disc in_hand words.now }
 {
     let (request, left) = counted_in(words)?;

@@ -1,11 +1,13 @@
 ghost use Rattle.std.specs.Prelude.{◌≡◌};
 ghost use Rattle.tal_tree.specs.declared.site.Kind.TheVariants.{Disc};
 ghost use Rattle.process_semantics.specs.Process.{start_of};
+ghost use Rattle.checkpoint_image.specs.Behaving.{last_write_of};
 
 use crate::image::{disc_in, disc_words};
+use crate::progress::Progress;
 use checkpoint_image::{Behaviour, Listed};
 use gd_words::{DeviceCall, List, NoMemory, Sector, Words};
-use process_semantics::{Asked, DiscState, Point};
+use process_semantics::{Asked, Point};
 use std::alloc::Global;
 use std::marker::Model;
 
@@ -13,7 +15,7 @@ use std::marker::Model;
 #[derive(Drop)]
 pub struct DiscProcess {
     sectors: u8,
-    state: DiscState,
+    progress: Progress,
     listed: Listed,
 }
 
@@ -23,7 +25,7 @@ impl Model for DiscProcess {
 
     ghost Value = { Serving };
 
-    ghost view = { λ process. record { sectors = process.sectors; disc = process.state } };
+    ghost view = { λ process. record { sectors = process.sectors; disc = process.progress } };
 
     ghost invariant = { λ process. (process.listed.items ≡ []) × (process.listed.files ≡ []) };
 }
@@ -35,12 +37,19 @@ impl DiscProcess {
     {
         DiscProcess {
             sectors,
-            state: DiscState::start(),
+            progress: Progress::start(),
             listed: Listed {
                 items: List::new(alloc),
                 files: List::new(alloc),
             },
         }
+    }
+
+    /// The number of its last write.
+    pub fn last_write(&self) -> u32
+        ensures { result ≡ last_write_of (⟦<DiscProcess as Behaviour>⟧.state self.now) }
+    {
+        self.progress.last_write()
     }
 }
 
@@ -50,35 +59,42 @@ impl Behaviour for DiscProcess {
     ghost state = { λ process. Serves process.sectors process.disc };
 
     fn at(&self) -> Point {
-        self.state.label
+        self.progress.point()
     }
 
     fn in_hand(&self) -> bool {
-        self.state.request.is_some()
+        self.progress.request().is_some()
     }
 
-    fn inner(&mut self) {}
+    fn inner(&mut self) {
+        self.progress.stands_at_no_other_point();
+        unreachable!()
+    }
 
     fn took(&mut self, words: &Words) {
-        self.state.took(words);
+        self.progress.took(words);
     }
 
     fn asked(&mut self) -> Asked {
-        Asked::nothing()
+        self.progress.stands_at_no_other_point();
+        unreachable!()
     }
 
-    fn got(&mut self, _words: &Words) {}
+    fn got(&mut self, _words: &Words) {
+        self.progress.stands_at_no_other_point();
+        unreachable!()
+    }
 
     fn answered(&mut self) -> Words {
-        self.state.answered()
+        self.progress.answered()
     }
 
     fn device(&self) -> DeviceCall {
-        self.state.call(self.sectors)
+        self.progress.call(self.sectors)
     }
 
     fn device_done(&mut self, found: &Sector) {
-        self.state.done(self.sectors, found);
+        self.progress.done(self.sectors, found);
     }
 
     fn listed(&self) -> &Listed {
@@ -86,18 +102,18 @@ impl Behaviour for DiscProcess {
     }
 
     fn marked(&mut self) {
-        self.state.marked();
+        self.progress.marked();
     }
 
     fn image(&self, alloc: Global, _listed: &Listed) -> Result<List<i16>, NoMemory> {
-        disc_words(alloc, &self.state)
+        disc_words(alloc, &self.progress)
     }
 
     fn apply(&mut self, words: &[i16], in_hand: bool) -> bool {
         match disc_in(words, in_hand) {
             None => false,
-            Some(state) => {
-                self.state = state;
+            Some(progress) => {
+                self.progress = progress;
                 true
             }
         }

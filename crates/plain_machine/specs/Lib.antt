@@ -1,4 +1,5 @@
 pub mod Outcomes
 pub mod Rounds
+pub mod Standing
 pub mod Stillness
 pub mod Wiring

@@ -5,6 +5,7 @@ ghost use Rattle.tal_tree.specs.declared.site.Who.TheVariants as who;
 ghost use Rattle.plain_semantics.specs.Openers.{opener_of};
 ghost use Rattle.plain_semantics.specs.Machine.{processes_at_first, plain_start, slot_of, with_slot, with_state, own_opener, answer_made, answered_by, device_made, shown_by_device, step_at, step_made, take_slot, take_at, take_made, enter_request, enter_made, entered_at, next_request, print_made, made};
 ghost use Rattle.plain_machine.specs.Outcomes.{Settles, shown_in};
+ghost use Rattle.plain_machine.specs.Standing.{AreLoadable, IsAt};
 ghost use Rattle.plain_machine.specs.Rounds.{enter_of, next_move, print_of};
 ghost use Rattle.plain_machine.specs.Stillness.{has_waiting, is_answered, none_of, is_still};
 
@@ -18,14 +19,21 @@ use std::alloc::Global;
 use std::marker::Model;
 use tal_tree::{Act, ProcessSpec, Shown, Site, TerminalSpec};
 
+/// The Take or Step that was tried for a process, and what became of it.
+#[derive(Drop)]
+pub(crate) struct Move {
+    pub(crate) act: Act,
+    pub(crate) outcome: Outcome,
+}
+
 /// The machine of single unfailing processes: its processes, and for each terminal how many requests it has entered.
 #[derive(Drop)]
-pub struct Plain<'a> {
-    processes: Vec<PlainProcess<'a>>,
+pub struct Plain {
+    processes: Vec<PlainProcess>,
     entered: Vec<u32>,
 }
 
-impl<'a> Model for Plain<'a> {
+impl Model for Plain {
     ghost use Rattle.std.specs.Coded.{codes};
     ghost use Rattle.tal_tree.specs.contracts.statement.Statement as statement;
     ghost use Rattle.plain_semantics.specs.Machine as machine;
@@ -37,9 +45,10 @@ impl<'a> Model for Plain<'a> {
     ghost view = { λ plain. record { processes = plain.processes.items; entered = plain.entered.items } };
 }
 
-impl<'a> Plain<'a> {
+impl Plain {
     /// The machine at its beginning.
-    pub(crate) fn start(alloc: Global, site: &'a Site) -> Result<Plain<'a>, NoMemory>
+    pub(crate) fn start(alloc: Global, site: &Site) -> Result<Plain, NoMemory>
+        requires { AreLoadable site.now.processes }
         ensures { IfOk result (λ plain. plain ≡ plain_start site.now) }
     {
         let processes = first_processes(alloc, site, site.processes.as_slice())?;
@@ -48,59 +57,53 @@ impl<'a> Plain<'a> {
     }
 
     /// Makes an act, where it is possible.
-    pub(crate) fn made(
-        &mut self,
-        alloc: Global,
-        wires: &Wires<'_>,
-        act: Act,
-    ) -> Result<Outcome, NoMemory>
+    pub(crate) fn made(&mut self, wires: &Wires<'_>, act: Act) -> Result<Outcome, NoMemory>
         ensures { IfOk result (λ outcome. Settles (made wires.now self.old act) self.old outcome self.new) }
     {
         match act {
-            Act::Step(process) => self.step(alloc, wires, usize::from(process)),
-            Act::Take { process, opener } => self.take(
-                alloc,
-                usize::from(process),
-                usize::from(opener),
-            ),
+            Act::Step(process) => self.step(wires, usize::from(process)),
+            Act::Take { process, opener } => {
+                let outcome = self.take(usize::from(process), usize::from(opener));
+                Ok(outcome)
+            }
             Act::Enter(terminal) => self.enter(wires, usize::from(terminal)),
             Act::Print(terminal) => Ok(self.print(wires, terminal)),
         }
     }
 
-    fn step(&mut self, alloc: Global, wires: &Wires<'_>, number: usize) -> Result<Outcome, NoMemory>
+    fn step(&mut self, wires: &Wires<'_>, number: usize) -> Result<Outcome, NoMemory>
         ensures { IfOk result (λ outcome. Settles (step_made wires.now number self.old (slice_get self.old.processes number)) self.old outcome self.new) }
     {
         match self.processes.as_slice().get(number) {
             None => Ok(Outcome::Impossible),
             Some(one) => {
-                let point = one.point(alloc)?;
-                self.step_at(alloc, wires, number, point)
+                let point = one.at();
+                self.step_at(wires, number, point)
             }
         }
     }
 
     fn step_at(
         &mut self,
-        alloc: Global,
         wires: &Wires<'_>,
         number: usize,
         point: Point,
     ) -> Result<Outcome, NoMemory>
+        requires { IsAt number point self.old }
         ensures { IfOk result (λ outcome. IfSome (slice_get self.old.processes number) (λ one. Settles (step_at wires.now number one self.old point) self.old outcome self.new)) }
     {
         match point {
             Point::Inner => {
-                self.inner(alloc, number)?;
+                self.inner(number);
                 Ok(Outcome::Quiet)
             }
             Point::Ask => {
-                self.ask(alloc, wires, number)?;
+                self.ask(wires, number);
                 Ok(Outcome::Quiet)
             }
-            Point::Await => self.get(alloc, wires, number),
+            Point::Await => Ok(self.get(wires, number)),
             Point::Answer => {
-                self.answer(alloc, number)?;
+                self.answer(number);
                 Ok(Outcome::Quiet)
             }
             Point::Mark => {
@@ -113,16 +116,17 @@ impl<'a> Plain<'a> {
         }
     }
 
-    fn inner(&mut self, alloc: Global, number: usize) -> Result<(), NoMemory>
-        ensures { OnOk result (IfSome (slice_get self.old.processes number) (λ one. self.new ≡ with_state number one (process.after_inner one.state) self.old)) }
+    fn inner(&mut self, number: usize)
+        requires { IsAt number Point.Inner self.old }
+        ensures { IfSome (slice_get self.old.processes number) (λ one. self.new ≡ with_state number one (process.after_inner one.state) self.old) }
     {
         if number < self.processes.len() {
-            self.processes[number].inner(alloc)?;
+            self.processes[number].inner();
         }
-        Ok(())
     }
 
     fn mark(&mut self, number: usize)
+        requires { IsAt number Point.Mark self.old }
         ensures { IfSome (slice_get self.old.processes number) (λ one. self.new ≡ with_state number one (process.after_mark one.state) self.old) }
     {
         if number < self.processes.len() {
@@ -130,47 +134,49 @@ impl<'a> Plain<'a> {
         }
     }
 
-    fn ask(&mut self, alloc: Global, wires: &Wires<'_>, number: usize) -> Result<(), NoMemory>
-        ensures { OnOk result (IfSome (slice_get self.old.processes number) (λ one. self.new ≡ with_slot (own_opener wires.now number one) (Slot.Waiting (process.asked_words one.state)) (with_state number one (process.after_asked one.state) self.old))) }
+    fn ask(&mut self, wires: &Wires<'_>, number: usize)
+        requires { IsAt number Point.Ask self.old }
+        ensures { IfSome (slice_get self.old.processes number) (λ one. self.new ≡ with_slot (own_opener wires.now number one) (Slot.Waiting (process.asked_words one.state)) (with_state number one (process.after_asked one.state) self.old)) }
     {
         if number < self.processes.len() {
             let opener = wires.file(number, self.processes[number].asked_file());
-            let words = self.processes[number].asked(alloc)?;
+            let words = self.processes[number].asked();
             self.set_slot(opener, Slot::Waiting(words));
         }
-        Ok(())
     }
 
-    fn get(&mut self, alloc: Global, wires: &Wires<'_>, number: usize) -> Result<Outcome, NoMemory>
-        ensures { IfOk result (λ outcome. IfSome (slice_get self.old.processes number) (λ one. Settles (step_at wires.now number one self.old Point.Await) self.old outcome self.new)) }
+    fn get(&mut self, wires: &Wires<'_>, number: usize) -> Outcome
+        requires { IsAt number Point.Await self.old }
+        ensures { IfSome (slice_get self.old.processes number) (λ one. Settles (step_at wires.now number one self.old Point.Await) self.old result self.new) }
     {
         if number >= self.processes.len() {
-            return Ok(Outcome::Impossible);
+            return Outcome::Impossible;
         }
         let opener = wires.file(number, self.processes[number].asked_file());
         match self.slot_of(opener) {
             Some(Slot::Answered(words)) => {
                 let words = words.copy();
-                self.processes[number].got(alloc, &words)?;
+                self.processes[number].got(&words);
                 self.set_slot(opener, Slot::Empty);
-                Ok(Outcome::Quiet)
+                Outcome::Quiet
             }
-            _ => Ok(Outcome::Impossible),
+            _ => Outcome::Impossible,
         }
     }
 
-    fn answer(&mut self, alloc: Global, number: usize) -> Result<(), NoMemory>
-        ensures { OnOk result (IfSome (slice_get self.old.processes number) (λ one. self.new ≡ answer_made number one self.old)) }
+    fn answer(&mut self, number: usize)
+        requires { IsAt number Point.Answer self.old }
+        ensures { IfSome (slice_get self.old.processes number) (λ one. self.new ≡ answer_made number one self.old) }
     {
         if number < self.processes.len() {
             let opener = answered_by(number, self.processes[number].hand());
-            let words = self.processes[number].answered(alloc)?;
+            let words = self.processes[number].answered();
             self.set_slot(opener, Slot::Answered(words));
         }
-        Ok(())
     }
 
     fn device(&mut self, number: usize) -> Result<Outcome, NoMemory>
+        requires { IsAt number Point.Device self.old }
         ensures { IfOk result (λ outcome. IfSome (slice_get self.old.processes number) (λ one. Settles (Some (device_made number one self.old (process.call_of one.state))) self.old outcome self.new)) }
     {
         if number >= self.processes.len() {
@@ -181,31 +187,32 @@ impl<'a> Plain<'a> {
         Ok(shown_by(process, call))
     }
 
-    fn take(&mut self, alloc: Global, number: usize, place: usize) -> Result<Outcome, NoMemory>
-        ensures { IfOk result (λ outcome. Settles (take_made number place self.old (slice_get self.old.processes number)) self.old outcome self.new) }
+    fn take(&mut self, number: usize, place: usize) -> Outcome
+        ensures { Settles (take_made number place self.old (slice_get self.old.processes number)) self.old result self.new }
     {
         match self.processes.as_slice().get(number) {
-            None => Ok(Outcome::Impossible),
-            Some(one) => match one.point(alloc)? {
-                Point::Take => self.take_slot(alloc, number, place),
-                _ => Ok(Outcome::Impossible),
+            None => Outcome::Impossible,
+            Some(one) => match one.at() {
+                Point::Take => self.take_slot(number, place),
+                _ => Outcome::Impossible,
             },
         }
     }
 
-    fn take_slot(&mut self, alloc: Global, number: usize, place: usize) -> Result<Outcome, NoMemory>
-        ensures { IfOk result (λ outcome. IfSome (slice_get self.old.processes number) (λ one. Settles (take_slot number place one self.old (slice_get one.slots place)) self.old outcome self.new)) }
+    fn take_slot(&mut self, number: usize, place: usize) -> Outcome
+        requires { IsAt number Point.Take self.old }
+        ensures { IfSome (slice_get self.old.processes number) (λ one. Settles (take_slot number place one self.old (slice_get one.slots place)) self.old result self.new) }
     {
         if number >= self.processes.len() {
-            return Ok(Outcome::Impossible);
+            return Outcome::Impossible;
         }
         match self.processes[number].slots().get(place) {
             Some(Slot::Waiting(words)) => {
                 let words = words.copy();
-                self.processes[number].took(alloc, place, &words)?;
-                Ok(Outcome::Quiet)
+                self.processes[number].took(place, &words);
+                Outcome::Quiet
             }
-            _ => Ok(Outcome::Impossible),
+            _ => Outcome::Impossible,
         }
     }
 
@@ -272,31 +279,40 @@ impl<'a> Plain<'a> {
         }
     }
 
-    /// The Take or Step that a process may make next.
-    pub(crate) fn next_move(&self, alloc: Global, number: usize) -> Result<Act, NoMemory>
-        ensures { IfOk result (λ act. act ≡ next_move self.now number) }
+    /// Makes the Take or Step that a process may make next, where it is possible.
+    pub(crate) fn make_move(&mut self, wires: &Wires<'_>, number: usize) -> Result<Move, NoMemory>
+        ensures act { IfOk result (λ move. move.act ≡ next_move self.old number) }
+        ensures outcome { IfOk result (λ move. Settles (made wires.now self.old (next_move self.old number)) self.old move.outcome self.new) }
     {
         let process = narrow(number)?;
         match self.processes.as_slice().get(number) {
-            None => Ok(Act::Step(process)),
-            Some(one) => match one.point(alloc)? {
+            None => {
+                let act = Act::Step(process);
+                let outcome = Outcome::Impossible;
+                Ok(Move { act, outcome })
+            }
+            Some(one) => match one.at() {
                 Point::Take => {
-                    let opener = wide(first_waiting(one.slots()))?;
-                    Ok(Act::Take { process, opener })
+                    let place = first_waiting(one.slots());
+                    let opener = wide(place)?;
+                    let act = Act::Take { process, opener };
+                    let outcome = self.take_slot(number, place);
+                    Ok(Move { act, outcome })
                 }
-                _ => Ok(Act::Step(process)),
+                point => {
+                    let act = Act::Step(process);
+                    let outcome = self.step_at(wires, number, point)?;
+                    Ok(Move { act, outcome })
+                }
             },
         }
     }
 
     /// Whether no act is possible.
-    pub(crate) fn is_still(&self, alloc: Global, wires: &Wires<'_>) -> Result<bool, NoMemory>
-        ensures { IfOk result (λ still. still ≡ is_still wires.now self.now) }
+    pub(crate) fn is_still(&self, wires: &Wires<'_>) -> bool
+        ensures { result ≡ is_still wires.now self.now }
     {
-        if !self.has_no_enter(wires) || !self.has_no_print(wires) {
-            return Ok(false);
-        }
-        self.has_no_move(alloc, wires)
+        self.has_no_enter(wires) && self.has_no_print(wires) && self.has_no_move(wires)
     }
 
     fn has_no_enter(&self, wires: &Wires<'_>) -> bool
@@ -321,15 +337,15 @@ impl<'a> Plain<'a> {
         true
     }
 
-    fn has_no_move(&self, alloc: Global, wires: &Wires<'_>) -> Result<bool, NoMemory>
-        ensures { IfOk result (λ none. none ≡ none_of wires.now self.now next_move 0 (length self.now.processes)) }
+    fn has_no_move(&self, wires: &Wires<'_>) -> bool
+        ensures { result ≡ none_of wires.now self.now next_move 0 (length self.now.processes) }
     {
         for number in 0..self.process_count() {
-            if self.can_move(alloc, wires, number)? {
-                return Ok(false);
+            if self.can_move(wires, number) {
+                return false;
             }
         }
-        Ok(true)
+        true
     }
 
     fn process_count(&self) -> usize
@@ -360,25 +376,25 @@ impl<'a> Plain<'a> {
         }
     }
 
-    fn can_move(&self, alloc: Global, wires: &Wires<'_>, number: usize) -> Result<bool, NoMemory>
-        ensures { IfOk result (λ can. can ≡ is_some (made wires.now self.now (next_move self.now number))) }
+    fn can_move(&self, wires: &Wires<'_>, number: usize) -> bool
+        ensures { result ≡ is_some (made wires.now self.now (next_move self.now number)) }
     {
         match self.processes.as_slice().get(number) {
-            None => Ok(false),
-            Some(one) => match one.point(alloc)? {
-                Point::Take => Ok(self.can_take(wires, number, one)),
-                Point::Await => Ok(self.has_reply(wires.file(number, one.asked_file()))),
-                Point::Ended => Ok(false),
-                Point::Inner => Ok(true),
-                Point::Ask => Ok(true),
-                Point::Answer => Ok(true),
-                Point::Mark => Ok(true),
-                Point::Device => Ok(true),
+            None => false,
+            Some(one) => match one.at() {
+                Point::Take => self.can_take(wires, number, one),
+                Point::Await => self.has_reply(wires.file(number, one.asked_file())),
+                Point::Ended => false,
+                Point::Inner => true,
+                Point::Ask => true,
+                Point::Answer => true,
+                Point::Mark => true,
+                Point::Device => true,
             },
         }
     }
 
-    fn can_take(&self, _wires: &Wires<'_>, number: usize, one: &PlainProcess<'_>) -> bool
+    fn can_take(&self, _wires: &Wires<'_>, number: usize, one: &PlainProcess) -> bool
         requires there { slice_get self.now.processes number ≡ Some one.now }
         requires stands { process.point one.now.state ≡ Point.Take }
         ensures { result ≡ is_some (made _wires.now self.now (next_move self.now number)) }
@@ -482,11 +498,12 @@ fn wide(place: usize) -> Result<u16, NoMemory>
     }
 }
 
-fn first_processes<'a>(
+fn first_processes(
     alloc: Global,
     site: &Site,
-    specs: &'a [ProcessSpec],
-) -> Result<Vec<PlainProcess<'a>>, NoMemory>
+    specs: &[ProcessSpec],
+) -> Result<Vec<PlainProcess>, NoMemory>
+    requires { AreLoadable specs.now }
     ensures { IfOk result (λ all. all.items ≡ processes_at_first site.now 0 specs.now) }
 {
     let mut all = Vec::new(alloc);

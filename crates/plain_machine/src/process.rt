@@ -3,11 +3,14 @@ ghost use Rattle.plain_semantics.specs.Openers.{openers_of};
 ghost use Rattle.process_semantics.specs.State.{zeros};
 ghost use Rattle.process_semantics.specs.Process.{point, after_inner, after_took, asked_file, asked_words, after_asked, after_got, answer_of, after_answered, after_mark, call_of, after_device};
 ghost use Rattle.plain_semantics.specs.Machine.{process_at_first, sectors_at_first, found_by, written_by};
+ghost use Rattle.processes.specs.Seen.{IsLoadableKind};
 ghost use Rattle.plain_machine.specs.Rounds.{waiting_from};
 
+use checkpoint_image::Behaviour;
 use gd_words::{DeviceCall, NoMemory, Sector, Words};
 use plain_semantics::{Slot, openers};
-use process_semantics::{Asked, Point, Process};
+use process_semantics::{Asked, Point};
+use processes::Process;
 use std::alloc::Global;
 use std::marker::Model;
 use tal_tree::{Kind, OpenerSpec, ProcessSpec, Site};
@@ -15,17 +18,17 @@ use tal_tree::{Kind, OpenerSpec, ProcessSpec, Site};
 /// A process of the machine: its state, the place of the opener whose request is in hand, a slot for each of its openers,
 /// and the sectors of a disc.
 #[derive(Drop)]
-pub struct PlainProcess<'a> {
-    process: Process<'a>,
+pub struct PlainProcess {
+    process: Process,
     hand: Option<usize>,
     slots: Vec<Slot>,
     sectors: Vec<Sector>,
 }
 
-impl<'a> Model for PlainProcess<'a> {
+impl Model for PlainProcess {
     ghost use Rattle.std.specs.Coded.{codes};
     ghost use Rattle.tal_tree.specs.contracts.statement.Statement as statement;
-    ghost use Rattle.process_semantics.specs.SeenProcess.{process_of};
+    ghost use Rattle.processes.specs.Seen.{state_of};
     ghost use Rattle.plain_semantics.specs.Machine as machine;
 
     ghost Value = { machine.PlainProcess };
@@ -33,24 +36,25 @@ impl<'a> Model for PlainProcess<'a> {
     ghost coded = { Prim.hlevel (codes, statement.the_row.coded) };
 
     ghost view = { λ one. record {
-      state = process_of one.process;
+      state = state_of one.process;
       hand = one.hand;
       slots = one.slots.items;
       sectors = one.sectors.items;
     } };
 }
 
-impl<'a> PlainProcess<'a> {
+impl PlainProcess {
     /// A process at its beginning.
     pub(crate) fn start(
         alloc: Global,
         site: &Site,
         number: usize,
-        spec: &'a ProcessSpec,
-    ) -> Result<PlainProcess<'a>, NoMemory>
+        spec: &ProcessSpec,
+    ) -> Result<PlainProcess, NoMemory>
+        requires { IsLoadableKind spec.now.what }
         ensures { IfOk result (λ one. one ≡ process_at_first site.now number spec.now) }
     {
-        let process = Process::start(alloc, &spec.what)?;
+        let process = Process::load(alloc, &spec.what)?;
         let slots = empty_slots(alloc, site, number)?;
         let sectors = zero_sectors(alloc, &spec.what)?;
         Ok(PlainProcess {
@@ -61,20 +65,22 @@ impl<'a> PlainProcess<'a> {
         })
     }
 
-    pub(crate) fn point(&self, alloc: Global) -> Result<Point, NoMemory>
-        ensures { IfOk result (λ stands. stands ≡ point self.now.state) }
+    /// Where it stands.
+    pub(crate) fn at(&self) -> Point
+        ensures { result ≡ point self.now.state }
     {
-        self.process.point(alloc)
+        self.process.at()
     }
 
-    pub(crate) fn inner(&mut self, alloc: Global) -> Result<(), NoMemory>
-        ensures { OnOk result (self.new ≡ record self.old { state = after_inner self.old.state }) }
+    pub(crate) fn inner(&mut self)
+        requires { point self.old.state ≡ Point.Inner }
+        ensures { self.new ≡ record self.old { state = after_inner self.old.state } }
     {
-        self.process.inner(alloc)?;
-        Ok(())
+        self.process.inner();
     }
 
     pub(crate) fn marked(&mut self)
+        requires { point self.old.state ≡ Point.Mark }
         ensures { self.new ≡ record self.old { state = after_mark self.old.state } }
     {
         self.process.marked();
@@ -87,19 +93,20 @@ impl<'a> PlainProcess<'a> {
         self.process.asked_file()
     }
 
-    pub(crate) fn asked(&mut self, alloc: Global) -> Result<Words, NoMemory>
-        ensures words { IfOk result (λ words. words ≡ asked_words self.old.state) }
-        ensures state { OnOk result (self.new ≡ record self.old { state = after_asked self.old.state }) }
+    pub(crate) fn asked(&mut self) -> Words
+        requires { point self.old.state ≡ Point.Ask }
+        ensures words { result ≡ asked_words self.old.state }
+        ensures state { self.new ≡ record self.old { state = after_asked self.old.state } }
     {
-        let Asked { file: _, words } = self.process.asked(alloc)?;
-        Ok(words)
+        let Asked { file: _, words } = self.process.asked();
+        words
     }
 
-    pub(crate) fn got(&mut self, alloc: Global, words: &Words) -> Result<(), NoMemory>
-        ensures { OnOk result (self.new ≡ record self.old { state = after_got self.old.state words.now }) }
+    pub(crate) fn got(&mut self, words: &Words)
+        requires { point self.old.state ≡ Point.Await }
+        ensures { self.new ≡ record self.old { state = after_got self.old.state words.now } }
     {
-        self.process.got(alloc, words)?;
-        Ok(())
+        self.process.got(words);
     }
 
     /// The place of the opener whose request is in hand.
@@ -109,40 +116,39 @@ impl<'a> PlainProcess<'a> {
         self.hand
     }
 
-    pub(crate) fn answered(&mut self, alloc: Global) -> Result<Words, NoMemory>
-        ensures words { IfOk result (λ words. words ≡ answer_of self.old.state) }
-        ensures state { OnOk result (self.new ≡ record self.old { state = after_answered self.old.state; hand = None }) }
+    pub(crate) fn answered(&mut self) -> Words
+        requires { point self.old.state ≡ Point.Answer }
+        ensures words { result ≡ answer_of self.old.state }
+        ensures state { self.new ≡ record self.old { state = after_answered self.old.state; hand = None } }
     {
-        let words = self.process.answered(alloc)?;
         self.hand = None;
-        Ok(words)
+        self.process.answered()
     }
 
-    /// Acts on the disc device, and tells what it did.
+    /// Acts on the disc device, and tells what it did. A disc whose writes have no number left answers want of memory.
     pub(crate) fn device(&mut self) -> Result<DeviceCall, NoMemory>
+        requires { point self.old.state ≡ Point.Device }
         ensures call { IfOk result (λ call. call ≡ call_of self.old.state) }
         ensures state { OnOk result (self.new ≡ record self.old { state = after_device self.old.state (found_by self.old.sectors (call_of self.old.state)); sectors = written_by self.old.sectors (call_of self.old.state) }) }
     {
-        let call = self.process.call()?;
+        if self.process.last_write() == u32::MAX {
+            return Err(NoMemory);
+        }
+        let call = self.process.device();
         let found = found_by(&self.sectors, &call);
-        self.process.device(&found)?;
+        self.process.device_done(&found);
         write(&mut self.sectors, &call);
         Ok(call)
     }
 
     /// Takes the request with these words, which waits in the slot of this place.
-    pub(crate) fn took(
-        &mut self,
-        alloc: Global,
-        place: usize,
-        words: &Words,
-    ) -> Result<(), NoMemory>
-        ensures { OnOk result (self.new ≡ record self.old { state = after_took self.old.state words.now; hand = Some place; slots = slice_set self.old.slots place Slot.Taken }) }
+    pub(crate) fn took(&mut self, place: usize, words: &Words)
+        requires { point self.old.state ≡ Point.Take }
+        ensures { self.new ≡ record self.old { state = after_took self.old.state words.now; hand = Some place; slots = slice_set self.old.slots place Slot.Taken } }
     {
-        self.process.took(alloc, words)?;
+        self.process.took(words);
         self.hand = Some(place);
         set(&mut self.slots, place, Slot::Taken);
-        Ok(())
     }
 
     pub(crate) fn slots(&self) -> &[Slot]

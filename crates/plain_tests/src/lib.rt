@@ -7,3 +7,5 @@
 mod openers;
 #[cfg(test)]
 mod rounds;
+#[cfg(test)]
+mod sites;

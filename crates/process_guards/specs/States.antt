@@ -1,5 +1,5 @@
 -- A program with one simple global, an array of twenty words, and a function of one parameter; and its states.
-use Rattle.std.specs.Prelude.{ℕ, ℤ, pos, Bool, true, false, List, [], ◌∷◌}
+use Rattle.std.specs.Prelude.{ℕ, ℤ, pos, Bool, true, false, List, [], ◌∷◌, slice_set}
 use Rattle.tal_tree.specs.declared.program.Program.{Program}
 use Rattle.tal_tree.specs.declared.program.Procedure.{Procedure}
 use Rattle.tal_tree.specs.declared.program.Shape.TheVariants as shape
@@ -46,6 +46,10 @@ standing x rest = with_frames x (main_with rest ∷ [])
 -- MAIN alone, with this statement alone
 abbrev pub at_statement : What → ProgramState
 at_statement what = standing (pos 0) (Run (does what) ∷ [])
+
+-- with these words in the array
+abbrev pub with_array : List ℤ → ProgramState → ProgramState
+with_array words s = record s { globals = slice_set s.globals 1 words }
 
 -- with a request in hand
 abbrev pub in_hand : ProgramState → ProgramState

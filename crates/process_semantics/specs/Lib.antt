@@ -7,8 +7,6 @@ pub mod Process
 pub mod Remains
 pub mod Rests
 pub mod SeenEntries
-pub mod SeenFrames
-pub mod SeenProcess
 pub mod State
 pub mod Steps
 pub mod Words

@@ -5,27 +5,22 @@
 //! `specs/Image.antt` what the words of a checkpoint are and restore.
 //!
 //! Below stand `gd_words`, `tal_tree` with the trees and `tal_values` with their values. The layer above speaks of
-//! `ProcessState` and its steps, and uses that `Process` makes exactly these; `Execution` and `DiscState` are its two kinds.
-//! Both are plain and slow: an `Execution` goes along the trees as they stand, and evaluates each expression anew.
+//! `ProcessState`, its steps and its images. `DiscState` and `Point` are data alone; for what runs programs here are the parts
+//! that take no step themselves: what a count names, and the words of globals.
 #![tactic(auto)]
 
-mod calls;
+mod asked;
 pub mod counts;
 pub mod disc;
 pub mod entry;
-pub mod execution;
-pub mod frame;
 pub mod globals;
-mod inner;
 pub mod laws;
 pub mod point;
-pub mod process;
+mod variable;
 
-pub use calls::Asked;
+pub use asked::Asked;
 pub use disc::DiscState;
 pub use entry::Entry;
-pub use execution::Execution;
-pub use frame::{Frame, Frames};
 pub use laws::what_remains_is_told;
 pub use point::Point;
-pub use process::Process;
+pub use variable::variable_cell;

@@ -1,5 +1,6 @@
 use gd_words::{Boxed, Ident, List, NoMemory, Words};
-use process_semantics::{Execution, Point};
+use plain_program::Execution;
+use process_semantics::Point;
 use std::alloc::Global;
 use std::test::Fail;
 use tal_tree::{

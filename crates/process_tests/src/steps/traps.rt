@@ -1,6 +1,7 @@
 use super::{BUF, GOT, element, item, put, read};
 use gd_words::{Boxed, Ident, List, NoMemory, Words};
-use process_semantics::{Execution, Point};
+use plain_program::Execution;
+use process_semantics::Point;
 use std::alloc::Global;
 use std::test::Fail;
 use tal_tree::{Expr, Op, Procedure, Program, Shape, Spot, Statement, Variable, What};

@@ -14,7 +14,7 @@ returns-clause-shown c =
 
 pub returns-clause-idle : goal.returns-clause-idle
 returns-clause-idle c =
-    run-idle c.args.site.now c.args.rounds c.into_lists-acts.result.0 c.in_ok-idle.idle
+    run-idle c.args.site.now c.args.rounds c.into_lists-acts.result.0 c.is_still-idle.result
     (c.into_lists-acts.ensures.acts ∙ ap (λ ran. ran.acts) c.in_ok-ran.ensures)
-    (c.in_ok-idle.ensures ∙ ap (λ site. is_still site c.in_ok-ran.ran.plain) c.in_ok-wires.ensures
+    (c.is_still-idle.ensures ∙ ap (λ site. is_still site c.in_ok-ran.ran.plain) c.in_ok-wires.ensures
     ∙ ap (λ ran. is_still c.args.site.now ran.plain) c.in_ok-ran.ensures)

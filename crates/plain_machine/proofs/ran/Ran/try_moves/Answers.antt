@@ -1,5 +1,5 @@
 use Rattle.std.proofs.Common.{◌≡◌, ◌+◌, ◌-◌, ◌<◌, ◌∙◌, ap, sym, length, arith}
-use Rattle.plain_machine.specs.Rounds.{swept, tried, next_move}
+use Rattle.plain_machine.specs.Rounds.{swept, next_move}
 use Rattle.plain_machine.proofs.Sweeps.{swept-more}
 use Rattle.plain_machine.proofs.ran.Ran.try_moves.Goals as goal
 
@@ -7,8 +7,7 @@ pub loop-process-preserved : goal.loop-process-preserved
 loop-process-preserved c =
     let count : c.len-process-end.result ≡ length c.args.wires.now.processes = c.len-process-end.ensures ∙ ap (λ site. length site.processes) c.site.ensures in
     let within : c.loop-process.process < length c.args.wires.now.processes = omega arith in
-    let step : c.try_act.new.self ≡ tried c.args.wires.now (next_move c.loop-process.self.plain c.loop-process.process) c.loop-process.self =
-    c.in_ok-try_act.ensures ∙ ap (λ act. tried c.args.wires.now act c.loop-process.self) c.in_ok-act.ensures in
     c.loop-process.invariant
     ∙ swept-more c.args.wires.now next_move c.loop-process.process (length c.args.wires.now.processes) c.loop-process.self within
-    ∙ ap (swept c.args.wires.now next_move (c.loop-process.process + 1) (length c.args.wires.now.processes - (c.loop-process.process + 1))) (sym step)
+    ∙ ap (swept c.args.wires.now next_move (c.loop-process.process + 1) (length c.args.wires.now.processes - (c.loop-process.process + 1)))
+    (sym c.in_ok-try_move.ensures)
