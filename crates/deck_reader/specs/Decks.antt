@@ -1,22 +1,26 @@
--- The deck that bytes spell.
-use Rattle.std.specs.Prelude.{◌≡◌, ◌<◌, ◌≤◌, ℕ, Bool, true, List, [], ◌∷◌, length, Some, option_map, slice_get}
+-- The deck that bytes spell, and the fault for which bytes are refused that spell none.
+use Rattle.std.specs.Prelude.{◌≡◌, ◌⊎◌, ◌<◌, ◌≤◌, ℕ, Bool, true, false, ◌&&◌, nat_le, List, [], ◌∷◌, length, Some, option_map, slice_get}
+use Rattle.std.specs.List.{list_all}
+use Rattle.std.specs.Option.{unwrap_or}
+use Rattle.path_semantics.specs.Bounds.{depths}
+use Rattle.tal_reader.specs.Reads.{Reads, IsRefused}
+use Rattle.tal_tree.specs.Targets.{is_receive}
 use Rattle.tal_tree.specs.declared.fault.DeckFault.{DeckFault}
 use Rattle.tal_tree.specs.declared.fault.DeckFault.TheVariants as fault
 use Rattle.tal_tree.specs.declared.fault.TalFault.{TalFault}
-use Rattle.tal_tree.specs.declared.fault.TalFault.TheVariants as tal
-use Rattle.std.specs.List.{list_all}
 use Rattle.tal_tree.specs.declared.program.FileUse.{FileUse}
 use Rattle.tal_tree.specs.declared.program.Program.{Program}
-use Rattle.tal_tree.specs.Targets.{is_receive}
+use Rattle.tal_tree.specs.declared.site.Kind.{Kind}
+use Rattle.tal_tree.specs.declared.site.Kind.TheVariants as kind
 use Rattle.tal_tree.specs.declared.site.ProcessSpec.{ProcessSpec}
 use Rattle.tal_tree.specs.declared.site.TerminalSpec.{TerminalSpec}
-use Rattle.tal_tree.specs.declared.site.Kind.TheVariants as kind
-use Rattle.tal_reader.specs.Reads.{Reads}
 use Rattle.deck_reader.specs.Lines.{lines_of}
 use Rattle.deck_reader.specs.Outlined.{outline_of}
 use Rattle.deck_reader.specs.declared.deck.Deck.{Deck}
+use Rattle.deck_reader.specs.declared.outline.Body.{Body}
+use Rattle.deck_reader.specs.declared.outline.Body.TheVariants as body
 use Rattle.deck_reader.specs.declared.outline.Outline.{Outline}
-use Rattle.deck_reader.specs.declared.outline.PairLines.{PairLines}
+use Rattle.deck_reader.specs.declared.outline.ProcessLines.{ProcessLines}
 use Rattle.deck_reader.specs.declared.outline.TerminalLines.{TerminalLines}
 
 -- one after another, each x with its y
@@ -26,61 +30,89 @@ EachWith R (x ∷ xs) (y ∷ ys) = R x y × EachWith R xs ys
 EachWith R [] (y ∷ ys) = ⊥
 EachWith R (x ∷ xs) [] = ⊥
 
+-- what a process is: a disc with its sectors, or a pair that runs the program that its text reads as
+abbrev pub IsKindOf : Body → Kind → Type 0
+IsKindOf (body.Disc told) (kind.Disc sectors) = sectors ≡ told
+IsKindOf (body.Pair lines) (kind.Pair program) = Reads lines.text program
+IsKindOf _ _ = ⊥
+
+-- the process of its lines
+pub record IsProcessOf (lines : ProcessLines) (process : ProcessSpec) : Type 0 where
+  pub name : process.name ≡ lines.heading.name
+  pub primary : process.primary ≡ lines.heading.primary
+  pub backup : process.backup ≡ lines.heading.backup
+  pub what : IsKindOf lines.body process.what
+
+abbrev pub AreProcessesOf : List ProcessLines → List ProcessSpec → Type 0
+AreProcessesOf lines processes = EachWith IsProcessOf lines processes
+
+-- the process of this name has this place, one of sixteen
+pub record IsPlaceOf (processes : List ProcessLines) (name : List ℕ) (place : ℕ) : Type 0 where
+  pub small : place < 16
+  pub there : option_map (λ (lines : ProcessLines). lines.heading.name) (slice_get processes place) ≡ Some name
+
+-- the terminal of a terminal's lines asks the process that they name
+pub record IsTerminalOf (processes : List ProcessLines) (lines : TerminalLines) (terminal : TerminalSpec) : Type 0 where
+  pub name : terminal.name ≡ lines.name
+  pub target : IsPlaceOf processes lines.target terminal.target
+  pub requests : terminal.requests ≡ lines.requests
+
+abbrev pub AreTerminalsOf : List ProcessLines → List TerminalLines → List TerminalSpec → Type 0
+AreTerminalsOf processes lines terminals = EachWith (IsTerminalOf processes) lines terminals
+
 -- files that are all opened to `$RECEIVE`: the program asks no process
 abbrev pub are_receive : List FileUse → Bool
 are_receive files = list_all (λ file. is_receive file.target) files
 
--- the process of a pair's lines runs the program that its text reads as, which asks no process; a text is no longer than a deck may be
-pub record IsProcessOf (pair : PairLines) (process : ProcessSpec) : Type 0 where
-  pub short : length pair.text ≤ 1048576
-  pub name : process.name ≡ pair.name
-  pub primary : process.primary ≡ pair.primary
-  pub backup : process.backup ≡ pair.backup
-  pub program : (program : Program) × (process.what ≡ kind.Pair program) × Reads pair.text program × (are_receive program.files ≡ true)
+-- how many procedures the longest chain of a program's calls goes through, from MAIN on
+abbrev pub depth_of : Program → ℕ
+depth_of program = unwrap_or (slice_get (depths program) program.main) 0
 
-abbrev pub AreProcessesOf : List PairLines → List ProcessSpec → Type 0
-AreProcessesOf pairs processes = EachWith IsProcessOf pairs processes
+-- what is played today: a pair whose program asks no process and calls at most 16 procedures deep
+abbrev pub is_played : Kind → Bool
+is_played (kind.Disc sectors) = false
+is_played (kind.Pair program) = are_receive program.files && nat_le (depth_of program) 16
 
--- the pair of this name has this place, one of sixteen
-pub record IsPlaceOf (pairs : List PairLines) (name : List ℕ) (place : ℕ) : Type 0 where
-  pub small : place < 16
-  pub there : option_map (λ (pair : PairLines). pair.name) (slice_get pairs place) ≡ Some name
+-- at most one process, and it is played today
+abbrev pub are_played : List ProcessSpec → Bool
+are_played [] = true
+are_played (process ∷ []) = is_played process.what
+are_played (process ∷ other ∷ rest) = false
 
--- the terminal of a terminal's lines asks the process that they name
-pub record IsTerminalOf (pairs : List PairLines) (lines : TerminalLines) (terminal : TerminalSpec) : Type 0 where
-  pub name : terminal.name ≡ lines.name
-  pub target : IsPlaceOf pairs lines.target terminal.target
-  pub requests : terminal.requests ≡ lines.requests
-
-abbrev pub AreTerminalsOf : List PairLines → List TerminalLines → List TerminalSpec → Type 0
-AreTerminalsOf pairs lines terminals = EachWith (IsTerminalOf pairs) lines terminals
-
--- the deck of an outline: programs read and names looked up
+-- the deck of an outline: programs read and names looked up, and all of it played today
 pub record IsDeckOf (outline : Outline) (deck : Deck) : Type 0 where
   pub processors : deck.site.processors ≡ outline.processors
-  pub processes : AreProcessesOf outline.pairs deck.site.processes
-  pub terminals : AreTerminalsOf outline.pairs outline.terminals deck.site.terminals
+  pub processes : AreProcessesOf outline.processes deck.site.processes
+  pub terminals : AreTerminalsOf outline.processes outline.terminals deck.site.terminals
   pub lines : deck.lines ≡ outline.lines
+  pub played : are_played deck.site.processes ≡ true
+  pub one_terminal : length outline.terminals ≤ 1
 
 -- the bytes, at most 1,048,576, are the lines of the deck
 pub record Decks (bytes : List ℕ) (deck : Deck) : Type 0 where
   pub short : length bytes ≤ 1048576
   pub outlined : (outline : Outline) × (outline_of (lines_of bytes) ≡ Some outline) × IsDeckOf outline deck
 
--- the faults that are answered today
-abbrev pub IsFaultOfToday : DeckFault → Type 0
-IsFaultOfToday fault.TooLong = Unit {0}
-IsFaultOfToday fault.NotYet = Unit {0}
-IsFaultOfToday fault.NoMemory = Unit {0}
-IsFaultOfToday _ = ⊥
+-- the pair of the line of this number has a program that is refused for the fault
+abbrev pub IsRefusedAs : Body → ℕ → TalFault → Type 0
+IsRefusedAs (body.Disc sectors) number why = ⊥
+IsRefusedAs (body.Pair lines) number why = (number ≡ lines.line) × IsRefused lines.text why
 
--- why nothing is given that has the property: memory ran out, or there is none today
-abbrev pub IsRefusedBy : {X : Type 0} → (X → Type 0) → DeckFault → Type 0
-IsRefusedBy {X} P fault.NotYet = (x : X) → P x → ⊥
-IsRefusedBy P fault.NoMemory = Unit {0}
-IsRefusedBy P _ = ⊥
+-- the first of these processes whose program is refused is the pair of this line: the programs before it all read
+abbrev pub IsFirstRefused : List ProcessLines → ℕ → TalFault → Type 0
+IsFirstRefused [] number why = ⊥
+IsFirstRefused (lines ∷ rest) number why =
+    IsRefusedAs lines.body number why ⊎ ((what : Kind) × IsKindOf lines.body what × IsFirstRefused rest number why)
 
--- the deck's fault for a program's
-abbrev pub refusal_of : TalFault → DeckFault
-refusal_of tal.NoMemory = fault.NoMemory
-refusal_of _ = fault.NotYet
+-- the bytes, at most 1,048,576, are the lines of a deck whose first refused program is that of the line of this number
+pub record RefusesProgram (bytes : List ℕ) (number : ℕ) (why : TalFault) : Type 0 where
+  pub short : length bytes ≤ 1048576
+  pub outlined : (outline : Outline) × (outline_of (lines_of bytes) ≡ Some outline) × IsFirstRefused outline.processes number why
+
+-- why bytes are refused: there are too many, or a program is refused, or else they spell no deck
+abbrev pub IsRefusalOf : List ℕ → DeckFault → Type 0
+IsRefusalOf bytes fault.TooLong = 1048576 < length bytes
+IsRefusalOf bytes (fault.Program number why) = RefusesProgram bytes number why
+IsRefusalOf bytes fault.NotYet =
+    (length bytes ≤ 1048576) × ((number : ℕ) (why : TalFault) → RefusesProgram bytes number why → ⊥) × ((deck : Deck) → Decks bytes deck → ⊥)
+IsRefusalOf bytes _ = ⊥

@@ -1,5 +1,6 @@
 pub mod Cuts
 pub mod Decks
+pub mod Faults
 pub mod Lines
 pub mod Numbers
 pub mod Outlined

@@ -26,7 +26,7 @@ words_of (c ∷ cs) = if c == 32 then words_of cs else onto c cs (words_of cs)
 abbrev pub is_printable : List ℕ → Bool
 is_printable line = list_all (λ c. nat_le 32 c && nat_le c 126) line
 
--- no words; the words where there are just one, two or three
+-- no words; the words where there are just one to four
 abbrev pub is_blank : List (List ℕ) → Bool
 is_blank [] = true
 is_blank (word ∷ words) = false
@@ -42,3 +42,7 @@ two_words (word ∷ rest) = option_map (λ second. (word, second)) (one_word res
 abbrev pub three_words : List (List ℕ) → Option (List ℕ × List ℕ × List ℕ)
 three_words [] = None
 three_words (word ∷ rest) = option_map (λ later. (word, later.0, later.1)) (two_words rest)
+
+abbrev pub four_words : List (List ℕ) → Option (List ℕ × List ℕ × List ℕ × List ℕ)
+four_words [] = None
+four_words (word ∷ rest) = option_map (λ later. (word, later.0, later.1, later.2)) (three_words rest)

@@ -1,15 +1,19 @@
--- What the lines of a deck say together, line by line. The numbers are the limits of a deck: 2 to 16 processors, 1,000
--- requests of a terminal, 100,000 rounds. A deck of the first form has at most one pair, one terminal and one event line.
-use Rattle.std.specs.Prelude.{ℕ, Bool, true, false, not, ◌&&◌, ◌==◌, nat_lt, nat_le, List, [], ◌∷◌, ◌++◌, length, codes, Option, Some, None, option_and_then, if◌then◌else◌}
+-- What the lines of a deck say together, line by line. The numbers are the limits of a deck: 2 to 16 processors, 16 processes,
+-- discs of 1 to 64 sectors, 16 terminals with 1,000 requests each, 100,000 rounds. Today there is one event line, of rounds.
+use Rattle.std.specs.Prelude.{ℕ, ◌+◌, Bool, true, false, not, ◌&&◌, ◌==◌, nat_lt, nat_le, List, [], ◌∷◌, ◌++◌, length, codes, Option, Some, None, option_map, option_and_then, if◌then◌else◌}
 use Rattle.std.specs.List.{list_any}
 use Rattle.std.specs.Str.{bytes_eq}
 use Rattle.schedule.specs.declared.line.Line.TheVariants as event
 use Rattle.deck_reader.specs.SayingOf.{saying_of}
-use Rattle.deck_reader.specs.declared.outline.PairLines.{PairLines}
-use Rattle.deck_reader.specs.declared.outline.TerminalLines.{TerminalLines}
+use Rattle.deck_reader.specs.declared.outline.Body.TheVariants as body
+use Rattle.deck_reader.specs.declared.outline.Heading.{Heading}
 use Rattle.deck_reader.specs.declared.outline.Outline.{Outline}
+use Rattle.deck_reader.specs.declared.outline.ProcessLines.{ProcessLines}
+use Rattle.deck_reader.specs.declared.outline.ProgramLines.{ProgramLines}
 use Rattle.deck_reader.specs.declared.outline.Stage.{Stage}
 use Rattle.deck_reader.specs.declared.outline.Stage.TheVariants as at
+use Rattle.deck_reader.specs.declared.outline.TerminalLines.{TerminalLines}
+use Rattle.deck_reader.specs.declared.saying.Placing.{Placing}
 use Rattle.deck_reader.specs.declared.saying.Saying.{Saying}
 use Rattle.deck_reader.specs.declared.saying.Saying.TheVariants as said
 
@@ -20,47 +24,62 @@ is_nil (x ∷ xs) = false
 -- no process and no terminal has the name
 abbrev pub is_new : Outline → List ℕ → Bool
 is_new outline name =
-    not (list_any (λ (pair : PairLines). bytes_eq pair.name name) outline.pairs)
+    not (list_any (λ (process : ProcessLines). bytes_eq process.heading.name name) outline.processes)
     && not (list_any (λ (terminal : TerminalLines). bytes_eq terminal.name name) outline.terminals)
 
 -- the first line: how many processors there are
 abbrev pub opening : Saying → Option Stage
 opening said.Nothing = Some at.Opening
 opening (said.Processors count) =
-    if nat_le 2 count && nat_le count 16 then Some (at.Blocks (record { processors = count; pairs = []; terminals = []; lines = [] })) else None
+    if nat_le 2 count && nat_le count 16 then Some (at.Blocks (record { processors = count; processes = []; terminals = []; lines = [] })) else None
 opening _ = None
 
--- a pair in two different processors that are there; its program follows
-abbrev pub pair_begun : Outline → List ℕ → ℕ → ℕ → Option Stage
-pair_begun outline name primary backup =
-    if is_nil outline.pairs && is_new outline name && not (primary == backup) && nat_lt primary outline.processors && nat_lt backup outline.processors
-    then Some (at.Program outline (record { name = name; primary = primary; backup = backup; text = [] })) else None
+-- one more process, of a new name and in two different processors of the deck
+abbrev pub heading_of : Outline → Placing → Option Heading
+heading_of outline placing =
+    if nat_lt (length outline.processes) 16 && is_new outline placing.name && not (placing.primary == placing.backup) && nat_lt placing.primary outline.processors
+    && nat_lt placing.backup outline.processors
+    then Some (record { name = placing.name; primary = placing.primary; backup = placing.backup }) else None
+
+abbrev pub with_process : Outline → ProcessLines → Outline
+with_process outline process = record outline { processes = outline.processes ++ process ∷ [] }
+
+-- a disc with so many sectors
+abbrev pub disc_told : Outline → Placing → ℕ → Option Stage
+disc_told outline placing sectors =
+    if nat_le 1 sectors && nat_le sectors 64
+    then option_map (λ heading. at.Blocks (with_process outline (record { heading = heading; body = body.Disc sectors }))) (heading_of outline placing) else None
+
+-- a pair, on the line of this number; its program follows
+abbrev pub pair_begun : Outline → ℕ → Placing → Option Stage
+pair_begun outline number placing = option_map (λ heading. at.Program outline heading (record { line = number; text = [] })) (heading_of outline placing)
 
 -- a terminal; its requests follow
 abbrev pub terminal_begun : Outline → List ℕ → List ℕ → Option Stage
 terminal_begun outline name target =
-    if is_nil outline.terminals && is_new outline name then Some (at.Requests outline (record { name = name; target = target; requests = [] })) else None
+    if nat_lt (length outline.terminals) 16 && is_new outline name then Some (at.Requests outline (record { name = name; target = target; requests = [] })) else None
 
--- where a process, a terminal or the schedule may begin
-abbrev pub in_blocks : Outline → Saying → Option Stage
-in_blocks outline said.Nothing = Some (at.Blocks outline)
-in_blocks outline (said.Pair name primary backup) = pair_begun outline name primary backup
-in_blocks outline (said.Terminal name target) = terminal_begun outline name target
-in_blocks outline said.Schedule = Some (at.Schedule outline)
-in_blocks outline _ = None
+-- where a process, a terminal or the schedule may begin, on the line of this number
+abbrev pub in_blocks : Outline → ℕ → Saying → Option Stage
+in_blocks outline number said.Nothing = Some (at.Blocks outline)
+in_blocks outline number (said.Disc placing sectors) = disc_told outline placing sectors
+in_blocks outline number (said.Pair placing) = pair_begun outline number placing
+in_blocks outline number (said.Terminal name target) = terminal_begun outline name target
+in_blocks outline number said.Schedule = Some (at.Schedule outline)
+in_blocks outline number _ = None
 
 -- a program ends before the first line that is a point alone
-abbrev pub in_program : Outline → PairLines → List ℕ → Stage
-in_program outline pair line =
-    if bytes_eq line (codes ".") then at.Blocks (record outline { pairs = outline.pairs ++ pair ∷ [] })
-    else at.Program outline (record pair { text = pair.text ++ line ++ 10 ∷ [] })
+abbrev pub in_program : Outline → Heading → ProgramLines → List ℕ → Stage
+in_program outline heading program line =
+    if bytes_eq line (codes ".") then at.Blocks (with_process outline (record { heading = heading; body = body.Pair program }))
+    else at.Program outline heading (record program { text = program.text ++ line ++ 10 ∷ [] })
 
 -- one more request of the terminal, or what begins after it
-abbrev pub in_requests : Outline → TerminalLines → Saying → Option Stage
-in_requests outline terminal said.Nothing = Some (at.Requests outline terminal)
-in_requests outline terminal (said.Send words) =
+abbrev pub in_requests : Outline → TerminalLines → ℕ → Saying → Option Stage
+in_requests outline terminal number said.Nothing = Some (at.Requests outline terminal)
+in_requests outline terminal number (said.Send words) =
     if nat_lt (length terminal.requests) 1000 then Some (at.Requests outline (record terminal { requests = terminal.requests ++ words ∷ [] })) else None
-in_requests outline terminal saying = in_blocks (record outline { terminals = outline.terminals ++ terminal ∷ [] }) saying
+in_requests outline terminal number saying = in_blocks (record outline { terminals = outline.terminals ++ terminal ∷ [] }) number saying
 
 -- the event line, and END after it
 abbrev pub in_schedule : Outline → Saying → Option Stage
@@ -70,29 +89,29 @@ in_schedule outline (said.Drain rounds) =
 in_schedule outline said.End = if is_nil outline.lines then None else Some (at.Ended outline)
 in_schedule outline _ = None
 
--- after END only empty lines
+-- after END only lines that say nothing
 abbrev pub ended : Outline → Saying → Option Stage
 ended outline said.Nothing = Some (at.Ended outline)
 ended outline _ = None
 
 -- outside a program
-abbrev pub after : Stage → Saying → Option Stage
-after at.Opening saying = opening saying
-after (at.Blocks outline) saying = in_blocks outline saying
-after (at.Program outline pair) saying = None
-after (at.Requests outline terminal) saying = in_requests outline terminal saying
-after (at.Schedule outline) saying = in_schedule outline saying
-after (at.Ended outline) saying = ended outline saying
+abbrev pub after : Stage → ℕ → Saying → Option Stage
+after at.Opening number saying = opening saying
+after (at.Blocks outline) number saying = in_blocks outline number saying
+after (at.Program outline heading program) number saying = None
+after (at.Requests outline terminal) number saying = in_requests outline terminal number saying
+after (at.Schedule outline) number saying = in_schedule outline saying
+after (at.Ended outline) number saying = ended outline saying
 
--- one more line
-abbrev pub next_stage : Stage → List ℕ → Option Stage
-next_stage (at.Program outline pair) line = Some (in_program outline pair line)
-next_stage stage line = option_and_then (after stage) (saying_of line)
+-- one more line, and its number
+abbrev pub next_stage : Stage → ℕ → List ℕ → Option Stage
+next_stage (at.Program outline heading program) number line = Some (in_program outline heading program line)
+next_stage stage number line = option_and_then (after stage number) (saying_of line)
 
--- all lines, one after another
-abbrev pub stage_after : Stage → List (List ℕ) → Option Stage
-stage_after stage [] = Some stage
-stage_after stage (line ∷ lines) = option_and_then (λ next. stage_after next lines) (next_stage stage line)
+-- all lines, one after another, from the one of this number on
+abbrev pub stage_after : Stage → ℕ → List (List ℕ) → Option Stage
+stage_after stage number [] = Some stage
+stage_after stage number (line ∷ lines) = option_and_then (λ next. stage_after next (number + 1) lines) (next_stage stage number line)
 
 abbrev pub whole : Stage → Option Outline
 whole (at.Ended outline) = Some outline
@@ -100,4 +119,4 @@ whole _ = None
 
 -- what the lines say, where they are those of a deck to its END
 abbrev pub outline_of : List (List ℕ) → Option Outline
-outline_of lines = option_and_then whole (stage_after at.Opening lines)
+outline_of lines = option_and_then whole (stage_after at.Opening 1 lines)

@@ -1,11 +1,12 @@
 -- What a line of a deck outside a program says.
-use Rattle.std.specs.Prelude.{ℕ, nat_le, List, [], ◌∷◌, length, codes, Option, Some, None, option_map, option_and_then, if◌then◌else◌, ℤ}
+use Rattle.std.specs.Prelude.{ℕ, Bool, false, ◌==◌, nat_le, List, [], ◌∷◌, length, codes, Option, Some, None, option_map, option_and_then, if◌then◌else◌, ℤ}
 use Rattle.std.specs.Str.{bytes_eq}
 use Rattle.gd_words.specs.Spelling.{name_of}
-use Rattle.deck_reader.specs.Lines.{words_of, is_blank, is_printable, one_word, two_words, three_words}
+use Rattle.deck_reader.specs.Lines.{words_of, is_blank, is_printable, one_word, two_words, three_words, four_words}
 use Rattle.deck_reader.specs.Numbers.{number_of, word_of}
 use Rattle.deck_reader.specs.declared.saying.Keyword.{Keyword}
 use Rattle.deck_reader.specs.declared.saying.Keyword.TheVariants as key
+use Rattle.deck_reader.specs.declared.saying.Placing.{Placing}
 use Rattle.deck_reader.specs.declared.saying.Saying.{Saying}
 use Rattle.deck_reader.specs.declared.saying.Saying.TheVariants as said
 
@@ -13,6 +14,7 @@ use Rattle.deck_reader.specs.declared.saying.Saying.TheVariants as said
 abbrev pub keyword_of : List ℕ → Option Keyword
 keyword_of word =
     if bytes_eq word (codes "processors") then Some key.Processors
+    else if bytes_eq word (codes "disc") then Some key.Disc
     else if bytes_eq word (codes "pair") then Some key.Pair
     else if bytes_eq word (codes "terminal") then Some key.Terminal
     else if bytes_eq word (codes "send") then Some key.Send
@@ -25,13 +27,22 @@ keyword_of word =
 abbrev pub processors_said : List (List ℕ) → Option Saying
 processors_said parts = option_and_then (λ word. option_map said.Processors (number_of word)) (one_word parts)
 
+-- a process's name and the processors of its two copies
+abbrev pub placing_of : List ℕ → List ℕ → List ℕ → Option Placing
+placing_of name primary backup = placed (name_of name) (number_of primary) (number_of backup)
+  where
+    placed : Option (List ℕ) → Option ℕ → Option ℕ → Option Placing
+    placed (Some name) (Some primary) (Some backup) = Some (record { name = name; primary = primary; backup = backup })
+    placed _ _ _ = None
+
+-- `disc NAME P B SECTORS`
+abbrev pub disc_said : List (List ℕ) → Option Saying
+disc_said parts =
+    option_and_then (λ words. option_and_then (λ placing. option_map (λ sectors. said.Disc placing sectors) (number_of words.3)) (placing_of words.0 words.1 words.2)) (four_words parts)
+
 -- `pair NAME P B`
 abbrev pub pair_said : List (List ℕ) → Option Saying
-pair_said parts = option_and_then (λ words. pair_of (name_of words.0) (number_of words.1) (number_of words.2)) (three_words parts)
-  where
-    pair_of : Option (List ℕ) → Option ℕ → Option ℕ → Option Saying
-    pair_of (Some name) (Some primary) (Some backup) = Some (said.Pair name primary backup)
-    pair_of _ _ _ = None
+pair_said parts = option_and_then (λ words. option_map said.Pair (placing_of words.0 words.1 words.2)) (three_words parts)
 
 -- `terminal NAME TARGET`
 abbrev pub terminal_said : List (List ℕ) → Option Saying
@@ -69,6 +80,7 @@ end_said parts = if is_blank parts then Some said.End else None
 -- the parts of a line by its first word
 abbrev pub parts_say : List (List ℕ) → Keyword → Option Saying
 parts_say parts key.Processors = processors_said parts
+parts_say parts key.Disc = disc_said parts
 parts_say parts key.Pair = pair_said parts
 parts_say parts key.Terminal = terminal_said parts
 parts_say parts key.Send = send_said parts
@@ -76,10 +88,15 @@ parts_say parts key.Schedule = schedule_said parts
 parts_say parts key.Drain = drain_said parts
 parts_say parts key.End = end_said parts
 
--- the words of a line
+-- a word that begins with `#`
+abbrev pub is_remark : List ℕ → Bool
+is_remark [] = false
+is_remark (c ∷ cs) = c == 35
+
+-- the words of a line; none and a remark say nothing
 abbrev pub said_by : List (List ℕ) → Option Saying
 said_by [] = Some said.Nothing
-said_by (word ∷ parts) = option_and_then (parts_say parts) (keyword_of word)
+said_by (word ∷ parts) = if is_remark word then Some said.Nothing else option_and_then (parts_say parts) (keyword_of word)
 
 -- a line outside a program
 abbrev pub saying_of : List ℕ → Option Saying

@@ -1,14 +1,20 @@
 //! Reads a deck: the processors, the processes with their programs, the terminals with their requests, and the schedule.
 //!
-//! Below stand `tal_reader`, which reads the programs, `tal_tree` for the site and the faults, and `schedule` for the
-//! event lines. The runner uses the clauses of `read_deck`: what is taken is a deck, and every deck is taken. Today a deck
-//! is one of the first form: no disc, at most one pair and one terminal, and the one event line `drain R`.
+//! Below stand `tal_reader`, which reads the programs, `path_semantics`, which counts how deep their calls go, `tal_laws`,
+//! `tal_tree` for the site and the faults, and `schedule` for the event lines. The runner uses the clauses of `read_deck`:
+//! what is taken is a deck, every deck is taken, and what is refused is refused for its one fault. Today a deck is one of
+//! the first form: no disc, at most one pair and one terminal, and the one event line `drain R`. A program that is refused is
+//! told in any deck whose lines can be followed to its END.
 #![tactic(auto)]
 
 pub mod deck;
+pub mod laws;
 pub mod lines;
 pub mod numbers;
 pub mod outline;
 pub mod saying;
 
 pub use deck::{Deck, read_deck};
+pub use laws::{
+    bytes_are_refused_for_one_fault, bytes_spell_one_deck, what_is_refused_spells_no_deck,
+};

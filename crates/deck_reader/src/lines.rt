@@ -1,5 +1,5 @@
 ghost use Rattle.std.specs.Prelude.{◌≡◌, ◌<◌, ◌==◌, not, [], ◌∷◌, length, MatchOption, option_map};
-ghost use Rattle.deck_reader.specs.Lines.{lines_of, words_of, is_printable, is_blank, one_word, two_words, three_words};
+ghost use Rattle.deck_reader.specs.Lines.{lines_of, words_of, is_printable, is_blank, one_word, two_words, three_words, four_words};
 ghost use Rattle.deck_reader.specs.Cuts.{front_of, back_of};
 
 /// The first line and what follows its line feed; none where the text is at its end.
@@ -76,6 +76,15 @@ pub fn three_words(line: &[u8]) -> Option<(&[u8], &[u8], &[u8])>
     let (first, rest) = next_word(line)?;
     let (second, third) = two_words(rest)?;
     Some((first, second, third))
+}
+
+/// The words, where a line has just these four.
+pub fn four_words(line: &[u8]) -> Option<(&[u8], &[u8], &[u8], &[u8])>
+    ensures { option_map (λ words. (words.0.now, words.1.now, words.2.now, words.3.now)) result ≡ four_words (words_of line.now) }
+{
+    let (first, rest) = next_word(line)?;
+    let (second, third, fourth) = three_words(rest)?;
+    Some((first, second, third, fourth))
 }
 
 /// Whether a line has no word.

@@ -1,20 +1,40 @@
 ghost use Rattle.std.specs.Prelude.{◌≡◌, IfOk};
 ghost use Rattle.std.specs.List.{list_any};
 ghost use Rattle.std.specs.Str.{bytes_eq};
-ghost use Rattle.deck_reader.specs.Outlined.{is_new, next_stage, opening, in_blocks, pair_begun, terminal_begun, in_program, in_requests, in_schedule, ended, after};
+ghost use Rattle.deck_reader.specs.Outlined.{is_new, heading_of, next_stage, opening, in_blocks, disc_told, pair_begun, terminal_begun, in_program, in_requests, in_schedule, ended, after};
 
-use crate::saying::{Saying, saying_of};
+use crate::saying::{Placing, Saying, saying_of};
 use gd_words::{List, Name, NoMemory, Words};
 use schedule::Line;
 use std::alloc::Global;
 
-/// The line of a pair and the text of its program.
+/// The name of a process and the processors of its two copies.
 #[derive(Drop)]
-pub struct PairLines {
+pub struct Heading {
     pub name: Name,
     pub primary: u8,
     pub backup: u8,
+}
+
+/// The text of a program, and the number of its pair's line, counted from 1.
+#[derive(Drop)]
+pub struct ProgramLines {
+    pub line: u32,
     pub text: List<u8>,
+}
+
+/// What follows the heading of a process.
+#[derive(Drop)]
+pub enum Body {
+    Disc { sectors: u8 },
+    Pair(ProgramLines),
+}
+
+/// The lines of a process.
+#[derive(Drop)]
+pub struct ProcessLines {
+    pub heading: Heading,
+    pub body: Body,
 }
 
 /// The line of a terminal and its requests.
@@ -29,7 +49,7 @@ pub struct TerminalLines {
 #[derive(Drop)]
 pub struct Outline {
     pub processors: u8,
-    pub pairs: List<PairLines>,
+    pub processes: List<ProcessLines>,
     pub terminals: List<TerminalLines>,
     pub lines: List<Line>,
 }
@@ -42,7 +62,7 @@ pub enum Stage {
     /// Where a process, a terminal or the schedule may begin.
     Blocks(Outline),
     /// In the program of a pair.
-    Program(Outline, PairLines),
+    Program(Outline, Heading, ProgramLines),
     /// After a terminal or one of its requests.
     Requests(Outline, TerminalLines),
     Schedule(Outline),
@@ -50,42 +70,60 @@ pub enum Stage {
     Ended(Outline),
 }
 
-/// The stage after one more line; none where no deck has this line there.
-pub fn next_stage(alloc: Global, stage: Stage, line: &[u8]) -> Result<Option<Stage>, NoMemory>
-    ensures { IfOk result (λ next. next ≡ next_stage stage line.now) }
+/// The stage after one more line, which has this number; none where no deck has this line there.
+pub fn next_stage(
+    alloc: Global,
+    stage: Stage,
+    number: u32,
+    line: &[u8],
+) -> Result<Option<Stage>, NoMemory>
+    ensures { IfOk result (λ next. next ≡ next_stage stage number line.now) }
 {
     match stage {
-        Stage::Program(outline, pair) => in_program(outline, pair, line),
+        Stage::Program(outline, heading, program) => in_program(outline, heading, program, line),
         stage => match saying_of(line) {
             None => Ok(None),
-            Some(saying) => after(alloc, stage, saying),
+            Some(saying) => after(alloc, stage, number, saying),
         },
     }
 }
 
-fn in_program(outline: Outline, pair: PairLines, line: &[u8]) -> Result<Option<Stage>, NoMemory>
-    ensures { IfOk result (λ next. next ≡ Some (in_program outline pair line.now)) }
+fn in_program(
+    outline: Outline,
+    heading: Heading,
+    program: ProgramLines,
+    line: &[u8],
+) -> Result<Option<Stage>, NoMemory>
+    ensures { IfOk result (λ next. next ≡ Some (in_program outline heading program line.now)) }
 {
     let mut outline = outline;
-    let mut pair = pair;
+    let mut program = program;
     if line == b".".as_slice() {
-        outline.pairs.push(pair)?;
+        let body = Body::Pair(program);
+        outline.processes.push(ProcessLines { heading, body })?;
         Ok(Some(Stage::Blocks(outline)))
     } else {
-        pair.text.extend_from_slice(line)?;
-        pair.text.push(b'\n')?;
-        Ok(Some(Stage::Program(outline, pair)))
+        program.text.extend_from_slice(line)?;
+        program.text.push(b'\n')?;
+        Ok(Some(Stage::Program(outline, heading, program)))
     }
 }
 
-fn after(alloc: Global, stage: Stage, saying: Saying) -> Result<Option<Stage>, NoMemory>
-    ensures { IfOk result (λ next. next ≡ after stage saying) }
+fn after(
+    alloc: Global,
+    stage: Stage,
+    number: u32,
+    saying: Saying,
+) -> Result<Option<Stage>, NoMemory>
+    ensures { IfOk result (λ next. next ≡ after stage number saying) }
 {
     match stage {
         Stage::Opening => Ok(opening(alloc, saying)),
-        Stage::Blocks(outline) => Ok(in_blocks(alloc, outline, saying)),
-        Stage::Program(_, _) => Ok(None),
-        Stage::Requests(outline, terminal) => in_requests(alloc, outline, terminal, saying),
+        Stage::Blocks(outline) => in_blocks(alloc, outline, number, saying),
+        Stage::Program(_, _, _) => Ok(None),
+        Stage::Requests(outline, terminal) => {
+            in_requests(alloc, outline, terminal, number, saying)
+        }
         Stage::Schedule(outline) => in_schedule(outline, saying),
         Stage::Ended(outline) => Ok(ended(outline, saying)),
     }
@@ -98,7 +136,7 @@ fn opening(alloc: Global, saying: Saying) -> Option<Stage>
         Saying::Nothing => Some(Stage::Opening),
         Saying::Processors(count) if 2 <= count && count <= 16 => Some(Stage::Blocks(Outline {
             processors: count as u8,
-            pairs: List::new(alloc),
+            processes: List::new(alloc),
             terminals: List::new(alloc),
             lines: List::new(alloc),
         })),
@@ -106,56 +144,83 @@ fn opening(alloc: Global, saying: Saying) -> Option<Stage>
     }
 }
 
-fn in_blocks(alloc: Global, outline: Outline, saying: Saying) -> Option<Stage>
-    ensures { result ≡ in_blocks outline saying }
+fn in_blocks(
+    alloc: Global,
+    outline: Outline,
+    number: u32,
+    saying: Saying,
+) -> Result<Option<Stage>, NoMemory>
+    ensures { IfOk result (λ next. next ≡ in_blocks outline number saying) }
 {
     match saying {
-        Saying::Nothing => Some(Stage::Blocks(outline)),
-        Saying::Pair {
-            name,
-            primary,
-            backup,
-        } => pair_begun(alloc, outline, name, primary, backup),
-        Saying::Terminal { name, target } => terminal_begun(alloc, outline, name, target),
-        Saying::Schedule => Some(Stage::Schedule(outline)),
-        _ => None,
+        Saying::Nothing => Ok(Some(Stage::Blocks(outline))),
+        Saying::Disc(placing, sectors) => disc_told(outline, placing, sectors),
+        Saying::Pair(placing) => Ok(pair_begun(alloc, outline, number, placing)),
+        Saying::Terminal { name, target } => Ok(terminal_begun(alloc, outline, name, target)),
+        Saying::Schedule => Ok(Some(Stage::Schedule(outline))),
+        _ => Ok(None),
     }
 }
 
-/// The line of a pair in two processors of the deck. Today there is one pair at most.
-fn pair_begun(
-    alloc: Global,
-    outline: Outline,
-    name: Name,
-    primary: u32,
-    backup: u32,
-) -> Option<Stage>
-    ensures { result ≡ pair_begun outline name primary backup }
+/// The line of a disc with 1 to 64 sectors.
+fn disc_told(outline: Outline, placing: Placing, sectors: u32) -> Result<Option<Stage>, NoMemory>
+    ensures { IfOk result (λ next. next ≡ disc_told outline placing sectors) }
 {
+    let mut outline = outline;
+    if sectors < 1 || sectors > 64 {
+        return Ok(None);
+    }
+    let Some(heading) = heading_of(&outline, placing) else {
+        return Ok(None);
+    };
+    let body = Body::Disc {
+        sectors: sectors as u8,
+    };
+    outline.processes.push(ProcessLines { heading, body })?;
+    Ok(Some(Stage::Blocks(outline)))
+}
+
+fn pair_begun(alloc: Global, outline: Outline, number: u32, placing: Placing) -> Option<Stage>
+    ensures { result ≡ pair_begun outline number placing }
+{
+    let heading = heading_of(&outline, placing)?;
+    let program = ProgramLines {
+        line: number,
+        text: List::new(alloc),
+    };
+    Some(Stage::Program(outline, heading, program))
+}
+
+/// The heading of one more process: there is room for it, its name is new and its processors are there.
+fn heading_of(outline: &Outline, placing: Placing) -> Option<Heading>
+    ensures { result ≡ heading_of outline.now placing }
+{
+    let Placing {
+        name,
+        primary,
+        backup,
+    } = placing;
     let count = u32::from(outline.processors);
-    if outline.pairs.is_empty()
-        && is_new(&outline, &name)
+    if outline.processes.len() < 16
+        && is_new(outline, &name)
         && primary != backup
         && primary < count
         && backup < count
     {
-        let pair = PairLines {
+        Some(Heading {
             name,
             primary: primary as u8,
             backup: backup as u8,
-            text: List::new(alloc),
-        };
-        Some(Stage::Program(outline, pair))
+        })
     } else {
         None
     }
 }
 
-/// The line of a terminal. Today there is one at most.
 fn terminal_begun(alloc: Global, outline: Outline, name: Name, target: Name) -> Option<Stage>
     ensures { result ≡ terminal_begun outline name target }
 {
-    if outline.terminals.is_empty() && is_new(&outline, &name) {
+    if outline.terminals.len() < 16 && is_new(&outline, &name) {
         let terminal = TerminalLines {
             name,
             target,
@@ -171,14 +236,16 @@ fn terminal_begun(alloc: Global, outline: Outline, name: Name, target: Name) -> 
 fn is_new(outline: &Outline, name: &Name) -> bool
     ensures { result ≡ is_new outline.now name.now }
 {
-    !is_pair_name(outline.pairs.as_slice(), name)
+    !is_process_name(outline.processes.as_slice(), name)
         && !is_terminal_name(outline.terminals.as_slice(), name)
 }
 
-fn is_pair_name(pairs: &[PairLines], name: &Name) -> bool
-    ensures { result ≡ list_any (λ pair. bytes_eq pair.name name.now) pairs.now }
+fn is_process_name(processes: &[ProcessLines], name: &Name) -> bool
+    ensures { result ≡ list_any (λ process. bytes_eq process.heading.name name.now) processes.now }
 {
-    pairs.iter().any(|pair| pair.name.text() == name.text())
+    processes
+        .iter()
+        .any(|process| process.heading.name.text() == name.text())
 }
 
 fn is_terminal_name(terminals: &[TerminalLines], name: &Name) -> bool
@@ -193,9 +260,10 @@ fn in_requests(
     alloc: Global,
     outline: Outline,
     terminal: TerminalLines,
+    number: u32,
     saying: Saying,
 ) -> Result<Option<Stage>, NoMemory>
-    ensures { IfOk result (λ next. next ≡ in_requests outline terminal saying) }
+    ensures { IfOk result (λ next. next ≡ in_requests outline terminal number saying) }
 {
     let mut outline = outline;
     let mut terminal = terminal;
@@ -210,7 +278,7 @@ fn in_requests(
         }
         saying => {
             outline.terminals.push(terminal)?;
-            Ok(in_blocks(alloc, outline, saying))
+            in_blocks(alloc, outline, number, saying)
         }
     }
 }

@@ -1,8 +1,10 @@
 ghost use Rattle.std.specs.Prelude.{◌≡◌, ◌≤◌, length};
 ghost use Rattle.deck_reader.specs.Lines.{words_of};
-ghost use Rattle.deck_reader.specs.SayingOf.{keyword_of, processors_said, pair_said, terminal_said, send_said, schedule_said, drain_said, end_said, said_by, saying_of, request_of};
+ghost use Rattle.deck_reader.specs.SayingOf.{keyword_of, processors_said, placing_of, disc_said, pair_said, terminal_said, send_said, schedule_said, drain_said, end_said, is_remark, said_by, saying_of, request_of};
 
-use crate::lines::{is_blank, is_printable, next_word, one_word, three_words, two_words};
+use crate::lines::{
+    four_words, is_blank, is_printable, next_word, one_word, three_words, two_words,
+};
 use crate::numbers::{number_of, word_of};
 use gd_words::{Name, Words};
 
@@ -10,6 +12,7 @@ use gd_words::{Name, Words};
 #[derive(Clone, Copy, PartialEq, Eq)]
 pub enum Keyword {
     Processors,
+    Disc,
     Pair,
     Terminal,
     Send,
@@ -18,21 +21,24 @@ pub enum Keyword {
     End,
 }
 
+/// The name of a process and the processors of its two copies, as they are written.
+#[derive(Drop)]
+pub struct Placing {
+    pub name: Name,
+    pub primary: u32,
+    pub backup: u32,
+}
+
 /// What a line outside a program says, with its numbers as they are written.
 #[derive(Drop)]
 pub enum Saying {
-    /// An empty line.
+    /// An empty line or a remark.
     Nothing,
     Processors(u32),
-    Pair {
-        name: Name,
-        primary: u32,
-        backup: u32,
-    },
-    Terminal {
-        name: Name,
-        target: Name,
-    },
+    /// A disc with so many sectors.
+    Disc(Placing, u32),
+    Pair(Placing),
+    Terminal { name: Name, target: Name },
     /// One request of the terminal before.
     Send(Words),
     Schedule,
@@ -57,8 +63,12 @@ fn said_by(line: &[u8]) -> Option<Saying>
     let Some((word, parts)) = next_word(line) else {
         return Some(Saying::Nothing);
     };
+    if is_remark(word) {
+        return Some(Saying::Nothing);
+    }
     match keyword_of(word)? {
         Keyword::Processors => processors(parts),
+        Keyword::Disc => disc(parts),
         Keyword::Pair => pair(parts),
         Keyword::Terminal => terminal(parts),
         Keyword::Send => send(parts),
@@ -68,11 +78,23 @@ fn said_by(line: &[u8]) -> Option<Saying>
     }
 }
 
+/// Whether the line that begins with this word is a remark.
+fn is_remark(word: &[u8]) -> bool
+    ensures { result ≡ is_remark word.now }
+{
+    match word {
+        [] => false,
+        [sign, ..] => *sign == b'#',
+    }
+}
+
 fn keyword_of(word: &[u8]) -> Option<Keyword>
     ensures { result ≡ keyword_of word.now }
 {
     if word == b"processors".as_slice() {
         Some(Keyword::Processors)
+    } else if word == b"disc".as_slice() {
+        Some(Keyword::Disc)
     } else if word == b"pair".as_slice() {
         Some(Keyword::Pair)
     } else if word == b"terminal".as_slice() {
@@ -98,18 +120,34 @@ fn processors(parts: &[u8]) -> Option<Saying>
     Some(Saying::Processors(count))
 }
 
-fn pair(parts: &[u8]) -> Option<Saying>
-    ensures { result ≡ pair_said (words_of parts.now) }
+fn placing_of(name: &[u8], primary: &[u8], backup: &[u8]) -> Option<Placing>
+    ensures { result ≡ placing_of name.now primary.now backup.now }
 {
-    let (name, primary, backup) = three_words(parts)?;
     let name = Name::read(name)?;
     let primary = number_of(primary)?;
     let backup = number_of(backup)?;
-    Some(Saying::Pair {
+    Some(Placing {
         name,
         primary,
         backup,
     })
+}
+
+fn disc(parts: &[u8]) -> Option<Saying>
+    ensures { result ≡ disc_said (words_of parts.now) }
+{
+    let (name, primary, backup, sectors) = four_words(parts)?;
+    let placing = placing_of(name, primary, backup)?;
+    let sectors = number_of(sectors)?;
+    Some(Saying::Disc(placing, sectors))
+}
+
+fn pair(parts: &[u8]) -> Option<Saying>
+    ensures { result ≡ pair_said (words_of parts.now) }
+{
+    let (name, primary, backup) = three_words(parts)?;
+    let placing = placing_of(name, primary, backup)?;
+    Some(Saying::Pair(placing))
 }
 
 fn terminal(parts: &[u8]) -> Option<Saying>

@@ -1,11 +1,18 @@
 -- What is decided, and what the outcome tells of it.
 use Rattle.std.proofs.Common.{◌≡◌, ℕ, Bool, true, false, List, [], ◌∷◌, Option, Some, None, Result, Ok, Err, sym, ap, ◌∙◌, refl}
-use Rattle.std.specs.Prelude.{⊤, IsErr, IfSome, codes, if◌then◌else◌}
+use Rattle.std.specs.Prelude.{◌≢◌, ⊤, IsErr, IfSome, codes, if◌then◌else◌}
+use Rattle.deck_reader.specs.Decks.{IsRefusalOf}
 use Rattle.gd_io.specs.Reads.{Leaves}
 use Rattle.gd_io.specs.declared.writing.WriteFault.{WriteFault}
-use Rattle.runner.specs.Decided.{IsTold}
+use Rattle.tal_tree.specs.declared.fault.DeckFault.{DeckFault}
+use Rattle.tal_tree.specs.declared.fault.DeckFault.TheVariants as fault
+use Rattle.tal_tree.specs.declared.fault.TalFault.{TalFault}
+use Rattle.tal_tree.specs.declared.fault.TalFault.TheVariants as tal
+use Rattle.trace_print.specs.FaultLine.{IsOfDeck}
+use Rattle.trace_print.specs.TalNumbers.{IsOfText}
+use Rattle.runner.specs.Decided.{IsTold, IsDueOfBytes, due_of_fault}
 use Rattle.runner.specs.Words.{asks_run}
-use Rattle.runner.specs.Written.{outcome_of}
+use Rattle.runner.specs.Written.{outcome_of, CanBeWritten}
 use Rattle.runner.specs.declared.due.Due.{Due}
 use Rattle.runner.specs.declared.due.Due.TheVariants as due
 use Rattle.runner.specs.declared.outcome.Outcome.{Outcome}
@@ -22,6 +29,27 @@ pub words_of : (told : Option (List (List ℕ))) (answer : Bool) → IfSome told
 words_of None true h = (codes "run" ∷ [], tt, refl)
 words_of None false h = ([], tt, refl)
 words_of (Some words) answer h = (words, refl, sym h)
+
+-- what a program is refused for is told, where it isn't want of memory
+of_text : (why : TalFault) → why ≢ tal.NoMemory → IsOfText why
+of_text tal.NoMemory memory = absurd (memory refl)
+of_text _ memory = tt
+
+-- why bytes are refused is due
+pub fault_is_due : (bytes : List ℕ) (f : DeckFault) → (f ≢ fault.NoMemory → IsRefusalOf bytes f) → IsDueOfBytes bytes (due_of_fault f)
+fault_is_due bytes fault.NoMemory refused = tt
+fault_is_due bytes f refused = refused (λ e. absurd (cc))
+
+-- why bytes are refused has a line
+has_line : (bytes : List ℕ) (f : DeckFault) → IsRefusalOf bytes f → ((number : ℕ) → f ≢ fault.Program number tal.NoMemory) → IsOfDeck f
+has_line bytes (fault.Program number why) refused memory = of_text why (λ e. memory number (ap (fault.Program number) e))
+has_line bytes fault.TooLong refused memory = tt
+has_line bytes fault.NotYet refused memory = tt
+has_line bytes _ refused memory = absurd refused
+
+pub fault_is_written : (bytes : List ℕ) (f : DeckFault) → (f ≢ fault.NoMemory → IsRefusalOf bytes f) → ((number : ℕ) → f ≢ fault.Program number tal.NoMemory) → CanBeWritten (due_of_fault f)
+fault_is_written bytes fault.NoMemory refused memory = tt
+fault_is_written bytes f refused memory = has_line bytes f (refused (λ e. absurd (cc))) memory
 
 -- a read fault is the status of no other decision
 read_fault_only : (decided : Due) (result : Result ⊤ WriteFault) → (outcome_of decided result).status ≡ status.ReadFault → decided ≡ due.ReadFault

@@ -1,1 +1,2 @@
 pub mod DecidedLemmas
+pub mod Loadable

@@ -1,11 +1,11 @@
 -- What a command decides before it writes anything.
-use Rattle.std.specs.Prelude.{◌≡◌, ◌<◌, ◌↔◌, ℕ, IsTrue, Bool, true, false, List, [], ◌∷◌, length, Option, Some, None}
+use Rattle.std.specs.Prelude.{◌≡◌, ◌↔◌, ℕ, IsTrue, Bool, true, false, List, [], ◌∷◌, Option, Some, None}
 use Rattle.schedule.specs.declared.line.Line.{Line}
 use Rattle.schedule.specs.declared.line.Line.TheVariants.{Drain}
 use Rattle.tal_tree.specs.declared.fault.DeckFault.{DeckFault}
-use Rattle.tal_tree.specs.declared.fault.DeckFault.TheVariants.{TooLong, NotYet}
+use Rattle.tal_tree.specs.declared.fault.DeckFault.TheVariants.{TooLong, NoMemory}
 use Rattle.gd_io.specs.Faults.{HasRisen}
-use Rattle.deck_reader.specs.Decks.{Decks}
+use Rattle.deck_reader.specs.Decks.{Decks, IsRefusalOf}
 use Rattle.deck_reader.specs.declared.deck.Deck.{Deck}
 use Rattle.plain_semantics.specs.Machine.{IsPossible, IsNoneLeft, shown_by}
 use Rattle.plain_machine.specs.Rounds.{run_of}
@@ -34,11 +34,10 @@ IsDueOfDeck deck (due.Report report) = IsRunOf deck report
 IsDueOfDeck deck due.NoMemory = Unit {0}
 IsDueOfDeck deck _ = ⊥
 
--- too many bytes, or bytes that aren't too many and spell no deck
-abbrev pub IsRefusalOf : List ℕ → DeckFault → Type 0
-IsRefusalOf bytes TooLong = 1048576 < length bytes
-IsRefusalOf bytes NotYet = (1048576 < length bytes → ⊥) × ((deck : Deck) → Decks bytes deck → ⊥)
-IsRefusalOf bytes _ = ⊥
+-- what is due where a deck is refused for a fault, or memory ran out
+abbrev pub due_of_fault : DeckFault → Due
+due_of_fault NoMemory = due.NoMemory
+due_of_fault fault = due.Refused fault
 
 -- what is due of bytes
 abbrev pub IsDueOfBytes : List ℕ → Due → Type 0

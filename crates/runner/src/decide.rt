@@ -1,8 +1,9 @@
 ghost use Rattle.std.specs.Prelude.{◌≡◌, ◌≢◌, ℕ, List};
 ghost use Rattle.std.specs.Io.KnownBytes.{IsAtEnd};
 ghost use Rattle.gd_io.specs.Faults.{HasRisen};
+ghost use Rattle.plain_machine.specs.Standing.{AreLoadable};
 ghost use Rattle.runner.specs.Written.{CanBeWritten};
-ghost use Rattle.runner.specs.Decided.{IsTold, IsDue, IsDueOfSource, IsDueOfBytes, IsDueOfDeck, IsOfWholeDeck, rounds_of};
+ghost use Rattle.runner.specs.Decided.{IsTold, IsDue, IsDueOfSource, IsDueOfBytes, IsDueOfDeck, IsOfWholeDeck, due_of_fault, rounds_of};
 
 use crate::due::{Due, Report};
 use crate::outcome::RunEnd;
@@ -57,14 +58,21 @@ fn due_of_bytes(alloc: Global, bytes: &[u8]) -> Due
 {
     match read_deck(alloc, bytes) {
         Ok(deck) => due_of_deck(alloc, deck),
-        Err(DeckFault::TooLong) => Due::Refused(DeckFault::TooLong),
-        Err(DeckFault::NotYet) => Due::Refused(DeckFault::NotYet),
-        Err(DeckFault::NoMemory) => Due::NoMemory,
-        Err(_) => unreachable!(),
+        Err(fault) => due_of_fault(fault),
+    }
+}
+
+fn due_of_fault(fault: DeckFault) -> Due
+    ensures { result ≡ due_of_fault fault }
+{
+    match fault {
+        DeckFault::NoMemory => Due::NoMemory,
+        fault => Due::Refused(fault),
     }
 }
 
 fn due_of_deck(alloc: Global, deck: Deck) -> Due
+    requires { AreLoadable deck.site.processes }
     ensures due { IsDueOfDeck deck result }
     ensures written { CanBeWritten result }
 {

@@ -1,7 +1,8 @@
 use deck_reader::*;
 use schedule::Line;
+use std::alloc::{AllocError, Global};
 use std::test::Fail;
-use tal_tree::DeckFault;
+use tal_tree::{DeckFault, Place, TalFault};
 
 const DECK: &[u8] =
     b"processors 3\n\nterminal $t1 $add\nsend 5 -7\nsend\npair $add 2 1\nINT rcv;\nPROC p MAIN;\nBEGIN\n  CALL CHECKMONITOR;\n  CALL OPEN(\"$RECEIVE\", rcv, 1);\nEND;\n.\nschedule\n  drain  007\nEND";
@@ -31,13 +32,173 @@ fn refuses_what_is_no_deck(rt: HostRuntime) -> Result<(), Fail> {
         b"processors 2\nschedule\nEND\n".as_slice(),
         b"processors 2\nschedule\ndrain 1\n".as_slice(),
         b"processors 2\nschedule\ndrain 100001\nEND\n".as_slice(),
-        b"processors 2\n# of the kind\nschedule\ndrain 1\nEND\n".as_slice(),
+        b"processors 2\n. # of the kind\nschedule\ndrain 1\nEND\n".as_slice(),
         b"processors 2\nterminal $T1 $ADD\nschedule\ndrain 1\nEND\n".as_slice(),
         b"processors 2\nschedule\ndrain 1\nEND\nEND\n".as_slice(),
     ];
     for deck in decks {
         let fault = read_deck(rt.alloc(), deck).err();
         assert!(rt; fault == Some(DeckFault::NotYet), "{deck:?}");
+    }
+    Ok(())
+}
+
+fn at(line: u32, column: u32) -> Place {
+    Place { line, column }
+}
+
+/// A deck of these lines, and after them a pair with this program and its terminal.
+fn with_pair(alloc: Global, lines: &[u8], program: &[u8]) -> Result<Vec<u8>, AllocError> {
+    let mut deck = Vec::from_slice(alloc, b"processors 2\n")?;
+    deck.extend_from_slice(lines)?;
+    deck.extend_from_slice(b"pair $P 0 1\n")?;
+    deck.extend_from_slice(program)?;
+    deck.extend_from_slice(b"\n.\nterminal $T1 $P\nsend 1\nschedule\ndrain 10\nEND\n")?;
+    Ok(deck)
+}
+
+/// Programs and what each is refused for.
+const FAULTS: [(&[u8], TalFault); 12] = [
+    (
+        b"INT rcv, got;\nINT buf[0:3];\nPROC p MAIN;\nBEGIN\n  CALL CHECKMONITOR;\n  CALL OPEN(\"$RECEIVE\", rcv, 1);\n  got := 1 # 2;\n  CALL REPLY(buf, got);\nEND;",
+        TalFault::BadCharacter(Place {
+            line: 7,
+            column: 12,
+        }),
+    ),
+    (
+        b"INT rcv, got;\nINT buf[0:3];\nPROC p MAIN;\nBEGIN\n  CALL CHECKMONITOR;\n  CALL OPEN(\"$RECEIVE\", rcv, 1);\n  got := 32768;\n  CALL REPLY(buf, got);\nEND;",
+        TalFault::NumberTooLarge(Place {
+            line: 7,
+            column: 10,
+        }),
+    ),
+    (
+        b"INT rcv, got;\nINT buf[0:3];\nPROC p MAIN;\nBEGIN\n  CALL CHECKMONITOR;\n  CALL OPEN(\"$RECEIVE, rcv, 1);\n  CALL READUPDATE(rcv, buf, 4, got);\n  CALL REPLY(buf, got);\nEND;",
+        TalFault::OpenString(Place {
+            line: 6,
+            column: 13,
+        }),
+    ),
+    (
+        b"INT rcv, got, abcdefghijklmnopqrstuvwxyzabcdef;\nINT buf[0:3];\nPROC p MAIN;\nBEGIN\n  CALL CHECKMONITOR;\n  CALL OPEN(\"$RECEIVE\", rcv, 1);\n  CALL READUPDATE(rcv, buf, 4, got);\n  CALL REPLY(buf, got);\nEND;",
+        TalFault::NameTooLong(Place {
+            line: 1,
+            column: 15,
+        }),
+    ),
+    (
+        b"INT rcv, got;\nINT buf[0:3];\nPROC p MAIN\nBEGIN\n  CALL CHECKMONITOR;\n  CALL OPEN(\"$RECEIVE\", rcv, 1);\n  CALL READUPDATE(rcv, buf, 4, got);\n  CALL REPLY(buf, got);\nEND;",
+        TalFault::Expected(Place { line: 4, column: 1 }),
+    ),
+    (
+        b"INT rcv, got;\nINT buf[0:3];\nPROC p MAIN;\nBEGIN\n  CALL CHECKMONITOR;\n  CALL OPEN(\"$RECEIVE\", rcv, 1);\n  CALL READUPDATE(rcv, buf, 4, got);\n  CALL REPLY(buf, gott);\nEND;",
+        TalFault::Unknown(Place {
+            line: 8,
+            column: 19,
+        }),
+    ),
+    (
+        b"INT rcv, got;\nINT buf[0:3], got;\nPROC p MAIN;\nBEGIN\n  CALL CHECKMONITOR;\n  CALL OPEN(\"$RECEIVE\", rcv, 1);\n  CALL READUPDATE(rcv, buf, 4, got);\n  CALL REPLY(buf, got);\nEND;",
+        TalFault::Twice(Place {
+            line: 2,
+            column: 15,
+        }),
+    ),
+    (
+        b"INT rcv, got;\nINT buf[0:3];\nPROC p MAIN;\nBEGIN\n  CALL CHECKMONITOR;\n  CALL OPEN(\"$RECEIVE\", rcv, 1);\n  CALL READUPDATE(rcv, buf, 4, got);\n  CALL REPLY(got, got);\nEND;",
+        TalFault::WrongKind(Place {
+            line: 8,
+            column: 14,
+        }),
+    ),
+    (
+        b"INT rcv, got;\nINT buf[0:3];\nPROC p MAIN;\nBEGIN\n  CALL CHECKMONITOR;\n  CALL OPEN(\"$RECEIVE\", rcv, 1);\n  CALL later;\n  CALL REPLY(buf, got);\nEND;\nPROC later; BEGIN END;",
+        TalFault::NotBefore(Place { line: 7, column: 8 }),
+    ),
+    (
+        b"INT rcv, got;\nINT buf[0:3];\nPROC p MAIN;\nBEGIN\n  CALL CHECKMONITOR;\n  CALL OPEN(\"$RECEIVE\", rcv, 1);\n  CALL CHECKMONITOR;\n  CALL REPLY(buf, got);\nEND;",
+        TalFault::Prologue(Place { line: 7, column: 8 }),
+    ),
+    (
+        b"INT rcv, got;\nINT buf[0:256];\nPROC p MAIN;\nBEGIN\n  CALL CHECKMONITOR;\n  CALL OPEN(\"$RECEIVE\", rcv, 1);\n  CALL READUPDATE(rcv, buf, 4, got);\n  CALL REPLY(buf, got);\nEND;",
+        TalFault::Limit(3, Place { line: 2, column: 5 }),
+    ),
+    (
+        b"PROC p;\nBEGIN\nEND;",
+        TalFault::NoMain(Place { line: 4, column: 1 }),
+    ),
+];
+
+#[test]
+fn tells_each_fault_of_a_program(rt: HostRuntime) -> Result<(), Fail> {
+    for (program, fault) in FAULTS {
+        let deck = with_pair(rt.alloc(), b"# in a pair\n\ndisc $D 1 0 64\n", program)?;
+        let found = read_deck(rt.alloc(), deck.as_slice()).err();
+        assert!(rt; found == Some(DeckFault::Program(5, fault)), "{program:?}");
+    }
+    Ok(())
+}
+
+#[test]
+fn tells_what_stands_first(rt: HostRuntime) -> Result<(), Fail> {
+    let good = b"pair $A 1 0\nPROC m MAIN; BEGIN CALL CHECKMONITOR; END;\n.\n".as_slice();
+    let first = Some(DeckFault::Program(2, TalFault::NoMain(at(1, 1))));
+    let third = Some(DeckFault::Program(3, TalFault::NoMain(at(3, 1))));
+    let fifth = Some(DeckFault::Program(5, TalFault::NoMain(at(3, 1))));
+    let not_yet = Some(DeckFault::NotYet);
+    let cases = [
+        (b"disc $D 0 1 1\n".as_slice(), third),
+        (b"  # any printable sign: \\ | ~\n".as_slice(), third),
+        (good, fifth),
+        (b"pair $A 0 1\n.\n".as_slice(), first),
+        (
+            b"terminal $T2 $T3\nterminal $T3 $A\nsend\n".as_slice(),
+            fifth,
+        ),
+        (b"disc $D 0 1 0\n".as_slice(), not_yet),
+        (b"disc $D 0 1 65\n".as_slice(), not_yet),
+        (b"disc $D 0 1\n".as_slice(), not_yet),
+        (b"disc $D 1 1 5\n".as_slice(), not_yet),
+        (b"disc $D 0 2 5\n".as_slice(), not_yet),
+        (b"disc $P 0 1 5\n".as_slice(), not_yet),
+        (b"terminal $P $A\n".as_slice(), not_yet),
+        (b"\t# no printable sign\n".as_slice(), not_yet),
+    ];
+    for (lines, fault) in cases {
+        let deck = with_pair(rt.alloc(), lines, b"\n")?;
+        let found = read_deck(rt.alloc(), deck.as_slice()).err();
+        assert!(rt; found == fault, "{lines:?}");
+    }
+    Ok(())
+}
+
+/// Fifteen procedures of which each calls the one before.
+const CHAIN: &[u8] =
+    b"PROC a; BEGIN END;\nPROC b; BEGIN CALL a; END;\nPROC c; BEGIN CALL b; END;\nPROC d; BEGIN CALL c; END;\nPROC e; BEGIN CALL d; END;\nPROC f; BEGIN CALL e; END;\nPROC g; BEGIN CALL f; END;\nPROC h; BEGIN CALL g; END;\nPROC i; BEGIN CALL h; END;\nPROC j; BEGIN CALL i; END;\nPROC k; BEGIN CALL j; END;\nPROC l; BEGIN CALL k; END;\nPROC m; BEGIN CALL l; END;\nPROC n; BEGIN CALL m; END;\nPROC o; BEGIN CALL n; END;\n";
+
+#[test]
+fn takes_what_is_played_today(rt: HostRuntime) -> Result<(), Fail> {
+    let none = b"".as_slice();
+    let disc = b"disc $D 0 1 16\n".as_slice();
+    let terminal = b"terminal $T2 $P\n".as_slice();
+    let sixteen = b"PROC z MAIN; BEGIN CALL CHECKMONITOR; CALL o; END;".as_slice();
+    let seventeen =
+        b"PROC p; BEGIN CALL o; END; PROC z MAIN; BEGIN CALL CHECKMONITOR; CALL p; END;".as_slice();
+    let not_yet = Some(DeckFault::NotYet);
+    let cases = [
+        (none, sixteen, None),
+        (b"# nothing else\n".as_slice(), sixteen, None),
+        (none, seventeen, not_yet),
+        (disc, sixteen, not_yet),
+        (terminal, sixteen, not_yet),
+    ];
+    for (lines, main, fault) in cases {
+        let mut program = Vec::from_slice(rt.alloc(), CHAIN)?;
+        program.extend_from_slice(main)?;
+        let deck = with_pair(rt.alloc(), lines, program.as_slice())?;
+        let found = read_deck(rt.alloc(), deck.as_slice()).err();
+        assert!(rt; found == fault, "{lines:?}");
     }
     Ok(())
 }

@@ -1,4 +1,4 @@
-use Rattle.std.proofs.Common.{◌≡◌, length}
+use Rattle.std.proofs.Common.{◌≡◌, ◌+◌, ◌≤◌, length}
 use Rattle.deck_reader.specs.Lines.{lines_of}
 use Rattle.deck_reader.specs.Outlined.{stage_after}
 use Rattle.deck_reader.specs.declared.outline.Stage.TheVariants as at
@@ -6,7 +6,8 @@ use Rattle.deck_reader.proofs.deck.outline_of.Given as goal
 
 -- the lines that are left lead from this stage where all lines lead
 abbrev pub invariant-loop-line : goal.invariant-loop-line
-invariant-loop-line l = stage_after l.stage (lines_of l.text) ≡ stage_after at.Opening (lines_of l.bytes)
+invariant-loop-line l =
+    (stage_after l.stage l.number (lines_of l.text) ≡ stage_after at.Opening 1 (lines_of l.bytes)) × (l.number + length l.text ≤ length l.bytes + 1)
 
 abbrev pub decreases-loop-line : goal.decreases-loop-line
 decreases-loop-line l = length l.text
