@@ -1,0 +1,2 @@
+mod Openers
+mod Tables

@@ -1,0 +1,57 @@
+ghost use Rattle.std.specs.Prelude.{◌≡◌, ◌<◌, ◌≤◌, ◌+◌, length, replicate, slice_index, slice_set};
+
+use arrayvec::ArrayVec;
+use std::marker::Model;
+
+/// The number of the next request on each file of a process, from file 0 on.
+#[derive(Drop)]
+pub struct Asker {
+    next: ArrayVec<u32, 8>,
+}
+
+impl Model for Asker {
+    ghost use Rattle.std.specs.Prelude.{List, ℕ};
+
+    ghost Value = { List ℕ };
+
+    ghost view = { λ asker. asker.next.items };
+}
+
+impl Asker {
+    /// So many files, of each of which the next request is its first.
+    pub fn new(files: u8) -> Asker
+        requires { files ≤ 8 }
+        ensures { result ≡ replicate files 1 }
+    {
+        let mut next = ArrayVec::new();
+        for _file in 0..files {
+            next.push(1);
+        }
+        Asker { next }
+    }
+
+    /// The number of the next request on a file.
+    pub fn next(&self, file: u8) -> u32
+        requires { file < length self.now }
+        ensures { result ≡ slice_index self.now file }
+    {
+        self.next[usize::from(file)]
+    }
+
+    /// The next request on a file was sent.
+    pub fn asked(&mut self, file: u8)
+        requires there { file < length self.old }
+        requires room { slice_index self.old file < 4294967295 }
+        ensures { self.new ≡ slice_set self.old file (slice_index self.old file + 1) }
+    {
+        self.next[usize::from(file)] += 1;
+    }
+
+    /// Puts the number of the next request on a file, as a checkpoint tells it.
+    pub fn set(&mut self, file: u8, next: u32)
+        requires { file < length self.old }
+        ensures { self.new ≡ slice_set self.old file next }
+    {
+        self.next[usize::from(file)] = next;
+    }
+}

@@ -1,0 +1,139 @@
+ghost use Rattle.std.specs.Prelude.{◌≡◌, ◌<◌, ◌≤◌, ◌+◌, [], ◌∷◌, ◌++◌, length, IfOk, OnOk};
+ghost use Rattle.circular_buffer.specs.Buffer.{buffer};
+ghost use Rattle.checkpoint_image.specs.Receive.{answered, last_ones, reply_kept, standing_in};
+ghost use Rattle.sync_ids.specs.Openers.{block_of, depth_of, untaken_of, with_block};
+ghost use Rattle.sync_ids.specs.Tables.{is_of_depth};
+
+use checkpoint_image::{OpenerBlock, Standing};
+use circular_buffer::HeapCircularBuffer;
+use gd_words::{List, NoMemory, Words};
+use std::alloc::Global;
+
+/// What is remembered of one opener. The room of the kept replies is its depth.
+#[derive(Drop)]
+pub struct Opener {
+    pub taken: u32,
+    pub kept: HeapCircularBuffer<Words>,
+}
+
+impl Opener {
+    /// An opener of this depth, from which nothing was taken.
+    pub fn new(alloc: Global, depth: u8) -> Result<Opener, NoMemory>
+        ensures { IfOk result (λ opener. opener ≡ untaken_of depth) }
+    {
+        let kept = HeapCircularBuffer::with_capacity(alloc, usize::from(depth))?;
+        Ok(Opener { taken: 0, kept })
+    }
+
+    /// How a number stands to it, where its request is in hand or not.
+    pub fn standing(&self, held: bool, number: u32) -> Standing
+        ensures { result ≡ standing_in held (block_of self.now) number }
+    {
+        if number > self.taken {
+            if number - self.taken == 1 {
+                Standing::Next
+            } else {
+                Standing::Ahead
+            }
+        } else if held && number == self.taken {
+            Standing::InHand
+        } else {
+            match self.reply(self.answered(held), number) {
+                Some(words) => Standing::Kept(words),
+                None => Standing::Old,
+            }
+        }
+    }
+
+    /// The number last answered.
+    fn answered(&self, held: bool) -> u32
+        ensures { result ≡ answered held (block_of self.now) }
+    {
+        if held {
+            self.taken.saturating_sub(1)
+        } else {
+            self.taken
+        }
+    }
+
+    /// The reply that is kept to a number, where `last` was answered last.
+    fn reply(&self, last: u32, number: u32) -> Option<Words>
+        ensures { result ≡ reply_kept last self.now.kept.items number }
+    {
+        if number <= last {
+            let words = self.kept.nth_back((last - number) as usize)?;
+            Some(words.copy())
+        } else {
+            None
+        }
+    }
+
+    /// Takes its next request.
+    pub fn take(&mut self)
+        requires { self.old.taken < 4294967295 }
+        ensures block { block_of self.new ≡ record (block_of self.old) { taken = self.old.taken + 1 } }
+        ensures depth { depth_of self.new ≡ depth_of self.old }
+    {
+        self.taken += 1;
+    }
+
+    /// Keeps a reply; the oldest one goes where more than the depth would be kept.
+    pub fn keep(&mut self, words: &Words)
+        ensures block { block_of self.new ≡ record (block_of self.old) { kept = last_ones (depth_of self.old) (self.old.kept.items ++ words.now ∷ []) } }
+        ensures depth { depth_of self.new ≡ depth_of self.old }
+    {
+        let _oldest = self.kept.push_back(words.copy());
+    }
+
+    /// Its block.
+    pub fn block(&self, alloc: Global) -> Result<OpenerBlock, NoMemory>
+        ensures { IfOk result (λ block. block ≡ block_of self.now) }
+    {
+        let mut kept = List::new(alloc);
+        let (older, newer) = self.kept.as_slices();
+        put_copies(older, &mut kept)?;
+        put_copies(newer, &mut kept)?;
+        Ok(OpenerBlock {
+            taken: self.taken,
+            kept,
+        })
+    }
+
+    /// Whether a block keeps no more replies than its depth, nor than were taken.
+    pub fn takes(&self, block: &OpenerBlock) -> bool
+        ensures { result ≡ is_of_depth block.now (depth_of self.now) }
+    {
+        let kept = block.kept.len();
+        kept <= self.kept.capacity() && kept <= block.taken as usize
+    }
+
+    /// Puts a block in the place of its own.
+    pub fn put(&mut self, block: &OpenerBlock)
+        requires { length block.now.kept ≤ depth_of self.old }
+        ensures { self.new ≡ with_block block.now self.old }
+    {
+        self.taken = block.taken;
+        refill(&mut self.kept, block.kept.as_slice());
+    }
+}
+
+/// Puts copies of replies behind others.
+fn put_copies(replies: &[Words], out: &mut List<Words>) -> Result<(), NoMemory>
+    ensures { OnOk result (out.new ≡ out.old ++ replies.now) }
+{
+    for words in replies {
+        out.push(words.copy())?;
+    }
+    Ok(())
+}
+
+/// Puts copies of replies in the place of those that are kept.
+fn refill(kept: &mut HeapCircularBuffer<Words>, replies: &[Words])
+    requires { length replies.now ≤ kept.old.capacity }
+    ensures { kept.new ≡ buffer replies.now kept.old.capacity }
+{
+    kept.clear();
+    for words in replies {
+        let _oldest = kept.push_back(words.copy());
+    }
+}
