@@ -1,0 +1,3 @@
+mod Openers
+mod Takeover
+mod Taking
