@@ -5,4 +5,6 @@ pub mod NumberLemmas
 pub mod OneAnswer
 pub mod RefusedLemmas
 pub mod RequestLemmas
+pub mod ScheduleLemmas
+pub mod StageLemmas
 pub mod SizeLemmas

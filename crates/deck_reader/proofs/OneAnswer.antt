@@ -1,5 +1,5 @@
 -- Bytes spell one deck, or are refused for one fault.
-use Rattle.std.proofs.Common.{◌≡◌, ℕ, zero, suc, true, List, [], ◌∷◌, Some, refl, sym, ap, ap₂, ◌∙◌, subst, arith, inl, inr, ℤ}
+use Rattle.std.proofs.Common.{◌≡◌, ℕ, List, [], ◌∷◌, Some, refl, sym, ap, ap₂, ◌∙◌, subst, arith, inl, inr, ℤ}
 use Rattle.schedule.specs.declared.line.Line.{Line}
 use Rattle.tal_reader.proofs.Reading.{one-fault}
 use Rattle.tal_tree.specs.declared.fault.DeckFault.{DeckFault}
@@ -7,7 +7,7 @@ use Rattle.tal_tree.specs.declared.fault.DeckFault.TheVariants as fault
 use Rattle.tal_tree.specs.declared.fault.TalFault.{TalFault}
 use Rattle.tal_tree.specs.declared.site.ProcessSpec.{ProcessSpec}
 use Rattle.tal_tree.specs.declared.site.TerminalSpec.{TerminalSpec}
-use Rattle.deck_reader.specs.Decks.{Decks, IsDeckOf, IsPlaceOf, IsTerminalOf, AreProcessesOf, AreTerminalsOf, IsRefusedAs, IsFirstRefused, RefusesProgram, IsRefusalOf, are_played}
+use Rattle.deck_reader.specs.Decks.{Decks, IsDeckOf, IsTerminalOf, AreTerminalsOf, IsRefusedAs, IsFirstRefused, RefusesProgram, IsRefusalOf}
 use Rattle.deck_reader.specs.Lines.{lines_of}
 use Rattle.deck_reader.specs.Outlined.{outline_of}
 use Rattle.deck_reader.specs.declared.deck.Deck.{Deck}
@@ -22,34 +22,22 @@ use Rattle.deck_reader.proofs.RefusedLemmas.{same_processes, not_both, none_refu
 one_outline : (bytes : List ℕ) (a b : Outline) → outline_of (lines_of bytes) ≡ Some a → outline_of (lines_of bytes) ≡ Some b → b ≡ a
 one_outline bytes a b e f = (let both : Some b ≡ Some a = sym f ∙ e in cc)
 
--- where at most one process is played, it has the first place
-first_place : (lines : List ProcessLines) (specs : List ProcessSpec) (name : List ℕ) (place : ℕ) → AreProcessesOf lines specs → are_played specs ≡ true → IsPlaceOf lines name place → place ≡ 0
-first_place [] specs name place each played is = absurd (let e = is.there in cc)
-first_place (one ∷ rest) [] name place each played is = absurd each
-first_place (one ∷ rest) (x ∷ xs) name zero each played is = refl
-first_place (one ∷ []) (x ∷ xs) name (suc k) each played is = absurd (let e = is.there in cc)
-first_place (one ∷ two ∷ rest) (x ∷ []) name (suc k) each played is = absurd each.1
-first_place (one ∷ two ∷ rest) (x ∷ y ∷ ys) name (suc k) each played is = absurd (cc)
-
 abbrev terminal_with : List ℕ → ℕ → List (List ℤ) → TerminalSpec
 terminal_with name target requests = record { name = name; target = target; requests = requests }
 
-one_terminal : (lines : List ProcessLines) (specs : List ProcessSpec) (told : TerminalLines) (a b : TerminalSpec) → AreProcessesOf lines specs → are_played specs ≡ true
-    → IsTerminalOf lines told a → IsTerminalOf lines told b → a ≡ b
-one_terminal lines specs told a b each played h k =
-    ap (λ name. terminal_with name a.target a.requests) (h.name ∙ sym k.name)
-    ∙ ap (λ target. terminal_with b.name target a.requests) (first_place lines specs told.target a.target each played h.target ∙ sym (first_place lines specs told.target b.target each played k.target))
+one_terminal : (lines : List ProcessLines) (told : TerminalLines) (a b : TerminalSpec) → IsTerminalOf lines told a → IsTerminalOf lines told b → a ≡ b
+one_terminal lines told a b h k =
+    let place : Some a.target ≡ Some b.target = sym h.target ∙ k.target in
+    ap (λ name. terminal_with name a.target a.requests) (h.name ∙ sym k.name) ∙ ap (λ target. terminal_with b.name target a.requests) (cc)
     ∙ ap (terminal_with b.name b.target) (h.requests ∙ sym k.requests)
 
-same_terminals : (lines : List ProcessLines) (specs : List ProcessSpec) (told : List TerminalLines) (xs ys : List TerminalSpec) → AreProcessesOf lines specs → are_played specs ≡ true
-    → AreTerminalsOf lines told xs → AreTerminalsOf lines told ys → xs ≡ ys
-same_terminals lines specs [] [] [] each played h k = refl
-same_terminals lines specs (one ∷ rest) (x ∷ xs) (y ∷ ys) each played h k =
-    ap₂ (λ z zs. z ∷ zs) (one_terminal lines specs one x y each played h.0 k.0) (same_terminals lines specs rest xs ys each played h.1 k.1)
-same_terminals lines specs [] (x ∷ xs) ys each played h k = absurd h
-same_terminals lines specs [] [] (y ∷ ys) each played h k = absurd k
-same_terminals lines specs (one ∷ rest) [] ys each played h k = absurd h
-same_terminals lines specs (one ∷ rest) (x ∷ xs) [] each played h k = absurd k
+same_terminals : (lines : List ProcessLines) (told : List TerminalLines) (xs ys : List TerminalSpec) → AreTerminalsOf lines told xs → AreTerminalsOf lines told ys → xs ≡ ys
+same_terminals lines [] [] [] h k = refl
+same_terminals lines (one ∷ rest) (x ∷ xs) (y ∷ ys) h k = ap₂ (λ z zs. z ∷ zs) (one_terminal lines one x y h.0 k.0) (same_terminals lines rest xs ys h.1 k.1)
+same_terminals lines [] (x ∷ xs) ys h k = absurd h
+same_terminals lines [] [] (y ∷ ys) h k = absurd k
+same_terminals lines (one ∷ rest) [] ys h k = absurd h
+same_terminals lines (one ∷ rest) (x ∷ xs) [] h k = absurd k
 
 abbrev deck_with : ℕ → List ProcessSpec → List TerminalSpec → List Line → Deck
 deck_with processors processes terminals lines = record { site = record { processors = processors; processes = processes; terminals = terminals }; lines = lines }
@@ -59,7 +47,7 @@ same_deck outline a b h k =
     ap (λ n. deck_with n a.site.processes a.site.terminals a.lines) (h.processors ∙ sym k.processors)
     ∙ ap (λ processes. deck_with b.site.processors processes a.site.terminals a.lines) (same_processes outline.processes a.site.processes b.site.processes h.processes k.processes)
     ∙ ap (λ terminals. deck_with b.site.processors b.site.processes terminals a.lines)
-    (same_terminals outline.processes a.site.processes outline.terminals a.site.terminals b.site.terminals h.processes h.played h.terminals k.terminals)
+    (same_terminals outline.processes outline.terminals a.site.terminals b.site.terminals h.terminals k.terminals)
     ∙ ap (deck_with b.site.processors b.site.processes b.site.terminals) (h.lines ∙ sym k.lines)
 
 pub one_deck : (bytes : List ℕ) (a b : Deck) → Decks bytes a → Decks bytes b → a ≡ b

@@ -2,9 +2,10 @@
 use Rattle.std.proofs.Common.{◌≡◌, ℕ, ◌+◌, ◌<◌, ◌≤◌, zero, suc, Bool, true, false, cond, List, [], ◌∷◌, ◌++◌, length, Option, Some, None, option_map, option_and_then, get_or, ap, arith, length-append, nat_eq}
 use Rattle.std.specs.Prelude.{codes}
 use Rattle.std.specs.Str.{bytes_eq}
+use Rattle.schedule.specs.declared.line.Line.{Line}
 use Rattle.deck_reader.specs.Faults.{body_size, text_size}
 use Rattle.deck_reader.specs.Lines.{lines_of, before_first}
-use Rattle.deck_reader.specs.Outlined.{outline_of, stage_after, next_stage, after, in_blocks, in_program, in_requests, in_schedule, opening, ended, heading_of, with_process, whole}
+use Rattle.deck_reader.specs.Outlined.{outline_of, stage_after, next_stage, after, in_blocks, in_program, in_requests, in_schedule, event_line, with_line, opening, ended, heading_of, with_process, whole}
 use Rattle.deck_reader.specs.SayingOf.{saying_of}
 use Rattle.deck_reader.specs.declared.outline.Body.TheVariants as body
 use Rattle.deck_reader.specs.declared.outline.Heading.{Heading}
@@ -35,10 +36,6 @@ within_if : (n : ℕ) (b : Bool) (stage : Stage) → stage_size stage ≤ n → 
 within_if n true stage h = h
 within_if n false stage h = tt
 
-within_unless : (n : ℕ) (b : Bool) (stage : Stage) → stage_size stage ≤ n → IsWithin n (cond b None (Some stage))
-within_unless n true stage h = tt
-within_unless n false stage h = h
-
 within_map : {X : Type 0} (n : ℕ) (f : X → Stage) (o : Option X) → ((x : X) → stage_size (f x) ≤ n) → IsWithin n (option_map f o)
 within_map n f None h = tt
 within_map n f (Some x) h = h x
@@ -65,6 +62,9 @@ blocks_within outline number (said.Terminal name target) =
     within_if (text_size outline.processes) _ (at.Requests outline (record { name = name; target = target; requests = [] })) (omega arith)
 blocks_within outline number (said.Send words) = tt
 blocks_within outline number said.Schedule = omega arith
+blocks_within outline number (said.Run name) = tt
+blocks_within outline number (said.RunTimes name times) = tt
+blocks_within outline number (said.Enter name) = tt
 blocks_within outline number (said.Drain rounds) = tt
 blocks_within outline number said.End = tt
 
@@ -77,6 +77,9 @@ requests_within outline terminal number (said.Disc placing sectors) = blocks_wit
 requests_within outline terminal number (said.Pair placing) = blocks_within (record outline { terminals = outline.terminals ++ terminal ∷ [] }) number (said.Pair placing)
 requests_within outline terminal number (said.Terminal name target) = blocks_within (record outline { terminals = outline.terminals ++ terminal ∷ [] }) number (said.Terminal name target)
 requests_within outline terminal number said.Schedule = blocks_within (record outline { terminals = outline.terminals ++ terminal ∷ [] }) number said.Schedule
+requests_within outline terminal number (said.Run name) = blocks_within (record outline { terminals = outline.terminals ++ terminal ∷ [] }) number (said.Run name)
+requests_within outline terminal number (said.RunTimes name times) = blocks_within (record outline { terminals = outline.terminals ++ terminal ∷ [] }) number (said.RunTimes name times)
+requests_within outline terminal number (said.Enter name) = blocks_within (record outline { terminals = outline.terminals ++ terminal ∷ [] }) number (said.Enter name)
 requests_within outline terminal number (said.Drain rounds) = blocks_within (record outline { terminals = outline.terminals ++ terminal ∷ [] }) number (said.Drain rounds)
 requests_within outline terminal number said.End = blocks_within (record outline { terminals = outline.terminals ++ terminal ∷ [] }) number said.End
 
@@ -85,10 +88,18 @@ opening_within said.Nothing = omega arith
 opening_within (said.Processors count) = within_if 0 _ (at.Blocks (record { processors = count; processes = []; terminals = []; lines = [] })) (omega arith)
 opening_within _ = tt
 
+-- an event line adds no text of a program
+line_within : (outline : Outline) (o : Option Line) → IsWithin (text_size outline.processes) (option_and_then (with_line outline) o)
+line_within outline None = tt
+line_within outline (Some line) = within_if (text_size outline.processes) _ (at.Schedule _) (omega arith)
+
 schedule_within : (outline : Outline) (saying : Saying) → IsWithin (text_size outline.processes) (in_schedule outline saying)
 schedule_within outline said.Nothing = omega arith
-schedule_within outline (said.Drain rounds) = within_if (text_size outline.processes) _ (at.Schedule _) (omega arith)
-schedule_within outline said.End = within_unless (text_size outline.processes) _ (at.Ended outline) (omega arith)
+schedule_within outline said.End = omega arith
+schedule_within outline (said.Run name) = line_within outline (event_line outline (said.Run name))
+schedule_within outline (said.RunTimes name times) = line_within outline (event_line outline (said.RunTimes name times))
+schedule_within outline (said.Enter name) = line_within outline (event_line outline (said.Enter name))
+schedule_within outline (said.Drain rounds) = line_within outline (event_line outline (said.Drain rounds))
 schedule_within outline _ = tt
 
 ended_within : (outline : Outline) (saying : Saying) → IsWithin (text_size outline.processes) (ended outline saying)

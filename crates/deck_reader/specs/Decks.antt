@@ -1,21 +1,23 @@
 -- The deck that bytes spell, and the fault for which bytes are refused that spell none.
-use Rattle.std.specs.Prelude.{◌≡◌, ◌⊎◌, ◌<◌, ◌≤◌, ℕ, Bool, true, false, ◌&&◌, nat_le, List, [], ◌∷◌, length, Some, option_map, slice_get}
-use Rattle.std.specs.List.{list_all}
+use Rattle.std.specs.Prelude.{◌≡◌, ◌⊎◌, ◌<◌, ◌≤◌, ℕ, Bool, true, not, ◌&&◌, nat_le, List, [], ◌∷◌, length, Some, slice_get}
+use Rattle.std.specs.List.{list_all, list_any}
 use Rattle.std.specs.Option.{unwrap_or}
+use Rattle.std.specs.Str.{bytes_eq}
 use Rattle.path_semantics.specs.Bounds.{depths}
 use Rattle.tal_reader.specs.Reads.{Reads, IsRefused}
-use Rattle.tal_tree.specs.Targets.{is_receive}
 use Rattle.tal_tree.specs.declared.fault.DeckFault.{DeckFault}
 use Rattle.tal_tree.specs.declared.fault.DeckFault.TheVariants as fault
 use Rattle.tal_tree.specs.declared.fault.TalFault.{TalFault}
 use Rattle.tal_tree.specs.declared.program.FileUse.{FileUse}
 use Rattle.tal_tree.specs.declared.program.Program.{Program}
+use Rattle.tal_tree.specs.declared.program.Target.{Target}
+use Rattle.tal_tree.specs.declared.program.Target.TheVariants as target
 use Rattle.tal_tree.specs.declared.site.Kind.{Kind}
 use Rattle.tal_tree.specs.declared.site.Kind.TheVariants as kind
 use Rattle.tal_tree.specs.declared.site.ProcessSpec.{ProcessSpec}
 use Rattle.tal_tree.specs.declared.site.TerminalSpec.{TerminalSpec}
 use Rattle.deck_reader.specs.Lines.{lines_of}
-use Rattle.deck_reader.specs.Outlined.{outline_of}
+use Rattle.deck_reader.specs.Outlined.{outline_of, process_place}
 use Rattle.deck_reader.specs.declared.deck.Deck.{Deck}
 use Rattle.deck_reader.specs.declared.outline.Body.{Body}
 use Rattle.deck_reader.specs.declared.outline.Body.TheVariants as body
@@ -46,47 +48,50 @@ pub record IsProcessOf (lines : ProcessLines) (process : ProcessSpec) : Type 0 w
 abbrev pub AreProcessesOf : List ProcessLines → List ProcessSpec → Type 0
 AreProcessesOf lines processes = EachWith IsProcessOf lines processes
 
--- the process of this name has this place, one of sixteen
-pub record IsPlaceOf (processes : List ProcessLines) (name : List ℕ) (place : ℕ) : Type 0 where
-  pub small : place < 16
-  pub there : option_map (λ (lines : ProcessLines). lines.heading.name) (slice_get processes place) ≡ Some name
-
 -- the terminal of a terminal's lines asks the process that they name
 pub record IsTerminalOf (processes : List ProcessLines) (lines : TerminalLines) (terminal : TerminalSpec) : Type 0 where
   pub name : terminal.name ≡ lines.name
-  pub target : IsPlaceOf processes lines.target terminal.target
+  pub target : process_place processes lines.target ≡ Some terminal.target
   pub requests : terminal.requests ≡ lines.requests
 
 abbrev pub AreTerminalsOf : List ProcessLines → List TerminalLines → List TerminalSpec → Type 0
 AreTerminalsOf processes lines terminals = EachWith (IsTerminalOf processes) lines terminals
 
--- files that are all opened to `$RECEIVE`: the program asks no process
-abbrev pub are_receive : List FileUse → Bool
-are_receive files = list_all (λ file. is_receive file.target) files
+-- a file of the process of this name is opened to `$RECEIVE` or to another of these processes
+abbrev pub is_target : List ProcessSpec → List ℕ → Target → Bool
+is_target processes own target.Receive = true
+is_target processes own (target.Process name) = not (bytes_eq name own) && list_any (λ (process : ProcessSpec). bytes_eq process.name name) processes
+
+-- a process that asks only others of these processes
+abbrev pub opens_others : List ProcessSpec → List ℕ → Kind → Bool
+opens_others processes own (kind.Disc sectors) = true
+opens_others processes own (kind.Pair program) = list_all (λ (file : FileUse). is_target processes own file.target) program.files
+
+-- each of the processes asks only others of them
+abbrev pub all_open_others : List ProcessSpec → Bool
+all_open_others processes = list_all (λ (process : ProcessSpec). opens_others processes process.name process.what) processes
 
 -- how many procedures the longest chain of a program's calls goes through, from MAIN on
 abbrev pub depth_of : Program → ℕ
 depth_of program = unwrap_or (slice_get (depths program) program.main) 0
 
--- what is played today: a pair whose program asks no process and calls at most 16 procedures deep
-abbrev pub is_played : Kind → Bool
-is_played (kind.Disc sectors) = false
-is_played (kind.Pair program) = are_receive program.files && nat_le (depth_of program) 16
+-- a process whose program, if it has one, calls at most 16 procedures deep
+abbrev pub is_shallow : Kind → Bool
+is_shallow (kind.Disc sectors) = true
+is_shallow (kind.Pair program) = nat_le (depth_of program) 16
 
--- at most one process, and it is played today
-abbrev pub are_played : List ProcessSpec → Bool
-are_played [] = true
-are_played (process ∷ []) = is_played process.what
-are_played (process ∷ other ∷ rest) = false
+-- the calls of each process's program go at most 16 procedures deep
+abbrev pub are_shallow : List ProcessSpec → Bool
+are_shallow processes = list_all (λ (process : ProcessSpec). is_shallow process.what) processes
 
--- the deck of an outline: programs read and names looked up, and all of it played today
+-- the deck of an outline: programs read and names looked up
 pub record IsDeckOf (outline : Outline) (deck : Deck) : Type 0 where
   pub processors : deck.site.processors ≡ outline.processors
   pub processes : AreProcessesOf outline.processes deck.site.processes
   pub terminals : AreTerminalsOf outline.processes outline.terminals deck.site.terminals
   pub lines : deck.lines ≡ outline.lines
-  pub played : are_played deck.site.processes ≡ true
-  pub one_terminal : length outline.terminals ≤ 1
+  pub opens : all_open_others deck.site.processes ≡ true
+  pub depth : are_shallow deck.site.processes ≡ true
 
 -- the bytes, at most 1,048,576, are the lines of the deck
 pub record Decks (bytes : List ℕ) (deck : Deck) : Type 0 where

@@ -1,7 +1,9 @@
 pub mod Cuts
 pub mod Decks
 pub mod Faults
+pub mod Few
 pub mod Lines
 pub mod Numbers
 pub mod Outlined
 pub mod SayingOf
+pub mod Schedules

@@ -1,10 +1,13 @@
 -- What the lines of a deck say together, line by line. The numbers are the limits of a deck: 2 to 16 processors, 16 processes,
--- discs of 1 to 64 sectors, 16 terminals with 1,000 requests each, 100,000 rounds. Today there is one event line, of rounds.
-use Rattle.std.specs.Prelude.{ℕ, ◌+◌, Bool, true, false, not, ◌&&◌, ◌==◌, nat_lt, nat_le, List, [], ◌∷◌, ◌++◌, length, codes, Option, Some, None, option_map, option_and_then, if◌then◌else◌}
+-- discs of 1 to 64 sectors, 16 terminals with 1,000 requests each.
+use Rattle.std.specs.Prelude.{ℕ, ◌+◌, Bool, not, ◌&&◌, ◌==◌, nat_lt, nat_le, List, [], ◌∷◌, ◌++◌, length, codes, position, Option, Some, None, option_map, option_and_then, if◌then◌else◌}
 use Rattle.std.specs.List.{list_any}
 use Rattle.std.specs.Str.{bytes_eq}
-use Rattle.schedule.specs.declared.line.Line.TheVariants as event
+use Rattle.schedule.specs.declared.event.Event.TheVariants as event
+use Rattle.schedule.specs.declared.line.Line.{Line}
+use Rattle.schedule.specs.declared.line.Line.TheVariants as line
 use Rattle.deck_reader.specs.SayingOf.{saying_of}
+use Rattle.deck_reader.specs.Schedules.{keep_limits}
 use Rattle.deck_reader.specs.declared.outline.Body.TheVariants as body
 use Rattle.deck_reader.specs.declared.outline.Heading.{Heading}
 use Rattle.deck_reader.specs.declared.outline.Outline.{Outline}
@@ -17,9 +20,13 @@ use Rattle.deck_reader.specs.declared.saying.Placing.{Placing}
 use Rattle.deck_reader.specs.declared.saying.Saying.{Saying}
 use Rattle.deck_reader.specs.declared.saying.Saying.TheVariants as said
 
-abbrev pub is_nil : {X : Type 0} → List X → Bool
-is_nil [] = true
-is_nil (x ∷ xs) = false
+-- where the process of this name stands, counted from 0
+abbrev pub process_place : List ProcessLines → List ℕ → Option ℕ
+process_place processes name = position (λ process. bytes_eq process.heading.name name) processes
+
+-- where the terminal of this name stands, counted from 0
+abbrev pub terminal_place : List TerminalLines → List ℕ → Option ℕ
+terminal_place terminals name = position (λ terminal. bytes_eq terminal.name name) terminals
 
 -- no process and no terminal has the name
 abbrev pub is_new : Outline → List ℕ → Bool
@@ -81,13 +88,25 @@ in_requests outline terminal number (said.Send words) =
     if nat_lt (length terminal.requests) 1000 then Some (at.Requests outline (record terminal { requests = terminal.requests ++ words ∷ [] })) else None
 in_requests outline terminal number saying = in_blocks (record outline { terminals = outline.terminals ++ terminal ∷ [] }) number saying
 
--- the event line, and END after it
+-- the event line that is said, where it names a process to run, at least once, or a terminal to enter at
+abbrev pub event_line : Outline → Saying → Option Line
+event_line outline (said.Run name) = option_map (λ place. line.One (event.Run place)) (process_place outline.processes name)
+event_line outline (said.RunTimes name times) =
+    if nat_le 1 times then option_map (λ place. line.Many (event.Run place) times) (process_place outline.processes name) else None
+event_line outline (said.Enter name) = option_map (λ place. line.One (event.Enter place)) (terminal_place outline.terminals name)
+event_line outline (said.Drain rounds) = Some (line.Drain rounds)
+event_line outline _ = None
+
+-- one more event line, where all of them keep the limits
+abbrev pub with_line : Outline → Line → Option Stage
+with_line outline more =
+    if keep_limits (outline.lines ++ more ∷ []) then Some (at.Schedule (record outline { lines = outline.lines ++ more ∷ [] })) else None
+
+-- one more event line, or END
 abbrev pub in_schedule : Outline → Saying → Option Stage
 in_schedule outline said.Nothing = Some (at.Schedule outline)
-in_schedule outline (said.Drain rounds) =
-    if is_nil outline.lines && nat_le rounds 100000 then Some (at.Schedule (record outline { lines = outline.lines ++ event.Drain rounds ∷ [] })) else None
-in_schedule outline said.End = if is_nil outline.lines then None else Some (at.Ended outline)
-in_schedule outline _ = None
+in_schedule outline said.End = Some (at.Ended outline)
+in_schedule outline saying = option_and_then (with_line outline) (event_line outline saying)
 
 -- after END only lines that say nothing
 abbrev pub ended : Outline → Saying → Option Stage

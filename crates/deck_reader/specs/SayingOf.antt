@@ -19,6 +19,8 @@ keyword_of word =
     else if bytes_eq word (codes "terminal") then Some key.Terminal
     else if bytes_eq word (codes "send") then Some key.Send
     else if bytes_eq word (codes "schedule") then Some key.Schedule
+    else if bytes_eq word (codes "run") then Some key.Run
+    else if bytes_eq word (codes "enter") then Some key.Enter
     else if bytes_eq word (codes "drain") then Some key.Drain
     else if bytes_eq word (codes "END") then Some key.End
     else None
@@ -69,6 +71,20 @@ send_said parts = option_map said.Send (request_of parts)
 abbrev pub schedule_said : List (List ℕ) → Option Saying
 schedule_said parts = if is_blank parts then Some said.Schedule else None
 
+-- how often a process runs: once, or TIMES times
+abbrev pub run_of : List ℕ → List (List ℕ) → Option Saying
+run_of name parts =
+    if is_blank parts then Some (said.Run name) else option_and_then (λ word. option_map (λ times. said.RunTimes name times) (number_of word)) (one_word parts)
+
+-- `run NAME` and `run NAME TIMES`
+abbrev pub run_said : List (List ℕ) → Option Saying
+run_said [] = None
+run_said (word ∷ parts) = option_and_then (λ name. run_of name parts) (name_of word)
+
+-- `enter NAME`
+abbrev pub enter_said : List (List ℕ) → Option Saying
+enter_said parts = option_and_then (λ word. option_map said.Enter (name_of word)) (one_word parts)
+
 -- `drain R`
 abbrev pub drain_said : List (List ℕ) → Option Saying
 drain_said parts = option_and_then (λ word. option_map said.Drain (number_of word)) (one_word parts)
@@ -85,6 +101,8 @@ parts_say parts key.Pair = pair_said parts
 parts_say parts key.Terminal = terminal_said parts
 parts_say parts key.Send = send_said parts
 parts_say parts key.Schedule = schedule_said parts
+parts_say parts key.Run = run_said parts
+parts_say parts key.Enter = enter_said parts
 parts_say parts key.Drain = drain_said parts
 parts_say parts key.End = end_said parts
 

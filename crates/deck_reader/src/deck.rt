@@ -1,16 +1,19 @@
-ghost use Rattle.std.specs.Prelude.{◌≡◌, ◌≢◌, ◌<◌, ◌≤◌, ◌↔◌, ℕ, List, length, IfOk, IfErr, IsTrue, MatchOption, Err, Some, option_map};
+ghost use Rattle.std.specs.Prelude.{◌≡◌, ◌≢◌, ◌<◌, ◌≤◌, ◌↔◌, ℕ, List, length, IfOk, IfErr, MatchOption, Err};
+ghost use Rattle.std.specs.List.{list_all, list_any};
+ghost use Rattle.std.specs.Str.{bytes_eq};
 ghost use Rattle.deck_reader.specs.Lines.{lines_of};
 ghost use Rattle.deck_reader.specs.Outlined.{outline_of};
-ghost use Rattle.deck_reader.specs.Decks.{Decks, IsDeckOf, AreProcessesOf, AreTerminalsOf, IsKindOf, IsPlaceOf, IsProcessOf, IsTerminalOf, IsRefusalOf, is_played, are_played, are_receive};
+ghost use Rattle.deck_reader.specs.Decks.{Decks, IsDeckOf, AreProcessesOf, AreTerminalsOf, IsKindOf, IsProcessOf, IsTerminalOf, IsRefusalOf, is_target, opens_others, all_open_others, is_shallow, are_shallow};
 ghost use Rattle.deck_reader.specs.Faults.{IsOutlineFault, IsProgramsFault, IsProcessFault, body_size, text_size};
 ghost use Rattle.deck_reader.specs.declared.outline.Body.{Body};
 ghost use Rattle.deck_reader.specs.declared.outline.ProcessLines.{ProcessLines};
-ghost use Rattle.tal_tree.specs.Targets.{is_receive};
 ghost use Rattle.tal_tree.specs.declared.site.TerminalSpec.{TerminalSpec};
 ghost use Rattle.deck_reader.specs.declared.deck.Deck.{Deck};
 
 use crate::lines::next_line;
-use crate::outline::{Body, Outline, ProcessLines, Stage, TerminalLines, next_stage};
+use crate::outline::{
+    Body, Outline, ProcessLines, Stage, TerminalLines, next_stage, process_place,
+};
 use gd_words::{List, Name, NoMemory};
 use path_semantics::call_depth;
 use schedule::Line;
@@ -73,6 +76,7 @@ fn outline_of(alloc: Global, bytes: &[u8]) -> Result<Option<Outline>, NoMemory>
 /// The deck of an outline: programs are read and names looked up.
 fn deck_of(alloc: Global, outline: Outline) -> Result<Deck, DeckFault>
     requires short { text_size outline.processes < 4294967295 }
+    requires few { length outline.processes ≤ 16 }
     ensures ok { IfOk result (λ deck. IsDeckOf outline deck) }
     ensures err { IfErr result (λ fault. IsOutlineFault outline fault) }
 {
@@ -83,10 +87,10 @@ fn deck_of(alloc: Global, outline: Outline) -> Result<Deck, DeckFault>
         lines,
     } = outline;
     let specs = processes_of(alloc, processes.as_slice())?;
-    if terminals.len() > 1 {
+    if !all_open_others(specs.as_slice()) {
         return Err(DeckFault::NotYet);
     }
-    if !are_played(specs.as_slice()) {
+    if !are_shallow(specs.as_slice()) {
         return Err(DeckFault::NotYet);
     }
     match terminals_of(alloc, processes.as_slice(), terminals)? {
@@ -97,6 +101,7 @@ fn deck_of(alloc: Global, outline: Outline) -> Result<Deck, DeckFault>
                 processes: specs,
                 terminals,
             };
+            let lines = lines.into_list();
             Ok(Deck { site, lines })
         }
     }
@@ -148,43 +153,71 @@ fn kind_of(alloc: Global, body: &Body) -> Result<Kind, DeckFault>
     }
 }
 
-/// Whether there is at most one of these processes, and it is played today.
-fn are_played(processes: &[ProcessSpec]) -> bool
-    requires read { (lines : List ProcessLines) × AreProcessesOf lines processes.now }
-    ensures { result ≡ are_played processes.now }
+/// Whether each pair asks only other processes.
+fn all_open_others(processes: &[ProcessSpec]) -> bool
+    ensures { result ≡ all_open_others processes.now }
 {
-    match processes {
-        [] => true,
-        [process] => is_played(&process.what),
-        _ => false,
-    }
+    processes.iter().all(|process| opens_others(processes, &process.name, &process.what))
 }
 
-/// Whether this is a pair whose program asks no process and calls at most 16 procedures deep.
-fn is_played(what: &Kind) -> bool
-    requires read { (body : Body) × IsKindOf body what.now }
-    ensures { result ≡ is_played what.now }
+/// Whether the process of this name asks only others of these processes.
+fn opens_others(processes: &[ProcessSpec], own: &Name, what: &Kind) -> bool
+    ensures { result ≡ opens_others processes.now own.now what.now }
 {
     match what {
-        Kind::Disc { sectors: _ } => false,
-        Kind::Pair(program) => are_receive(program.files.as_slice()) && call_depth(program) <= 16,
+        Kind::Disc { sectors: _ } => true,
+        Kind::Pair(program) => are_targets(processes, own, program.files.as_slice()),
     }
 }
 
-/// Whether all files are opened to `$RECEIVE`.
-fn are_receive(files: &[FileUse]) -> bool
-    ensures { result ≡ are_receive files.now }
+fn are_targets(processes: &[ProcessSpec], own: &Name, files: &[FileUse]) -> bool
+    ensures { result ≡ list_all (λ file. is_target processes.now own.now file.target) files.now }
 {
-    files.iter().all(|file| is_receive(&file.target))
+    files
+        .iter()
+        .all(|file| is_target(processes, own, &file.target))
 }
 
-/// Whether a file is opened to `$RECEIVE`.
-fn is_receive(target: &Target) -> bool
-    ensures { result ≡ is_receive target.now }
+/// Whether a file of the process of this name is opened to `$RECEIVE` or to another of these processes.
+fn is_target(processes: &[ProcessSpec], own: &Name, target: &Target) -> bool
+    ensures { result ≡ is_target processes.now own.now target.now }
 {
     match target {
         Target::Receive => true,
-        Target::Process(_) => false,
+        Target::Process(name) => name.text() != own.text() && is_there(processes, name),
+    }
+}
+
+/// Whether one of these processes has the name.
+fn is_there(processes: &[ProcessSpec], name: &Name) -> bool
+    ensures { result ≡ list_any (λ process. bytes_eq process.name name.now) processes.now }
+{
+    processes
+        .iter()
+        .any(|process| process.name.text() == name.text())
+}
+
+/// Whether the calls of each program go at most 16 procedures deep.
+fn are_shallow(processes: &[ProcessSpec]) -> bool
+    requires read { (lines : List ProcessLines) × AreProcessesOf lines processes.now }
+    ensures { result ≡ are_shallow processes.now }
+{
+    for process in processes {
+        if !is_shallow(&process.what) {
+            return false;
+        }
+    }
+    true
+}
+
+/// Whether this is a disc, or a pair whose program calls at most 16 procedures deep.
+fn is_shallow(what: &Kind) -> bool
+    requires read { (body : Body) × IsKindOf body what.now }
+    ensures { result ≡ is_shallow what.now }
+{
+    match what {
+        Kind::Disc { sectors: _ } => true,
+        Kind::Pair(program) => call_depth(program) <= 16,
     }
 }
 
@@ -194,6 +227,7 @@ fn terminals_of(
     processes: &[ProcessLines],
     terminals: List<TerminalLines>,
 ) -> Result<Option<List<TerminalSpec>>, NoMemory>
+    requires few { length processes.now ≤ 16 }
     ensures { IfOk result (λ specs. MatchOption specs ((any : List TerminalSpec) → AreTerminalsOf processes.now terminals any → ⊥) (λ specs. AreTerminalsOf processes.now terminals specs)) }
 {
     let mut specs = List::new(alloc);
@@ -208,6 +242,7 @@ fn terminals_of(
 
 /// The terminal of a terminal's lines; none where it asks a process that isn't there.
 fn terminal_of(processes: &[ProcessLines], lines: TerminalLines) -> Option<TerminalSpec>
+    requires few { length processes.now ≤ 16 }
     ensures { MatchOption result ((any : TerminalSpec) → IsTerminalOf processes.now lines any → ⊥) (λ terminal. IsTerminalOf processes.now lines terminal) }
 {
     let TerminalLines {
@@ -215,32 +250,10 @@ fn terminal_of(processes: &[ProcessLines], lines: TerminalLines) -> Option<Termi
         target,
         requests,
     } = lines;
-    let target = place_of(processes, &target)?;
+    let target = process_place(processes, &target)?;
     Some(TerminalSpec {
         name,
         target,
         requests,
     })
-}
-
-/// The place of the process of this name.
-fn place_of(processes: &[ProcessLines], name: &Name) -> Option<u8>
-    ensures { MatchOption result ((place : ℕ) → IsPlaceOf processes.now name.now place → ⊥) (λ place. IsPlaceOf processes.now name.now place) }
-{
-    for place in 0..16u8 {
-        if is_named(processes.get(usize::from(place)), name) {
-            return Some(place);
-        }
-    }
-    None
-}
-
-/// Whether the process, if there is one, has the name.
-fn is_named(process: Option<&ProcessLines>, name: &Name) -> bool
-    ensures { IsTrue result ↔ (option_map (λ process. process.now.heading.name) process.entry ≡ Some name.now) }
-{
-    match process {
-        None => false,
-        Some(process) => process.heading.name.text() == name.text(),
-    }
 }

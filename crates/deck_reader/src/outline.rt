@@ -1,11 +1,13 @@
-ghost use Rattle.std.specs.Prelude.{◌≡◌, IfOk};
+ghost use Rattle.std.specs.Prelude.{◌≡◌, ◌<◌, ◌≤◌, length, IfOk, IfSome};
 ghost use Rattle.std.specs.List.{list_any};
 ghost use Rattle.std.specs.Str.{bytes_eq};
-ghost use Rattle.deck_reader.specs.Outlined.{is_new, heading_of, next_stage, opening, in_blocks, disc_told, pair_begun, terminal_begun, in_program, in_requests, in_schedule, ended, after};
+ghost use Rattle.deck_reader.specs.Outlined.{is_new, heading_of, next_stage, opening, in_blocks, disc_told, pair_begun, terminal_begun, in_program, in_requests, event_line, with_line, in_schedule, ended, after, process_place, terminal_place};
+ghost use Rattle.deck_reader.specs.Few.{AreFew, HasFew};
 
+use crate::event_lines::EventLines;
 use crate::saying::{Placing, Saying, saying_of};
 use gd_words::{List, Name, NoMemory, Words};
-use schedule::Line;
+use schedule::{Event, Line};
 use std::alloc::Global;
 
 /// The name of a process and the processors of its two copies.
@@ -51,7 +53,7 @@ pub struct Outline {
     pub processors: u8,
     pub processes: List<ProcessLines>,
     pub terminals: List<TerminalLines>,
-    pub lines: List<Line>,
+    pub lines: EventLines,
 }
 
 /// Where in the deck the next line stands, and what was said before.
@@ -77,6 +79,7 @@ pub fn next_stage(
     number: u32,
     line: &[u8],
 ) -> Result<Option<Stage>, NoMemory>
+    requires few { HasFew stage }
     ensures { IfOk result (λ next. next ≡ next_stage stage number line.now) }
 {
     match stage {
@@ -115,6 +118,7 @@ fn after(
     number: u32,
     saying: Saying,
 ) -> Result<Option<Stage>, NoMemory>
+    requires few { HasFew stage }
     ensures { IfOk result (λ next. next ≡ after stage number saying) }
 {
     match stage {
@@ -138,7 +142,7 @@ fn opening(alloc: Global, saying: Saying) -> Option<Stage>
             processors: count as u8,
             processes: List::new(alloc),
             terminals: List::new(alloc),
-            lines: List::new(alloc),
+            lines: EventLines::new(alloc),
         })),
         _ => None,
     }
@@ -283,20 +287,92 @@ fn in_requests(
     }
 }
 
-/// An event line. Today there is one, of rounds.
+/// One more event line, or END.
 fn in_schedule(outline: Outline, saying: Saying) -> Result<Option<Stage>, NoMemory>
+    requires few { AreFew outline }
     ensures { IfOk result (λ next. next ≡ in_schedule outline saying) }
 {
-    let mut outline = outline;
     match saying {
         Saying::Nothing => Ok(Some(Stage::Schedule(outline))),
-        Saying::Drain(rounds) if outline.lines.is_empty() && rounds <= 100_000 => {
-            outline.lines.push(Line::Drain(rounds))?;
-            Ok(Some(Stage::Schedule(outline)))
-        }
-        Saying::End if !outline.lines.is_empty() => Ok(Some(Stage::Ended(outline))),
-        _ => Ok(None),
+        Saying::End => Ok(Some(Stage::Ended(outline))),
+        saying => match event_line(&outline, saying) {
+            None => Ok(None),
+            Some(line) => with_line(outline, line),
+        },
     }
+}
+
+/// The event line that is said, where it names a process to run or a terminal to enter at.
+fn event_line(outline: &Outline, saying: Saying) -> Option<Line>
+    requires few { AreFew outline.now }
+    ensures { result ≡ event_line outline.now saying }
+{
+    match saying {
+        Saying::Run(name) => {
+            let place = process_place(outline.processes.as_slice(), &name)?;
+            Some(Line::One(Event::Run(place)))
+        }
+        Saying::RunTimes { name, times } if 1 <= times => {
+            let place = process_place(outline.processes.as_slice(), &name)?;
+            let event = Event::Run(place);
+            Some(Line::Many { event, times })
+        }
+        Saying::Enter(name) => {
+            let place = terminal_place(outline.terminals.as_slice(), &name)?;
+            Some(Line::One(Event::Enter(place)))
+        }
+        Saying::Drain(rounds) => Some(Line::Drain(rounds)),
+        _ => None,
+    }
+}
+
+/// One more event line, where all of them keep the limits.
+fn with_line(outline: Outline, line: Line) -> Result<Option<Stage>, NoMemory>
+    ensures { IfOk result (λ next. next ≡ with_line outline line) }
+{
+    let mut outline = outline;
+    if outline.lines.has_room(&line) {
+        outline.lines.push(line)?;
+        Ok(Some(Stage::Schedule(outline)))
+    } else {
+        Ok(None)
+    }
+}
+
+/// Where the process of this name stands.
+pub fn process_place(processes: &[ProcessLines], name: &Name) -> Option<u8>
+    requires few { length processes.now ≤ 16 }
+    ensures { result ≡ process_place processes.now name.now }
+{
+    let place = process_index(processes, name)?;
+    Some(place as u8)
+}
+
+fn process_index(processes: &[ProcessLines], name: &Name) -> Option<usize>
+    ensures value { result ≡ process_place processes.now name.now }
+    ensures there { IfSome result (λ place. place < length processes.now) }
+{
+    processes
+        .iter()
+        .position(|process| process.heading.name.text() == name.text())
+}
+
+/// Where the terminal of this name stands.
+fn terminal_place(terminals: &[TerminalLines], name: &Name) -> Option<u8>
+    requires few { length terminals.now ≤ 16 }
+    ensures { result ≡ terminal_place terminals.now name.now }
+{
+    let place = terminal_index(terminals, name)?;
+    Some(place as u8)
+}
+
+fn terminal_index(terminals: &[TerminalLines], name: &Name) -> Option<usize>
+    ensures value { result ≡ terminal_place terminals.now name.now }
+    ensures there { IfSome result (λ place. place < length terminals.now) }
+{
+    terminals
+        .iter()
+        .position(|terminal| terminal.name.text() == name.text())
 }
 
 fn ended(outline: Outline, saying: Saying) -> Option<Stage>

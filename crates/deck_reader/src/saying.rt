@@ -1,6 +1,6 @@
 ghost use Rattle.std.specs.Prelude.{◌≡◌, ◌≤◌, length};
 ghost use Rattle.deck_reader.specs.Lines.{words_of};
-ghost use Rattle.deck_reader.specs.SayingOf.{keyword_of, processors_said, placing_of, disc_said, pair_said, terminal_said, send_said, schedule_said, drain_said, end_said, is_remark, said_by, saying_of, request_of};
+ghost use Rattle.deck_reader.specs.SayingOf.{keyword_of, processors_said, placing_of, disc_said, pair_said, terminal_said, send_said, schedule_said, run_said, run_of, enter_said, drain_said, end_said, is_remark, said_by, saying_of, request_of};
 
 use crate::lines::{
     four_words, is_blank, is_printable, next_word, one_word, three_words, two_words,
@@ -17,6 +17,8 @@ pub enum Keyword {
     Terminal,
     Send,
     Schedule,
+    Run,
+    Enter,
     Drain,
     End,
 }
@@ -42,6 +44,12 @@ pub enum Saying {
     /// One request of the terminal before.
     Send(Words),
     Schedule,
+    /// One step of a process.
+    Run(Name),
+    /// So many steps of a process.
+    RunTimes { name: Name, times: u32 },
+    /// The next request of a terminal.
+    Enter(Name),
     Drain(u32),
     End,
 }
@@ -73,6 +81,8 @@ fn said_by(line: &[u8]) -> Option<Saying>
         Keyword::Terminal => terminal(parts),
         Keyword::Send => send(parts),
         Keyword::Schedule => schedule(parts),
+        Keyword::Run => run(parts),
+        Keyword::Enter => enter(parts),
         Keyword::Drain => drain(parts),
         Keyword::End => end(parts),
     }
@@ -103,6 +113,10 @@ fn keyword_of(word: &[u8]) -> Option<Keyword>
         Some(Keyword::Send)
     } else if word == b"schedule".as_slice() {
         Some(Keyword::Schedule)
+    } else if word == b"run".as_slice() {
+        Some(Keyword::Run)
+    } else if word == b"enter".as_slice() {
+        Some(Keyword::Enter)
     } else if word == b"drain".as_slice() {
         Some(Keyword::Drain)
     } else if word == b"END".as_slice() {
@@ -188,6 +202,34 @@ fn schedule(parts: &[u8]) -> Option<Saying>
     } else {
         None
     }
+}
+
+fn run(parts: &[u8]) -> Option<Saying>
+    ensures { result ≡ run_said (words_of parts.now) }
+{
+    let (word, rest) = next_word(parts)?;
+    let name = Name::read(word)?;
+    run_of(name, rest)
+}
+
+/// How often a process runs: once, or as often as the one word says.
+fn run_of(name: Name, parts: &[u8]) -> Option<Saying>
+    ensures { result ≡ run_of name (words_of parts.now) }
+{
+    if is_blank(parts) {
+        return Some(Saying::Run(name));
+    }
+    let word = one_word(parts)?;
+    let times = number_of(word)?;
+    Some(Saying::RunTimes { name, times })
+}
+
+fn enter(parts: &[u8]) -> Option<Saying>
+    ensures { result ≡ enter_said (words_of parts.now) }
+{
+    let word = one_word(parts)?;
+    let name = Name::read(word)?;
+    Some(Saying::Enter(name))
 }
 
 fn drain(parts: &[u8]) -> Option<Saying>

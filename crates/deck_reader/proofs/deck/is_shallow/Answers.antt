@@ -2,7 +2,7 @@ use Rattle.std.proofs.Common.{subst}
 use Rattle.tal_tree.specs.declared.site.Kind.{Kind}
 use Rattle.deck_reader.specs.Decks.{IsKindOf}
 use Rattle.deck_reader.proofs.RefusedLemmas.{few_procedures}
-use Rattle.deck_reader.proofs.deck.is_played.Goals as goal
+use Rattle.deck_reader.proofs.deck.is_shallow.Goals as goal
 
 pub call_depth-requires : goal.call_depth-requires
 call_depth-requires c =
