@@ -1,4 +1,5 @@
 pub mod CutLemmas
+pub mod DeckLimits
 pub mod EachLemmas
 pub mod LineLemmas
 pub mod NumberLemmas

@@ -2,6 +2,7 @@ pub mod Cuts
 pub mod Decks
 pub mod Faults
 pub mod Few
+pub mod Limits
 pub mod Lines
 pub mod Numbers
 pub mod Outlined

@@ -1,5 +1,6 @@
 ghost use Rattle.std.specs.Prelude.{◌≡◌, ℕ, List};
 ghost use Rattle.deck_reader.specs.Decks.{Decks, IsRefusalOf};
+ghost use Rattle.deck_reader.specs.Limits.{IsWithinDeckLimits};
 ghost use Rattle.deck_reader.specs.declared.deck.Deck.{Deck};
 ghost use Rattle.tal_tree.specs.declared.fault.DeckFault.{DeckFault};
 
@@ -16,4 +17,9 @@ pub fn bytes_are_refused_for_one_fault()
 /// Bytes that are refused spell no deck.
 pub fn what_is_refused_spells_no_deck()
     ensures { (bytes : List ℕ) (fault : DeckFault) (deck : Deck) → IsRefusalOf bytes fault → Decks bytes deck → ⊥ }
+{}
+
+/// A deck keeps the limits.
+pub fn a_deck_keeps_the_limits()
+    ensures { (bytes : List ℕ) (deck : Deck) → Decks bytes deck → IsWithinDeckLimits deck }
 {}

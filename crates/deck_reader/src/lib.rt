@@ -2,7 +2,8 @@
 //!
 //! Below stand `tal_reader`, which reads the programs, `path_semantics`, which counts how deep their calls go, `tal_laws`,
 //! `tal_tree` for the site and the faults, and `schedule` for the event lines. The layer above uses the clauses of `read_deck`:
-//! what is taken is a deck, every deck is taken, and what is refused is refused for its one fault. The event lines that are taken today are `run`, `enter` and `drain`. A program that is refused is
+//! what is taken is a deck, every deck is taken, and what is refused is refused for its one fault; and the law
+//! `a_deck_keeps_the_limits`. The event lines that are taken today are `run`, `enter` and `drain`. A program that is refused is
 //! told with its place in any deck whose lines can be followed to its END; every other fault but the length is told as one.
 #![tactic(auto)]
 
@@ -16,5 +17,6 @@ pub mod saying;
 
 pub use deck::{Deck, read_deck};
 pub use laws::{
-    bytes_are_refused_for_one_fault, bytes_spell_one_deck, what_is_refused_spells_no_deck,
+    a_deck_keeps_the_limits, bytes_are_refused_for_one_fault, bytes_spell_one_deck,
+    what_is_refused_spells_no_deck,
 };

@@ -1,0 +1,44 @@
+-- The limits that decks keep.
+use Rattle.std.specs.Prelude.{◌≢◌, ◌<◌, ◌≤◌, ℕ, length}
+use Rattle.std.specs.List.{All}
+use Rattle.tal_tree.specs.Limits.{IsWithinLimits}
+use Rattle.tal_tree.specs.declared.site.Kind.{Kind}
+use Rattle.tal_tree.specs.declared.site.Kind.TheVariants as kind
+use Rattle.tal_tree.specs.declared.site.ProcessSpec.{ProcessSpec}
+use Rattle.tal_tree.specs.declared.site.Site.{Site}
+use Rattle.tal_tree.specs.declared.site.TerminalSpec.{TerminalSpec}
+use Rattle.deck_reader.specs.Schedules.{IsLineOf, rounds_of, singles_of}
+use Rattle.deck_reader.specs.declared.deck.Deck.{Deck}
+
+-- a disc has 1 to 64 sectors, and the program of a pair keeps its limits
+abbrev pub IsKindWithinLimits : Kind → Type 0
+IsKindWithinLimits (kind.Disc sectors) = (1 ≤ sectors) × (sectors ≤ 64)
+IsKindWithinLimits (kind.Pair program) = IsWithinLimits program
+
+-- a process has its copies in two of so many processors
+pub record IsProcessWithinLimits (processors : ℕ) (process : ProcessSpec) : Type 0 where
+  pub primary : process.primary < processors
+  pub backup : process.backup < processors
+  pub apart : process.primary ≢ process.backup
+  pub what : IsKindWithinLimits process.what
+
+-- a terminal asks one of so many processes, and has at most 1,000 requests
+pub record IsTerminalWithinLimits (processes : ℕ) (terminal : TerminalSpec) : Type 0 where
+  pub target : terminal.target < processes
+  pub requests : length terminal.requests ≤ 1000
+
+-- a site has 2 to 16 processors and at most 16 processes and 16 terminals, and each of those keeps its own limits
+pub record IsSiteWithinLimits (site : Site) : Type 0 where
+  pub fewest_processors : 2 ≤ site.processors
+  pub most_processors : site.processors ≤ 16
+  pub processes : length site.processes ≤ 16
+  pub each_process : All (IsProcessWithinLimits site.processors) site.processes
+  pub terminals : length site.terminals ≤ 16
+  pub each_terminal : All (IsTerminalWithinLimits (length site.processes)) site.terminals
+
+-- a deck has at most 1,000,000 single events and 100,000 rounds, and each line runs processes of the site, enters at a terminal of it or drains
+pub record IsWithinDeckLimits (deck : Deck) : Type 0 where
+  pub site : IsSiteWithinLimits deck.site
+  pub each_line : All (IsLineOf (length deck.site.processes) (length deck.site.terminals)) deck.lines
+  pub singles : singles_of deck.lines ≤ 1000000
+  pub rounds : rounds_of deck.lines ≤ 100000
