@@ -1,0 +1,13 @@
+//! Tests of decks: blocks in any order, what programs open, and the lines of schedules.
+//!
+//! Below stand `deck_reader`, which is tested, and `schedule` and `tal_tree` for what it gives; nothing stands above.
+#![tactic(auto)]
+
+#[cfg(test)]
+mod blocks;
+#[cfg(test)]
+mod lines;
+#[cfg(test)]
+mod opens;
+#[cfg(test)]
+mod texts;
