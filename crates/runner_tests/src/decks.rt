@@ -29,7 +29,7 @@ fn refuses_what_is_no_deck(rt: HostRuntime) -> Result<(), Fail> {
     let decks = [
         b"".as_slice(),
         b"processors 1\nschedule\ndrain 1\nEND\n".as_slice(),
-        b"processors 2\nschedule\nEND\n".as_slice(),
+        b"processors 2\nEND\n".as_slice(),
         b"processors 2\nschedule\ndrain 1\n".as_slice(),
         b"processors 2\nschedule\ndrain 100001\nEND\n".as_slice(),
         b"processors 2\n. # of the kind\nschedule\ndrain 1\nEND\n".as_slice(),
@@ -178,7 +178,7 @@ const CHAIN: &[u8] =
     b"PROC a; BEGIN END;\nPROC b; BEGIN CALL a; END;\nPROC c; BEGIN CALL b; END;\nPROC d; BEGIN CALL c; END;\nPROC e; BEGIN CALL d; END;\nPROC f; BEGIN CALL e; END;\nPROC g; BEGIN CALL f; END;\nPROC h; BEGIN CALL g; END;\nPROC i; BEGIN CALL h; END;\nPROC j; BEGIN CALL i; END;\nPROC k; BEGIN CALL j; END;\nPROC l; BEGIN CALL k; END;\nPROC m; BEGIN CALL l; END;\nPROC n; BEGIN CALL m; END;\nPROC o; BEGIN CALL n; END;\n";
 
 #[test]
-fn takes_what_is_played_today(rt: HostRuntime) -> Result<(), Fail> {
+fn takes_calls_up_to_sixteen_procedures_deep(rt: HostRuntime) -> Result<(), Fail> {
     let none = b"".as_slice();
     let disc = b"disc $D 0 1 16\n".as_slice();
     let terminal = b"terminal $T2 $P\n".as_slice();
@@ -190,8 +190,9 @@ fn takes_what_is_played_today(rt: HostRuntime) -> Result<(), Fail> {
         (none, sixteen, None),
         (b"# nothing else\n".as_slice(), sixteen, None),
         (none, seventeen, not_yet),
-        (disc, sixteen, not_yet),
-        (terminal, sixteen, not_yet),
+        (disc, sixteen, None),
+        (disc, seventeen, not_yet),
+        (terminal, sixteen, None),
     ];
     for (lines, main, fault) in cases {
         let mut program = Vec::from_slice(rt.alloc(), CHAIN)?;
