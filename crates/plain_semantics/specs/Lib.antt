@@ -1,3 +1,6 @@
 pub mod Concerns
+pub mod Counted
 pub mod Machine
 pub mod Openers
+pub mod SiteLimits
+pub mod Sought

@@ -6,9 +6,13 @@
 #![tactic(auto)]
 
 pub mod laws;
+pub mod limits;
 pub mod opening;
+pub mod placed;
 pub mod slot;
 
 pub use laws::{acts_follow_acts, front_is_possible, impossible_stays, shown_begins_with_front};
-pub use opening::{files_of, narrow, opener_of, openers};
+pub use limits::keeps_site_limits;
+pub use opening::{files_of, opener_of, openers};
+pub use placed::opener_at;
 pub use slot::{Opener, Slot};

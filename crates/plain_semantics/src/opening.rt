@@ -1,4 +1,6 @@
-ghost use Rattle.std.specs.Prelude.{◌≡◌, ◌++◌, IfOk, OnOk};
+ghost use Rattle.std.specs.Prelude.{◌≡◌, ◌≤◌, ◌++◌, length, IfOk, OnOk};
+ghost use Rattle.std.specs.List.{All};
+ghost use Rattle.plain_semantics.specs.SiteLimits.{KeepsSiteLimits};
 ghost use Rattle.plain_semantics.specs.Openers.{same_name, opens, file_opener, files_from, files_of, processes_from, terminals_from, openers_of, same_who, place_from, named_from, server_of, server_by, opener_at, opener_of};
 
 use crate::slot::Opener;
@@ -6,9 +8,18 @@ use gd_words::{List, Name, NoMemory};
 use std::alloc::Global;
 use tal_tree::{FileUse, Kind, OpenerSpec, ProcessSpec, Site, Target, TerminalSpec, Who};
 
-/// The openers of a process, in order. A number of a process, a file or a terminal that doesn't fit in 8 bits counts as
-/// want of memory.
+/// The openers of a process, in order.
 pub fn openers(alloc: Global, site: &Site, process: usize) -> Result<List<OpenerSpec>, NoMemory>
+    requires { KeepsSiteLimits site.now }
+    ensures openers { IfOk result (λ all. all ≡ openers_of site.now process) }
+    ensures few { IfOk result (λ all. length all ≤ 144) }
+{
+    let all = all_openers(alloc, site, process)?;
+    Ok(all)
+}
+
+fn all_openers(alloc: Global, site: &Site, process: usize) -> Result<List<OpenerSpec>, NoMemory>
+    requires { KeepsSiteLimits site.now }
     ensures { IfOk result (λ all. all ≡ openers_of site.now process) }
 {
     let mut all = List::new(alloc);
@@ -21,6 +32,7 @@ pub fn openers(alloc: Global, site: &Site, process: usize) -> Result<List<Opener
 
 /// Where an opener stands.
 pub fn opener_of(alloc: Global, site: &Site, who: Who) -> Result<Option<Opener>, NoMemory>
+    requires { KeepsSiteLimits site.now }
     ensures { IfOk result (λ opener. opener ≡ opener_of site.now who) }
 {
     match server_by(site, who) {
@@ -42,25 +54,17 @@ pub fn files_of(kind: &Kind) -> &[FileUse]
     }
 }
 
-/// A number in a deck as it stands in an act. One that doesn't fit counts as want of memory.
-pub fn narrow(number: usize) -> Result<u8, NoMemory>
-    ensures { IfOk result (λ narrow. narrow ≡ number) }
-{
-    match u8::try_from(number) {
-        Ok(number) => Ok(number),
-        Err(_) => Err(NoMemory),
-    }
-}
-
 fn put_processes(
     all: &mut List<OpenerSpec>,
     name: &Name,
     processes: &[ProcessSpec],
 ) -> Result<(), NoMemory>
+    requires few { length processes.now ≤ 16 }
+    requires files { All (λ spec. length (files_of spec.what) ≤ 8) processes.now }
     ensures { OnOk result (all.new ≡ all.old ++ processes_from name.now 0 processes.now) }
 {
     for (number, process) in processes.iter().enumerate() {
-        put_files(all, name, number, files_of(&process.what))?;
+        put_files(all, name, number as u8, files_of(&process.what))?;
     }
     Ok(())
 }
@@ -68,13 +72,14 @@ fn put_processes(
 fn put_files(
     all: &mut List<OpenerSpec>,
     name: &Name,
-    process: usize,
+    process: u8,
     files: &[FileUse],
 ) -> Result<(), NoMemory>
+    requires { length files.now ≤ 8 }
     ensures { OnOk result (all.new ≡ all.old ++ files_from name.now process 0 files.now) }
 {
     for (number, file) in files.iter().enumerate() {
-        put_file(all, name, process, number, file)?;
+        put_file(all, name, process, number as u8, file)?;
     }
     Ok(())
 }
@@ -82,20 +87,15 @@ fn put_files(
 fn put_file(
     all: &mut List<OpenerSpec>,
     name: &Name,
-    process: usize,
-    number: usize,
-    file: &FileUse,
+    process: u8,
+    file: u8,
+    used: &FileUse,
 ) -> Result<(), NoMemory>
-    ensures { OnOk result (all.new ≡ all.old ++ file_opener name.now process number file.now) }
+    ensures { OnOk result (all.new ≡ all.old ++ file_opener name.now process file used.now) }
 {
-    if opens(name, &file.target) {
-        let process = narrow(process)?;
-        let number = narrow(number)?;
-        let who = Who::File {
-            process,
-            file: number,
-        };
-        let depth = file.depth;
+    if opens(name, &used.target) {
+        let who = Who::File { process, file };
+        let depth = used.depth;
         all.push(OpenerSpec { who, depth })?;
     }
     Ok(())
@@ -106,18 +106,20 @@ fn put_terminals(
     process: usize,
     terminals: &[TerminalSpec],
 ) -> Result<(), NoMemory>
+    requires { length terminals.now ≤ 16 }
     ensures { OnOk result (all.new ≡ all.old ++ terminals_from process 0 terminals.now) }
 {
     for (number, terminal) in terminals.iter().enumerate() {
         if usize::from(terminal.target) == process {
-            let who = Who::Terminal(narrow(number)?);
+            let who = Who::Terminal(number as u8);
             all.push(OpenerSpec { who, depth: 1 })?;
         }
     }
     Ok(())
 }
 
-fn opens(name: &Name, target: &Target) -> bool
+/// Whether a file is opened to this name.
+pub(crate) fn opens(name: &Name, target: &Target) -> bool
     ensures { result ≡ opens name.now target.now }
 {
     match target {

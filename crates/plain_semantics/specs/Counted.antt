@@ -1,0 +1,16 @@
+-- The limits of a site as they are counted; only the clauses of private functions cite it.
+use Rattle.std.specs.Prelude.{Bool, ◌&&◌, nat_le, List, length}
+use Rattle.std.specs.List.{list_all}
+use Rattle.tal_tree.specs.declared.site.ProcessSpec.{ProcessSpec}
+use Rattle.tal_tree.specs.declared.site.Site.{Site}
+use Rattle.tal_tree.specs.declared.site.TerminalSpec.{TerminalSpec}
+use Rattle.plain_semantics.specs.Openers.{files_of}
+
+abbrev pub have_few_files : List ProcessSpec → Bool
+have_few_files specs = list_all (λ spec. nat_le (length (files_of spec.what)) 8) specs
+
+abbrev pub have_few_requests : List TerminalSpec → Bool
+have_few_requests specs = list_all (λ spec. nat_le (length spec.requests) 1000) specs
+
+abbrev pub is_small : Site → Bool
+is_small site = nat_le (length site.processes) 16 && nat_le (length site.terminals) 16 && have_few_files site.processes && have_few_requests site.terminals

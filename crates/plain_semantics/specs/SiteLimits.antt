@@ -1,0 +1,12 @@
+-- The limits of a site on which its places rest: they keep within the numbers by which acts and openers name them.
+use Rattle.std.specs.Prelude.{◌≤◌, length}
+use Rattle.std.specs.List.{All}
+use Rattle.tal_tree.specs.declared.site.Site.{Site}
+use Rattle.plain_semantics.specs.Openers.{files_of}
+
+-- at most 16 processes and 16 terminals, programs with at most 8 files each, and terminals with at most 1,000 requests each
+pub record KeepsSiteLimits (site : Site) : Type 0 where
+  pub processes : length site.processes ≤ 16
+  pub terminals : length site.terminals ≤ 16
+  pub files : All (λ spec. length (files_of spec.what) ≤ 8) site.processes
+  pub requests : All (λ spec. length spec.requests ≤ 1000) site.terminals
