@@ -4,6 +4,10 @@ use Rattle.std.proofs.lemmas.List.{length-append}
 use Rattle.tal_tree.specs.declared.act.Act.{Act}
 use Rattle.tal_tree.specs.declared.site.Site.{Site}
 use Rattle.plain_semantics.specs.Machine.{Plain, Made, made}
+use Rattle.schedule.specs.declared.event.Event.{Event}
+use Rattle.schedule.specs.declared.event.Event.TheVariants as event
+use Rattle.tal_tree.specs.declared.act.Act.TheVariants.{Enter}
+use Rattle.plain_machine.specs.Lines.{happened, repeated}
 use Rattle.plain_machine.specs.Rounds.{Ran, ran_on, tried, swept, enter_of, next_move, print_of, round, rounds_on}
 
 ran_on-grows : (ran : Ran) (act : Act) (m : Option Made) → length ran.acts ≤ length (ran_on ran act m).acts
@@ -45,3 +49,18 @@ round-same site ran equal =
 pub rounds_on-same : (site : Site) (count : ℕ) (ran : Ran) → round site ran ≡ ran → rounds_on site count ran ≡ ran
 rounds_on-same site zero ran same = refl
 rounds_on-same site (suc count) ran same = ap (rounds_on site count) same ∙ rounds_on-same site count ran same
+
+-- an event that adds no act leaves the run as it was, and so it does each time
+pub happened-same : (site : Site) (event : Event) (ran : Ran) → length (happened site event ran).acts ≡ length ran.acts → happened site event ran ≡ ran
+happened-same site (event.Run process) ran equal =
+    ran_on-same ran (next_move ran.plain process) (made site ran.plain (next_move ran.plain process)) (omega (arith, equal))
+happened-same site (event.Enter terminal) ran equal = ran_on-same ran (Enter terminal) (made site ran.plain (Enter terminal)) (omega (arith, equal))
+happened-same site (event.Deliver y k) ran equal = refl
+happened-same site (event.Lose y k) ran equal = refl
+happened-same site (event.Repeat y k) ran equal = refl
+happened-same site (event.Tick node) ran equal = refl
+happened-same site (event.Fail processor) ran equal = refl
+
+pub repeated-same : (site : Site) (event : Event) (times : ℕ) (ran : Ran) → happened site event ran ≡ ran → repeated site event times ran ≡ ran
+repeated-same site event zero ran same = refl
+repeated-same site event (suc times) ran same = ap (repeated site event times) same ∙ repeated-same site event times ran same

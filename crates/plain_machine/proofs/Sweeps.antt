@@ -3,6 +3,8 @@ use Rattle.std.proofs.Common.{◌≡◌, ℕ, suc, ◌+◌, ◌-◌, ◌<◌, tr
 use Rattle.tal_tree.specs.declared.act.Act.{Act}
 use Rattle.tal_tree.specs.declared.site.Site.{Site}
 use Rattle.plain_semantics.specs.Machine.{Plain, made}
+use Rattle.schedule.specs.declared.event.Event.{Event}
+use Rattle.plain_machine.specs.Lines.{happened, repeated}
 use Rattle.plain_machine.specs.Rounds.{Ran, tried, swept, round, rounds_on}
 use Rattle.plain_machine.specs.Stillness.{none_of}
 
@@ -31,3 +33,7 @@ none_of-not site plain act k count within there =
 
 pub rounds_on-more : (site : Site) (k count : ℕ) (ran : Ran) → k < count → rounds_on site (count - k) ran ≡ rounds_on site (count - (k + 1)) (round site ran)
 rounds_on-more site k count ran within = ap (λ left. rounds_on site left ran) (left-more k count within)
+
+pub repeated-more : (site : Site) (event : Event) (k times : ℕ) (ran : Ran) → k < times
+    → repeated site event (times - k) ran ≡ repeated site event (times - (k + 1)) (happened site event ran)
+repeated-more site event k times ran within = ap (λ left. repeated site event left ran) (left-more k times within)

@@ -1,3 +1,5 @@
+pub mod Lines
+pub mod Machines
 pub mod Outcomes
 pub mod Rounds
 pub mod Standing

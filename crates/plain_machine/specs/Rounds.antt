@@ -73,7 +73,3 @@ rounds_on site (suc left) ran = rounds_on site left (round site ran)
 -- the run before its first act
 abbrev pub run_start : Site → Ran
 run_start site = record { plain = plain_start site; acts = []; shown = [] }
-
--- the run of so many rounds
-abbrev pub run_of : Site → ℕ → Ran
-run_of site count = rounds_on site count (run_start site)

@@ -1,4 +1,26 @@
+use gd_words::NoMemory;
 use tal_tree::Shown;
+use thiserror::Error;
+
+/// Why an act wasn't made.
+#[derive(Debug, Drop, Error)]
+pub enum ActFault {
+    #[error("the act isn't possible")]
+    NotPossible,
+    #[error("memory ran out")]
+    NoMemory,
+}
+
+impl From<NoMemory> for ActFault {
+    ghost use Rattle.std.specs.Prelude.{◌≡◌};
+    ghost use Rattle.plain_machine.specs.declared.outcome.ActFault.TheVariants as fault;
+
+    ghost from_gives = { λ _ answered. answered ≡ fault.NoMemory };
+
+    fn from(_: NoMemory) -> ActFault {
+        ActFault::NoMemory
+    }
+}
 
 /// What became of an act that was tried.
 #[derive(Drop)]

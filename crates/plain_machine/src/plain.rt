@@ -1,525 +1,64 @@
-ghost use Rattle.std.specs.Prelude.{◌≡◌, ◌+◌, IfOk, OnOk, IfSome, Some, is_some, length, map, slice_get, slice_set};
-ghost use Rattle.std.specs.Option.{option_copied};
-ghost use Rattle.process_semantics.specs.Process as process;
-ghost use Rattle.tal_tree.specs.declared.site.Who.TheVariants as who;
-ghost use Rattle.plain_semantics.specs.Openers.{opener_of};
-ghost use Rattle.plain_semantics.specs.Machine.{processes_at_first, plain_start, slot_of, with_slot, with_state, own_opener, answer_made, answered_by, device_made, shown_by_device, step_at, step_made, take_slot, take_at, take_made, enter_request, enter_made, entered_at, next_request, print_made, made};
-ghost use Rattle.plain_machine.specs.Outcomes.{Settles, shown_in};
-ghost use Rattle.plain_machine.specs.Standing.{AreLoadable, IsAt};
-ghost use Rattle.plain_machine.specs.Rounds.{enter_of, next_move, print_of};
-ghost use Rattle.plain_machine.specs.Stillness.{has_waiting, is_answered, none_of, is_still};
+ghost use Rattle.std.specs.Prelude.{◌≡◌, ◌≢◌, ◌↔◌, Err, IfOk, IsTrue, Some, None};
+ghost use Rattle.plain_semantics.specs.Machine.{made, plain_start, IsStill};
+ghost use Rattle.plain_machine.specs.Machines.{listed};
+ghost use Rattle.plain_machine.specs.Standing.{IsPlayable};
 
-use crate::outcome::Outcome;
-use crate::process::{PlainProcess, first_waiting};
+use crate::outcome::{ActFault, Outcome};
+use crate::state::State;
 use crate::wires::Wires;
-use gd_words::{DeviceCall, NoMemory, Words};
-use plain_semantics::{Opener, Slot, narrow};
-use process_semantics::Point;
+use gd_words::NoMemory;
 use std::alloc::Global;
 use std::marker::Model;
-use tal_tree::{Act, ProcessSpec, Shown, Site, TerminalSpec};
+use tal_tree::{Act, Shown, Site};
 
-/// The Take or Step that was tried for a process, and what became of it.
+/// A machine of single unfailing processes, on which acts are made one by one.
 #[derive(Drop)]
-pub(crate) struct Move {
-    pub(crate) act: Act,
-    pub(crate) outcome: Outcome,
+pub struct Plain<'a> {
+    wires: Wires<'a>,
+    state: State,
 }
 
-/// The machine of single unfailing processes: its processes, and for each terminal how many requests it has entered.
-#[derive(Drop)]
-pub struct Plain {
-    processes: Vec<PlainProcess>,
-    entered: Vec<u32>,
-}
-
-impl Model for Plain {
+impl<'a> Model for Plain<'a> {
     ghost use Rattle.std.specs.Coded.{codes};
     ghost use Rattle.tal_tree.specs.contracts.statement.Statement as statement;
-    ghost use Rattle.plain_semantics.specs.Machine as machine;
+    ghost use Rattle.plain_machine.specs.Machines.{Machine};
 
-    ghost Value = { machine.Plain };
+    ghost Value = { Machine };
 
     ghost coded = { Prim.hlevel (codes, statement.the_row.coded) };
 
-    ghost view = { λ plain. record { processes = plain.processes.items; entered = plain.entered.items } };
+    ghost view = { λ plain. record { site = plain.wires; state = plain.state } };
 }
 
-impl Plain {
-    /// The machine at its beginning.
-    pub(crate) fn start(alloc: Global, site: &Site) -> Result<Plain, NoMemory>
-        requires { AreLoadable site.now.processes }
-        ensures { IfOk result (λ plain. plain ≡ plain_start site.now) }
+impl<'a> Plain<'a> {
+    /// The machine of a site at its beginning.
+    pub fn start(alloc: Global, site: &'a Site) -> Result<Plain<'a>, NoMemory>
+        requires { IsPlayable site.now }
+        ensures { IfOk result (λ plain. plain ≡ record { site = site.now; state = plain_start site.now }) }
     {
-        let processes = first_processes(alloc, site, site.processes.as_slice())?;
-        let entered = none_entered(alloc, site.terminals.as_slice())?;
-        Ok(Plain { processes, entered })
+        let wires = Wires::new(alloc, site)?;
+        let state = State::start(alloc, site)?;
+        Ok(Plain { wires, state })
     }
 
-    /// Makes an act, where it is possible.
-    pub(crate) fn made(&mut self, wires: &Wires<'_>, act: Act) -> Result<Outcome, NoMemory>
-        ensures { IfOk result (λ outcome. Settles (made wires.now self.old act) self.old outcome self.new) }
+    /// Makes an act, and answers what it shows. A disc whose writes have no number of 32 bits left answers want of memory.
+    pub fn act(&mut self, act: Act) -> Result<Option<Shown>, ActFault>
+        ensures made { IfOk result (λ shown. made self.old.site self.old.state act ≡ Some (record { plain = self.new.state; shown = listed shown })) }
+        ensures not_possible { result ≡ Err ActFault.NotPossible → made self.old.site self.old.state act ≡ None }
+        ensures unchanged { result ≡ Err ActFault.NotPossible → self.new ≡ self.old }
+        ensures site { self.new.site ≡ self.old.site }
     {
-        match act {
-            Act::Step(process) => self.step(wires, usize::from(process)),
-            Act::Take { process, opener } => {
-                let outcome = self.take(usize::from(process), usize::from(opener));
-                Ok(outcome)
-            }
-            Act::Enter(terminal) => self.enter(wires, usize::from(terminal)),
-            Act::Print(terminal) => Ok(self.print(wires, terminal)),
-        }
-    }
-
-    fn step(&mut self, wires: &Wires<'_>, number: usize) -> Result<Outcome, NoMemory>
-        ensures { IfOk result (λ outcome. Settles (step_made wires.now number self.old (slice_get self.old.processes number)) self.old outcome self.new) }
-    {
-        match self.processes.as_slice().get(number) {
-            None => Ok(Outcome::Impossible),
-            Some(one) => {
-                let point = one.at();
-                self.step_at(wires, number, point)
-            }
-        }
-    }
-
-    fn step_at(
-        &mut self,
-        wires: &Wires<'_>,
-        number: usize,
-        point: Point,
-    ) -> Result<Outcome, NoMemory>
-        requires { IsAt number point self.old }
-        ensures { IfOk result (λ outcome. IfSome (slice_get self.old.processes number) (λ one. Settles (step_at wires.now number one self.old point) self.old outcome self.new)) }
-    {
-        match point {
-            Point::Inner => {
-                self.inner(number);
-                Ok(Outcome::Quiet)
-            }
-            Point::Ask => {
-                self.ask(wires, number);
-                Ok(Outcome::Quiet)
-            }
-            Point::Await => Ok(self.get(wires, number)),
-            Point::Answer => {
-                self.answer(number);
-                Ok(Outcome::Quiet)
-            }
-            Point::Mark => {
-                self.mark(number);
-                Ok(Outcome::Quiet)
-            }
-            Point::Device => self.device(number),
-            Point::Take => Ok(Outcome::Impossible),
-            Point::Ended => Ok(Outcome::Impossible),
-        }
-    }
-
-    fn inner(&mut self, number: usize)
-        requires { IsAt number Point.Inner self.old }
-        ensures { IfSome (slice_get self.old.processes number) (λ one. self.new ≡ with_state number one (process.after_inner one.state) self.old) }
-    {
-        if number < self.processes.len() {
-            self.processes[number].inner();
-        }
-    }
-
-    fn mark(&mut self, number: usize)
-        requires { IsAt number Point.Mark self.old }
-        ensures { IfSome (slice_get self.old.processes number) (λ one. self.new ≡ with_state number one (process.after_mark one.state) self.old) }
-    {
-        if number < self.processes.len() {
-            self.processes[number].marked();
-        }
-    }
-
-    fn ask(&mut self, wires: &Wires<'_>, number: usize)
-        requires { IsAt number Point.Ask self.old }
-        ensures { IfSome (slice_get self.old.processes number) (λ one. self.new ≡ with_slot (own_opener wires.now number one) (Slot.Waiting (process.asked_words one.state)) (with_state number one (process.after_asked one.state) self.old)) }
-    {
-        if number < self.processes.len() {
-            let opener = wires.file(number, self.processes[number].asked_file());
-            let words = self.processes[number].asked();
-            self.set_slot(opener, Slot::Waiting(words));
-        }
-    }
-
-    fn get(&mut self, wires: &Wires<'_>, number: usize) -> Outcome
-        requires { IsAt number Point.Await self.old }
-        ensures { IfSome (slice_get self.old.processes number) (λ one. Settles (step_at wires.now number one self.old Point.Await) self.old result self.new) }
-    {
-        if number >= self.processes.len() {
-            return Outcome::Impossible;
-        }
-        let opener = wires.file(number, self.processes[number].asked_file());
-        match self.slot_of(opener) {
-            Some(Slot::Answered(words)) => {
-                let words = words.copy();
-                self.processes[number].got(&words);
-                self.set_slot(opener, Slot::Empty);
-                Outcome::Quiet
-            }
-            _ => Outcome::Impossible,
-        }
-    }
-
-    fn answer(&mut self, number: usize)
-        requires { IsAt number Point.Answer self.old }
-        ensures { IfSome (slice_get self.old.processes number) (λ one. self.new ≡ answer_made number one self.old) }
-    {
-        if number < self.processes.len() {
-            let opener = answered_by(number, self.processes[number].hand());
-            let words = self.processes[number].answered();
-            self.set_slot(opener, Slot::Answered(words));
-        }
-    }
-
-    fn device(&mut self, number: usize) -> Result<Outcome, NoMemory>
-        requires { IsAt number Point.Device self.old }
-        ensures { IfOk result (λ outcome. IfSome (slice_get self.old.processes number) (λ one. Settles (Some (device_made number one self.old (process.call_of one.state))) self.old outcome self.new)) }
-    {
-        if number >= self.processes.len() {
-            return Ok(Outcome::Impossible);
-        }
-        let process = narrow(number)?;
-        let call = self.processes[number].device()?;
-        Ok(shown_by(process, call))
-    }
-
-    fn take(&mut self, number: usize, place: usize) -> Outcome
-        ensures { Settles (take_made number place self.old (slice_get self.old.processes number)) self.old result self.new }
-    {
-        match self.processes.as_slice().get(number) {
-            None => Outcome::Impossible,
-            Some(one) => match one.at() {
-                Point::Take => self.take_slot(number, place),
-                _ => Outcome::Impossible,
-            },
-        }
-    }
-
-    fn take_slot(&mut self, number: usize, place: usize) -> Outcome
-        requires { IsAt number Point.Take self.old }
-        ensures { IfSome (slice_get self.old.processes number) (λ one. Settles (take_slot number place one self.old (slice_get one.slots place)) self.old result self.new) }
-    {
-        if number >= self.processes.len() {
-            return Outcome::Impossible;
-        }
-        match self.processes[number].slots().get(place) {
-            Some(Slot::Waiting(words)) => {
-                let words = words.copy();
-                self.processes[number].took(place, &words);
-                Outcome::Quiet
-            }
-            _ => Outcome::Impossible,
-        }
-    }
-
-    fn enter(&mut self, wires: &Wires<'_>, number: usize) -> Result<Outcome, NoMemory>
-        ensures { IfOk result (λ outcome. Settles (enter_made wires.now number (opener_of wires.now (who.Terminal number)) self.old (slot_of self.old (opener_of wires.now (who.Terminal number)))) self.old outcome self.new) }
-    {
-        let opener = wires.terminal(number);
-        match self.slot_of(opener) {
-            Some(Slot::Empty) => self.enter_next(wires.site(), number, opener),
-            _ => Ok(Outcome::Impossible),
-        }
-    }
-
-    fn enter_next(
-        &mut self,
-        site: &Site,
-        number: usize,
-        opener: Option<Opener>,
-    ) -> Result<Outcome, NoMemory>
-        ensures { IfOk result (λ outcome. Settles (enter_request number opener self.old (next_request site.now number (entered_at self.old number))) self.old outcome self.new) }
-    {
-        let entered = self.entered_at(number);
-        match next_request(site, number, entered) {
-            None => Ok(Outcome::Impossible),
-            Some(words) => {
-                let words = words.copy();
-                self.count_entered(number, entered)?;
-                self.set_slot(opener, Slot::Waiting(words));
-                Ok(Outcome::Quiet)
-            }
-        }
-    }
-
-    fn count_entered(&mut self, number: usize, entered: u32) -> Result<(), NoMemory>
-        ensures { OnOk result (self.new ≡ record self.old { entered = slice_set self.old.entered number (entered + 1) }) }
-    {
-        match entered.checked_add(1) {
-            None => Err(NoMemory),
-            Some(entered) => {
-                if number < self.entered.len() {
-                    self.entered[number] = entered;
-                }
-                Ok(())
-            }
-        }
-    }
-
-    fn print(&mut self, wires: &Wires<'_>, terminal: u8) -> Outcome
-        ensures { Settles (print_made terminal (opener_of wires.now (who.Terminal terminal)) self.old (slot_of self.old (opener_of wires.now (who.Terminal terminal)))) self.old result self.new }
-    {
-        let opener = wires.terminal(usize::from(terminal));
-        let number = self.entered_at(usize::from(terminal));
-        match self.slot_of(opener) {
-            Some(Slot::Answered(words)) => {
-                let words = words.copy();
-                self.set_slot(opener, Slot::Empty);
-                Outcome::Shows(Shown::Reply {
-                    terminal,
-                    number,
-                    words,
-                })
-            }
-            _ => Outcome::Impossible,
-        }
-    }
-
-    /// Makes the Take or Step that a process may make next, where it is possible.
-    pub(crate) fn make_move(&mut self, wires: &Wires<'_>, number: usize) -> Result<Move, NoMemory>
-        ensures act { IfOk result (λ move. move.act ≡ next_move self.old number) }
-        ensures outcome { IfOk result (λ move. Settles (made wires.now self.old (next_move self.old number)) self.old move.outcome self.new) }
-    {
-        let process = narrow(number)?;
-        match self.processes.as_slice().get(number) {
-            None => {
-                let act = Act::Step(process);
-                let outcome = Outcome::Impossible;
-                Ok(Move { act, outcome })
-            }
-            Some(one) => match one.at() {
-                Point::Take => {
-                    let place = first_waiting(one.slots());
-                    let opener = wide(place)?;
-                    let act = Act::Take { process, opener };
-                    let outcome = self.take_slot(number, place);
-                    Ok(Move { act, outcome })
-                }
-                point => {
-                    let act = Act::Step(process);
-                    let outcome = self.step_at(wires, number, point)?;
-                    Ok(Move { act, outcome })
-                }
-            },
+        match self.state.made(&self.wires, act)? {
+            Outcome::Impossible => Err(ActFault::NotPossible),
+            Outcome::Quiet => Ok(None),
+            Outcome::Shows(shown) => Ok(Some(shown)),
         }
     }
 
     /// Whether no act is possible.
-    pub(crate) fn is_still(&self, wires: &Wires<'_>) -> bool
-        ensures { result ≡ is_still wires.now self.now }
+    pub fn none_left(&self) -> bool
+        ensures { IsTrue result ↔ IsStill self.now.site self.now.state }
     {
-        self.has_no_enter(wires) && self.has_no_print(wires) && self.has_no_move(wires)
+        self.state.is_still(&self.wires)
     }
-
-    fn has_no_enter(&self, wires: &Wires<'_>) -> bool
-        ensures { result ≡ none_of wires.now self.now enter_of 0 (length wires.now.terminals) }
-    {
-        for terminal in 0..wires.site().terminals.len() {
-            if self.can_enter(wires, terminal) {
-                return false;
-            }
-        }
-        true
-    }
-
-    fn has_no_print(&self, wires: &Wires<'_>) -> bool
-        ensures { result ≡ none_of wires.now self.now print_of 0 (length wires.now.terminals) }
-    {
-        for terminal in 0..wires.site().terminals.len() {
-            if self.can_print(wires, terminal) {
-                return false;
-            }
-        }
-        true
-    }
-
-    fn has_no_move(&self, wires: &Wires<'_>) -> bool
-        ensures { result ≡ none_of wires.now self.now next_move 0 (length self.now.processes) }
-    {
-        for number in 0..self.process_count() {
-            if self.can_move(wires, number) {
-                return false;
-            }
-        }
-        true
-    }
-
-    fn process_count(&self) -> usize
-        ensures { result ≡ length self.now.processes }
-    {
-        self.processes.len()
-    }
-
-    fn can_enter(&self, wires: &Wires<'_>, number: usize) -> bool
-        ensures { result ≡ is_some (made wires.now self.now (enter_of self.now number)) }
-    {
-        match self.slot_of(wires.terminal(number)) {
-            Some(Slot::Empty) => next_request(
-                wires.site(),
-                number,
-                self.entered_at(number),
-            ).is_some(),
-            _ => false,
-        }
-    }
-
-    fn can_print(&self, wires: &Wires<'_>, number: usize) -> bool
-        ensures { result ≡ is_some (made wires.now self.now (print_of self.now number)) }
-    {
-        match self.slot_of(wires.terminal(number)) {
-            Some(Slot::Answered(_)) => true,
-            _ => false,
-        }
-    }
-
-    fn can_move(&self, wires: &Wires<'_>, number: usize) -> bool
-        ensures { result ≡ is_some (made wires.now self.now (next_move self.now number)) }
-    {
-        match self.processes.as_slice().get(number) {
-            None => false,
-            Some(one) => match one.at() {
-                Point::Take => self.can_take(wires, number, one),
-                Point::Await => self.has_reply(wires.file(number, one.asked_file())),
-                Point::Ended => false,
-                Point::Inner => true,
-                Point::Ask => true,
-                Point::Answer => true,
-                Point::Mark => true,
-                Point::Device => true,
-            },
-        }
-    }
-
-    fn can_take(&self, _wires: &Wires<'_>, number: usize, one: &PlainProcess) -> bool
-        requires there { slice_get self.now.processes number ≡ Some one.now }
-        requires stands { process.point one.now.state ≡ Point.Take }
-        ensures { result ≡ is_some (made _wires.now self.now (next_move self.now number)) }
-    {
-        has_waiting(one.slots())
-    }
-
-    fn entered_at(&self, number: usize) -> u32
-        ensures { result ≡ entered_at self.now number }
-    {
-        match self.entered.as_slice().get(number) {
-            None => 0,
-            Some(entered) => *entered,
-        }
-    }
-
-    fn slot_of(&self, opener: Option<Opener>) -> Option<&Slot>
-        ensures { option_copied result ≡ slot_of self.now opener }
-    {
-        match opener {
-            None => None,
-            Some(Opener { server, place }) => match self.processes.as_slice().get(server) {
-                None => None,
-                Some(server) => server.slots().get(place),
-            },
-        }
-    }
-
-    fn has_reply(&self, opener: Option<Opener>) -> bool
-        ensures { result ≡ is_answered (slot_of self.now opener) }
-    {
-        match self.slot_of(opener) {
-            Some(Slot::Answered(_)) => true,
-            _ => false,
-        }
-    }
-
-    fn set_slot(&mut self, opener: Option<Opener>, slot: Slot)
-        ensures { self.new ≡ with_slot opener slot self.old }
-    {
-        if let Some(Opener { server, place }) = opener {
-            if server < self.processes.len() {
-                self.processes[server].set_slot(place, slot);
-            }
-        }
-    }
-}
-
-/// Whether a request waits in a slot.
-fn has_waiting(slots: &[Slot]) -> bool
-    ensures { result ≡ has_waiting slots.now }
-{
-    for slot in slots {
-        if let Slot::Waiting(_) = slot {
-            return true;
-        }
-    }
-    false
-}
-
-fn answered_by(server: usize, hand: Option<usize>) -> Option<Opener>
-    ensures { result ≡ answered_by server hand }
-{
-    let place = hand?;
-    Some(Opener { server, place })
-}
-
-fn shown_by(process: u8, call: DeviceCall) -> Outcome
-    ensures { shown_in result ≡ Some (shown_by_device process call) }
-{
-    match call {
-        DeviceCall::Write {
-            sector,
-            words,
-            number: _,
-        } => Outcome::Shows(Shown::Write {
-            process,
-            sector,
-            words,
-        }),
-        _ => Outcome::Quiet,
-    }
-}
-
-fn next_request<'a>(site: &'a Site, number: usize, entered: u32) -> Option<&'a Words>
-    ensures { option_copied result ≡ next_request site.now number entered }
-{
-    match site.terminals.get(number) {
-        None => None,
-        Some(terminal) => terminal.requests.get(entered as usize),
-    }
-}
-
-/// An opener's place as it stands in an act. One that doesn't fit counts as want of memory.
-fn wide(place: usize) -> Result<u16, NoMemory>
-    ensures { IfOk result (λ wide. wide ≡ place) }
-{
-    match u16::try_from(place) {
-        Ok(place) => Ok(place),
-        Err(_) => Err(NoMemory),
-    }
-}
-
-fn first_processes(
-    alloc: Global,
-    site: &Site,
-    specs: &[ProcessSpec],
-) -> Result<Vec<PlainProcess>, NoMemory>
-    requires { AreLoadable specs.now }
-    ensures { IfOk result (λ all. all.items ≡ processes_at_first site.now 0 specs.now) }
-{
-    let mut all = Vec::new(alloc);
-    for (number, spec) in specs.iter().enumerate() {
-        let one = PlainProcess::start(alloc, site, number, spec)?;
-        all.push(one)?;
-    }
-    Ok(all)
-}
-
-fn none_entered(alloc: Global, terminals: &[TerminalSpec]) -> Result<Vec<u32>, NoMemory>
-    ensures { IfOk result (λ all. all.items ≡ map (λ terminal. 0) terminals.now) }
-{
-    let mut all = Vec::new(alloc);
-    for _terminal in terminals {
-        all.push(0)?;
-    }
-    Ok(all)
 }

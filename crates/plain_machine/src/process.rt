@@ -1,5 +1,6 @@
-ghost use Rattle.std.specs.Prelude.{◌≡◌, IfOk, OnOk, map, replicate, slice_set};
+ghost use Rattle.std.specs.Prelude.{◌≡◌, ◌≤◌, IfOk, OnOk, length, map, replicate, slice_set};
 ghost use Rattle.plain_semantics.specs.Openers.{openers_of};
+ghost use Rattle.plain_semantics.specs.SiteLimits.{KeepsSiteLimits};
 ghost use Rattle.process_semantics.specs.State.{zeros};
 ghost use Rattle.process_semantics.specs.Process.{point, after_inner, after_took, asked_file, asked_words, after_asked, after_got, answer_of, after_answered, after_mark, call_of, after_device};
 ghost use Rattle.plain_semantics.specs.Machine.{process_at_first, sectors_at_first, found_by, written_by};
@@ -28,6 +29,7 @@ pub struct PlainProcess {
 impl Model for PlainProcess {
     ghost use Rattle.std.specs.Coded.{codes};
     ghost use Rattle.tal_tree.specs.contracts.statement.Statement as statement;
+    ghost use Rattle.std.specs.Prelude.{◌≤◌, length};
     ghost use Rattle.processes.specs.Seen.{state_of};
     ghost use Rattle.plain_semantics.specs.Machine as machine;
 
@@ -41,6 +43,8 @@ impl Model for PlainProcess {
       slots = one.slots.items;
       sectors = one.sectors.items;
     } };
+
+    ghost invariant = { λ one. length one.slots.items ≤ 144 };
 }
 
 impl PlainProcess {
@@ -51,7 +55,8 @@ impl PlainProcess {
         number: usize,
         spec: &ProcessSpec,
     ) -> Result<PlainProcess, NoMemory>
-        requires { IsLoadableKind spec.now.what }
+        requires limits { KeepsSiteLimits site.now }
+        requires loadable { IsLoadableKind spec.now.what }
         ensures { IfOk result (λ one. one ≡ process_at_first site.now number spec.now) }
     {
         let process = Process::load(alloc, &spec.what)?;
@@ -157,6 +162,13 @@ impl PlainProcess {
         self.slots.as_slice()
     }
 
+    /// The place of the first slot in which a request waits, or how many slots there are.
+    pub(crate) fn first_waiting(&self) -> u16
+        ensures { result ≡ waiting_from 0 self.now.slots }
+    {
+        first_waiting(self.slots.as_slice())
+    }
+
     pub(crate) fn set_slot(&mut self, place: usize, slot: Slot)
         ensures { self.new ≡ record self.old { slots = slice_set self.old.slots place slot } }
     {
@@ -165,7 +177,8 @@ impl PlainProcess {
 }
 
 fn set(slots: &mut Vec<Slot>, place: usize, slot: Slot)
-    ensures { slots.new.items ≡ slice_set slots.old.items place slot }
+    ensures slots { slots.new.items ≡ slice_set slots.old.items place slot }
+    ensures length { length slots.new.items ≡ length slots.old.items }
 {
     if place < slots.len() {
         slots[place] = slot;
@@ -173,14 +186,17 @@ fn set(slots: &mut Vec<Slot>, place: usize, slot: Slot)
 }
 
 fn empty_slots(alloc: Global, site: &Site, number: usize) -> Result<Vec<Slot>, NoMemory>
-    ensures { IfOk result (λ slots. slots.items ≡ map (λ opener. Slot.Empty) (openers_of site.now number)) }
+    requires { KeepsSiteLimits site.now }
+    ensures few { IfOk result (λ slots. length slots.items ≤ 144) }
+    ensures slots { IfOk result (λ slots. slots.items ≡ map (λ opener. Slot.Empty) (openers_of site.now number)) }
 {
     let openers = openers(alloc, site, number)?;
     empties(alloc, openers.as_slice())
 }
 
 fn empties(alloc: Global, openers: &[OpenerSpec]) -> Result<Vec<Slot>, NoMemory>
-    ensures { IfOk result (λ slots. slots.items ≡ map (λ opener. Slot.Empty) openers.now) }
+    ensures length { IfOk result (λ slots. length slots.items ≡ length openers.now) }
+    ensures slots { IfOk result (λ slots. slots.items ≡ map (λ opener. Slot.Empty) openers.now) }
 {
     let mut slots = Vec::new(alloc);
     for _ in 0..openers.len() {
@@ -237,13 +253,14 @@ fn write(sectors: &mut Vec<Sector>, call: &DeviceCall)
 }
 
 /// The place of the first slot in which a request waits, or how many slots there are.
-pub(crate) fn first_waiting(slots: &[Slot]) -> usize
+fn first_waiting(slots: &[Slot]) -> u16
+    requires { length slots.now ≤ 144 }
     ensures { result ≡ waiting_from 0 slots.now }
 {
     for (place, slot) in slots.iter().enumerate() {
         if let Slot::Waiting(_) = slot {
-            return place;
+            return place as u16;
         }
     }
-    slots.len()
+    slots.len() as u16
 }

@@ -1,21 +1,22 @@
 ghost use Rattle.std.specs.Prelude.{◌≡◌, length, IfOk, OnOk};
-ghost use Rattle.plain_machine.specs.Rounds.{run_start, tried, swept, enter_of, next_move, print_of, round};
-ghost use Rattle.plain_machine.specs.Standing.{AreLoadable};
+ghost use Rattle.plain_machine.specs.Rounds.{run_start, tried, swept, enter_of, next_move, print_of, round, rounds_on};
+ghost use Rattle.plain_machine.specs.Lines.{happened, line_played, repeated};
+ghost use Rattle.plain_machine.specs.Standing.{IsPlayable};
 ghost use Rattle.plain_machine.specs.Stillness.{is_still};
 
 use crate::outcome::Outcome;
-use crate::plain::{Move, Plain};
+use crate::state::{Move, State};
 use crate::wires::Wires;
 use gd_words::{List, NoMemory};
-use plain_semantics::narrow;
+use schedule::{Event, Line};
 use std::alloc::Global;
 use std::marker::Model;
 use tal_tree::{Act, Shown, Site};
 
-/// A run so far: the machine, the acts that were made, and what they show.
+/// A run so far: the state of the machine, the acts that were made, and what they show.
 #[derive(Drop)]
 pub struct Ran {
-    plain: Plain,
+    state: State,
     acts: List<Act>,
     shown: List<Shown>,
 }
@@ -29,25 +30,25 @@ impl Model for Ran {
 
     ghost coded = { Prim.hlevel (codes, statement.the_row.coded) };
 
-    ghost view = { λ ran. record { plain = ran.plain; acts = ran.acts; shown = ran.shown } };
+    ghost view = { λ ran. record { plain = ran.state; acts = ran.acts; shown = ran.shown } };
 }
 
 impl Ran {
     /// No act so far.
     pub(crate) fn start(alloc: Global, site: &Site) -> Result<Ran, NoMemory>
-        requires { AreLoadable site.now.processes }
+        requires { IsPlayable site.now }
         ensures { IfOk result (λ ran. ran ≡ run_start site.now) }
     {
-        let plain = Plain::start(alloc, site)?;
+        let state = State::start(alloc, site)?;
         Ok(Ran {
-            plain,
+            state,
             acts: List::new(alloc),
             shown: List::new(alloc),
         })
     }
 
     /// How many acts were made.
-    pub(crate) fn len(&self) -> usize
+    fn len(&self) -> usize
         ensures { result ≡ length self.now.acts }
     {
         self.acts.len()
@@ -57,7 +58,7 @@ impl Ran {
     fn try_act(&mut self, wires: &Wires<'_>, act: Act) -> Result<(), NoMemory>
         ensures { OnOk result (self.new ≡ tried wires.now act self.old) }
     {
-        match self.plain.made(wires, act)? {
+        match self.state.made(wires, act)? {
             Outcome::Impossible => {}
             Outcome::Quiet => self.acts.push(act)?,
             Outcome::Shows(shown) => {
@@ -69,10 +70,10 @@ impl Ran {
     }
 
     /// Makes the Take or Step of a process and keeps it with what it shows, where it is possible.
-    fn try_move(&mut self, wires: &Wires<'_>, process: usize) -> Result<(), NoMemory>
+    fn try_move(&mut self, wires: &Wires<'_>, process: u8) -> Result<(), NoMemory>
         ensures { OnOk result (self.new ≡ tried wires.now (next_move self.old.plain process) self.old) }
     {
-        let Move { act, outcome } = self.plain.make_move(wires, process)?;
+        let Move { act, outcome } = self.state.make_move(wires, process)?;
         match outcome {
             Outcome::Impossible => {}
             Outcome::Quiet => self.acts.push(act)?,
@@ -87,9 +88,8 @@ impl Ran {
     fn try_enters(&mut self, wires: &Wires<'_>) -> Result<(), NoMemory>
         ensures { OnOk result (self.new ≡ swept wires.now enter_of 0 (length wires.now.terminals) self.old) }
     {
-        for terminal in 0..wires.site().terminals.len() {
-            let act = Act::Enter(narrow(terminal)?);
-            self.try_act(wires, act)?;
+        for terminal in 0..wires.terminal_count() {
+            self.try_act(wires, Act::Enter(terminal))?;
         }
         Ok(())
     }
@@ -97,7 +97,7 @@ impl Ran {
     fn try_moves(&mut self, wires: &Wires<'_>) -> Result<(), NoMemory>
         ensures { OnOk result (self.new ≡ swept wires.now next_move 0 (length wires.now.processes) self.old) }
     {
-        for process in 0..wires.site().processes.len() {
+        for process in 0..wires.process_count() {
             self.try_move(wires, process)?;
         }
         Ok(())
@@ -106,15 +106,64 @@ impl Ran {
     fn try_prints(&mut self, wires: &Wires<'_>) -> Result<(), NoMemory>
         ensures { OnOk result (self.new ≡ swept wires.now print_of 0 (length wires.now.terminals) self.old) }
     {
-        for terminal in 0..wires.site().terminals.len() {
-            let act = Act::Print(narrow(terminal)?);
-            self.try_act(wires, act)?;
+        for terminal in 0..wires.terminal_count() {
+            self.try_act(wires, Act::Print(terminal))?;
         }
         Ok(())
     }
 
-    /// Plays a round.
-    pub(crate) fn play(&mut self, wires: &Wires<'_>) -> Result<(), NoMemory>
+    /// Plays a line of a schedule: events that this machine has not make nothing.
+    pub(crate) fn play(&mut self, wires: &Wires<'_>, line: Line) -> Result<(), NoMemory>
+        ensures { OnOk result (self.new ≡ line_played wires.now line self.old) }
+    {
+        match line {
+            Line::One(event) => self.try_event(wires, event),
+            Line::Many { event, times } => self.try_events(wires, event, times),
+            Line::Drain(rounds) => self.play_rounds(wires, rounds),
+            _ => Ok(()),
+        }
+    }
+
+    /// Makes what an event asks for and keeps it with what it shows, where it is possible.
+    fn try_event(&mut self, wires: &Wires<'_>, event: Event) -> Result<(), NoMemory>
+        ensures { OnOk result (self.new ≡ happened wires.now event self.old) }
+    {
+        match event {
+            Event::Run(process) => self.try_move(wires, process),
+            Event::Enter(terminal) => self.try_act(wires, Act::Enter(terminal)),
+            _ => Ok(()),
+        }
+    }
+
+    /// Makes what an event asks for so many times. Once it is not possible, it stays so.
+    fn try_events(&mut self, wires: &Wires<'_>, event: Event, times: u32) -> Result<(), NoMemory>
+        ensures { OnOk result (self.new ≡ repeated wires.now event times self.old) }
+    {
+        for _ in 0..times {
+            let before = self.len();
+            self.try_event(wires, event)?;
+            if self.len() == before {
+                return Ok(());
+            }
+        }
+        Ok(())
+    }
+
+    /// Plays so many rounds. Once one makes no act, the others make none.
+    fn play_rounds(&mut self, wires: &Wires<'_>, rounds: u32) -> Result<(), NoMemory>
+        ensures { OnOk result (self.new ≡ rounds_on wires.now rounds self.old) }
+    {
+        for _ in 0..rounds {
+            let before = self.len();
+            self.play_round(wires)?;
+            if self.len() == before {
+                return Ok(());
+            }
+        }
+        Ok(())
+    }
+
+    fn play_round(&mut self, wires: &Wires<'_>) -> Result<(), NoMemory>
         ensures { OnOk result (self.new ≡ round wires.now self.old) }
     {
         self.try_enters(wires)?;
@@ -127,7 +176,7 @@ impl Ran {
     pub(crate) fn is_still(&self, wires: &Wires<'_>) -> bool
         ensures { result ≡ is_still wires.now self.now.plain }
     {
-        self.plain.is_still(wires)
+        self.state.is_still(wires)
     }
 
     /// The acts, and what they show.
@@ -136,7 +185,7 @@ impl Ran {
         ensures shown { result.1 ≡ self.shown }
     {
         let Ran {
-            plain: _,
+            state: _,
             acts,
             shown,
         } = self;

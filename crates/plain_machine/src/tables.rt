@@ -1,11 +1,13 @@
-ghost use Rattle.std.specs.Prelude.{◌≡◌, slice_get, IfOk};
+ghost use Rattle.std.specs.Prelude.{◌≡◌, ◌≤◌, length, slice_get, IfOk};
+ghost use Rattle.std.specs.List.{All};
 ghost use Rattle.std.specs.Option.{option_flatten};
 ghost use Rattle.plain_machine.specs.Wiring.{file_row, file_rows, terminal_row, found_file};
 ghost use Rattle.tal_tree.specs.declared.site.Who.TheVariants as who;
-ghost use Rattle.plain_semantics.specs.Openers.{opener_of};
+ghost use Rattle.plain_semantics.specs.Openers.{files_of, opener_of};
+ghost use Rattle.plain_semantics.specs.SiteLimits.{KeepsSiteLimits};
 
 use gd_words::{List, NoMemory};
-use plain_semantics::{Opener, files_of, narrow, opener_of};
+use plain_semantics::{Opener, files_of, opener_of};
 use std::alloc::Global;
 use tal_tree::{FileUse, ProcessSpec, Site, TerminalSpec, Who};
 
@@ -14,11 +16,14 @@ pub(crate) fn file_rows(
     site: &Site,
     processes: &[ProcessSpec],
 ) -> Result<List<List<Option<Opener>>>, NoMemory>
+    requires limits { KeepsSiteLimits site.now }
+    requires few { length processes.now ≤ 16 }
+    requires files { All (λ spec. length (files_of spec.what) ≤ 8) processes.now }
     ensures { IfOk result (λ rows. rows ≡ file_rows site.now 0 processes.now) }
 {
     let mut rows = List::new(alloc);
     for (number, spec) in processes.iter().enumerate() {
-        let row = file_row(alloc, site, number, files_of(&spec.what))?;
+        let row = file_row(alloc, site, number as u8, files_of(&spec.what))?;
         rows.push(row)?;
     }
     Ok(rows)
@@ -27,30 +32,20 @@ pub(crate) fn file_rows(
 fn file_row(
     alloc: Global,
     site: &Site,
-    process: usize,
+    process: u8,
     files: &[FileUse],
 ) -> Result<List<Option<Opener>>, NoMemory>
+    requires limits { KeepsSiteLimits site.now }
+    requires few { length files.now ≤ 8 }
     ensures { IfOk result (λ row. row ≡ file_row site.now process 0 files.now) }
 {
     let mut row = List::new(alloc);
     for (number, _) in files.iter().enumerate() {
-        let opener = file_opener(alloc, site, process, number)?;
+        let file = number as u8;
+        let opener = opener_of(alloc, site, Who::File { process, file })?;
         row.push(opener)?;
     }
     Ok(row)
-}
-
-fn file_opener(
-    alloc: Global,
-    site: &Site,
-    process: usize,
-    file: usize,
-) -> Result<Option<Opener>, NoMemory>
-    ensures { IfOk result (λ opener. opener ≡ opener_of site.now (who.File process file)) }
-{
-    let process = narrow(process)?;
-    let file = narrow(file)?;
-    opener_of(alloc, site, Who::File { process, file })
 }
 
 pub(crate) fn terminal_row(
@@ -58,12 +53,13 @@ pub(crate) fn terminal_row(
     site: &Site,
     terminals: &[TerminalSpec],
 ) -> Result<List<Option<Opener>>, NoMemory>
+    requires limits { KeepsSiteLimits site.now }
+    requires few { length terminals.now ≤ 16 }
     ensures { IfOk result (λ row. row ≡ terminal_row site.now 0 terminals.now) }
 {
     let mut row = List::new(alloc);
     for (number, _) in terminals.iter().enumerate() {
-        let terminal = narrow(number)?;
-        let opener = opener_of(alloc, site, Who::Terminal(terminal))?;
+        let opener = opener_of(alloc, site, Who::Terminal(number as u8))?;
         row.push(opener)?;
     }
     Ok(row)

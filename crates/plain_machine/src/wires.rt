@@ -1,10 +1,12 @@
-ghost use Rattle.std.specs.Prelude.{◌≡◌, IfOk};
-ghost use Rattle.std.specs.Option.{option_flatten};
+ghost use Rattle.std.specs.Prelude.{◌≡◌, ◌<◌, length, IfOk, IfSome};
+ghost use Rattle.std.specs.Option.{option_copied};
 ghost use Rattle.tal_tree.specs.declared.site.Who.TheVariants as who;
+ghost use Rattle.plain_semantics.specs.Machine.{next_request};
 ghost use Rattle.plain_semantics.specs.Openers.{opener_of};
+ghost use Rattle.plain_semantics.specs.SiteLimits.{KeepsSiteLimits};
 
 use crate::tables::{file_rows, found_file, found_terminal, terminal_row};
-use gd_words::{List, NoMemory};
+use gd_words::{List, NoMemory, Words};
 use plain_semantics::Opener;
 use std::alloc::Global;
 use std::marker::Model;
@@ -23,6 +25,7 @@ impl<'a> Model for Wires<'a> {
     ghost use Rattle.std.specs.Coded.{codes};
     ghost use Rattle.tal_tree.specs.contracts.statement.Statement as statement;
     ghost use Rattle.tal_tree.specs.declared.site.Site.{Site as Wired};
+    ghost use Rattle.plain_semantics.specs.SiteLimits.{KeepsSiteLimits};
     ghost use Rattle.plain_machine.specs.Wiring.{file_rows, terminal_row};
 
     ghost Value = { Wired };
@@ -31,12 +34,13 @@ impl<'a> Model for Wires<'a> {
 
     ghost view = { λ wires. wires.site.now };
 
-    ghost invariant = { λ wires. (wires.files ≡ file_rows wires.site.now 0 wires.site.now.processes) × (wires.terminals ≡ terminal_row wires.site.now 0 wires.site.now.terminals) };
+    ghost invariant = { λ wires. (wires.files ≡ file_rows wires.site.now 0 wires.site.now.processes) × (wires.terminals ≡ terminal_row wires.site.now 0 wires.site.now.terminals) × KeepsSiteLimits wires.site.now };
 }
 
 impl<'a> Wires<'a> {
     /// The tables of a site.
     pub(crate) fn new(alloc: Global, site: &'a Site) -> Result<Wires<'a>, NoMemory>
+        requires { KeepsSiteLimits site.now }
         ensures { IfOk result (λ wires. wires ≡ site.now) }
     {
         let files = file_rows(alloc, site, site.processes.as_slice())?;
@@ -48,10 +52,27 @@ impl<'a> Wires<'a> {
         })
     }
 
-    pub(crate) fn site(&self) -> &'a Site
-        ensures { result.now ≡ self.now }
+    pub(crate) fn process_count(&self) -> u8
+        ensures { result ≡ length self.now.processes }
     {
-        self.site
+        self.site.processes.len() as u8
+    }
+
+    pub(crate) fn terminal_count(&self) -> u8
+        ensures { result ≡ length self.now.terminals }
+    {
+        self.site.terminals.len() as u8
+    }
+
+    /// The request of a terminal after so many.
+    pub(crate) fn request(&self, terminal: usize, entered: u32) -> Option<&Words>
+        ensures request { option_copied result ≡ next_request self.now terminal entered }
+        ensures few { IfSome result (λ words. entered < 1000) }
+    {
+        match self.site.terminals.get(terminal) {
+            None => None,
+            Some(terminal) => terminal.requests.get(entered as usize),
+        }
     }
 
     /// Where a file of a process stands.

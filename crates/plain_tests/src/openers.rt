@@ -1,5 +1,5 @@
 use gd_words::{Ident, List, Name};
-use plain_semantics::{Opener, opener_of, openers};
+use plain_semantics::{Opener, keeps_site_limits, opener_at, opener_of, openers};
 use std::alloc::Global;
 use std::test::Fail;
 use tal_tree::{
@@ -77,6 +77,9 @@ fn site(alloc: Global) -> Result<Site, Fail> {
 fn files_come_before_terminals(rt: HostRuntime) -> Result<(), Fail> {
     let alloc = rt.alloc();
     let site = site(alloc)?;
+    if !keeps_site_limits(&site) {
+        return Err(Fail::from("a larger site"));
+    }
     let file = Who::File {
         process: 1,
         file: 1,
@@ -114,5 +117,9 @@ fn files_come_before_terminals(rt: HostRuntime) -> Result<(), Fail> {
         file: 0,
     };
     assert!(rt; opener_of(alloc, &site, receive)? == None);
+    assert!(rt; opener_at(&site, 0, 0) == Some(file));
+    assert!(rt; opener_at(&site, 0, 1) == Some(Who::Terminal(1)));
+    assert!(rt; opener_at(&site, 0, 2) == None);
+    assert!(rt; opener_at(&site, 2, 0) == None);
     Ok(())
 }

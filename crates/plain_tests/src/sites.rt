@@ -1,9 +1,10 @@
 ghost use Rattle.std.specs.Prelude.{IfOk, OnOk};
-ghost use Rattle.plain_machine.specs.Standing.{AreLoadable};
+ghost use Rattle.plain_machine.specs.Standing.{AreLoadable, IsPlayable};
 ghost use Rattle.processes.specs.Seen.{IsLoadableKind};
 ghost use Rattle.tal_interp.specs.Sound.{IsLoadable};
 
 use gd_words::{List, Name, NoMemory, Words};
+use plain_semantics::keeps_site_limits;
 use std::alloc::Global;
 use std::test::Fail;
 use tal_reader::read_program;
@@ -69,24 +70,37 @@ fn terminals(alloc: Global, target: u8, requests: &[&[i16]]) -> Result<List<Term
     Ok(terminals)
 }
 
+/// A site of these, where it keeps the limits of sites.
+fn site(processes: List<ProcessSpec>, terminals: List<TerminalSpec>) -> Result<Site, Fail>
+    requires { AreLoadable processes }
+    ensures { IfOk result (λ site. IsPlayable site) }
+{
+    let site = Site {
+        processors: 2,
+        processes,
+        terminals,
+    };
+    if keeps_site_limits(&site) {
+        Ok(site)
+    } else {
+        Err(Fail::from("a larger site"))
+    }
+}
+
 /// A process alone, with a terminal that asks it for these.
 fn lone(alloc: Global, process: ProcessSpec, requests: &[&[i16]]) -> Result<Site, Fail>
     requires { IsLoadableKind process.what }
-    ensures { IfOk result (λ site. AreLoadable site.processes) }
+    ensures { IfOk result (λ site. IsPlayable site) }
 {
     let mut processes = List::new(alloc);
     add_process(&mut processes, process)?;
     let terminals = terminals(alloc, 0, requests)?;
-    Ok(Site {
-        processors: 2,
-        processes,
-        terminals,
-    })
+    site(processes, terminals)
 }
 
 /// A pair that runs this program, with a terminal that asks it for these.
 pub fn pair_site(alloc: Global, text: &[u8], requests: &[&[i16]]) -> Result<Site, Fail>
-    ensures { IfOk result (λ site. AreLoadable site.processes) }
+    ensures { IfOk result (λ site. IsPlayable site) }
 {
     let program = program_of(alloc, text)?;
     let pair = spec(b"$ADD", Kind::Pair(program))?;
@@ -95,7 +109,7 @@ pub fn pair_site(alloc: Global, text: &[u8], requests: &[&[i16]]) -> Result<Site
 
 /// A disc of one sector, with a terminal that asks it for these.
 pub fn disc_site(alloc: Global, requests: &[&[i16]]) -> Result<Site, Fail>
-    ensures { IfOk result (λ site. AreLoadable site.processes) }
+    ensures { IfOk result (λ site. IsPlayable site) }
 {
     let disc = spec(b"$DATA", Kind::Disc { sectors: 1 })?;
     lone(alloc, disc, requests)
@@ -103,7 +117,7 @@ pub fn disc_site(alloc: Global, requests: &[&[i16]]) -> Result<Site, Fail>
 
 /// A pair that runs this program over a disc of sixteen sectors, with a terminal that asks the pair for these.
 pub fn pair_over_disc(alloc: Global, text: &[u8], requests: &[&[i16]]) -> Result<Site, Fail>
-    ensures { IfOk result (λ site. AreLoadable site.processes) }
+    ensures { IfOk result (λ site. IsPlayable site) }
 {
     let program = program_of(alloc, text)?;
     let disc = spec(b"$DATA", Kind::Disc { sectors: 16 })?;
@@ -112,9 +126,5 @@ pub fn pair_over_disc(alloc: Global, text: &[u8], requests: &[&[i16]]) -> Result
     add_process(&mut processes, disc)?;
     add_process(&mut processes, pair)?;
     let terminals = terminals(alloc, 1, requests)?;
-    Ok(Site {
-        processors: 2,
-        processes,
-        terminals,
-    })
+    site(processes, terminals)
 }

@@ -1,6 +1,8 @@
-//! Guards of the report: the numbers by which faults are told, and the lines that end a report. A wrong definition is refused here.
+//! Guards of the report: the numbers by which faults are told, the lines of acts and sectors, and the lines that end a report. A
+//! wrong definition is refused here.
 //!
-//! Below stands `trace_print`, whose definitions are guarded; nothing stands above.
+//! Below stand `trace_print` and `shown_sectors`, whose definitions are guarded; nothing stands above.
 #![tactic(auto)]
 
+pub mod acts;
 pub mod lines;

@@ -11,7 +11,9 @@ use Rattle.tal_tree.specs.declared.fault.TalFault.TheVariants as tal
 use Rattle.trace_print.specs.FaultLine.{IsOfDeck}
 use Rattle.trace_print.specs.TalNumbers.{IsOfText}
 use Rattle.runner.specs.Decided.{IsTold, IsDueOfBytes, due_of_fault}
-use Rattle.runner.specs.Words.{asks_run}
+use Rattle.runner.specs.Words.{asked_by}
+use Rattle.runner.specs.declared.words.Command.{Command}
+use Rattle.runner.specs.declared.words.Command.TheVariants as command
 use Rattle.runner.specs.Written.{outcome_of, CanBeWritten}
 use Rattle.runner.specs.declared.due.Due.{Due}
 use Rattle.runner.specs.declared.due.Due.TheVariants as due
@@ -23,11 +25,12 @@ pub told : (left now : Option (List ℕ)) (bytes rest : List ℕ) → Leaves lef
 told None now bytes rest h = tt
 told (Some xs) now bytes rest h = h.0
 
--- there are words of which it was answered right whether they ask for a run, and they are the told ones
-pub words_of : (told : Option (List (List ℕ))) (answer : Bool) → IfSome told (λ words. answer ≡ asks_run words)
-    → (words : List (List ℕ)) × IsTold told words × (asks_run words ≡ answer)
-words_of None true h = (codes "run" ∷ [], tt, refl)
-words_of None false h = ([], tt, refl)
+-- there are words of which it was answered right what they ask for, and they are the told ones
+pub words_of : (told : Option (List (List ℕ))) (answer : Option Command) → IfSome told (λ words. answer ≡ asked_by words)
+    → (words : List (List ℕ)) × IsTold told words × (asked_by words ≡ answer)
+words_of None None h = ([], tt, refl)
+words_of None (Some (command.Run false)) h = (codes "run" ∷ [], tt, refl)
+words_of None (Some (command.Run true)) h = (codes "run" ∷ codes "--acts" ∷ [], tt, refl)
 words_of (Some words) answer h = (words, refl, sym h)
 
 -- what a program is refused for is told, where it isn't want of memory
@@ -36,9 +39,9 @@ of_text tal.NoMemory memory = absurd (memory refl)
 of_text _ memory = tt
 
 -- why bytes are refused is due
-pub fault_is_due : (bytes : List ℕ) (f : DeckFault) → (f ≢ fault.NoMemory → IsRefusalOf bytes f) → IsDueOfBytes bytes (due_of_fault f)
-fault_is_due bytes fault.NoMemory refused = tt
-fault_is_due bytes f refused = refused (λ e. absurd (cc))
+pub fault_is_due : (command : Command) (bytes : List ℕ) (f : DeckFault) → (f ≢ fault.NoMemory → IsRefusalOf bytes f) → IsDueOfBytes command bytes (due_of_fault f)
+fault_is_due command bytes fault.NoMemory refused = tt
+fault_is_due command bytes f refused = refused (λ e. absurd (cc))
 
 -- why bytes are refused has a line
 has_line : (bytes : List ℕ) (f : DeckFault) → IsRefusalOf bytes f → ((number : ℕ) → f ≢ fault.Program number tal.NoMemory) → IsOfDeck f

@@ -1,2 +1,3 @@
+pub mod Asked
 pub mod DecidedLemmas
-pub mod Loadable
+pub mod Playable

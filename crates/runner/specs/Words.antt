@@ -1,15 +1,20 @@
 -- The words of the command line.
-use Rattle.std.specs.Prelude.{ℕ, Bool, false, List, [], ◌∷◌, take, codes}
+use Rattle.std.specs.Prelude.{ℕ, true, false, List, [], ◌∷◌, map, codes, Option, Some, None, if◌then◌else◌}
 use Rattle.std.specs.Str.{bytes_eq}
-use Rattle.gd_io.specs.declared.command_line.Word.{Word}
-use Rattle.gd_io.specs.declared.command_line.Word.TheVariants.{Is}
+use Rattle.runner.specs.declared.words.Command.{Command}
+use Rattle.runner.specs.declared.words.Command.TheVariants as command
+use Rattle.runner.specs.declared.words.Keyword.{Keyword}
+use Rattle.runner.specs.declared.words.Keyword.TheVariants.{Run, Acts, Other}
 
--- after the program's name stands the one word `run`
-abbrev pub asks_run : List (List ℕ) → Bool
-asks_run (word ∷ []) = bytes_eq word (codes "run")
-asks_run _ = false
+abbrev pub keyword_of : List ℕ → Keyword
+keyword_of word = if bytes_eq word (codes "run") then Run else if bytes_eq word (codes "--acts") then Acts else Other
 
--- the word that the room begins with is `run`
-abbrev pub is_run : Word → List ℕ → Bool
-is_run (Is n) room = bytes_eq (take n room) (codes "run")
-is_run _ room = false
+-- `run`, or `run --acts`
+abbrev pub asked_of : List Keyword → Option Command
+asked_of (Run ∷ []) = Some (command.Run false)
+asked_of (Run ∷ Acts ∷ []) = Some (command.Run true)
+asked_of _ = None
+
+-- what the words after the program's name ask for
+abbrev pub asked_by : List (List ℕ) → Option Command
+asked_by words = asked_of (map keyword_of words)

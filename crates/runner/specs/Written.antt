@@ -1,10 +1,12 @@
 -- What a command writes.
-use Rattle.std.specs.Prelude.{◌≡◌, ℕ, List, [], ◌++◌, Option, Some, None, Result, Ok, Err, ⊤, if◌then◌else◌}
+use Rattle.std.specs.Prelude.{◌≡◌, ℕ, List, [], Option, Some, None, Result, Ok, Err, ⊤, if◌then◌else◌}
 use Rattle.gd_io.specs.Puts.{Puts}
 use Rattle.gd_io.specs.declared.writing.WriteFault.{WriteFault}
-use Rattle.trace_print.specs.EndLine.{end_line, usage_line}
+use Rattle.plain_semantics.specs.SiteLimits.{KeepsSiteLimits}
+use Rattle.tal_tree.specs.declared.act.Act.{Act}
+use Rattle.trace_print.specs.EndLine.{usage_line}
 use Rattle.trace_print.specs.FaultLine.{fault_line, IsOfDeck}
-use Rattle.trace_print.specs.ShownLine.{shown_lines}
+use Rattle.trace_print.specs.ReportText.{report_text}
 use Rattle.trace_print.specs.declared.closing.End.TheVariants as end
 use Rattle.runner.specs.declared.due.Due.{Due}
 use Rattle.runner.specs.declared.due.Due.TheVariants as due
@@ -14,9 +16,13 @@ use Rattle.runner.specs.declared.outcome.RunEnd.{RunEnd}
 use Rattle.runner.specs.declared.outcome.Status.{Status}
 use Rattle.runner.specs.declared.outcome.Status.TheVariants as status
 
--- the report of a run: what it shows, and how it ended
-abbrev pub report_text : Report → List ℕ
-report_text report = shown_lines report.site report.run.shown ++ end_line (if report.idle then end.Idle else end.Cut)
+-- the acts that a report tells: all that were kept, where they are asked for
+abbrev pub told_acts : Report → List Act
+told_acts report = if report.tells_acts then report.run.acts else []
+
+-- the report of a run
+abbrev pub text_of_run : Report → List ℕ
+text_of_run report = report_text report.site report.run.shown report.sectors (told_acts report) (if report.idle then end.Idle else end.Cut)
 
 -- the text that is due; nothing where reading failed or memory ran out
 abbrev pub text_of : Due → List ℕ
@@ -24,7 +30,7 @@ text_of due.Usage = usage_line
 text_of due.ReadFault = []
 text_of due.NoMemory = []
 text_of (due.Refused fault) = fault_line fault
-text_of (due.Report report) = report_text report
+text_of (due.Report report) = text_of_run report
 
 abbrev pub status_of : Due → Status
 status_of due.Usage = status.Usage
@@ -42,9 +48,10 @@ abbrev pub outcome_of : Due → Result ⊤ WriteFault → Outcome
 outcome_of decided (Ok done) = record { status = status_of decided; run = run_of decided }
 outcome_of decided (Err fault) = record { status = status.WriteFault; run = run_of decided }
 
--- a fault that has a line
+-- a fault that has a line, and a site whose openers can be told
 abbrev pub CanBeWritten : Due → Type 0
 CanBeWritten (due.Refused fault) = IsOfDeck fault
+CanBeWritten (due.Report report) = KeepsSiteLimits report.site
 CanBeWritten _ = Unit {0}
 
 -- the text that is due goes out, whole or at a write fault a part of it, and the outcome is by that

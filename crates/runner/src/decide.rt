@@ -1,18 +1,18 @@
-ghost use Rattle.std.specs.Prelude.{◌≡◌, ◌≢◌, ℕ, List};
+ghost use Rattle.std.specs.Prelude.{◌≡◌, ◌≢◌, ℕ, List, IfOk};
 ghost use Rattle.std.specs.Io.KnownBytes.{IsAtEnd};
 ghost use Rattle.gd_io.specs.Faults.{HasRisen};
-ghost use Rattle.plain_machine.specs.Standing.{AreLoadable};
+ghost use Rattle.plain_machine.specs.Standing.{IsPlayable};
 ghost use Rattle.runner.specs.Written.{CanBeWritten};
-ghost use Rattle.runner.specs.Decided.{IsTold, IsDue, IsDueOfSource, IsDueOfBytes, IsDueOfDeck, IsOfWholeDeck, due_of_fault, rounds_of};
+ghost use Rattle.runner.specs.Decided.{IsTold, IsDue, IsDueOfSource, IsDueOfBytes, IsDueOfDeck, IsDueOfRun, IsRunOf, IsOfWholeDeck, due_of_fault};
 
 use crate::due::{Due, Report};
 use crate::outcome::RunEnd;
-use crate::words::asks_run;
+use crate::words::{Command, asked_by};
 use deck_reader::{Deck, read_deck};
 use gd_io::{CommandLine, ReadRefusal, Source, read_all};
 use gd_words::NoMemory;
-use plain_machine::{Played, play_rounds};
-use schedule::Line;
+use plain_machine::{Played, play_lines};
+use shown_sectors::sectors_after;
 use std::alloc::Global;
 use tal_tree::DeckFault;
 
@@ -29,15 +29,14 @@ pub fn decide<L: CommandLine, S: Source>(alloc: Global, line: &L, source: &mut S
     ensures unread { result ≡ Due.Usage → source.new ≡ source.old }
     ensures read_whole { IsOfWholeDeck result → IsAtEnd (S.left source.new) }
 {
-    if asks_run(line) {
-        due_of_source(alloc, source)
-    } else {
-        Due::Usage
+    match asked_by(line) {
+        None => Due::Usage,
+        Some(command) => due_of_source(alloc, command, source),
     }
 }
 
-fn due_of_source<S: Source>(alloc: Global, source: &mut S) -> Due
-    ensures due { IsDueOfSource (S.left source.old) (S.faults source.old) (S.faults source.new) result }
+fn due_of_source<S: Source>(alloc: Global, command: Command, source: &mut S) -> Due
+    ensures due { IsDueOfSource command (S.left source.old) (S.faults source.old) (S.faults source.new) result }
     ensures written { CanBeWritten result }
     ensures cause { result ≡ Due.ReadFault → HasRisen (S.faults source.old) (S.faults source.new) }
     ensures unfailing { S.sure source.old → result ≢ Due.ReadFault }
@@ -45,19 +44,19 @@ fn due_of_source<S: Source>(alloc: Global, source: &mut S) -> Due
     ensures read_whole { IsOfWholeDeck result → IsAtEnd (S.left source.new) }
 {
     match read_all(alloc, source, MOST_BYTES) {
-        Ok(bytes) => due_of_bytes(alloc, bytes.as_slice()),
+        Ok(bytes) => due_of_bytes(alloc, command, bytes.as_slice()),
         Err(ReadRefusal::Failed) => Due::ReadFault,
         Err(ReadRefusal::TooLong) => Due::Refused(DeckFault::TooLong),
         Err(ReadRefusal::NoMemory) => Due::NoMemory,
     }
 }
 
-fn due_of_bytes(alloc: Global, bytes: &[u8]) -> Due
-    ensures due { IsDueOfBytes bytes.now result }
+fn due_of_bytes(alloc: Global, command: Command, bytes: &[u8]) -> Due
+    ensures due { IsDueOfBytes command bytes.now result }
     ensures written { CanBeWritten result }
 {
     match read_deck(alloc, bytes) {
-        Ok(deck) => due_of_deck(alloc, deck),
+        Ok(deck) => due_of_deck(alloc, command, deck),
         Err(fault) => due_of_fault(fault),
     }
 }
@@ -71,28 +70,42 @@ fn due_of_fault(fault: DeckFault) -> Due
     }
 }
 
-fn due_of_deck(alloc: Global, deck: Deck) -> Due
-    requires { AreLoadable deck.site.processes }
-    ensures due { IsDueOfDeck deck result }
+fn due_of_deck(alloc: Global, command: Command, deck: Deck) -> Due
+    requires { IsPlayable deck.site }
+    ensures due { IsDueOfDeck command deck result }
     ensures written { CanBeWritten result }
 {
-    let Deck { site, lines } = deck;
-    match play_rounds(alloc, &site, rounds_of(lines.as_slice())) {
-        Err(NoMemory) => Due::NoMemory,
-        Ok(played) => {
-            let Played { acts, shown, idle } = played;
-            let run = RunEnd { acts, shown };
-            Due::Report(Report { site, run, idle })
-        }
+    match command {
+        Command::Run { acts } => due_of_run(alloc, deck, acts),
     }
 }
 
-/// The rounds that the one event line asks for.
-fn rounds_of(lines: &[Line]) -> u32
-    ensures { result ≡ rounds_of lines.now }
+fn due_of_run(alloc: Global, deck: Deck, tells_acts: bool) -> Due
+    requires { IsPlayable deck.site }
+    ensures due { IsDueOfRun deck tells_acts result }
+    ensures written { CanBeWritten result }
 {
-    match lines {
-        [Line::Drain(rounds)] => *rounds,
-        _ => 0,
+    match report_of(alloc, deck, tells_acts) {
+        Err(NoMemory) => Due::NoMemory,
+        Ok(report) => Due::Report(report),
     }
+}
+
+/// The report of a deck's run.
+fn report_of(alloc: Global, deck: Deck, tells_acts: bool) -> Result<Report, NoMemory>
+    requires { IsPlayable deck.site }
+    ensures run { IfOk result (λ report. IsRunOf deck report) }
+    ensures acts { IfOk result (λ report. report.tells_acts ≡ tells_acts) }
+{
+    let Deck { site, lines } = deck;
+    let Played { acts, shown, idle } = play_lines(alloc, &site, lines.as_slice())?;
+    let sectors = sectors_after(alloc, &site, shown.as_slice())?;
+    let run = RunEnd { acts, shown };
+    Ok(Report {
+        site,
+        run,
+        sectors,
+        tells_acts,
+        idle,
+    })
 }

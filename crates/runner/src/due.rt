@@ -1,4 +1,6 @@
 use crate::outcome::RunEnd;
+use gd_words::List;
+use shown_sectors::SectorWords;
 use tal_tree::{DeckFault, Site};
 
 /// What is due once all is decided and nothing is written yet.
@@ -11,10 +13,13 @@ pub enum Due {
     Report(Report),
 }
 
-/// A run that was made: its site, what it did, and whether no act is possible after it.
+/// A run that was made: its site, what it did, what stands on the sectors that were written, whether the acts are to be told,
+/// and whether no act is possible after it.
 #[derive(Drop)]
 pub struct Report {
     pub site: Site,
     pub run: RunEnd,
+    pub sectors: List<SectorWords>,
+    pub tells_acts: bool,
     pub idle: bool,
 }

@@ -3,14 +3,15 @@ ghost use Rattle.gd_io.specs.Puts.{Puts};
 ghost use Rattle.runner.specs.Decided.{IsTold};
 ghost use Rattle.runner.specs.Ends.{Ends};
 ghost use Rattle.runner.specs.Numbers.{number_of};
-ghost use Rattle.runner.specs.Written.{text_of, run_of, outcome_of, CanBeWritten};
+ghost use Rattle.runner.specs.Written.{text_of, told_acts, run_of, outcome_of, CanBeWritten};
 ghost use Rattle.runner.specs.declared.outcome.Outcome.{Outcome};
 
 use crate::decide::decide;
-use crate::due::Due;
+use crate::due::{Due, Report};
 use crate::outcome::{Outcome, Status};
 use gd_io::{CommandLine, Sink, Source, WriteFault};
 use std::alloc::Global;
+use tal_tree::Act;
 use trace_print::{End, write_fault, write_report, write_usage};
 
 /// Runs one command as `command` does, and answers the number of its status, with which the program ends.
@@ -27,8 +28,8 @@ pub fn exit_number<L: CommandLine, S: Source, K: Sink>(
     command(alloc, line, source, sink).status.number()
 }
 
-/// Runs one command. Today the one command is the one word `run`: it reads a deck from the source to its end, plays it and
-/// writes the report to the sink. Words of any other bytes give the usage.
+/// Runs one command. Today the one command is `run`, or `run --acts`, which tells the acts that the run keeps besides: it reads
+/// a deck from the source to its end, plays it and writes the report to the sink. Any other words give the usage.
 pub fn command<L: CommandLine, S: Source, K: Sink>(
     alloc: Global,
     line: &L,
@@ -52,10 +53,23 @@ fn write_due<K: Sink>(sink: &mut K, due: &Due) -> Result<(), WriteFault>
         Due::Refused(fault) => write_fault(sink, fault),
         Due::Report(report) => {
             let shown = report.run.shown.as_slice();
-            write_report(sink, &report.site, shown, end_of(report.idle))
+            let sectors = report.sectors.as_slice();
+            let end = end_of(report.idle);
+            write_report(sink, &report.site, shown, sectors, told_acts(report), end)
         }
         Due::ReadFault => Ok(()),
         Due::NoMemory => Ok(()),
+    }
+}
+
+/// The acts that the report tells.
+fn told_acts(report: &Report) -> &[Act]
+    ensures { result.now ≡ told_acts report.now }
+{
+    if report.tells_acts {
+        report.run.acts.as_slice()
+    } else {
+        &[]
     }
 }
 

@@ -116,7 +116,7 @@ fn refuses_words_and_decks(rt: HostRuntime) -> Result<(), Fail> {
     let not_yet = b"DECK 0 11\n".as_slice();
     let refused = Status::DeckRefused(DeckFault::NotYet);
     let failing = b"send 5\nschedule\nfail 0\ndrain 4000\nEND\n".as_slice();
-    let words: [&[&[u8]]; 9] = [
+    let words: [&[&[u8]]; 13] = [
         &[b"guardian"],
         &[b"guardian", b"run", b"3"],
         &[b"guardian", b"run", b""],
@@ -125,6 +125,10 @@ fn refuses_words_and_decks(rt: HostRuntime) -> Result<(), Fail> {
         &[b"guardian", b"run\xff"],
         &[b"guardian", b"check"],
         &[b"guardian", b"ru"],
+        &[b"guardian", b"--acts"],
+        &[b"guardian", b"--acts", b"run"],
+        &[b"guardian", b"run", b"--act"],
+        &[b"guardian", b"run", b"--acts", b"--acts"],
         &[],
     ];
     for given in words {

@@ -1,5 +1,5 @@
 -- Lines one after the other.
-use Rattle.std.proofs.Common.{◌≡◌, ℕ, ◌+◌, ◌<◌, List, [], ◌∷◌, ◌++◌, length, take, drop, get_or, flat_map, sym, ap, ◌∙◌, append-nil, take-append-drop}
+use Rattle.std.proofs.Common.{◌≡◌, ℕ, zero, suc, ◌+◌, ◌<◌, List, [], ◌∷◌, ◌++◌, length, take, drop, get_or, flat_map, sym, ap, ◌∙◌, append-nil, take-append-drop, refl, arith}
 use Rattle.std.proofs.lemmas.Grind.{flat_map-append}
 use Rattle.std.proofs.lemmas.List.{take_more}
 
@@ -19,3 +19,9 @@ lines-split f xs i x h e =
     ap (flat_map f) (sym (take-append-drop (i + 1) xs))
     ∙ flat_map-append f (take (i + 1) xs) (drop (i + 1) xs)
     ∙ ap (λ ys. ys ++ flat_map f (drop (i + 1) xs)) (lines-more f xs i x h e)
+
+-- an element is the same whatever stands for one past the end
+pub got : {X : Type 0} (xs : List X) (i : ℕ) (d : X) → i < length xs → get_or xs i d ≡ get_or xs i (get_or xs i d)
+got [] i d h = absurd (omega (arith, h))
+got (x ∷ xs) zero d h = refl
+got (x ∷ xs) (suc i) d h = got xs i d (omega (arith, h))

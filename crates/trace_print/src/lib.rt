@@ -1,18 +1,22 @@
-//! The lines of a report: what a run shows, how it ends, a deck's fault and the usage, each as one exact text that goes out
-//! by one call of `put_all`. Nothing here takes memory.
+//! The lines of a report: what a run shows, the sectors that were written, the acts that it kept and how it ended; a deck's
+//! fault; and the usage. Each is one exact text that goes out by one call of `put_all`. Nothing here takes memory.
 //!
-//! Below stand `gd_io`, whose relation `Puts` is what each call here says of its sink, and `tal_tree` with what the lines tell
-//! of. The crates above use the texts, `shown_lines`, `fault_line`, `end_line` and `usage_line`, in the clause of
-//! `write_report` for a whole report, and join other texts by the lemmas of `gd_io` on `Puts`.
+//! Below stand `gd_io`, whose relation `Puts` is what each call here says of its sink, `tal_tree` with what the lines tell of,
+//! `plain_semantics` with the openers that acts name, and `shown_sectors`. The crates above use the texts, `report_text`,
+//! `fault_line`, `end_line` and `usage_line`, and join other texts by the lemmas of `gd_io` on `Puts`.
 #![tactic(auto)]
 
+pub mod acts;
 pub mod closing;
 pub mod fault;
 mod line;
 pub mod report;
+pub mod sectors;
 pub mod shown;
 
+pub use acts::{write_act, write_all_acts};
 pub use closing::{End, write_end, write_usage};
 pub use fault::write_fault;
-pub use report::{write_all_shown, write_report};
-pub use shown::write_shown;
+pub use report::write_report;
+pub use sectors::{write_all_sectors, write_sector};
+pub use shown::{write_all_shown, write_shown};

@@ -1,36 +1,58 @@
 ghost use Rattle.std.specs.Prelude.{◌++◌};
 ghost use Rattle.gd_io.specs.Puts.{Puts};
-ghost use Rattle.trace_print.specs.EndLine.{end_line};
+ghost use Rattle.plain_semantics.specs.SiteLimits.{KeepsSiteLimits};
+ghost use Rattle.trace_print.specs.ActLine.{act_lines};
+ghost use Rattle.trace_print.specs.ReportText.{report_text};
+ghost use Rattle.trace_print.specs.SectorLine.{sector_lines};
 ghost use Rattle.trace_print.specs.ShownLine.{shown_lines};
 
+use crate::acts::write_all_acts;
 use crate::closing::{End, write_end};
-use crate::shown::write_shown;
+use crate::sectors::write_all_sectors;
+use crate::shown::write_all_shown;
 use gd_io::{Sink, WriteFault};
-use tal_tree::{Shown, Site};
+use shown_sectors::SectorWords;
+use tal_tree::{Act, Shown, Site};
 
-/// Writes the lines of all that a run shows, in order, and the line of its end. It takes no memory.
+/// Writes the lines of all that a run shows, of the sectors that were written, of the acts that are to be told, and of its
+/// end, in this order. It takes no memory.
 pub fn write_report<K: Sink>(
     sink: &mut K,
     site: &Site,
     shown: &[Shown],
+    sectors: &[SectorWords],
+    acts: &[Act],
     end: End,
 ) -> Result<(), WriteFault>
-    ensures { Puts K.held K.faults K.sure sink.old sink.new (shown_lines site.now shown.now ++ end_line end) result }
+    requires { KeepsSiteLimits site.now }
+    ensures { Puts K.held K.faults K.sure sink.old sink.new (report_text site.now shown.now sectors.now acts.now end) result }
 {
-    write_all_shown(sink, site, shown)?;
+    write_run(sink, site, shown, sectors, acts)?;
     write_end(sink, end)
 }
 
-/// Writes the lines of all that a run shows, in order. It takes no memory.
-pub fn write_all_shown<K: Sink>(
+fn write_run<K: Sink>(
     sink: &mut K,
     site: &Site,
     shown: &[Shown],
+    sectors: &[SectorWords],
+    acts: &[Act],
 ) -> Result<(), WriteFault>
-    ensures { Puts K.held K.faults K.sure sink.old sink.new (shown_lines site.now shown.now) result }
+    requires { KeepsSiteLimits site.now }
+    ensures { Puts K.held K.faults K.sure sink.old sink.new (shown_lines site.now shown.now ++ sector_lines site.now sectors.now ++ act_lines site.now acts.now) result }
 {
-    for one in shown {
-        write_shown(sink, site, one)?;
-    }
-    Ok(())
+    write_outside(sink, site, shown, sectors)?;
+    write_all_acts(sink, site, acts)
+}
+
+fn write_outside<K: Sink>(
+    sink: &mut K,
+    site: &Site,
+    shown: &[Shown],
+    sectors: &[SectorWords],
+) -> Result<(), WriteFault>
+    ensures { Puts K.held K.faults K.sure sink.old sink.new (shown_lines site.now shown.now ++ sector_lines site.now sectors.now) result }
+{
+    write_all_shown(sink, site, shown)?;
+    write_all_sectors(sink, site, sectors)
 }

@@ -2,7 +2,7 @@ ghost use Rattle.std.specs.Prelude.{◌≡◌, ◌≤◌, [], ◌∷◌, ◌++�
 ghost use Rattle.std.specs.Fmt.{decimal};
 ghost use Rattle.gd_io.specs.Puts.{Puts};
 ghost use Rattle.trace_print.specs.NumbersText.{words_text};
-ghost use Rattle.trace_print.specs.ShownLine.{process_name, shown_line, terminal_name};
+ghost use Rattle.trace_print.specs.ShownLine.{process_name, shown_line, shown_lines, terminal_name};
 
 use crate::line::Line;
 use gd_io::{Sink, WriteFault, put_all};
@@ -15,6 +15,20 @@ pub fn write_shown<K: Sink>(sink: &mut K, site: &Site, shown: &Shown) -> Result<
 {
     let line = shown_text(site, shown);
     put_all(sink, line.bytes())
+}
+
+/// Writes the lines of all that a run shows, in order. It takes no memory.
+pub fn write_all_shown<K: Sink>(
+    sink: &mut K,
+    site: &Site,
+    shown: &[Shown],
+) -> Result<(), WriteFault>
+    ensures { Puts K.held K.faults K.sure sink.old sink.new (shown_lines site.now shown.now) result }
+{
+    for one in shown {
+        write_shown(sink, site, one)?;
+    }
+    Ok(())
 }
 
 fn shown_text(site: &Site, shown: &Shown) -> Line
@@ -44,7 +58,8 @@ fn shown_text(site: &Site, shown: &Shown) -> Line
     }
 }
 
-fn process_name(site: &Site, process: u8) -> &[u8]
+/// The name of a process, empty where it isn't there.
+pub(crate) fn process_name(site: &Site, process: u8) -> &[u8]
     ensures value { result.now ≡ process_name site.now process }
     ensures short { length result.now ≤ 6 }
 {
@@ -54,7 +69,8 @@ fn process_name(site: &Site, process: u8) -> &[u8]
     }
 }
 
-fn terminal_name(site: &Site, terminal: u8) -> &[u8]
+/// The name of a terminal, empty where it isn't there.
+pub(crate) fn terminal_name(site: &Site, terminal: u8) -> &[u8]
     ensures value { result.now ≡ terminal_name site.now terminal }
     ensures short { length result.now ≤ 6 }
 {
@@ -65,7 +81,7 @@ fn terminal_name(site: &Site, terminal: u8) -> &[u8]
 }
 
 /// A letter with a space, a name, a number and words.
-fn told(letter: &[u8], name: &[u8], number: u32, words: &[i16]) -> Line
+pub(crate) fn told(letter: &[u8], name: &[u8], number: u32, words: &[i16]) -> Line
     requires letter { length letter.now ≤ 2 }
     requires short { length name.now ≤ 6 }
     requires few { length words.now ≤ 16 }

@@ -1,5 +1,6 @@
 use crate::sites::pair_over_disc;
-use plain_machine::play_rounds;
+use plain_machine::play_lines;
+use schedule::Line;
 use std::test::Fail;
 use tal_tree::{Act, Shown};
 
@@ -55,7 +56,7 @@ fn told_by(shown: &Shown) -> Told {
 fn the_bank_writes_each_total_before_it_answers(rt: HostRuntime) -> Result<(), Fail> {
     let alloc = rt.alloc();
     let site = pair_over_disc(alloc, BANK, &[&[5], &[7]])?;
-    let played = play_rounds(alloc, &site, 4_000)?;
+    let played = play_lines(alloc, &site, &[Line::Drain(4_000)])?;
     assert!(rt; played.idle);
     let mut told = Vec::new(alloc);
     for shown in played.shown.as_slice() {
@@ -75,7 +76,7 @@ fn the_bank_writes_each_total_before_it_answers(rt: HostRuntime) -> Result<(), F
 fn a_deposit_goes_through_all_statements_of_the_bank(rt: HostRuntime) -> Result<(), Fail> {
     let alloc = rt.alloc();
     let site = pair_over_disc(alloc, BANK, &[&[5]])?;
-    let played = play_rounds(alloc, &site, 4_000)?;
+    let played = play_lines(alloc, &site, &[Line::Drain(4_000)])?;
     assert!(rt; played.idle);
     let bank = Act::Step(1);
     let disc = Act::Step(0);

@@ -6,7 +6,7 @@ one-each : {A B : Type 0} (b : B) (items : List A) → replicate (length items) 
 one-each b [] = refl
 one-each b (item ∷ items) = ap (λ rest. b ∷ rest) (one-each b items)
 
-pub returns : goal.returns
-returns c =
+pub returns-clause-slots : goal.returns-clause-slots
+returns-clause-slots c =
     let all : c.loop.counter ≡ length c.args.openers.now = omega arith in
     c.loop.invariant ∙ ap (λ n. replicate n Empty) all ∙ one-each Empty c.args.openers.now

@@ -1,0 +1,19 @@
+use Rattle.std.proofs.Common.{◌≡◌, ◌+◌, ◌-◌, ◌∙◌, ap, sym, length}
+use Rattle.plain_machine.specs.Rounds.{round, rounds_on}
+use Rattle.plain_machine.proofs.Still.{round-same, rounds_on-same}
+use Rattle.plain_machine.proofs.Sweeps.{rounds_on-more}
+use Rattle.plain_machine.proofs.ran.Ran.play_rounds.Goals as goal
+
+pub returns-then-len-before : goal.returns-then-len-before
+returns-then-len-before c =
+    let site = c.args.wires.now in
+    let ran = c.loop.self in
+    let equal : length (round site ran).acts ≡ length ran.acts =
+    ap (λ ran. length ran.acts) (sym c.in_ok-play_round.ensures) ∙ sym c.len.ensures ∙ c.if-len-before.true ∙ c.len-before.ensures in
+    let same : round site ran ≡ ran = round-same site ran equal in
+    c.in_ok-play_round.ensures ∙ same ∙ sym (rounds_on-same site (c.args.rounds - c.loop.counter) ran same) ∙ sym c.loop.invariant
+
+pub loop-preserved : goal.loop-preserved
+loop-preserved c =
+    c.loop.invariant ∙ rounds_on-more c.args.wires.now c.loop.counter c.args.rounds c.loop.self c.loop-test.true
+    ∙ ap (rounds_on c.args.wires.now (c.args.rounds - (c.loop.counter + 1))) (sym c.in_ok-play_round.ensures)

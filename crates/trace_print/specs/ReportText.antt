@@ -1,0 +1,15 @@
+-- The text of a run's report.
+use Rattle.std.specs.Prelude.{ℕ, List, ◌++◌}
+use Rattle.shown_sectors.specs.declared.sectors.SectorWords.{SectorWords}
+use Rattle.tal_tree.specs.declared.act.Act.{Act}
+use Rattle.tal_tree.specs.declared.act.Shown.{Shown}
+use Rattle.tal_tree.specs.declared.site.Site.{Site}
+use Rattle.trace_print.specs.ActLine.{act_lines}
+use Rattle.trace_print.specs.EndLine.{end_line}
+use Rattle.trace_print.specs.SectorLine.{sector_lines}
+use Rattle.trace_print.specs.ShownLine.{shown_lines}
+use Rattle.trace_print.specs.declared.closing.End.{End}
+
+-- what the run shows, the sectors that were written, the acts that it kept, and its end
+abbrev pub report_text : Site → List Shown → List SectorWords → List Act → End → List ℕ
+report_text site shown sectors acts end = shown_lines site shown ++ sector_lines site sectors ++ act_lines site acts ++ end_line end
