@@ -1,0 +1,4 @@
+pub mod Bounds
+pub mod Built
+pub mod Flow
+pub mod Graph
