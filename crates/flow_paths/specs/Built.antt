@@ -13,5 +13,5 @@ use Rattle.flow_paths.specs.Graph.{Node}
 abbrev pub IsBuilt : Program → Result (List Node) FlowFault → Type 0
 IsBuilt program (Ok nodes) = IsWithinBounds program × IsFlow program nodes
 IsBuilt program (Err TooDeep) = 16 < depth_of program
-IsBuilt program (Err (TooLarge size)) = (depth_of program ≤ 16) × ((8192 < size_of program) × (size ≡ min (size_of program) 4294967295))
+IsBuilt program (Err (TooLarge size)) = (depth_of program ≤ 16) × (8192 < size_of program) × (size ≡ min (size_of program) 4294967295)
 IsBuilt program (Err NoMemory) = IsWithinBounds program

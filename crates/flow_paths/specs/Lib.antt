@@ -2,3 +2,4 @@ pub mod Bounds
 pub mod Built
 pub mod Flow
 pub mod Graph
+pub mod Walk

@@ -2,7 +2,9 @@
 //! walks it node by node in place of paths, and meets no call.
 //!
 //! Below stand `path_semantics`, whose places and dues the graph follows, `process_semantics` with the entries, and
-//! `tal_tree`. The layer above goes by `IsFlow` of `specs/`: the edges of each node are the ways of its entry.
+//! `tal_tree`. The layer above uses `Flow::of`, by which the edges of each node are the ways of its entry (`IsFlow` of
+//! `specs/`), and the lemmas of `proofs/Along.antt`: what holds along edges holds wherever a path leads, and a walk from
+//! node to node is a path.
 #![tactic(auto)]
 
 pub mod fault;
