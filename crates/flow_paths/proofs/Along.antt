@@ -68,59 +68,80 @@ module _ (program : Program) (nodes : List Node) (flow : IsFlow program nodes) w
       ((flow.right k node got).leads here.dues)
       (subst (λ (p : Place). IsAmong stand (successors program (record { place = p; dues = here.dues }))) is among)
 
+  -- the entry that comes next is the node's
+  named : (k : ℕ) (node : Node) (here : Stand) (number : ℕ) → slice_get nodes k ≡ Some node → here.place ≡ flow.place k → number_at here ≡ Some number → number_of node.entry ≡ number
+  named k node here number got is next =
+      let both : Some (number_of node.entry) ≡ Some number =
+      sym (ap (λ (p : Place). option_map number_of (next_in p)) is ∙ ap (option_map number_of) (flow.right k node got).next) ∙ next in cc
+
+  -- Paths are walks
+
+  -- a walk from a node leads to a node, or the program has ended
+  abbrev IsWalked : ℕ → Dues → List ℕ → Stand → Type 0
+  IsWalked k dues path stand = (stand.place ≡ []) ⊎ ((j : ℕ) × Goes nodes k dues path j stand.dues × StandsAt nodes j stand)
+
+  still-ended : (path : List ℕ) (here stand : Stand) → here.place ≡ [] → Walks program here path stand → stand.place ≡ []
+  still-ended [] here stand ended walk = ap (λ (s : Stand). s.place) (sym walk) ∙ ended
+  still-ended (number ∷ path) here stand ended walk = absurd (no-next here number ended walk.1.next)
+
+  first-step : (k j number : ℕ) (dues later : Dues) (path : List ℕ) (stand : Stand) → StepsTo nodes k dues number j later → IsWalked j later path stand → IsWalked k dues (number ∷ path) stand
+  first-step k j number dues later path stand steps (inl ended) = inl ended
+  first-step k j number dues later path stand steps (inr (last, goes, stands)) = inr (last, (j, later, steps, goes), stands)
+
+  by-way : (path : List ℕ) (k number : ℕ) (here next stand : Stand) (node : Node) (edge : Edge) (goal : Goal) → slice_get nodes k ≡ Some node → number_of node.entry ≡ number
+      → IsAmong edge (edges_of node) → edge.goal ≡ goal → IsStand (length nodes) flow.place goal (after edge node here.dues) next → Walks program next path stand
+      → ((j : ℕ) → j < length nodes → next.place ≡ flow.place j → IsWalked j next.dues path stand) → IsWalked k here.dues (number ∷ path) stand
+  by-way path k number here next stand node edge (At j) got is among goes arrives walk on =
+      first-step k j number here.dues next.dues path stand
+      (record { node = node; got = got; is = is; edge = edge; among = among; goal = goes; due = ap (λ (s : Stand). s.dues) arrives.1 })
+      (on j arrives.0 (ap (λ (s : Stand). s.place) arrives.1))
+  by-way path k number here next stand node edge Left got is among goes arrives walk on = inl (still-ended path next stand (ap (λ (s : Stand). s.place) arrives) walk)
+  by-way path k number here next stand node edge Ended got is among goes arrives walk on = inl (still-ended path next stand (ap (λ (s : Stand). s.place) arrives) walk)
+
+  walked-on : (path : List ℕ) (k : ℕ) (here stand : Stand) → k < length nodes → here.place ≡ flow.place k → Walks program here path stand → IsWalked k here.dues path stand
+  walked-on [] k here stand less is walk =
+      inr (k, (refl, ap (λ (s : Stand). s.dues) walk), stands-at k stand less (ap (λ (s : Stand). s.place) (sym walk) ∙ is))
+  walked-on (number ∷ path) k here stand less is walk =
+      let found = there nodes k less in
+      let way = by-edge k found.0 here walk.0 found.1 is walk.1.leads in
+      by-way path k number here walk.0 stand found.0 way.0 way.0.goal found.1 (named k found.0 here number found.1 is walk.1.next) way.1 refl way.2 walk.2
+      (λ j inside stands. walked-on path j walk.0 stand inside stands walk.2)
+
+  begun : (part : List Node) (path : List ℕ) (stand : Stand) → IsStand (length nodes) flow.place (start_of part) no_dues (first_stand program) → Leads program path stand
+      → IsWalked 0 no_dues path stand
+  begun [] path stand is walk = inl (still-ended path (first_stand program) stand (ap (λ (s : Stand). s.place) is) walk)
+  begun (node ∷ part) path stand is walk =
+      subst (λ (dues : Dues). IsWalked 0 dues path stand) (ap (λ (s : Stand). s.dues) is.1)
+      (walked-on path 0 (first_stand program) stand is.0 (ap (λ (s : Stand). s.place) is.1) walk)
+
+  -- where a path leads, a walk from the first node by the same numbers goes, with the same dues, or the program has ended there
+  pub followed : (path : List ℕ) (stand : Stand) → Leads program path stand → IsWalked 0 no_dues path stand
+  followed path stand walk = begun nodes path stand flow.start walk
+
   -- What holds along edges
 
   module _ (Holds : ℕ → ℕ → Dues → Type 0) (kept : IsKept nodes Holds) where
-    -- at a node, told by its place
-    abbrev IsHere : ℕ → Stand → Type 0
-    IsHere n stand = (stand.place ≡ []) ⊎ ((k : ℕ) × (k < length nodes) × (stand.place ≡ flow.place k) × Holds n k stand.dues)
-
-    by-goal : (n : ℕ) (dues : Dues) (goal : Goal) (stand : Stand) → IsStand (length nodes) flow.place goal dues stand → ((j : ℕ) → goal ≡ At j → Holds n j dues) → IsHere n stand
-    by-goal n dues (At k) stand is holds =
-        inr (k, is.0, ap (λ (s : Stand). s.place) is.1, subst (Holds n k) (sym (ap (λ (s : Stand). s.dues) is.1)) (holds k refl))
-    by-goal n dues Left stand is holds = inl (ap (λ (s : Stand). s.place) is)
-    by-goal n dues Ended stand is holds = inl (ap (λ (s : Stand). s.place) is)
-
-    one-step : (n : ℕ) (here next : Stand) (number : ℕ) → IsHere n here → Steps program here number next → IsHere (n + 1) next
-    one-step n here next number (inl ended) step = absurd (no-next here number ended step.next)
-    one-step n here next number (inr (k, less, is, holds)) step =
-        let found = there nodes k less in
-        let node = found.0 in
-        let way = by-edge k node here next found.1 is step.leads in
-        let named : Some (number_of node.entry) ≡ Some number = sym (ap (λ (p : Place). option_map number_of (next_in p)) is ∙ ap (option_map number_of) (flow.right k node found.1).next) ∙ step.next in
-        by-goal (n + 1) (after way.0 node here.dues) way.0.goal next way.2
-        (λ j goal. kept.step n k j number here.dues (after way.0 node here.dues) holds (record {
-          node = node;
-          got = found.1;
-          is = (let e : number_of node.entry ≡ number = cc in e);
-          edge = way.0;
-          among = way.1;
-          goal = goal;
-          due = refl;
-        }))
-
-    along : (path : List ℕ) (n : ℕ) (here stand : Stand) → IsHere n here → Walks program here path stand → IsHere (n + length path) stand
-    along [] n here stand met same = subst (IsHere (n + 0)) same (subst (λ (m : ℕ). IsHere m here) (let e : n ≡ n + 0 = omega arith in e) met)
-    along (number ∷ path) n here stand met walk =
-        subst (λ (m : ℕ). IsHere m stand) (let e : n + 1 + length path ≡ n + suc (length path) = omega arith in e)
-        (along path (n + 1) walk.0 stand (one-step n here walk.0 number met walk.1) walk.2)
-
-    at-start : (part : List Node) (j : ℕ) → start_of part ≡ At j → (0 < length part → Holds 0 0 no_dues) → Holds 0 j no_dues
-    at-start [] j is first = absurd (let e : Left ≡ At j = is in cc)
-    at-start (node ∷ part) j is first = subst (λ (m : ℕ). Holds 0 m no_dues) (let e : 0 ≡ j = cc in e) (first (omega arith))
-
-    seen : (n : ℕ) (stand : Stand) → IsHere n stand → IsMet nodes Holds n stand
-    seen n stand (inl ended) = inl ended
-    seen n stand (inr (k, less, is, holds)) = inr (k, stands-at k stand less is, holds)
+    held : (path : List ℕ) (n k j : ℕ) (dues later : Dues) → Holds n k dues → Goes nodes k dues path j later → Holds (n + length path) j later
+    held [] n k j dues later holds goes =
+        subst (λ (m : ℕ). Holds m j later) (let e : n ≡ n + 0 = omega arith in e)
+        (subst (Holds n j) goes.1 (subst (λ (m : ℕ). Holds n m dues) goes.0 holds))
+    held (number ∷ path) n k j dues later holds (next, due, steps, goes) =
+        subst (λ (m : ℕ). Holds m j later) (let e : n + 1 + length path ≡ n + suc (length path) = omega arith in e)
+        (held path (n + 1) next j due later (kept.step n k next number dues due holds steps) goes)
 
     -- what holds along edges holds wherever a path leads, after as many entries, or the program has ended
     pub led : (path : List ℕ) (stand : Stand) → Leads program path stand → IsMet nodes Holds (length path) stand
-    led path stand walk =
-        seen (length path) stand
-        (subst (λ (n : ℕ). IsHere n stand) (let e : 0 + length path ≡ length path = omega arith in e)
-        (along path 0 (first_stand program) stand
-        (by-goal 0 no_dues (start_of nodes) (first_stand program) flow.start (λ j is. at-start nodes j is kept.first))
-        walk))
+    led path stand walk = elim (followed path stand walk) [
+      | inl ended ↦ inl ended
+      | inr (k, goes, stands) ↦
+          let less : k < length nodes = below nodes k stands.node stands.got in
+          inr (
+            k,
+            stands,
+            subst (λ (m : ℕ). Holds m k stand.dues) (let e : 0 + length path ≡ length path = omega arith in e)
+                (held path 0 0 k no_dues stand.dues (kept.first (omega arith)) goes),
+          )
+    ]
 
   -- Walks are paths
 

@@ -1,1 +1,12 @@
 pub mod Along
+pub mod Called
+pub mod Graphs
+pub mod Layers
+pub mod Laying
+pub mod Nodes
+pub mod Placed
+pub mod Right
+pub mod Sizes
+pub mod Told
+pub mod Whole
+pub mod Written

@@ -1,10 +1,10 @@
 -- What comes of building a program's graph.
-use Rattle.std.specs.Prelude.{◌≡◌, ◌<◌, ◌≤◌, List, min, Result, Ok, Err}
+use Rattle.std.specs.Prelude.{◌≡◌, ◌<◌, ◌≤◌, List, Result, Ok, Err}
 use Rattle.tal_tree.specs.declared.program.Program.{Program}
 use Rattle.path_semantics.specs.Bounds.{IsWithinBounds}
 use Rattle.flow_paths.specs.declared.fault.FlowFault.{FlowFault}
 use Rattle.flow_paths.specs.declared.fault.FlowFault.TheVariants.{TooDeep, TooLarge, NoMemory}
-use Rattle.flow_paths.specs.Bounds.{depth_of, size_of}
+use Rattle.flow_paths.specs.Bounds.{depth_of, size_of, told}
 use Rattle.flow_paths.specs.Flow.{IsFlow}
 use Rattle.flow_paths.specs.Graph.{Node}
 
@@ -13,5 +13,5 @@ use Rattle.flow_paths.specs.Graph.{Node}
 abbrev pub IsBuilt : Program → Result (List Node) FlowFault → Type 0
 IsBuilt program (Ok nodes) = IsWithinBounds program × IsFlow program nodes
 IsBuilt program (Err TooDeep) = 16 < depth_of program
-IsBuilt program (Err (TooLarge size)) = (depth_of program ≤ 16) × (8192 < size_of program) × (size ≡ min (size_of program) 4294967295)
+IsBuilt program (Err (TooLarge size)) = (depth_of program ≤ 16) × (8192 < size_of program) × (size ≡ told (size_of program))
 IsBuilt program (Err NoMemory) = IsWithinBounds program

@@ -2,4 +2,5 @@ pub mod Bounds
 pub mod Built
 pub mod Flow
 pub mod Graph
+pub mod Layout
 pub mod Walk

@@ -1,9 +1,29 @@
-ghost use Rattle.std.specs.Prelude.{◌≡◌, ◌<◌, ◌≤◌, length, slice_get, Some};
+ghost use Rattle.std.specs.Prelude.{◌≡◌, ◌<◌, ◌≤◌, map, length, slice_get, Some, IfOk};
+ghost use Rattle.tal_tree.specs.Limits.{IsWithinLimits};
+ghost use Rattle.tal_tree.specs.Ordered.{IsOrdered};
+ghost use Rattle.path_semantics.specs.Bounds.{sizes as program_sizes};
+ghost use Rattle.flow_paths.specs.Bounds.{size_of, told};
+ghost use Rattle.flow_paths.specs.Built.{IsBuilt};
+ghost use Rattle.flow_paths.specs.Flow.{IsFlow};
+ghost use Rattle.flow_paths.specs.Graph.{AreClosed, IsWithin};
 
+use crate::fault::FlowFault;
 use crate::graph::Node;
+use crate::layout::Graphs;
+use crate::size::{size_at, sizes};
+use gd_words::NoMemory;
+use path_semantics::call_depth;
+use std::alloc::Global;
 use std::marker::Model;
+use tal_tree::Program;
 
-/// The graph of a program, in the order of the text: each call's procedure stands behind it once more.
+/// How many procedures deep calls may go.
+const MOST_DEPTH: u32 = 16;
+
+/// How many nodes a graph may have.
+const MOST_NODES: u32 = 8_192;
+
+/// The graph of a program, in the order of the text: behind each call stand the nodes of its procedure.
 #[derive(Drop)]
 pub struct Flow<'a> {
     nodes: Vec<Node<'a>>,
@@ -21,10 +41,58 @@ impl<'a> Model for Flow<'a> {
 
     ghost view = { λ flow. flow.nodes.items };
 
-    ghost invariant = { λ flow. length flow.nodes.items ≤ 8192 };
+    ghost invariant = { λ flow. (length flow.nodes.items ≤ 8192) × graph.AreClosed flow.nodes.items };
 }
 
 impl<'a> Flow<'a> {
+    /// The graph of a program. It takes memory for each procedure up to the main one, unless it is too large itself.
+    pub fn of(alloc: Global, program: &'a Program) -> Result<Flow<'a>, FlowFault>
+        requires ordered { IsOrdered program.now }
+        requires limits { IsWithinLimits program.now }
+        ensures { IsBuilt program.now result }
+    {
+        if call_depth(program) > MOST_DEPTH {
+            return Err(FlowFault::TooDeep);
+        }
+        let sizes = sizes(program);
+        let size = size_at(sizes.as_slice(), program.main);
+        if size > MOST_NODES {
+            return Err(FlowFault::TooLarge(size));
+        }
+        Ok(Flow::lay_out(alloc, program, sizes.as_slice())?)
+    }
+
+    /// The graph of a program that isn't too large, from the sizes of its procedures.
+    fn lay_out(alloc: Global, program: &'a Program, sizes: &[u32]) -> Result<Flow<'a>, NoMemory>
+        requires ordered { IsOrdered program.now }
+        requires limits { IsWithinLimits program.now }
+        requires sizes { sizes.now ≡ map told (program_sizes program.now) }
+        requires few { size_of program.now ≤ 8192 }
+        ensures { IfOk result (λ flow. IsFlow program.now flow) }
+    {
+        let mut graphs = Graphs::new(alloc);
+        let procedures = program.procedures.as_slice();
+        for k in 0..program.main {
+            let graph = if size_at(sizes, k) > MOST_NODES {
+                Flow::from_nodes(Vec::new(alloc))
+            } else {
+                graphs.graph(procedures[usize::from(k)].body.as_slice())?
+            };
+            graphs.push(graph)?;
+        }
+        let main = &procedures[usize::from(program.main)];
+        graphs.graph(main.body.as_slice())
+    }
+
+    /// The graph of these nodes.
+    pub(crate) fn from_nodes(nodes: Vec<Node<'a>>) -> Flow<'a>
+        requires few { length nodes.items ≤ 8192 }
+        requires closed { AreClosed nodes.items }
+        ensures { result ≡ nodes.entry.items }
+    {
+        Flow { nodes }
+    }
+
     /// How many nodes there are.
     pub fn len(&self) -> u16
         ensures count { result ≡ length self.now }
@@ -33,11 +101,21 @@ impl<'a> Flow<'a> {
         self.nodes.len() as u16
     }
 
-    /// The node of a number, counted from 0.
+    /// The node of a number, counted from 0. Its edges and its caller are nodes that are there.
     pub fn node(&self, k: u16) -> &Node<'a>
         requires { k < length self.now }
-        ensures { slice_get self.now k ≡ Some result.now }
+        ensures node { slice_get self.now k ≡ Some result.now }
+        ensures within { IsWithin (length self.now) result.now }
     {
         &self.nodes[usize::from(k)]
+    }
+
+    /// All nodes.
+    pub(crate) fn nodes(&self) -> &[Node<'a>]
+        ensures nodes { result.now ≡ self.now }
+        ensures few { length self.now ≤ 8192 }
+        ensures closed { AreClosed self.now }
+    {
+        self.nodes.as_slice()
     }
 }
