@@ -1,0 +1,100 @@
+-- A search by levels through a program's graph: a queue of visits, each to a node with how much is due there.
+use Rattle.std.specs.Prelude.{◌≡◌, ◌≤◌, ◌<◌, ◌⊎◌, ℕ, zero, suc, ◌+◌, ◌*◌, Bool, true, false, List, [], ◌∷◌, length, count_by, slice_get, Option, Some, None}
+use Rattle.gd_words.specs.Members.{IsAmong}
+use Rattle.tal_tree.specs.declared.program.Program.{Program}
+use Rattle.process_semantics.specs.Rests.{number_of}
+use Rattle.path_semantics.specs.declared.reason.Reason.{Reason}
+use Rattle.flow_paths.specs.declared.graph.Edge.{Edge}
+use Rattle.flow_paths.specs.declared.graph.Goal.TheVariants.{At}
+use Rattle.flow_paths.specs.Graph.{Node, edges_of}
+use Rattle.discipline.specs.declared.queue.Visit.{Visit}
+use Rattle.discipline.specs.Amounts.{cut_after, breaks_with}
+
+-- the visit with which a search begins
+abbrev pub first_visit : Visit
+first_visit = record { node = 0; due = 0; from = 0; steps = 0 }
+
+-- the number at a node
+abbrev pub number_in : Option Node → ℕ
+number_in None = 0
+number_in (Some node) = number_of node.entry
+
+abbrev pub node_in : Option Visit → ℕ
+node_in None = 0
+node_in (Some visit) = visit.node
+
+abbrev pub from_in : Option Visit → ℕ
+from_in None = 0
+from_in (Some visit) = visit.from
+
+abbrev pub number_at : List Node → List Visit → ℕ → ℕ
+number_at nodes queue place = number_in (slice_get nodes (node_in (slice_get queue place)))
+
+-- the numbers from a visit so many steps back
+abbrev pub back : List Node → List Visit → ℕ → ℕ → List ℕ
+back nodes queue zero place = number_at nodes queue place ∷ []
+back nodes queue (suc steps) place = number_at nodes queue place ∷ back nodes queue steps (from_in (slice_get queue place))
+
+-- a visit to this node with so much due stands in the queue, so many steps or fewer from the start
+pub record IsVisited (queue : List Visit) (node due steps : ℕ) : Type 0 where
+  pub place : ℕ
+  pub visit : Visit
+  pub got : slice_get queue place ≡ Some visit
+  pub same_node : visit.node ≡ node
+  pub same_due : visit.due ≡ due
+  pub early : visit.steps ≤ steps
+
+-- so much of one list is the other
+abbrev pub Extends : List Visit → List Visit → Type 0
+Extends old new = (place : ℕ) (visit : Visit) → slice_get old place ≡ Some visit → slice_get new place ≡ Some visit
+
+-- the places in the marks of nodes and amounts
+abbrev pub mark_of : Visit → ℕ
+mark_of visit = visit.node * 5 + visit.due
+
+-- exactly what stands in the queue is marked, once
+pub record IsMarked (seen : List Bool) (queue : List Visit) : Type 0 where
+  pub count : length queue ≡ count_by (λ mark. mark) seen
+  pub small : (place : ℕ) (visit : Visit) → slice_get queue place ≡ Some visit → visit.due ≤ 4
+  pub there : (mark : ℕ) → slice_get seen mark ≡ Some true → (place : ℕ) × (visit : Visit) × (slice_get queue place ≡ Some visit) × (mark ≡ mark_of visit)
+
+-- nothing is marked
+abbrev pub IsClear : List Bool → Type 0
+IsClear seen = (mark : ℕ) → slice_get seen mark ≡ Some true → ⊥
+
+module _ (program : Program) (nodes : List Node) (reason : Reason) where
+  -- a visit follows another by an edge
+  pub record Follows (one other : Visit) : Type 0 where
+    pub node : Node
+    pub edge : Edge
+    pub got : slice_get nodes one.node ≡ Some node
+    pub among : IsAmong edge (edges_of node)
+    pub goal : edge.goal ≡ At other.node
+    pub due : other.due ≡ cut_after program reason node.entry edge.targets one.due
+    pub steps : other.steps ≡ one.steps + 1
+
+  -- a visit is the first, or follows an earlier one
+  abbrev pub Stems : List Visit → ℕ → Visit → Type 0
+  Stems queue place visit = (visit ≡ first_visit) ⊎ ((one : Visit) × (visit.from < place) × (slice_get queue visit.from ≡ Some one) × Follows one visit)
+
+  -- the queue of a search that has come to this place: visits in the order of their steps, and none more than one step further than the one at this place
+  pub record IsQueue (queue : List Visit) (head : ℕ) : Type 0 where
+    pub first : slice_get queue 0 ≡ Some first_visit
+    pub stems : (place : ℕ) (visit : Visit) → slice_get queue place ≡ Some visit → Stems queue place visit
+    pub low : (place : ℕ) (visit : Visit) → slice_get queue place ≡ Some visit → visit.steps ≤ place
+    pub there : (place : ℕ) (visit : Visit) → slice_get queue place ≡ Some visit → visit.node < length nodes
+    pub sorted : (one other : ℕ) (early late : Visit) → one ≤ other → slice_get queue one ≡ Some early → slice_get queue other ≡ Some late → early.steps ≤ late.steps
+    pub near : (place : ℕ) (visit here : Visit) → slice_get queue place ≡ Some visit → slice_get queue head ≡ Some here → visit.steps ≤ here.steps + 1
+
+  -- what a visit leads to by this edge is visited
+  abbrev pub IsFollowedBy : List Visit → Visit → Node → Edge → Type 0
+  IsFollowedBy queue visit node edge = (j : ℕ) → edge.goal ≡ At j → IsVisited queue j (cut_after program reason node.entry edge.targets visit.due) (visit.steps + 1)
+
+  -- a visit doesn't break, and all to which it leads is visited
+  pub record IsDone (queue : List Visit) (visit : Visit) (node : Node) : Type 0 where
+    pub unbroken : breaks_with program reason node.entry visit.due ≡ false
+    pub followed : (edge : Edge) → IsAmong edge (edges_of node) → IsFollowedBy queue visit node edge
+
+  -- all visits before this place are done
+  abbrev pub AreDone : List Visit → ℕ → Type 0
+  AreDone queue head = (place : ℕ) (visit : Visit) (node : Node) → place < head → slice_get queue place ≡ Some visit → slice_get nodes visit.node ≡ Some node → IsDone queue visit node

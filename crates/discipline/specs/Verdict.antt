@@ -1,0 +1,60 @@
+-- The verdict on a program: accepted, or the first cause for which it is refused.
+use Rattle.std.specs.Prelude.{◌≡◌, ◌≤◌, ◌<◌, ℕ, min, List, length, ⊤, Result, Ok, Err}
+use Rattle.tal_tree.specs.declared.program.Program.{Program}
+use Rattle.path_semantics.specs.declared.reason.Reason.{Reason}
+use Rattle.path_semantics.specs.declared.reason.Reason.TheVariants.{Data, SyncBlock, Input, Depth}
+use Rattle.path_semantics.specs.declared.reason.Refusal.{Refusal}
+use Rattle.path_semantics.specs.declared.reason.Refusal.TheVariants.{TooDeep, TooLarge, Broken, NoMemory}
+use Rattle.path_semantics.specs.Accepted.{IsAccepted}
+use Rattle.path_semantics.specs.Bounds.{IsWithinBounds}
+use Rattle.path_semantics.specs.Break.{Breaks}
+use Rattle.flow_paths.specs.Bounds.{depth_of, size_of}
+
+-- the order in which reasons are tried: globals as they are declared, then files as they are opened, then input, then depths as files are opened
+abbrev pub IsEarlier : Reason → Reason → Type 0
+IsEarlier (Data item) (Data other) = item < other
+IsEarlier (Data item) (SyncBlock file) = Unit {0}
+IsEarlier (Data item) Input = Unit {0}
+IsEarlier (Data item) (Depth file) = Unit {0}
+IsEarlier (SyncBlock file) (Data item) = ⊥
+IsEarlier (SyncBlock file) (SyncBlock other) = file < other
+IsEarlier (SyncBlock file) Input = Unit {0}
+IsEarlier (SyncBlock file) (Depth other) = Unit {0}
+IsEarlier Input (Data item) = ⊥
+IsEarlier Input (SyncBlock file) = ⊥
+IsEarlier Input Input = ⊥
+IsEarlier Input (Depth file) = Unit {0}
+IsEarlier (Depth file) (Data item) = ⊥
+IsEarlier (Depth file) (SyncBlock other) = ⊥
+IsEarlier (Depth file) Input = ⊥
+IsEarlier (Depth file) (Depth other) = file < other
+
+-- a path that breaks for a reason, than which none is shorter that breaks for it
+pub record IsLeast (program : Program) (reason : Reason) (path : List ℕ) : Type 0 where
+  pub breaks : Breaks program path reason
+  pub least : (other : List ℕ) → Breaks program other reason → length path ≤ length other
+
+-- in a program within bounds: such a path, where no path breaks for an earlier reason
+pub record IsFirst (program : Program) (reason : Reason) (path : List ℕ) : Type 0 where
+  pub bounds : IsWithinBounds program
+  pub shortest : IsLeast program reason path
+  pub first : (earlier : Reason) (other : List ℕ) → IsEarlier earlier reason → Breaks program other earlier → ⊥
+
+-- the verdict: accepted, or calls too deep, or else too many statements with the calls written out, or else the first reason with a shortest path that breaks
+-- for it. Want of memory is free
+abbrev pub IsVerdict : Program → Result ⊤ Refusal → Type 0
+IsVerdict program (Ok _) = IsAccepted program
+IsVerdict program (Err TooDeep) = 16 < depth_of program
+IsVerdict program (Err (TooLarge n)) = (depth_of program ≤ 16) × (8192 < size_of program) × (n ≡ min (size_of program) 4294967295)
+IsVerdict program (Err (Broken reason path)) = IsFirst program reason path
+IsVerdict program (Err NoMemory) = Unit {0}
+
+-- two verdicts agree but for the path, where memory sufficed for both: for one reason its paths are as long
+abbrev pub Agree : Result ⊤ Refusal → Result ⊤ Refusal → Type 0
+Agree (Err NoMemory) _ = Unit {0}
+Agree _ (Err NoMemory) = Unit {0}
+Agree (Ok _) (Ok _) = Unit {0}
+Agree (Err TooDeep) (Err TooDeep) = Unit {0}
+Agree (Err (TooLarge n)) (Err (TooLarge m)) = n ≡ m
+Agree (Err (Broken reason path)) (Err (Broken other_reason other)) = (reason ≡ other_reason) × (length path ≡ length other)
+Agree _ _ = ⊥
