@@ -1,3 +1,4 @@
 pub mod Amounts
+pub mod Scan
 pub mod Search
 pub mod Verdict

@@ -34,11 +34,15 @@ pub record IsLeast (program : Program) (reason : Reason) (path : List ℕ) : Typ
   pub breaks : Breaks program path reason
   pub least : (other : List ℕ) → Breaks program other reason → length path ≤ length other
 
+-- no path breaks for an earlier reason
+abbrev pub NoneBefore : Program → Reason → Type 0
+NoneBefore program reason = (earlier : Reason) (path : List ℕ) → IsEarlier earlier reason → Breaks program path earlier → ⊥
+
 -- in a program within bounds: such a path, where no path breaks for an earlier reason
 pub record IsFirst (program : Program) (reason : Reason) (path : List ℕ) : Type 0 where
   pub bounds : IsWithinBounds program
   pub shortest : IsLeast program reason path
-  pub first : (earlier : Reason) (other : List ℕ) → IsEarlier earlier reason → Breaks program other earlier → ⊥
+  pub first : NoneBefore program reason
 
 -- the verdict: accepted, or calls too deep, or else too many statements with the calls written out, or else the first reason with a shortest path that breaks
 -- for it. Want of memory is free
@@ -58,3 +62,13 @@ Agree (Err TooDeep) (Err TooDeep) = Unit {0}
 Agree (Err (TooLarge n)) (Err (TooLarge m)) = n ≡ m
 Agree (Err (Broken reason path)) (Err (Broken other_reason other)) = (reason ≡ other_reason) × (length path ≡ length other)
 Agree _ _ = ⊥
+
+-- what comes of trying a reason: no path breaks for it, or the program is refused
+abbrev pub IsTried : Program → Reason → Result ⊤ Refusal → Type 0
+IsTried program reason (Ok _) = (path : List ℕ) → Breaks program path reason → ⊥
+IsTried program reason (Err refusal) = IsVerdict program (Err refusal)
+
+-- what comes of trying all reasons before this one: no path breaks for any of them, or the program is refused
+abbrev pub AreTriedBefore : Program → Reason → Result ⊤ Refusal → Type 0
+AreTriedBefore program reason (Ok _) = NoneBefore program reason
+AreTriedBefore program reason (Err refusal) = IsVerdict program (Err refusal)

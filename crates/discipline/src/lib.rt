@@ -4,7 +4,11 @@
 //! searched in their place. The layer above uses `IsVerdict` of `specs/` and the laws of this crate's public functions.
 #![tactic(auto)]
 
+mod amount;
+mod checker;
 pub mod laws;
 mod queue;
+mod scan;
+mod search;
 
 pub use laws::{accepted_is_ok, one_verdict};

@@ -1,0 +1,282 @@
+ghost use Rattle.std.specs.Prelude.{◌≡◌, ◌≤◌, min};
+ghost use Rattle.std.specs.Option.{option_copied};
+ghost use Rattle.gd_words.specs.Members.{is_among};
+ghost use Rattle.tal_tree.specs.declared.statement.What.{out-What};
+ghost use Rattle.process_semantics.specs.SeenEntries.{entry_of};
+ghost use Rattle.path_semantics.specs.Dues.{global_of_spot, global_of, changed_by, asked_by, reads};
+ghost use Rattle.discipline.specs.Amounts.{clears, adds, adds_at, adds_changed, one_more, after_what, after_changed, after_entry, omits_item, omits_file, sends, may_break, may_break_at, depth_in, most_of};
+
+use path_semantics::Reason;
+use process_semantics::Entry;
+use tal_tree::{FileUse, Program, Spot, Variable, What};
+
+/// How much is due after an entry.
+pub(crate) fn after_entry(reason: Reason, entry: Entry<'_>, due: u8) -> u8
+    requires { due ≤ 4 }
+    ensures value { result ≡ after_entry reason (entry_of entry.entry) due }
+    ensures most { result ≤ 5 }
+{
+    match entry {
+        Entry::Run(statement) => after_what(reason, &statement.what, due),
+        Entry::Test(_) => due,
+        Entry::Last(statement) => after_last(reason, &statement.what, due),
+    }
+}
+
+fn after_what(reason: Reason, what: &What, due: u8) -> u8
+    requires { due ≤ 4 }
+    ensures value { result ≡ after_what reason (out-What what.now) due }
+    ensures most { result ≤ 5 }
+{
+    if clears(what) {
+        0
+    } else if adds(reason, what) {
+        one_more(reason, due)
+    } else {
+        due
+    }
+}
+
+fn one_more(reason: Reason, due: u8) -> u8
+    requires { due ≤ 4 }
+    ensures value { result ≡ one_more reason due }
+    ensures most { result ≤ 5 }
+{
+    match reason {
+        Reason::Depth(_) => due + 1,
+        _ => 1,
+    }
+}
+
+fn after_last(reason: Reason, what: &What, due: u8) -> u8
+    requires { due ≤ 4 }
+    ensures value { result ≡ after_changed reason (changed_by (out-What what.now)) due }
+    ensures most { result ≤ 5 }
+{
+    if adds_last(reason, what) { 1 } else { due }
+}
+
+/// Whether an entry adds to what is due.
+pub(crate) fn adds_at(reason: Reason, entry: Entry<'_>) -> bool
+    ensures { result ≡ adds_at reason (entry_of entry.entry) }
+{
+    match entry {
+        Entry::Run(statement) => adds(reason, &statement.what),
+        Entry::Test(_) => false,
+        Entry::Last(statement) => adds_last(reason, &statement.what),
+    }
+}
+
+/// Whether the last assignment of a FOR adds to what is due.
+fn adds_last(reason: Reason, what: &What) -> bool
+    ensures { result ≡ adds_changed reason (changed_by (out-What what.now)) }
+{
+    match reason {
+        Reason::Data(item) => changes(what, item),
+        _ => false,
+    }
+}
+
+/// How much is due after a change of these globals, at most as much as breaks.
+pub(crate) fn cut_changed(reason: Reason, most: u8, globals: &[u16], due: u8) -> u8
+    ensures { result ≡ min most (after_changed reason globals.now due) }
+{
+    let after = if adds_changed(reason, globals) {
+        1
+    } else {
+        due
+    };
+    most.min(after)
+}
+
+/// Whether a change of these globals adds to what is due.
+pub(crate) fn adds_changed(reason: Reason, globals: &[u16]) -> bool
+    ensures { result ≡ adds_changed reason globals.now }
+{
+    match reason {
+        Reason::Data(item) => globals.contains(&item),
+        _ => false,
+    }
+}
+
+/// How much is due where a reason breaks.
+pub(crate) fn most_of(program: &Program, reason: Reason) -> u8
+    ensures { result ≡ most_of program.now reason }
+{
+    match reason {
+        Reason::Depth(file) => depth_in(program.files.get(usize::from(file))),
+        _ => 1,
+    }
+}
+
+fn depth_in(file: Option<&FileUse>) -> u8
+    ensures { result ≡ depth_in (option_copied file.entry) }
+{
+    match file {
+        None => 0,
+        Some(file) => file.depth,
+    }
+}
+
+/// Whether an entry breaks where enough is due.
+pub(crate) fn may_break_at(reason: Reason, entry: Entry<'_>) -> bool
+    ensures { result ≡ may_break_at reason (entry_of entry.entry) }
+{
+    match entry {
+        Entry::Run(statement) => may_break(reason, &statement.what),
+        _ => false,
+    }
+}
+
+fn may_break(reason: Reason, what: &What) -> bool
+    ensures { result ≡ may_break reason (out-What what.now) }
+{
+    match reason {
+        Reason::Data(item) => omits_item(what, item),
+        Reason::SyncBlock(file) => omits_file(what, file),
+        Reason::Input => sends(what),
+        Reason::Depth(file) => asks(what, file),
+    }
+}
+
+/// Whether a statement adds to what is due.
+fn adds(reason: Reason, what: &What) -> bool
+    ensures { result ≡ adds reason (out-What what.now) }
+{
+    match reason {
+        Reason::Data(item) => changes(what, item),
+        Reason::SyncBlock(file) => asks(what, file),
+        Reason::Input => reads(what),
+        Reason::Depth(file) => asks(what, file),
+    }
+}
+
+fn clears(what: &What) -> bool
+    ensures { result ≡ clears (out-What what.now) }
+{
+    match what {
+        What::Checkpoint { items: _, files: _ } => true,
+        _ => false,
+    }
+}
+
+fn reads(what: &What) -> bool
+    ensures { result ≡ reads (out-What what.now) }
+{
+    match what {
+        What::ReadUpdate {
+            buffer: _,
+            most: _,
+            got: _,
+        } => true,
+        _ => false,
+    }
+}
+
+fn sends(what: &What) -> bool
+    ensures { result ≡ sends (out-What what.now) }
+{
+    match what {
+        What::WriteRead {
+            file: _,
+            buffer: _,
+            send: _,
+            room: _,
+            got: _,
+        } => true,
+        What::Reply {
+            buffer: _,
+            count: _,
+        } => true,
+        _ => false,
+    }
+}
+
+fn asks(what: &What, file: u8) -> bool
+    ensures { result ≡ is_among file (asked_by (out-What what.now)) }
+{
+    match what {
+        What::WriteRead {
+            file: asked,
+            buffer: _,
+            send: _,
+            room: _,
+            got: _,
+        } => *asked == file,
+        _ => false,
+    }
+}
+
+fn changes(what: &What, item: u16) -> bool
+    ensures { result ≡ is_among item (changed_by (out-What what.now)) }
+{
+    match what {
+        What::Assign { to, value: _ } => is_in(to, item),
+        What::For {
+            variable,
+            from: _,
+            to: _,
+            body: _,
+            last: _,
+        } => is_global(*variable, item),
+        What::ReadUpdate {
+            buffer,
+            most: _,
+            got,
+        } => *buffer == item || is_global(*got, item),
+        What::WriteRead {
+            file: _,
+            buffer,
+            send: _,
+            room: _,
+            got,
+        } => *buffer == item || is_global(*got, item),
+        _ => false,
+    }
+}
+
+fn is_in(spot: &Spot, item: u16) -> bool
+    ensures { result ≡ is_among item (global_of_spot spot.now) }
+{
+    match spot {
+        Spot::Local(_) => false,
+        Spot::Simple(global) => *global == item,
+        Spot::Element {
+            item: global,
+            index: _,
+        } => *global == item,
+    }
+}
+
+fn is_global(variable: Variable, item: u16) -> bool
+    ensures { result ≡ is_among item (global_of variable) }
+{
+    match variable {
+        Variable::Local(_) => false,
+        Variable::Simple(global) => global == item,
+    }
+}
+
+fn omits_item(what: &What, item: u16) -> bool
+    ensures { result ≡ omits_item item (out-What what.now) }
+{
+    match what {
+        What::Checkpoint { items, files: _ } => {
+            let named = items.as_slice().contains(&item);
+            !named
+        }
+        _ => false,
+    }
+}
+
+fn omits_file(what: &What, file: u8) -> bool
+    ensures { result ≡ omits_file file (out-What what.now) }
+{
+    match what {
+        What::Checkpoint { items: _, files } => {
+            let named = files.as_slice().contains(&file);
+            !named
+        }
+        _ => false,
+    }
+}

@@ -1,0 +1,153 @@
+ghost use Rattle.std.specs.Prelude.{◌≡◌, ◌*◌, ◌≤◌, length, OnOk};
+ghost use Rattle.tal_tree.specs.Limits.{IsWithinLimits};
+ghost use Rattle.tal_tree.specs.Ordered.{IsOrdered};
+ghost use Rattle.tal_tree.specs.Regular.{IsRegular};
+ghost use Rattle.path_semantics.specs.declared.reason.Reason.TheVariants.{Data, SyncBlock, Input, Depth};
+ghost use Rattle.path_semantics.specs.Bounds.{IsWithinBounds};
+ghost use Rattle.flow_paths.specs.Flow.{IsFlow};
+ghost use Rattle.discipline.specs.Scan.{IsKnown};
+ghost use Rattle.discipline.specs.Search.{IsClear};
+ghost use Rattle.discipline.specs.Verdict.{NoneBefore, IsVerdict, IsTried, AreTriedBefore};
+
+use crate::scan::{any_adds, any_may_break};
+use crate::search::Search;
+use flow_paths::Flow;
+use gd_words::NoMemory;
+use path_semantics::{Reason, Refusal};
+use std::alloc::Global;
+use tal_tree::Program;
+
+/// Whether the program of a graph keeps the discipline.
+pub(crate) fn check_reasons(
+    alloc: Global,
+    program: &Program,
+    flow: &Flow<'_>,
+) -> Result<(), Refusal>
+    requires ordered { IsOrdered program.now }
+    requires limits { IsWithinLimits program.now }
+    requires regular { IsRegular program.now }
+    requires bounds { IsWithinBounds program.now }
+    requires flow { IsFlow program.now flow.now }
+    ensures { IsVerdict program.now result }
+{
+    let mut search = match Search::new(alloc, flow.len()) {
+        Ok(search) => search,
+        Err(NoMemory) => return Err(Refusal::NoMemory),
+    };
+    search.try_items(alloc, program, flow)?;
+    search.try_files(alloc, program, flow)?;
+    search.try_reason(alloc, program, flow, Reason::Input)?;
+    search.try_depths(alloc, program, flow)
+}
+
+impl Search {
+    /// Tries the globals, as they are declared.
+    fn try_items(
+        &mut self,
+        alloc: Global,
+        program: &Program,
+        flow: &Flow<'_>,
+    ) -> Result<(), Refusal>
+        requires ordered { IsOrdered program.now }
+        requires limits { IsWithinLimits program.now }
+        requires regular { IsRegular program.now }
+        requires bounds { IsWithinBounds program.now }
+        requires flow { IsFlow program.now flow.now }
+        requires clear { IsClear self.old.seen.items }
+        requires room { length self.old.seen.items ≡ length flow.now * 5 }
+        ensures tried { AreTriedBefore program.now (SyncBlock 0) result }
+        ensures clear { OnOk result (IsClear self.new.seen.items) }
+        ensures room { length self.new.seen.items ≡ length self.old.seen.items }
+    {
+        for item in 0..program.items.len() as u16 {
+            self.try_reason(alloc, program, flow, Reason::Data(item))?;
+        }
+        Ok(())
+    }
+
+    /// Tries the files, as they are opened.
+    fn try_files(
+        &mut self,
+        alloc: Global,
+        program: &Program,
+        flow: &Flow<'_>,
+    ) -> Result<(), Refusal>
+        requires ordered { IsOrdered program.now }
+        requires limits { IsWithinLimits program.now }
+        requires regular { IsRegular program.now }
+        requires bounds { IsWithinBounds program.now }
+        requires flow { IsFlow program.now flow.now }
+        requires before { NoneBefore program.now (SyncBlock 0) }
+        requires clear { IsClear self.old.seen.items }
+        requires room { length self.old.seen.items ≡ length flow.now * 5 }
+        ensures tried { AreTriedBefore program.now Input result }
+        ensures clear { OnOk result (IsClear self.new.seen.items) }
+        ensures room { length self.new.seen.items ≡ length self.old.seen.items }
+    {
+        for file in 0..program.files.len() as u8 {
+            self.try_reason(alloc, program, flow, Reason::SyncBlock(file))?;
+        }
+        Ok(())
+    }
+
+    /// Tries the depths of the files, as they are opened.
+    fn try_depths(
+        &mut self,
+        alloc: Global,
+        program: &Program,
+        flow: &Flow<'_>,
+    ) -> Result<(), Refusal>
+        requires ordered { IsOrdered program.now }
+        requires limits { IsWithinLimits program.now }
+        requires bounds { IsWithinBounds program.now }
+        requires flow { IsFlow program.now flow.now }
+        requires before { NoneBefore program.now (Depth 0) }
+        requires clear { IsClear self.old.seen.items }
+        requires room { length self.old.seen.items ≡ length flow.now * 5 }
+        ensures { IsVerdict program.now result }
+    {
+        for file in 0..program.files.len() as u8 {
+            self.try_reason(alloc, program, flow, Reason::Depth(file))?;
+        }
+        Ok(())
+    }
+
+    /// Tries a reason: searches for a shortest path that breaks for it, unless a scan of the graph shows that none does.
+    fn try_reason(
+        &mut self,
+        alloc: Global,
+        program: &Program,
+        flow: &Flow<'_>,
+        reason: Reason,
+    ) -> Result<(), Refusal>
+        requires ordered { IsOrdered program.now }
+        requires limits { IsWithinLimits program.now }
+        requires bounds { IsWithinBounds program.now }
+        requires flow { IsFlow program.now flow.now }
+        requires known { IsKnown program.now reason }
+        requires before { NoneBefore program.now reason }
+        requires clear { IsClear self.old.seen.items }
+        requires room { length self.old.seen.items ≡ length flow.now * 5 }
+        ensures tried { IsTried program.now reason result }
+        ensures clear { OnOk result (IsClear self.new.seen.items) }
+        ensures room { length self.new.seen.items ≡ length self.old.seen.items }
+    {
+        if !any_may_break(flow, reason) {
+            return Ok(());
+        }
+        if !any_adds(flow, reason) {
+            return Ok(());
+        }
+        match self.first_break(program, flow, reason) {
+            Ok(None) => {
+                self.clear();
+                Ok(())
+            }
+            Ok(Some(place)) => match self.path_to(alloc, flow, place) {
+                Ok(path) => Err(Refusal::Broken { reason, path }),
+                Err(NoMemory) => Err(Refusal::NoMemory),
+            },
+            Err(NoMemory) => Err(Refusal::NoMemory),
+        }
+    }
+}
