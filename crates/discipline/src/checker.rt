@@ -11,18 +11,31 @@ ghost use Rattle.discipline.specs.Verdict.{NoneBefore, IsVerdict, IsTried, AreTr
 
 use crate::scan::{any_adds, any_may_break};
 use crate::search::Search;
-use flow_paths::Flow;
+use flow_paths::{Flow, FlowFault};
 use gd_words::NoMemory;
 use path_semantics::{Reason, Refusal};
 use std::alloc::Global;
 use tal_tree::Program;
 
+/// The verdict on a program: whether it keeps the checkpoint discipline, or the first cause for which it doesn't. Among causes
+/// too deep calls come first, then too many statements, then globals as they are declared, files as they are opened, input, and
+/// the files' depths.
+pub fn check(alloc: Global, program: &Program) -> Result<(), Refusal>
+    requires ordered { IsOrdered program.now }
+    requires limits { IsWithinLimits program.now }
+    requires regular { IsRegular program.now }
+    ensures { IsVerdict program.now result }
+{
+    match Flow::of(alloc, program) {
+        Ok(flow) => check_reasons(alloc, program, &flow),
+        Err(FlowFault::TooDeep) => Err(Refusal::TooDeep),
+        Err(FlowFault::TooLarge(size)) => Err(Refusal::TooLarge(size)),
+        Err(FlowFault::NoMemory) => Err(Refusal::NoMemory),
+    }
+}
+
 /// Whether the program of a graph keeps the discipline.
-pub(crate) fn check_reasons(
-    alloc: Global,
-    program: &Program,
-    flow: &Flow<'_>,
-) -> Result<(), Refusal>
+fn check_reasons(alloc: Global, program: &Program, flow: &Flow<'_>) -> Result<(), Refusal>
     requires ordered { IsOrdered program.now }
     requires limits { IsWithinLimits program.now }
     requires regular { IsRegular program.now }

@@ -5,7 +5,7 @@ use Rattle.discipline.proofs.scan.any_adds.Goals as goal
 
 pub loop-k-preserved : goal.loop-k-preserved
 loop-k-preserved c =
-    one-more (node_adds c.args.reason) c.args.flow.now c.loop-k.k c.node.result.now c.loop-k.invariant c.node.ensures (sym c.node_adds.ensures ∙ c.if-node_adds.false)
+    one-more (node_adds c.args.reason) c.args.flow.now c.loop-k.k c.node.result.now c.loop-k.invariant c.node.ensures.node (sym c.node_adds.ensures ∙ c.if-node_adds.false)
 
 pub returns : goal.returns
 returns c =

@@ -6,46 +6,46 @@ pub returns-then-breaks-clause-advances : goal.returns-then-breaks-clause-advanc
 returns-then-breaks-clause-advances c = (
   refl,
   breaks-here c.args.program.now c.args.flow.now c.args.aim.reason c.args.self.now.seen.items c.args.self.now.queue.items c.args.head c.index-visit.result.now c.node-node.result.now
-      c.requires.flow c.requires.size c.requires.searched c.requires.marked c.requires.room c.requires.head c.index-visit.ensures c.node-node.ensures c.args.aim.most _ c.breaks.result
+      c.requires.flow c.requires.size c.requires.searched c.requires.marked c.requires.room c.requires.head c.index-visit.ensures c.node-node.ensures.node c.args.aim.most _ c.breaks.result
       c.requires.there c.requires.most c.entry-entry.ensures c.breaks.ensures c.if-breaks.true,
 )
 
 pub after_entry-after-requires : goal.after_entry-after-requires
 after_entry-after-requires c =
     due-few c.args.program.now c.args.flow.now c.args.aim.reason c.args.self.now.seen.items c.args.self.now.queue.items c.args.head c.index-visit.result.now c.node-node.result.now
-    c.requires.flow c.requires.size c.requires.searched c.requires.marked c.requires.room c.requires.head c.index-visit.ensures c.node-node.ensures
+    c.requires.flow c.requires.size c.requires.searched c.requires.marked c.requires.room c.requires.head c.index-visit.ensures c.node-node.ensures.node
 
 pub overflow_cast-from : goal.overflow_cast-from
 overflow_cast-from c =
     let few = head-few c.args.program.now c.args.flow.now c.args.aim.reason c.args.self.now.seen.items c.args.self.now.queue.items c.args.head c.index-visit.result.now c.node-node.result.now
-    c.requires.flow c.requires.size c.requires.searched c.requires.marked c.requires.room c.requires.head c.index-visit.ensures c.node-node.ensures in
+    c.requires.flow c.requires.size c.requires.searched c.requires.marked c.requires.room c.requires.head c.index-visit.ensures c.node-node.ensures.node in
     search (rules, few)
 
 pub follow-requires-clause-steps : goal.follow-requires-clause-steps
 follow-requires-clause-steps c =
     steps-few c.args.program.now c.args.flow.now c.args.aim.reason c.args.self.now.seen.items c.args.self.now.queue.items c.args.head c.index-visit.result.now c.node-node.result.now
-    c.requires.flow c.requires.size c.requires.searched c.requires.marked c.requires.room c.requires.head c.index-visit.ensures c.node-node.ensures
+    c.requires.flow c.requires.size c.requires.searched c.requires.marked c.requires.room c.requires.head c.index-visit.ensures c.node-node.ensures.node
 
 pub follow-requires-clause-goal : goal.follow-requires-clause-goal
 follow-requires-clause-goal c =
     first-room c.args.program.now c.args.flow.now c.args.aim.reason c.args.self.now.seen.items c.args.self.now.queue.items c.args.head c.index-visit.result.now c.node-node.result.now
-    c.requires.flow c.requires.size c.requires.searched c.requires.marked c.requires.room c.requires.head c.index-visit.ensures c.node-node.ensures c.first.result.now c.first.ensures
+    c.requires.flow c.requires.size c.requires.searched c.requires.marked c.requires.room c.requires.head c.index-visit.ensures c.node-node.ensures.node c.first.result.now c.first.ensures
 
 pub follow-requires-in-Some-clause-steps : goal.follow-requires-in-Some-clause-steps
 follow-requires-in-Some-clause-steps c =
     steps-few c.args.program.now c.args.flow.now c.args.aim.reason c.args.self.now.seen.items c.args.self.now.queue.items c.args.head c.index-visit.result.now c.node-node.result.now
-    c.requires.flow c.requires.size c.requires.searched c.requires.marked c.requires.room c.requires.head c.index-visit.ensures c.node-node.ensures
+    c.requires.flow c.requires.size c.requires.searched c.requires.marked c.requires.room c.requires.head c.index-visit.ensures c.node-node.ensures.node
 
 pub follow-requires-in-Some-clause-goal : goal.follow-requires-in-Some-clause-goal
 follow-requires-in-Some-clause-goal c =
     second-room c.args.program.now c.args.flow.now c.args.aim.reason c.args.self.now.seen.items c.args.self.now.queue.items c.args.head c.index-visit.result.now c.node-node.result.now
-    c.requires.flow c.requires.size c.requires.searched c.requires.marked c.requires.room c.requires.head c.index-visit.ensures c.node-node.ensures c.in-Some.edge.now c.in-Some.ensures _
+    c.requires.flow c.requires.size c.requires.searched c.requires.marked c.requires.room c.requires.head c.index-visit.ensures c.node-node.ensures.node c.in-Some.edge.now c.in-Some.ensures _
     c.follow.ensures.room
 
 pub returns-in_ok-follow-2-clause-advances : goal.returns-in_ok-follow-2-clause-advances
 returns-in_ok-follow-2-clause-advances c =
     goes-further c.args.program.now c.args.flow.now c.args.aim.reason c.args.self.now.seen.items c.args.self.now.queue.items c.args.head c.index-visit.result.now c.node-node.result.now
-    c.requires.flow c.requires.size c.requires.searched c.requires.marked c.requires.room c.requires.head c.index-visit.ensures c.node-node.ensures c.args.aim.most _ c.breaks.result
+    c.requires.flow c.requires.size c.requires.searched c.requires.marked c.requires.room c.requires.head c.index-visit.ensures c.node-node.ensures.node c.args.aim.most _ c.breaks.result
     c.requires.there c.requires.most c.entry-entry.ensures c.breaks.ensures c.if-breaks.false c.after_entry-after.result c.after_entry-after.ensures.value
     c.follow.new.self.queue.items c.follow-in-Some.new.self.queue.items c.first.result.now c.first.ensures c.in_ok-follow.ensures.comes (Some c.in-Some.edge.now) c.in-Some.ensures
     c.in_ok-follow-2.ensures.comes
@@ -53,6 +53,6 @@ returns-in_ok-follow-2-clause-advances c =
 pub returns-in_default-clause-advances : goal.returns-in_default-clause-advances
 returns-in_default-clause-advances c =
     goes-further c.args.program.now c.args.flow.now c.args.aim.reason c.args.self.now.seen.items c.args.self.now.queue.items c.args.head c.index-visit.result.now c.node-node.result.now
-    c.requires.flow c.requires.size c.requires.searched c.requires.marked c.requires.room c.requires.head c.index-visit.ensures c.node-node.ensures c.args.aim.most _ c.breaks.result
+    c.requires.flow c.requires.size c.requires.searched c.requires.marked c.requires.room c.requires.head c.index-visit.ensures c.node-node.ensures.node c.args.aim.most _ c.breaks.result
     c.requires.there c.requires.most c.entry-entry.ensures c.breaks.ensures c.if-breaks.false c.after_entry-after.result c.after_entry-after.ensures.value
     c.follow.new.self.queue.items c.follow.new.self.queue.items c.first.result.now c.first.ensures c.in_ok-follow.ensures.comes None c.in_default.ensures refl
