@@ -10,7 +10,7 @@ use Rattle.tal_tree.specs.declared.program.Program.{Program}
 use Rattle.tal_tree.specs.declared.site.Kind.{Kind}
 use Rattle.tal_tree.specs.declared.site.Kind.TheVariants as kind
 use Rattle.tal_tree.specs.declared.site.ProcessSpec.{ProcessSpec}
-use Rattle.deck_reader.specs.Decks.{IsDeckOf, IsKindOf, IsProcessOf, AreProcessesOf, IsRefusedAs, IsFirstRefused, IsRefusalOf, all_open_others, are_shallow}
+use Rattle.deck_reader.specs.Decks.{IsDeckOf, IsKindOf, IsProcessOf, AreProcessesOf, IsRefusedAs, IsFirstRefused, IsRefusalOf, all_open_others}
 use Rattle.deck_reader.specs.Faults.{IsProcessFault, IsProgramsFault, IsOutlineFault}
 use Rattle.deck_reader.specs.Lines.{lines_of}
 use Rattle.deck_reader.specs.Outlined.{outline_of}
@@ -98,12 +98,6 @@ outline_fault outline _ h = absurd h
 pub unopened : (outline : Outline) (specs : List ProcessSpec) → AreProcessesOf outline.processes specs → all_open_others specs ≡ false → (deck : Deck) → IsDeckOf outline deck → ⊥
 unopened outline specs each fails deck is =
     let same : all_open_others specs ≡ true = ap all_open_others (same_processes outline.processes specs deck.site.processes each is.processes) ∙ is.opens in
-    cc
-
--- nor where one calls too deep
-pub too_deep : (outline : Outline) (specs : List ProcessSpec) → AreProcessesOf outline.processes specs → are_shallow specs ≡ false → (deck : Deck) → IsDeckOf outline deck → ⊥
-too_deep outline specs each fails deck is =
-    let same : are_shallow specs ≡ true = ap are_shallow (same_processes outline.processes specs deck.site.processes each is.processes) ∙ is.depth in
     cc
 
 -- the bytes of an outline are refused for its fault

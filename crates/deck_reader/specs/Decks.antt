@@ -1,15 +1,12 @@
 -- The deck that bytes spell, and the fault for which bytes are refused that spell none.
-use Rattle.std.specs.Prelude.{◌≡◌, ◌⊎◌, ◌<◌, ◌≤◌, ℕ, Bool, true, not, ◌&&◌, nat_le, List, [], ◌∷◌, length, Some, slice_get}
+use Rattle.std.specs.Prelude.{◌≡◌, ◌⊎◌, ◌<◌, ◌≤◌, ℕ, Bool, true, not, ◌&&◌, List, [], ◌∷◌, length, Some}
 use Rattle.std.specs.List.{list_all, list_any}
-use Rattle.std.specs.Option.{unwrap_or}
 use Rattle.std.specs.Str.{bytes_eq}
-use Rattle.path_semantics.specs.Bounds.{depths}
 use Rattle.tal_reader.specs.Reads.{Reads, IsRefused}
 use Rattle.tal_tree.specs.declared.fault.DeckFault.{DeckFault}
 use Rattle.tal_tree.specs.declared.fault.DeckFault.TheVariants as fault
 use Rattle.tal_tree.specs.declared.fault.TalFault.{TalFault}
 use Rattle.tal_tree.specs.declared.program.FileUse.{FileUse}
-use Rattle.tal_tree.specs.declared.program.Program.{Program}
 use Rattle.tal_tree.specs.declared.program.Target.{Target}
 use Rattle.tal_tree.specs.declared.program.Target.TheVariants as target
 use Rattle.tal_tree.specs.declared.site.Kind.{Kind}
@@ -71,19 +68,6 @@ opens_others processes own (kind.Pair program) = list_all (λ (file : FileUse). 
 abbrev pub all_open_others : List ProcessSpec → Bool
 all_open_others processes = list_all (λ (process : ProcessSpec). opens_others processes process.name process.what) processes
 
--- how many procedures the longest chain of a program's calls goes through, from MAIN on
-abbrev pub depth_of : Program → ℕ
-depth_of program = unwrap_or (slice_get (depths program) program.main) 0
-
--- a process whose program, if it has one, calls at most 16 procedures deep
-abbrev pub is_shallow : Kind → Bool
-is_shallow (kind.Disc sectors) = true
-is_shallow (kind.Pair program) = nat_le (depth_of program) 16
-
--- the calls of each process's program go at most 16 procedures deep
-abbrev pub are_shallow : List ProcessSpec → Bool
-are_shallow processes = list_all (λ (process : ProcessSpec). is_shallow process.what) processes
-
 -- the deck of an outline: programs read and names looked up
 pub record IsDeckOf (outline : Outline) (deck : Deck) : Type 0 where
   pub processors : deck.site.processors ≡ outline.processors
@@ -91,7 +75,6 @@ pub record IsDeckOf (outline : Outline) (deck : Deck) : Type 0 where
   pub terminals : AreTerminalsOf outline.processes outline.terminals deck.site.terminals
   pub lines : deck.lines ≡ outline.lines
   pub opens : all_open_others deck.site.processes ≡ true
-  pub depth : are_shallow deck.site.processes ≡ true
 
 -- the bytes, at most 1,048,576, are the lines of the deck
 pub record Decks (bytes : List ℕ) (deck : Deck) : Type 0 where

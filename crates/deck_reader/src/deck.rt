@@ -3,7 +3,7 @@ ghost use Rattle.std.specs.List.{list_all, list_any};
 ghost use Rattle.std.specs.Str.{bytes_eq};
 ghost use Rattle.deck_reader.specs.Lines.{lines_of};
 ghost use Rattle.deck_reader.specs.Outlined.{outline_of};
-ghost use Rattle.deck_reader.specs.Decks.{Decks, IsDeckOf, AreProcessesOf, AreTerminalsOf, IsKindOf, IsProcessOf, IsTerminalOf, IsRefusalOf, is_target, opens_others, all_open_others, is_shallow, are_shallow};
+ghost use Rattle.deck_reader.specs.Decks.{Decks, IsDeckOf, AreProcessesOf, AreTerminalsOf, IsKindOf, IsProcessOf, IsTerminalOf, IsRefusalOf, is_target, opens_others, all_open_others};
 ghost use Rattle.deck_reader.specs.Faults.{IsOutlineFault, IsProgramsFault, IsProcessFault, body_size, text_size};
 ghost use Rattle.deck_reader.specs.declared.outline.Body.{Body};
 ghost use Rattle.deck_reader.specs.declared.outline.ProcessLines.{ProcessLines};
@@ -15,7 +15,6 @@ use crate::outline::{
     Body, Outline, ProcessLines, Stage, TerminalLines, next_stage, process_place,
 };
 use gd_words::{List, Name, NoMemory};
-use path_semantics::call_depth;
 use schedule::Line;
 use std::alloc::Global;
 use tal_reader::read_program;
@@ -88,9 +87,6 @@ fn deck_of(alloc: Global, outline: Outline) -> Result<Deck, DeckFault>
     } = outline;
     let specs = processes_of(alloc, processes.as_slice())?;
     if !all_open_others(specs.as_slice()) {
-        return Err(DeckFault::NotYet);
-    }
-    if !are_shallow(specs.as_slice()) {
         return Err(DeckFault::NotYet);
     }
     match terminals_of(alloc, processes.as_slice(), terminals)? {
@@ -195,30 +191,6 @@ fn is_there(processes: &[ProcessSpec], name: &Name) -> bool
     processes
         .iter()
         .any(|process| process.name.text() == name.text())
-}
-
-/// Whether the calls of each program go at most 16 procedures deep.
-fn are_shallow(processes: &[ProcessSpec]) -> bool
-    requires read { (lines : List ProcessLines) × AreProcessesOf lines processes.now }
-    ensures { result ≡ are_shallow processes.now }
-{
-    for process in processes {
-        if !is_shallow(&process.what) {
-            return false;
-        }
-    }
-    true
-}
-
-/// Whether this is a disc, or a pair whose program calls at most 16 procedures deep.
-fn is_shallow(what: &Kind) -> bool
-    requires read { (body : Body) × IsKindOf body what.now }
-    ensures { result ≡ is_shallow what.now }
-{
-    match what {
-        Kind::Disc { sectors: _ } => true,
-        Kind::Pair(program) => call_depth(program) <= 16,
-    }
 }
 
 /// The terminals of their lines; none where one asks a process that isn't there.

@@ -6,3 +6,4 @@ pub mod ReportText
 pub mod SectorLine
 pub mod ShownLine
 pub mod TalNumbers
+pub mod VerdictText

@@ -5,14 +5,15 @@ ghost use Rattle.trace_print.specs.EndLine.{end_line, usage_line};
 use crate::line::Line;
 use gd_io::{Sink, WriteFault, put_all};
 
-/// How a run ended: nothing more can happen, it was cut short, a second failure came while this process had no pair, it
-/// was checked, or all its failures were tried.
+/// How a report ends: nothing more could happen, the run was cut short, a second processor would have stopped, all programs were
+/// accepted, one was refused, or all stops were tried.
 #[derive(Clone, Copy, PartialEq, Eq)]
 pub enum End {
     Idle,
     Cut,
     Second(u8),
     Checked,
+    Refused,
     Swept,
 }
 
@@ -44,6 +45,7 @@ fn end_text(end: End) -> Line
             line.push(b"\n");
         }
         End::Checked => line.push(b"END checked\n"),
+        End::Refused => line.push(b"END refused\n"),
         End::Swept => line.push(b"END swept\n"),
     }
     line
