@@ -1,11 +1,12 @@
 -- The texts of verdicts on programs.
-use Rattle.std.specs.Prelude.{ℕ, ◌-◌, List, [], ◌∷◌, ◌++◌, flat_map, slice_get, codes}
+use Rattle.std.specs.Prelude.{ℕ, List, [], ◌∷◌, ◌++◌, flat_map, slice_get, codes}
 use Rattle.std.specs.Fmt.{decimal}
 use Rattle.std.specs.Option.{option_map, unwrap_or}
 use Rattle.path_semantics.specs.declared.reason.Reason.{Reason}
 use Rattle.path_semantics.specs.declared.reason.Reason.TheVariants.{Data, SyncBlock, Input, Depth}
 use Rattle.path_semantics.specs.declared.reason.Refusal.{Refusal}
 use Rattle.path_semantics.specs.declared.reason.Refusal.TheVariants.{TooDeep, TooLarge, Broken, NoMemory}
+use Rattle.statement_lines.specs.Lines.{line_among}
 use Rattle.tal_tree.specs.declared.site.Kind.{Kind}
 use Rattle.tal_tree.specs.declared.site.Kind.TheVariants as kind
 use Rattle.tal_tree.specs.declared.site.ProcessSpec.{ProcessSpec}
@@ -60,13 +61,9 @@ cause_text site process NoMemory = []
 abbrev pub refused_line : Site → ℕ → Refusal → List ℕ
 refused_line site process refusal = codes "REFUSED " ++ process_name site process ++ codes " " ++ cause_text site process refusal ++ 10 ∷ []
 
--- the line of the statement of a number, where these are the lines of a program's statements in the order of their numbers, which begin with 1
-abbrev pub line_at : List ℕ → ℕ → ℕ
-line_at lines number = unwrap_or (slice_get lines (number - 1)) 0
-
--- `P NUMBER LINE` of a statement of a path
+-- `P NUMBER LINE` of a statement of a path, where these are the lines of a program's statements in the order of their numbers, from 1
 abbrev pub step_line : List ℕ → ℕ → List ℕ
-step_line lines number = codes "P " ++ decimal number ++ codes " " ++ decimal (line_at lines number) ++ 10 ∷ []
+step_line lines number = codes "P " ++ decimal number ++ codes " " ++ decimal (line_among lines number) ++ 10 ∷ []
 
 abbrev pub step_lines : List ℕ → List ℕ → List ℕ
 step_lines lines path = flat_map (step_line lines) path

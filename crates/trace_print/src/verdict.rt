@@ -1,6 +1,7 @@
 ghost use Rattle.std.specs.Prelude.{◌≡◌, ◌+◌, ◌≤◌, ◌++◌, length};
 ghost use Rattle.gd_io.specs.Puts.{Puts};
-ghost use Rattle.trace_print.specs.VerdictText.{accepted_by, accepted_line, accepted_lines, accepted_text, cause_text, global_in, global_name, line_at, path_of, reason_text, refusal_text, refused_line, step_line, step_lines};
+ghost use Rattle.statement_lines.specs.Lines.{line_among};
+ghost use Rattle.trace_print.specs.VerdictText.{accepted_by, accepted_line, accepted_lines, accepted_text, cause_text, global_in, global_name, path_of, reason_text, refusal_text, refused_line, step_line, step_lines};
 
 use crate::acts::variable_name;
 use crate::closing::{End, write_end};
@@ -116,9 +117,12 @@ fn step_line(lines: &[u32], number: u16) -> Line
 }
 
 fn line_at(lines: &[u32], number: u16) -> u32
-    ensures { result ≡ line_at lines.now number }
+    ensures { result ≡ line_among lines.now number }
 {
-    match lines.get(usize::from(number).saturating_sub(1)) {
+    if number == 0 {
+        return 0;
+    }
+    match lines.get(usize::from(number) - 1) {
         Some(line) => *line,
         None => 0,
     }

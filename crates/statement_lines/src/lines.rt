@@ -1,0 +1,59 @@
+ghost use Rattle.std.specs.Prelude.{◌≡◌, ◌++◌, IfOk, OnOk};
+ghost use Rattle.statement_lines.specs.Lines as spec;
+ghost use Rattle.statement_lines.specs.Lines.{lines_in, lines_within};
+
+use gd_words::{List, NoMemory};
+use std::alloc::Global;
+use tal_tree::{Program, Statement, What};
+
+/// The lines of a program's statements by their numbers: the line of number 1 first. A FOR's line stands there for each of its
+/// three numbers.
+pub fn lines_of(alloc: Global, program: &Program) -> Result<List<u32>, NoMemory>
+    ensures { IfOk result (λ lines. lines ≡ spec.lines_of program.now) }
+{
+    let mut lines = List::new(alloc);
+    let procedures = program.procedures.as_slice();
+    for procedure in procedures {
+        push_lines(procedure.body.as_slice(), &mut lines)?;
+    }
+    Ok(lines)
+}
+
+/// Puts the lines of statements, and of those that stand in them, behind others.
+#[cycle(lines)]
+fn push_lines(statements: &[Statement], lines: &mut List<u32>) -> Result<(), NoMemory>
+    ensures { OnOk result (lines.new ≡ lines.old ++ lines_in statements.now) }
+{
+    for statement in statements {
+        lines.push(statement.line)?;
+        push_within(statement, lines)?;
+    }
+    Ok(())
+}
+
+/// Puts the lines that a statement has behind its first one behind others.
+#[cycle(lines)]
+fn push_within(statement: &Statement, lines: &mut List<u32>) -> Result<(), NoMemory>
+    ensures { OnOk result (lines.new ≡ lines.old ++ lines_within statement.now.line statement.now.what) }
+{
+    match &statement.what {
+        What::If { test: _, yes, no } => {
+            push_lines(yes.as_slice(), lines)?;
+            push_lines(no.as_slice(), lines)?;
+        }
+        What::While { test: _, body } => push_lines(body.as_slice(), lines)?,
+        What::For {
+            variable: _,
+            from: _,
+            to: _,
+            body,
+            last: _,
+        } => {
+            lines.push(statement.line)?;
+            push_lines(body.as_slice(), lines)?;
+            lines.push(statement.line)?;
+        }
+        _ => {}
+    }
+    Ok(())
+}
