@@ -4,27 +4,32 @@ use Rattle.std.specs.Option.{option_map}
 use Rattle.runner.specs.Places.{asked_at}
 use Rattle.runner.specs.Words.{asked_by, asked_of, keyword_of}
 use Rattle.runner.specs.declared.words.Keyword.{Keyword}
-use Rattle.runner.specs.declared.words.Keyword.TheVariants.{Run, Acts, Other}
+use Rattle.runner.specs.declared.words.Keyword.TheVariants.{Run, Check, Acts, Other}
 
 keyword_at : List (List ℕ) → ℕ → Option Keyword
 keyword_at words place = option_map keyword_of (slice_get words place)
 
 one : (first : Keyword) → asked_of (first ∷ []) ≡ asked_at (Some first) None None
 one Run = refl
+one Check = refl
 one Acts = refl
 one Other = refl
 
 two : (first second : Keyword) → asked_of (first ∷ second ∷ []) ≡ asked_at (Some first) (Some second) None
 two Run Run = refl
+two Run Check = refl
 two Run Acts = refl
 two Run Other = refl
+two Check second = refl
 two Acts second = refl
 two Other second = refl
 
 more : (first second third : Keyword) (rest : List Keyword) → asked_of (first ∷ second ∷ third ∷ rest) ≡ asked_at (Some first) (Some second) (Some third)
 more Run Run third rest = refl
+more Run Check third rest = refl
 more Run Acts third rest = refl
 more Run Other third rest = refl
+more Check second third rest = refl
 more Acts second third rest = refl
 more Other second third rest = refl
 

@@ -2,6 +2,8 @@
 use Rattle.std.proofs.Common.{◌≡◌, ℕ, Bool, true, false, List, [], ◌∷◌, Option, Some, None, Result, Ok, Err, sym, ap, ◌∙◌, refl}
 use Rattle.std.specs.Prelude.{◌≢◌, ⊤, IsErr, IfSome, codes, if◌then◌else◌}
 use Rattle.deck_reader.specs.Decks.{IsRefusalOf}
+use Rattle.deck_reader.specs.declared.deck.Deck.{Deck}
+use Rattle.verdicts.specs.Refused.{AreAccepted}
 use Rattle.gd_io.specs.Reads.{Leaves}
 use Rattle.gd_io.specs.declared.writing.WriteFault.{WriteFault}
 use Rattle.tal_tree.specs.declared.fault.DeckFault.{DeckFault}
@@ -10,7 +12,7 @@ use Rattle.tal_tree.specs.declared.fault.TalFault.{TalFault}
 use Rattle.tal_tree.specs.declared.fault.TalFault.TheVariants as tal
 use Rattle.trace_print.specs.FaultLine.{IsOfDeck}
 use Rattle.trace_print.specs.TalNumbers.{IsOfText}
-use Rattle.runner.specs.Decided.{IsTold, IsDueOfBytes, due_of_fault}
+use Rattle.runner.specs.Decided.{IsTold, IsDueOfAccepted, IsDueOfBytes, IsDueOfDeck, due_of_fault}
 use Rattle.runner.specs.Words.{asked_by}
 use Rattle.runner.specs.declared.words.Command.{Command}
 use Rattle.runner.specs.declared.words.Command.TheVariants as command
@@ -30,6 +32,7 @@ pub words_of : (told : Option (List (List ℕ))) (answer : Option Command) → I
     → (words : List (List ℕ)) × IsTold told words × (asked_by words ≡ answer)
 words_of None None h = ([], tt, refl)
 words_of None (Some (command.Run false)) h = (codes "run" ∷ [], tt, refl)
+words_of None (Some command.Check) h = (codes "check" ∷ [], tt, refl)
 words_of None (Some (command.Run true)) h = (codes "run" ∷ codes "--acts" ∷ [], tt, refl)
 words_of (Some words) answer h = (words, refl, sym h)
 
@@ -59,7 +62,9 @@ read_fault_only : (decided : Due) (result : Result ⊤ WriteFault) → (outcome_
 read_fault_only due.Usage (Ok done) e = absurd (cc)
 read_fault_only due.ReadFault (Ok done) e = refl
 read_fault_only due.NoMemory (Ok done) e = absurd (cc)
-read_fault_only (due.Refused fault) (Ok done) e = absurd (cc)
+read_fault_only (due.DeckRefused fault) (Ok done) e = absurd (cc)
+read_fault_only (due.ProgramRefused refused) (Ok done) e = absurd (cc)
+read_fault_only (due.Accepted site) (Ok done) e = absurd (cc)
 read_fault_only (due.Report report) (Ok done) e = absurd (run_ended report.idle e)
   where
     run_ended : (idle : Bool) → (if idle then status.Done else status.Cut) ≡ status.ReadFault → ⊥
@@ -76,7 +81,9 @@ write_fault_only : (decided : Due) (result : Result ⊤ WriteFault) → (outcome
 write_fault_only due.Usage (Ok done) e = absurd (cc)
 write_fault_only due.ReadFault (Ok done) e = absurd (cc)
 write_fault_only due.NoMemory (Ok done) e = absurd (cc)
-write_fault_only (due.Refused fault) (Ok done) e = absurd (cc)
+write_fault_only (due.DeckRefused fault) (Ok done) e = absurd (cc)
+write_fault_only (due.ProgramRefused refused) (Ok done) e = absurd (cc)
+write_fault_only (due.Accepted site) (Ok done) e = absurd (cc)
 write_fault_only (due.Report report) (Ok done) e = absurd (run_ended report.idle e)
   where
     run_ended : (idle : Bool) → (if idle then status.Done else status.Cut) ≡ status.WriteFault → ⊥
@@ -87,3 +94,15 @@ write_fault_only decided (Err fault) e = refl
 pub writing_failed : (decided : Due) (result : Result ⊤ WriteFault) (outcome : Outcome) → outcome ≡ outcome_of decided result
     → outcome.status ≡ status.WriteFault → IsErr result
 writing_failed decided result outcome is e = write_fault_only decided result (sym (ap (λ o. o.status) is) ∙ e)
+
+-- what is due of a deck whose programs are all accepted
+pub accepted_is_due : (command : Command) (deck : Deck) (decided : Due) → AreAccepted deck.site.processes → IsDueOfAccepted command deck decided
+    → IsDueOfDeck command deck decided
+accepted_is_due (command.Run acts) deck (due.ProgramRefused refused) accepted is = absurd is
+accepted_is_due command.Check deck (due.ProgramRefused refused) accepted is = absurd (cc)
+accepted_is_due command deck due.NoMemory accepted is = tt
+accepted_is_due command deck due.Usage accepted is = (accepted, is)
+accepted_is_due command deck due.ReadFault accepted is = (accepted, is)
+accepted_is_due command deck (due.DeckRefused fault) accepted is = (accepted, is)
+accepted_is_due command deck (due.Accepted site) accepted is = (accepted, is)
+accepted_is_due command deck (due.Report report) accepted is = (accepted, is)

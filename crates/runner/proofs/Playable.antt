@@ -13,6 +13,7 @@ use Rattle.plain_semantics.specs.SiteLimits.{KeepsSiteLimits}
 use Rattle.deck_reader.proofs.DeckLimits.{deck_within}
 use Rattle.deck_reader.specs.Limits.{IsKindWithinLimits, IsSiteWithinLimits}
 use Rattle.tal_tree.specs.declared.site.Site.{Site}
+use Rattle.verdicts.specs.Refused.{AreJudgeable, IsJudgeableKind}
 use Rattle.deck_reader.specs.Decks.{AreProcessesOf, Decks, IsKindOf}
 use Rattle.deck_reader.specs.declared.deck.Deck.{Deck}
 use Rattle.deck_reader.specs.declared.outline.Body.{Body}
@@ -53,3 +54,11 @@ deck-playable bytes deck decks = record {
   limits = site-limits deck.site (deck_within bytes deck decks).site;
   loadable = deck-loadable bytes deck decks;
 }
+
+judgeable-kind : (what : Kind) → IsLoadableKind what → IsJudgeableKind what
+judgeable-kind (kind.Disc sectors) loadable = tt
+judgeable-kind (kind.Pair program) loadable = record { ordered = loadable.ordered; limits = loadable.limits; regular = loadable.regular }
+
+-- programs that can be loaded can be judged
+pub playable-judgeable : (site : Site) → IsPlayable site → AreJudgeable site.processes
+playable-judgeable site playable k d there = judgeable-kind (slice_index_or site.processes k d).what (playable.loadable k d there)

@@ -8,6 +8,7 @@ use Rattle.deck_reader.specs.declared.deck.Deck.{Deck}
 use Rattle.plain_semantics.specs.Machine.{IsPossible, IsNoneLeft, shown_by}
 use Rattle.plain_machine.specs.Lines.{run_of}
 use Rattle.shown_sectors.specs.Sectors.{sectors_after}
+use Rattle.verdicts.specs.Refused.{AreAccepted, IsFirstRefused}
 use Rattle.runner.specs.Words.{asked_by}
 use Rattle.runner.specs.declared.words.Command.{Command}
 use Rattle.runner.specs.declared.words.Command.TheVariants as command
@@ -32,18 +33,25 @@ IsDueOfRun deck acts (due.Report report) = IsRunOf deck report × (report.tells_
 IsDueOfRun deck acts due.NoMemory = Unit {0}
 IsDueOfRun deck acts _ = ⊥
 
--- what is due of a deck by the command
+-- what is due of a deck whose programs are all accepted, by the command
+abbrev pub IsDueOfAccepted : Command → Deck → Due → Type 0
+IsDueOfAccepted (command.Run acts) deck decided = IsDueOfRun deck acts decided
+IsDueOfAccepted command.Check deck decided = decided ≡ due.Accepted deck.site
+
+-- what is due of a deck: its first program that is refused, or else what is due by the command, and then all are accepted
 abbrev pub IsDueOfDeck : Command → Deck → Due → Type 0
-IsDueOfDeck (command.Run acts) deck decided = IsDueOfRun deck acts decided
+IsDueOfDeck command deck (due.ProgramRefused refused) = (refused.site ≡ deck.site) × IsFirstRefused deck.site.processes refused.found
+IsDueOfDeck command deck due.NoMemory = Unit {0}
+IsDueOfDeck command deck decided = AreAccepted deck.site.processes × IsDueOfAccepted command deck decided
 
 -- what is due where a deck is refused for a fault, or memory ran out
 abbrev pub due_of_fault : DeckFault → Due
 due_of_fault NoMemory = due.NoMemory
-due_of_fault fault = due.Refused fault
+due_of_fault fault = due.DeckRefused fault
 
 -- what is due of bytes
 abbrev pub IsDueOfBytes : Command → List ℕ → Due → Type 0
-IsDueOfBytes command bytes (due.Refused fault) = IsRefusalOf bytes fault
+IsDueOfBytes command bytes (due.DeckRefused fault) = IsRefusalOf bytes fault
 IsDueOfBytes command bytes due.NoMemory = Unit {0}
 IsDueOfBytes command bytes decided = (deck : Deck) × Decks bytes deck × IsDueOfDeck command deck decided
 
@@ -67,9 +75,11 @@ IsDueOn (Some command) left before now decided = IsDueOfSource command left befo
 abbrev pub IsDue : List (List ℕ) → Option (List ℕ) → ℕ → ℕ → Due → Type 0
 IsDue words left before now decided = IsDueOn (asked_by words) left before now decided
 
--- what is due only once the deck was read to its end: a report, or a refusal for what the deck says
+-- what is due only once the deck was read to its end: a report or a verdict, or a refusal for what the deck says
 abbrev pub IsOfWholeDeck : Due → Type 0
 IsOfWholeDeck (due.Report report) = Unit {0}
-IsOfWholeDeck (due.Refused TooLong) = ⊥
-IsOfWholeDeck (due.Refused fault) = Unit {0}
+IsOfWholeDeck (due.ProgramRefused refused) = Unit {0}
+IsOfWholeDeck (due.Accepted site) = Unit {0}
+IsOfWholeDeck (due.DeckRefused TooLong) = ⊥
+IsOfWholeDeck (due.DeckRefused fault) = Unit {0}
 IsOfWholeDeck _ = ⊥

@@ -6,7 +6,7 @@ use Rattle.runner.specs.Words.{keyword_of}
 use Rattle.runner.specs.declared.words.Command.{Command}
 use Rattle.runner.specs.declared.words.Command.TheVariants as command
 use Rattle.runner.specs.declared.words.Keyword.{Keyword}
-use Rattle.runner.specs.declared.words.Keyword.TheVariants.{Run, Acts, Other}
+use Rattle.runner.specs.declared.words.Keyword.TheVariants.{Run, Check, Acts, Other}
 
 -- what a word is that the room begins with
 abbrev pub keyword_in : Word → List ℕ → Option Keyword
@@ -18,4 +18,5 @@ keyword_in Missing room = None
 abbrev pub asked_at : Option Keyword → Option Keyword → Option Keyword → Option Command
 asked_at (Some Run) None third = Some (command.Run false)
 asked_at (Some Run) (Some Acts) None = Some (command.Run true)
+asked_at (Some Check) None third = Some command.Check
 asked_at _ _ _ = None

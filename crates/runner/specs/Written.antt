@@ -7,6 +7,7 @@ use Rattle.tal_tree.specs.declared.act.Act.{Act}
 use Rattle.trace_print.specs.EndLine.{usage_line}
 use Rattle.trace_print.specs.FaultLine.{fault_line, IsOfDeck}
 use Rattle.trace_print.specs.ReportText.{report_text}
+use Rattle.trace_print.specs.VerdictText.{accepted_text, refusal_text}
 use Rattle.trace_print.specs.declared.closing.End.TheVariants as end
 use Rattle.runner.specs.declared.due.Due.{Due}
 use Rattle.runner.specs.declared.due.Due.TheVariants as due
@@ -29,14 +30,18 @@ abbrev pub text_of : Due → List ℕ
 text_of due.Usage = usage_line
 text_of due.ReadFault = []
 text_of due.NoMemory = []
-text_of (due.Refused fault) = fault_line fault
+text_of (due.DeckRefused fault) = fault_line fault
+text_of (due.ProgramRefused refused) = refusal_text refused.site refused.found.process refused.found.refusal refused.found.lines
+text_of (due.Accepted site) = accepted_text site
 text_of (due.Report report) = text_of_run report
 
 abbrev pub status_of : Due → Status
 status_of due.Usage = status.Usage
 status_of due.ReadFault = status.ReadFault
 status_of due.NoMemory = status.NoMemory
-status_of (due.Refused fault) = status.DeckRefused fault
+status_of (due.DeckRefused fault) = status.DeckRefused fault
+status_of (due.ProgramRefused refused) = status.Refused refused.found.process refused.found.refusal
+status_of (due.Accepted site) = status.Done
 status_of (due.Report report) = if report.idle then status.Done else status.Cut
 
 abbrev pub run_of : Due → Option RunEnd
@@ -50,7 +55,7 @@ outcome_of decided (Err fault) = record { status = status.WriteFault; run = run_
 
 -- a fault that has a line, and a site whose openers can be told
 abbrev pub CanBeWritten : Due → Type 0
-CanBeWritten (due.Refused fault) = IsOfDeck fault
+CanBeWritten (due.DeckRefused fault) = IsOfDeck fault
 CanBeWritten (due.Report report) = KeepsSiteLimits report.site
 CanBeWritten _ = Unit {0}
 

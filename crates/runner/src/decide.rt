@@ -3,9 +3,9 @@ ghost use Rattle.std.specs.Io.KnownBytes.{IsAtEnd};
 ghost use Rattle.gd_io.specs.Faults.{HasRisen};
 ghost use Rattle.plain_machine.specs.Standing.{IsPlayable};
 ghost use Rattle.runner.specs.Written.{CanBeWritten};
-ghost use Rattle.runner.specs.Decided.{IsTold, IsDue, IsDueOfSource, IsDueOfBytes, IsDueOfDeck, IsDueOfRun, IsRunOf, IsOfWholeDeck, due_of_fault};
+ghost use Rattle.runner.specs.Decided.{IsTold, IsDue, IsDueOfSource, IsDueOfBytes, IsDueOfDeck, IsDueOfAccepted, IsDueOfRun, IsRunOf, IsOfWholeDeck, due_of_fault};
 
-use crate::due::{Due, Report};
+use crate::due::{Due, RefusedSite, Report};
 use crate::outcome::RunEnd;
 use crate::words::{Command, asked_by};
 use deck_reader::{Deck, read_deck};
@@ -15,6 +15,7 @@ use plain_machine::{Played, play_lines};
 use shown_sectors::sectors_after;
 use std::alloc::Global;
 use tal_tree::DeckFault;
+use verdicts::first_refused;
 
 /// A deck has at most this many bytes.
 const MOST_BYTES: usize = 1_048_576;
@@ -46,7 +47,7 @@ fn due_of_source<S: Source>(alloc: Global, command: Command, source: &mut S) -> 
     match read_all(alloc, source, MOST_BYTES) {
         Ok(bytes) => due_of_bytes(alloc, command, bytes.as_slice()),
         Err(ReadRefusal::Failed) => Due::ReadFault,
-        Err(ReadRefusal::TooLong) => Due::Refused(DeckFault::TooLong),
+        Err(ReadRefusal::TooLong) => Due::DeckRefused(DeckFault::TooLong),
         Err(ReadRefusal::NoMemory) => Due::NoMemory,
     }
 }
@@ -66,7 +67,7 @@ fn due_of_fault(fault: DeckFault) -> Due
 {
     match fault {
         DeckFault::NoMemory => Due::NoMemory,
-        fault => Due::Refused(fault),
+        fault => Due::DeckRefused(fault),
     }
 }
 
@@ -75,8 +76,27 @@ fn due_of_deck(alloc: Global, command: Command, deck: Deck) -> Due
     ensures due { IsDueOfDeck command deck result }
     ensures written { CanBeWritten result }
 {
+    match first_refused(alloc, deck.site.processes.as_slice()) {
+        Err(NoMemory) => Due::NoMemory,
+        Ok(None) => due_of_accepted(alloc, command, deck),
+        Ok(Some(found)) => {
+            let Deck { site, lines: _ } = deck;
+            Due::ProgramRefused(RefusedSite { site, found })
+        }
+    }
+}
+
+fn due_of_accepted(alloc: Global, command: Command, deck: Deck) -> Due
+    requires { IsPlayable deck.site }
+    ensures due { IsDueOfAccepted command deck result }
+    ensures written { CanBeWritten result }
+{
     match command {
         Command::Run { acts } => due_of_run(alloc, deck, acts),
+        Command::Check => {
+            let Deck { site, lines: _ } = deck;
+            Due::Accepted(site)
+        }
     }
 }
 

@@ -2,6 +2,7 @@ use crate::outcome::RunEnd;
 use gd_words::List;
 use shown_sectors::SectorWords;
 use tal_tree::{DeckFault, Site};
+use verdicts::RefusedProgram;
 
 /// What is due once all is decided and nothing is written yet.
 #[derive(Drop)]
@@ -9,7 +10,12 @@ pub enum Due {
     Usage,
     ReadFault,
     NoMemory,
-    Refused(DeckFault),
+    /// The bytes aren't a deck.
+    DeckRefused(DeckFault),
+    /// A program isn't accepted.
+    ProgramRefused(RefusedSite),
+    /// All programs of the site are accepted, and no more was asked.
+    Accepted(Site),
     Report(Report),
 }
 
@@ -22,4 +28,11 @@ pub struct Report {
     pub sectors: List<SectorWords>,
     pub tells_acts: bool,
     pub idle: bool,
+}
+
+/// A site, and its first program that is refused.
+#[derive(Drop)]
+pub struct RefusedSite {
+    pub site: Site,
+    pub found: RefusedProgram,
 }

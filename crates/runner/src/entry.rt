@@ -7,12 +7,13 @@ ghost use Rattle.runner.specs.Written.{text_of, told_acts, run_of, outcome_of, C
 ghost use Rattle.runner.specs.declared.outcome.Outcome.{Outcome};
 
 use crate::decide::decide;
-use crate::due::{Due, Report};
+use crate::due::{Due, RefusedSite, Report};
 use crate::outcome::{Outcome, Status};
 use gd_io::{CommandLine, Sink, Source, WriteFault};
 use std::alloc::Global;
 use tal_tree::Act;
-use trace_print::{End, write_fault, write_report, write_usage};
+use trace_print::{End, write_checked, write_fault, write_refusal, write_report, write_usage};
+use verdicts::RefusedProgram;
 
 /// Runs one command as `command` does, and answers the number of its status, with which the program ends.
 pub fn exit_number<L: CommandLine, S: Source, K: Sink>(
@@ -28,8 +29,10 @@ pub fn exit_number<L: CommandLine, S: Source, K: Sink>(
     command(alloc, line, source, sink).status.number()
 }
 
-/// Runs one command. Today the one command is `run`, or `run --acts`, which tells the acts that the run keeps besides: it reads
-/// a deck from the source to its end, plays it and writes the report to the sink. Any other words give the usage.
+/// Runs one command. `check` reads a deck from the source to its end, judges its programs in deck order and writes to the sink
+/// that all are accepted, or why the first is refused that isn't. `run` judges them so before any act, and where all are accepted
+/// it plays the deck and writes the report; `run --acts` tells the acts that the run keeps besides. Any other words give the
+/// usage.
 pub fn command<L: CommandLine, S: Source, K: Sink>(
     alloc: Global,
     line: &L,
@@ -50,7 +53,9 @@ fn write_due<K: Sink>(sink: &mut K, due: &Due) -> Result<(), WriteFault>
 {
     match due {
         Due::Usage => write_usage(sink),
-        Due::Refused(fault) => write_fault(sink, fault),
+        Due::DeckRefused(fault) => write_fault(sink, fault),
+        Due::ProgramRefused(refused) => write_refused(sink, refused),
+        Due::Accepted(site) => write_checked(sink, site),
         Due::Report(report) => {
             let shown = report.run.shown.as_slice();
             let sectors = report.sectors.as_slice();
@@ -60,6 +65,14 @@ fn write_due<K: Sink>(sink: &mut K, due: &Due) -> Result<(), WriteFault>
         Due::ReadFault => Ok(()),
         Due::NoMemory => Ok(()),
     }
+}
+
+fn write_refused<K: Sink>(sink: &mut K, refused: &RefusedSite) -> Result<(), WriteFault>
+    ensures { Puts K.held K.faults K.sure sink.old sink.new (text_of (Due.ProgramRefused refused.now)) result }
+{
+    let found = &refused.found;
+    let lines = found.lines.as_slice();
+    write_refusal(sink, &refused.site, found.process, &found.refusal, lines)
 }
 
 /// The acts that the report tells.
@@ -97,7 +110,9 @@ fn done(due: Due) -> Outcome
         Due::Usage => Outcome::without_run(Status::Usage),
         Due::ReadFault => Outcome::without_run(Status::ReadFault),
         Due::NoMemory => Outcome::without_run(Status::NoMemory),
-        Due::Refused(fault) => Outcome::without_run(Status::DeckRefused(fault)),
+        Due::DeckRefused(fault) => Outcome::without_run(Status::DeckRefused(fault)),
+        Due::ProgramRefused(refused) => Outcome::without_run(status_of_refused(refused)),
+        Due::Accepted(_) => Outcome::without_run(Status::Done),
         Due::Report(report) => {
             let status = if report.idle {
                 Status::Done
@@ -112,6 +127,18 @@ fn done(due: Due) -> Outcome
     }
 }
 
+fn status_of_refused(refused: RefusedSite) -> Status
+    ensures { result ≡ Status.Refused refused.found.process refused.found.refusal }
+{
+    let RefusedSite { site: _, found } = refused;
+    let RefusedProgram {
+        process,
+        refusal,
+        lines: _,
+    } = found;
+    Status::Refused { process, refusal }
+}
+
 /// The outcome where a write failed.
 fn cut_off(due: Due) -> Outcome
     ensures { result ≡ record { status = Status.WriteFault; run = run_of due } }
@@ -121,7 +148,9 @@ fn cut_off(due: Due) -> Outcome
         Due::Usage => None,
         Due::ReadFault => None,
         Due::NoMemory => None,
-        Due::Refused(_) => None,
+        Due::DeckRefused(_) => None,
+        Due::ProgramRefused(_) => None,
+        Due::Accepted(_) => None,
     };
     Outcome {
         status: Status::WriteFault,

@@ -2,6 +2,7 @@ ghost use Rattle.runner.specs.Numbers.{number_of};
 ghost use Rattle.std.specs.Prelude.{◌≡◌};
 
 use gd_words::List;
+use path_semantics::Refusal;
 use tal_tree::{Act, DeckFault, Shown};
 
 /// How a call ended, and the run, where one was made.
@@ -21,14 +22,16 @@ impl Outcome {
 }
 
 /// How a call ended.
-#[derive(Clone, Copy, PartialEq, Eq)]
+#[derive(Drop)]
 pub enum Status {
-    /// The run ended with no act possible.
+    /// The run ended with no act possible, or all programs are accepted and no more was asked.
     Done,
     /// The words are no command.
     Usage,
     /// The bytes aren't a deck.
     DeckRefused(DeckFault),
+    /// The program of the process at this place in the deck isn't accepted, and those before it are.
+    Refused { process: u8, refusal: Refusal },
     /// All rounds were made, and an act was possible still.
     Cut,
     ReadFault,
@@ -45,6 +48,10 @@ impl Status {
             Status::Done => 0,
             Status::Usage => 1,
             Status::DeckRefused(_) => 2,
+            Status::Refused {
+                process: _,
+                refusal: _,
+            } => 3,
             Status::Cut => 4,
             Status::ReadFault => 6,
             Status::WriteFault => 7,

@@ -10,14 +10,18 @@ use gd_io::{CommandLine, Word};
 /// What a command is to do.
 #[derive(Clone, Copy, PartialEq, Eq)]
 pub enum Command {
-    /// To play a deck, and to tell the acts that are kept, if they are asked for.
+    /// To judge the programs of a deck, and, where all are accepted, to play it, and to tell the acts that are kept, if they are
+    /// asked for.
     Run { acts: bool },
+    /// To judge the programs of a deck.
+    Check,
 }
 
 /// What a word of a command line is.
 #[derive(Clone, Copy, PartialEq, Eq)]
 pub enum Keyword {
     Run,
+    Check,
     Acts,
     /// Any other word.
     Other,
@@ -51,6 +55,10 @@ fn asked_at(
             },
             Some(_) => None,
         },
+        Some(Keyword::Check) => match second {
+            None => Some(Command::Check),
+            Some(_) => None,
+        },
         _ => None,
     }
 }
@@ -81,6 +89,8 @@ fn keyword_of(word: &[u8]) -> Keyword
 {
     if word == b"run".as_slice() {
         Keyword::Run
+    } else if word == b"check".as_slice() {
+        Keyword::Check
     } else if word == b"--acts".as_slice() {
         Keyword::Acts
     } else {
