@@ -1,6 +1,7 @@
 -- Paths and walks along the nodes of a program's graph.
 use Rattle.std.proofs.Common.{◌≡◌, ◌⊎◌, inl, inr, ℕ, zero, suc, ◌+◌, ◌<◌, arith, List, [], ◌∷◌, length, slice_get, Some, None, refl, ap, subst, sym, ◌∙◌}
 use Rattle.std.specs.Option.{option_map}
+use Rattle.std.proofs.lemmas.Option.{slice_get_within}
 use Rattle.gd_words.specs.Members.{IsAmong}
 use Rattle.tal_tree.specs.declared.program.Program.{Program}
 use Rattle.process_semantics.specs.Rests.{number_of}
@@ -19,11 +20,6 @@ there : {A : Type 0} (xs : List A) (k : ℕ) → k < length xs → (x : A) × (s
 there [] k below = absurd (omega arith)
 there (x ∷ xs) zero below = (x, refl)
 there (x ∷ xs) (suc k) below = there xs k (omega arith)
-
-below : {A : Type 0} (xs : List A) (k : ℕ) (x : A) → slice_get xs k ≡ Some x → k < length xs
-below [] k x got = absurd (cc)
-below (y ∷ xs) zero x got = omega arith
-below (y ∷ xs) (suc k) x got = let less = below xs k x got in omega arith
 
 no-next : (stand : Stand) (number : ℕ) → stand.place ≡ [] → number_at stand ≡ Some number → ⊥
 no-next stand number ended next =
@@ -134,7 +130,7 @@ module _ (program : Program) (nodes : List Node) (flow : IsFlow program nodes) w
     led path stand walk = elim (followed path stand walk) [
       | inl ended ↦ inl ended
       | inr (k, goes, stands) ↦
-          let less : k < length nodes = below nodes k stands.node stands.got in
+          let less : k < length nodes = slice_get_within nodes k stands.node stands.got in
           inr (
             k,
             stands,

@@ -1,7 +1,6 @@
 -- How code lays out statements: one by one, and by the parts of each.
 use Rattle.std.proofs.Common.{◌≡◌, ℕ, zero, suc, ◌+◌, ◌-◌, ◌<◌, ◌≤◌, arith, List, [], ◌∷◌, ◌++◌, length, drop, get_or, refl, ap, ap₂, sym, ◌∙◌}
-use Rattle.std.specs.Prelude.{Result, Ok, Err, OnOk, IfOk}
-use Rattle.std.proofs.lemmas.List.{append-nil, append_assoc, at_drop_more}
+use Rattle.std.proofs.lemmas.List.{append-nil, append_assoc, at_drop_more, drop_all}
 use Rattle.tal_tree.specs.Rows.{rows, if-is, while-is, for-is}
 use Rattle.tal_tree.specs.declared.expression.Cond.{Cond}
 use Rattle.tal_tree.specs.declared.expression.Expr.{Expr}
@@ -12,15 +11,6 @@ use Rattle.process_semantics.specs.State.{Run, Test, Last}
 use Rattle.flow_paths.specs.declared.graph.Edge.{Edge}
 use Rattle.flow_paths.specs.Graph.{Node}
 use Rattle.flow_paths.specs.Layout.{size_in, size_row, to_node, start_row, start_at, one_way, two_ways, lay_in, lay_row}
-
--- what follows where a call succeeded
-pub on-ok : {A E : Type 0} {P Q : Type 0} (result : Result A E) → (P → Q) → OnOk result P → OnOk result Q
-on-ok (Ok x) f holds = f holds
-on-ok (Err e) f holds = tt
-
-pub if-ok : {A E : Type 0} {P Q : A → Type 0} (result : Result A E) → ((x : A) → P x → Q x) → IfOk result P → IfOk result Q
-if-ok (Ok x) f holds = f x holds
-if-ok (Err e) f holds = tt
 
 pub start-counted : (statements : List Statement) (base : ℕ) (next : Edge) → start_at (length statements) base next ≡ start_row (rows statements) base next
 start-counted [] base next = refl
@@ -126,13 +116,7 @@ module _ (called : ℕ → List Node) where
         room = let fits = next-fits statements at after old k next left nodes statement so_far is inside in omega arith;
       }
 
-  drop-past : (statements : List Statement) (k : ℕ) → length statements ≤ k → drop k statements ≡ []
-  drop-past [] zero past = refl
-  drop-past [] (suc k) past = refl
-  drop-past (statement ∷ statements) zero past = absurd (omega arith)
-  drop-past (statement ∷ statements) (suc k) past = drop-past statements k (omega arith)
-
   pub laying-ends : (statements : List Statement) (at : ℕ) (after : Edge) (old : List Node) (k next left : ℕ) (nodes : List Node)
       → IsLaying statements at after old k next left nodes → length statements ≤ k → nodes ≡ old ++ lay_row called (rows statements) at after
   laying-ends statements at after old k next left nodes so_far past =
-      sym (append-nil nodes) ∙ ap (λ (xs : List Statement). nodes ++ lay_row called (rows xs) next after) (sym (drop-past statements k past)) ∙ so_far.laid
+      sym (append-nil nodes) ∙ ap (λ (xs : List Statement). nodes ++ lay_row called (rows xs) next after) (sym (drop_all k statements past)) ∙ so_far.laid

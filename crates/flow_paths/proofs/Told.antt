@@ -1,6 +1,6 @@
 -- Sizes as far as they are told: sums of told sizes tell the sums.
 use Rattle.std.proofs.Common.{◌≡◌, ℕ, zero, suc, ◌+◌, ◌<◌, ◌≤◌, arith, List, [], ◌∷◌, ◌++◌, map, length, drop, get_or, refl, ap, sym, ◌∙◌}
-use Rattle.std.proofs.lemmas.List.{map-append, at_drop_more}
+use Rattle.std.proofs.lemmas.List.{map-append, at_drop_more, drop_all}
 use Rattle.tal_tree.specs.ByStatements.{HoldsInside, by-statements}
 use Rattle.tal_tree.specs.Rows.{rows}
 use Rattle.tal_tree.specs.declared.program.Procedure.{Procedure}
@@ -79,12 +79,6 @@ one-more-told procedures k whole told_sizes procedure size is inside sized so_fa
       leads = ap (λ (p : Procedure). in_order size_from so_far.before (p ∷ drop (k + 1) procedures)) is ∙ sym next ∙ so_far.leads;
     }
 
-drop-all : (procedures : List Procedure) (k : ℕ) → length procedures ≤ k → drop k procedures ≡ []
-drop-all [] zero past = refl
-drop-all [] (suc k) past = refl
-drop-all (procedure ∷ procedures) zero past = absurd (omega arith)
-drop-all (procedure ∷ procedures) (suc k) past = drop-all procedures k (omega arith)
-
 pub all-told : (procedures : List Procedure) (k : ℕ) (whole told_sizes : List ℕ) → length procedures ≤ k → TellsSizes procedures k whole told_sizes → told_sizes ≡ map told whole
 all-told procedures k whole told_sizes past so_far =
-    sym so_far.tells ∙ ap (map told) (ap (in_order size_from so_far.before) (sym (drop-all procedures k past)) ∙ so_far.leads)
+    sym so_far.tells ∙ ap (map told) (ap (in_order size_from so_far.before) (sym (drop_all k procedures past)) ∙ so_far.leads)

@@ -1,6 +1,7 @@
 -- The graph of MAIN is the graph of the program, and each graph leads nowhere but to its own nodes.
-use Rattle.std.proofs.Common.{◌≡◌, inl, inr, ℕ, zero, suc, ◌<◌, ◌≤◌, arith, List, [], ◌∷◌, ◌++◌, drop, get_or, length, slice_get, Option, Some, None, refl, ap, subst, sym, ◌∙◌}
-use Rattle.std.proofs.lemmas.List.{append-nil}
+use Rattle.std.proofs.Common.{◌≡◌, inl, inr, ℕ, zero, suc, ◌<◌, ◌≤◌, arith, List, [], ◌∷◌, ◌++◌, drop, length, slice_get, Option, Some, None, refl, ap, subst, sym, ◌∙◌}
+use Rattle.std.proofs.lemmas.List.{append-nil, length-map}
+use Rattle.std.proofs.lemmas.Option.{slice_get_within}
 use Rattle.gd_words.specs.Members.{IsAmong}
 use Rattle.tal_tree.specs.Ordered.{IsOrdered}
 use Rattle.tal_tree.specs.Rows.{rows}
@@ -20,11 +21,6 @@ use Rattle.flow_paths.proofs.Graphs.{size, IsGraph, AreGraphs, more-graphs, same
 use Rattle.flow_paths.proofs.Placed.{Placed, shown}
 use Rattle.flow_paths.proofs.Right.{LeadsTo, ArrivesIn, AllArriveIn, IsCalledBy, IsRightIn, AreRight}
 
-pub found-there : (procedures : List Procedure) (k : ℕ) (default : Procedure) → k < length procedures → slice_get procedures k ≡ Some (get_or procedures k default)
-found-there [] k default there = absurd (omega arith)
-found-there (first ∷ procedures) zero default there = refl
-found-there (first ∷ procedures) (suc k) default there = found-there procedures k default (omega arith)
-
 right-at : (program : Program) (nodes part : List Placed) (k : ℕ) (one : Placed) → AreRight program nodes part → slice_get part k ≡ Some one → IsRightIn program nodes one
 right-at program nodes [] k one right got = absurd (cc)
 right-at program nodes (first ∷ part) zero one right got = subst (IsRightIn program nodes) (let same : first ≡ one = cc in same) right.0
@@ -41,9 +37,10 @@ among-placed (one ∷ nodes) node (inl same) = (zero, ap Some (sym same))
 among-placed (one ∷ nodes) node (inr among) = let found = among-placed nodes node among in (suc found.0, found.1)
 
 inside : (nodes : List Placed) (k : ℕ) (one : Placed) → slice_get nodes k ≡ Some one → k < length (shown nodes)
-inside [] k one got = absurd (cc)
-inside (first ∷ nodes) zero one got = omega arith
-inside (first ∷ nodes) (suc k) one got = let less = inside nodes k one got in omega arith
+inside nodes k one got =
+    let less : k < length nodes = slice_get_within nodes k one got in
+    let count : length (shown nodes) ≡ length nodes = length-map nodes (λ (placed : Placed). placed.node) in
+    omega arith
 
 abbrev place_in : Option Placed → Place
 place_in None = []

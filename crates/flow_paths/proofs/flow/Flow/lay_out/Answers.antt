@@ -1,5 +1,7 @@
 use Rattle.std.proofs.Common.{◌≡◌, ◌+◌, ◌<◌, ℕ, List, [], ◌∷◌, ◌++◌, map, length, get_or, refl, arith, ap, subst, sym, ◌∙◌}
 use Rattle.std.proofs.lemmas.List.{length_push}
+use Rattle.std.proofs.lemmas.Option.{slice_get-get_or}
+use Rattle.std.proofs.lemmas.Result.{IfOk-weaker}
 use Rattle.tal_tree.specs.Rows.{rows}
 use Rattle.tal_tree.specs.declared.program.Procedure.{Procedure}
 use Rattle.tal_tree.specs.declared.statement.Statement.{Statement}
@@ -10,10 +12,9 @@ use Rattle.flow_paths.specs.Graph.{Node}
 use Rattle.flow_paths.specs.Layout.{size_at, leaving, lay_row, graph_at}
 use Rattle.flow_paths.proofs.Graphs.{size, AreGraphs, left-out}
 use Rattle.flow_paths.proofs.Told.{told-exact}
-use Rattle.flow_paths.proofs.Whole.{found-there, has-room, has-few, is-closed, is-flow, one-more}
+use Rattle.flow_paths.proofs.Whole.{has-room, has-few, is-closed, is-flow, one-more}
 use Rattle.flow_paths.proofs.flow.Flow.lay_out.Goals as goal
 use Rattle.flow_paths.proofs.flow.Flow.lay_out.Goals.{then-size_at-gt-MOST_NODES, else-size_at-gt-MOST_NODES+in_ok-graph}
-use Rattle.flow_paths.proofs.Laying.{if-ok}
 
 -- the size of a procedure is found exactly where it isn't too large
 exact : (known whole : List ℕ) (k found : ℕ) → known ≡ map told whole → found ≡ size_at known k → found ≡ told (size_at whole k)
@@ -30,7 +31,7 @@ graph-requires-clause-room c =
     let found : c.size_at.result ≡ told (size c.args.program.now c.loop-k.k) = exact c.args.sizes.now (sizes c.args.program.now) c.loop-k.k c.size_at.result c.requires.sizes c.size_at.ensures in
     has-room c.args.program.now c.requires.ordered c.loop-k.graphs c.loop-k.invariant.graphs c.loop-k.k (get_or c.args.program.now.procedures c.loop-k.k c.index-procedures-from.result)
     c.as_slice.result.now (omega (arith, c.loop-k.invariant.count))
-    (found-there c.args.program.now.procedures c.loop-k.k c.index-procedures-from.result (omega (arith, c.loop-k-test.true, c.requires.limits.main)))
+    (slice_get-get_or c.args.program.now.procedures c.loop-k.k c.index-procedures-from.result (omega (arith, c.loop-k-test.true, c.requires.limits.main)))
     (body-is c.as_slice-procedures.result.now c.args.program.now.procedures c.from.result c.loop-k.k c.index-procedures-from.result c.as_slice.result.now c.as_slice-procedures.ensures
     c.from.ensures c.as_slice.ensures)
     (omega (arith, c.if-size_at-gt-MOST_NODES.false))
@@ -40,7 +41,7 @@ graph-requires-clause-few c =
     let found : c.size_at.result ≡ told (size c.args.program.now c.loop-k.k) = exact c.args.sizes.now (sizes c.args.program.now) c.loop-k.k c.size_at.result c.requires.sizes c.size_at.ensures in
     has-few c.args.program.now c.requires.ordered c.loop-k.graphs c.loop-k.invariant.graphs c.loop-k.k (get_or c.args.program.now.procedures c.loop-k.k c.index-procedures-from.result)
     c.as_slice.result.now (omega (arith, c.loop-k.invariant.count))
-    (found-there c.args.program.now.procedures c.loop-k.k c.index-procedures-from.result (omega (arith, c.loop-k-test.true, c.requires.limits.main)))
+    (slice_get-get_or c.args.program.now.procedures c.loop-k.k c.index-procedures-from.result (omega (arith, c.loop-k-test.true, c.requires.limits.main)))
     (body-is c.as_slice-procedures.result.now c.args.program.now.procedures c.from.result c.loop-k.k c.index-procedures-from.result c.as_slice.result.now c.as_slice-procedures.ensures
     c.from.ensures c.as_slice.ensures)
     (omega (arith, c.if-size_at-gt-MOST_NODES.false))
@@ -50,7 +51,7 @@ graph-requires-clause-closed c =
     let found : c.size_at.result ≡ told (size c.args.program.now c.loop-k.k) = exact c.args.sizes.now (sizes c.args.program.now) c.loop-k.k c.size_at.result c.requires.sizes c.size_at.ensures in
     is-closed c.args.program.now c.requires.ordered c.loop-k.graphs c.loop-k.invariant.graphs c.loop-k.k (get_or c.args.program.now.procedures c.loop-k.k c.index-procedures-from.result)
     c.as_slice.result.now (omega (arith, c.loop-k.invariant.count))
-    (found-there c.args.program.now.procedures c.loop-k.k c.index-procedures-from.result (omega (arith, c.loop-k-test.true, c.requires.limits.main)))
+    (slice_get-get_or c.args.program.now.procedures c.loop-k.k c.index-procedures-from.result (omega (arith, c.loop-k-test.true, c.requires.limits.main)))
     (body-is c.as_slice-procedures.result.now c.args.program.now.procedures c.from.result c.loop-k.k c.index-procedures-from.result c.as_slice.result.now c.as_slice-procedures.ensures
     c.from.ensures c.as_slice.ensures)
     (omega (arith, c.if-size_at-gt-MOST_NODES.false))
@@ -70,7 +71,7 @@ loop-k-preserved c =
           subst (λ (graph : List Node). AreGraphs c.args.program.now (c.loop-k.graphs ++ graph ∷ [])) (sym (w.graph-is ∙ w.in_ok-graph.ensures))
           (one-more c.args.program.now c.requires.ordered c.loop-k.graphs c.loop-k.invariant.graphs c.loop-k.k
           (get_or c.args.program.now.procedures c.loop-k.k w.index-procedures-from.result) w.as_slice.result.now (omega (arith, c.loop-k.invariant.count))
-          (found-there c.args.program.now.procedures c.loop-k.k w.index-procedures-from.result (omega (arith, c.loop-k-test.true, c.requires.limits.main)))
+          (slice_get-get_or c.args.program.now.procedures c.loop-k.k w.index-procedures-from.result (omega (arith, c.loop-k-test.true, c.requires.limits.main)))
           (body-is c.as_slice-procedures.result.now c.args.program.now.procedures w.from.result c.loop-k.k w.index-procedures-from.result w.as_slice.result.now
           c.as_slice-procedures.ensures w.from.ensures w.as_slice.ensures)
           (omega (arith, w.if-size_at-gt-MOST_NODES.false)) (sym c.loop-k.invariant.count))
@@ -84,7 +85,7 @@ pub graph-requires-2-clause-room : goal.graph-requires-2-clause-room
 graph-requires-2-clause-room c =
     has-room c.args.program.now c.requires.ordered c.loop-k.graphs c.loop-k.invariant.graphs c.args.program.now.main
     (get_or c.args.program.now.procedures c.args.program.now.main c.index-procedures-from-2.result) c.as_slice-2.result.now (omega (arith, c.loop-k.invariant.count, c.loop-k-test.false))
-    (found-there c.args.program.now.procedures c.args.program.now.main c.index-procedures-from-2.result c.requires.limits.main)
+    (slice_get-get_or c.args.program.now.procedures c.args.program.now.main c.index-procedures-from-2.result c.requires.limits.main)
     (body-is c.as_slice-procedures.result.now c.args.program.now.procedures c.from-2.result c.args.program.now.main c.index-procedures-from-2.result c.as_slice-2.result.now
     c.as_slice-procedures.ensures c.from-2.ensures (c.as_slice-2.ensures ∙ ap (λ (p : Procedure). p.body) c.index-procedures-from-2.is))
     c.requires.few
@@ -93,7 +94,7 @@ pub graph-requires-2-clause-few : goal.graph-requires-2-clause-few
 graph-requires-2-clause-few c =
     has-few c.args.program.now c.requires.ordered c.loop-k.graphs c.loop-k.invariant.graphs c.args.program.now.main
     (get_or c.args.program.now.procedures c.args.program.now.main c.index-procedures-from-2.result) c.as_slice-2.result.now (omega (arith, c.loop-k.invariant.count, c.loop-k-test.false))
-    (found-there c.args.program.now.procedures c.args.program.now.main c.index-procedures-from-2.result c.requires.limits.main)
+    (slice_get-get_or c.args.program.now.procedures c.args.program.now.main c.index-procedures-from-2.result c.requires.limits.main)
     (body-is c.as_slice-procedures.result.now c.args.program.now.procedures c.from-2.result c.args.program.now.main c.index-procedures-from-2.result c.as_slice-2.result.now
     c.as_slice-procedures.ensures c.from-2.ensures (c.as_slice-2.ensures ∙ ap (λ (p : Procedure). p.body) c.index-procedures-from-2.is))
     c.requires.few
@@ -102,7 +103,7 @@ pub graph-requires-2-clause-closed : goal.graph-requires-2-clause-closed
 graph-requires-2-clause-closed c =
     is-closed c.args.program.now c.requires.ordered c.loop-k.graphs c.loop-k.invariant.graphs c.args.program.now.main
     (get_or c.args.program.now.procedures c.args.program.now.main c.index-procedures-from-2.result) c.as_slice-2.result.now (omega (arith, c.loop-k.invariant.count, c.loop-k-test.false))
-    (found-there c.args.program.now.procedures c.args.program.now.main c.index-procedures-from-2.result c.requires.limits.main)
+    (slice_get-get_or c.args.program.now.procedures c.args.program.now.main c.index-procedures-from-2.result c.requires.limits.main)
     (body-is c.as_slice-procedures.result.now c.args.program.now.procedures c.from-2.result c.args.program.now.main c.index-procedures-from-2.result c.as_slice-2.result.now
     c.as_slice-procedures.ensures c.from-2.ensures (c.as_slice-2.ensures ∙ ap (λ (p : Procedure). p.body) c.index-procedures-from-2.is))
     c.requires.few
@@ -112,8 +113,8 @@ returns c =
     let flow : IsFlow c.args.program.now (lay_row (graph_at c.loop-k.graphs) (rows c.as_slice-2.result.now) 0 leaving) =
     is-flow c.args.program.now c.requires.ordered c.loop-k.graphs c.loop-k.invariant.graphs c.args.program.now.main
     (get_or c.args.program.now.procedures c.args.program.now.main c.index-procedures-from-2.result) c.as_slice-2.result.now (omega (arith, c.loop-k.invariant.count, c.loop-k-test.false))
-    (found-there c.args.program.now.procedures c.args.program.now.main c.index-procedures-from-2.result c.requires.limits.main)
+    (slice_get-get_or c.args.program.now.procedures c.args.program.now.main c.index-procedures-from-2.result c.requires.limits.main)
     (body-is c.as_slice-procedures.result.now c.args.program.now.procedures c.from-2.result c.args.program.now.main c.index-procedures-from-2.result c.as_slice-2.result.now
     c.as_slice-procedures.ensures c.from-2.ensures (c.as_slice-2.ensures ∙ ap (λ (p : Procedure). p.body) c.index-procedures-from-2.is))
     c.requires.few refl in
-    if-ok c.graph-2.result (λ graph is. subst (IsFlow c.args.program.now) (sym is) flow) c.graph-2.ensures
+    IfOk-weaker c.graph-2.result _ _ (λ graph is. subst (IsFlow c.args.program.now) (sym is) flow) c.graph-2.ensures

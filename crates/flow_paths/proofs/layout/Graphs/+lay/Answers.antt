@@ -1,10 +1,11 @@
 use Rattle.std.proofs.Common.{◌≡◌, ◌+◌, ◌≤◌, ℕ, List, [], ◌∷◌, ◌++◌, drop, arith, ap, sym, ◌∙◌}
+use Rattle.std.proofs.lemmas.Result.{on_ok_weaker}
 use Rattle.tal_tree.specs.Rows.{rows}
 use Rattle.tal_tree.specs.declared.statement.Statement.{Statement}
 use Rattle.tal_tree.specs.declared.statement.What.{What, For}
 use Rattle.flow_paths.specs.Graph.{Node}
 use Rattle.flow_paths.specs.Layout.{size_in, size_row, lay_in, graph_at, graph_sizes}
-use Rattle.flow_paths.proofs.Laying.{lays-if, lays-while, lays-for, next-fits, one-more-laid, laying-ends, on-ok}
+use Rattle.flow_paths.proofs.Laying.{lays-if, lays-while, lays-for, next-fits, one-more-laid, laying-ends}
 use Rattle.flow_paths.proofs.Sizes.{size-if, size-while, size-for, size-at-most}
 use Rattle.flow_paths.proofs.layout.Graphs.+lay.Goals as goal
 
@@ -31,7 +32,7 @@ pub lay-returns-in-For : goal.lay-returns-in-For
 lay-returns-in-For t c =
     let is : For c.in-For.variable c.in-For.from c.in-For.to c.as_slice-in-For.result.now c.in-For.last ≡ c.args.statement.now.what =
     ap (λ (xs : List Statement). For c.in-For.variable c.in-For.from c.in-For.to xs c.in-For.last) c.as_slice-in-For.ensures ∙ sym c.in-For.is in
-    on-ok c.lay_for.result
+    on_ok_weaker c.lay_for.result
     (λ laid. laid c.in-For.variable c.in-For.from c.in-For.to c.in-For.last
     ∙ ap (λ (w : What). c.args.nodes.now.items ++ lay_in (graph_at c.args.self.now) w c.args.statement.now c.args.at c.args.after.now) is)
     c.lay_for.ensures
@@ -89,7 +90,7 @@ lay_for-returns t c = λ variable from to last.
 
 pub lay_if-returns : goal.lay_if-returns
 lay_if-returns t c =
-    on-ok c.lay_all-2.result
+    on_ok_weaker c.lay_all-2.result
     (λ laid test. lays-if (graph_at c.args.self.now) c.args.statement.now c.args.at c.args.after.now c.args.nodes.now.items test c.args.yes.now c.args.no.now
     (c.args.at + 1 + c.size_of_all.result) c.in_ok-first.first c.in_ok-second.second c.push.new.self.items c.lay_all.new.nodes.items c.lay_all-2.new.nodes.items
     (ap (λ (n : ℕ). c.args.at + 1 + n) c.size_of_all.ensures) c.in_ok-first.ensures c.in_ok-second.ensures
@@ -99,7 +100,7 @@ lay_if-returns t c =
 
 pub lay_while-returns : goal.lay_while-returns
 lay_while-returns t c =
-    on-ok c.lay_all.result
+    on_ok_weaker c.lay_all.result
     (λ laid test. lays-while (graph_at c.args.self.now) c.args.statement.now c.args.at c.args.after.now c.args.nodes.now.items test c.args.body.now
     c.to_node-again.result c.in_ok-first.first c.in_ok-second.second c.push.new.self.items c.lay_all.new.nodes.items
     c.to_node-again.ensures c.in_ok-first.ensures c.in_ok-second.ensures
