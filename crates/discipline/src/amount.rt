@@ -11,6 +11,7 @@ use process_semantics::Entry;
 use tal_tree::{FileUse, Program, Spot, Variable, What};
 
 /// How much is due after an entry.
+#[inline(always)]
 pub(crate) fn after_entry(reason: Reason, entry: Entry<'_>, due: u8) -> u8
     requires { due ≤ 4 }
     ensures value { result ≡ after_entry reason (entry_of entry.entry) due }
@@ -23,6 +24,7 @@ pub(crate) fn after_entry(reason: Reason, entry: Entry<'_>, due: u8) -> u8
     }
 }
 
+#[inline(always)]
 fn after_what(reason: Reason, what: &What, due: u8) -> u8
     requires { due ≤ 4 }
     ensures value { result ≡ after_what reason (out-What what.now) due }
@@ -37,6 +39,7 @@ fn after_what(reason: Reason, what: &What, due: u8) -> u8
     }
 }
 
+#[inline(always)]
 fn one_more(reason: Reason, due: u8) -> u8
     requires { due ≤ 4 }
     ensures value { result ≡ one_more reason due }
@@ -48,6 +51,7 @@ fn one_more(reason: Reason, due: u8) -> u8
     }
 }
 
+#[inline(always)]
 fn after_last(reason: Reason, what: &What, due: u8) -> u8
     requires { due ≤ 4 }
     ensures value { result ≡ after_changed reason (changed_by (out-What what.now)) due }
@@ -57,6 +61,7 @@ fn after_last(reason: Reason, what: &What, due: u8) -> u8
 }
 
 /// Whether an entry adds to what is due.
+#[inline(always)]
 pub(crate) fn adds_at(reason: Reason, entry: Entry<'_>) -> bool
     ensures { result ≡ adds_at reason (entry_of entry.entry) }
 {
@@ -68,6 +73,7 @@ pub(crate) fn adds_at(reason: Reason, entry: Entry<'_>) -> bool
 }
 
 /// Whether the last assignment of a FOR adds to what is due.
+#[inline(always)]
 fn adds_last(reason: Reason, what: &What) -> bool
     ensures { result ≡ adds_changed reason (changed_by (out-What what.now)) }
 {
@@ -78,6 +84,7 @@ fn adds_last(reason: Reason, what: &What) -> bool
 }
 
 /// How much is due after a change of these globals, at most as much as breaks.
+#[inline(always)]
 pub(crate) fn cut_changed(reason: Reason, most: u8, globals: &[u16], due: u8) -> u8
     ensures { result ≡ min most (after_changed reason globals.now due) }
 {
@@ -90,11 +97,12 @@ pub(crate) fn cut_changed(reason: Reason, most: u8, globals: &[u16], due: u8) ->
 }
 
 /// Whether a change of these globals adds to what is due.
+#[inline(always)]
 pub(crate) fn adds_changed(reason: Reason, globals: &[u16]) -> bool
     ensures { result ≡ adds_changed reason globals.now }
 {
     match reason {
-        Reason::Data(item) => globals.contains(&item),
+        Reason::Data(item) => has(globals, item),
         _ => false,
     }
 }
@@ -118,7 +126,20 @@ fn depth_in(file: Option<&FileUse>) -> u8
     }
 }
 
+/// Whether a global is one of these. Mostly there are none.
+#[inline(always)]
+fn has(globals: &[u16], item: u16) -> bool
+    ensures { result ≡ is_among item globals.now }
+{
+    if globals.is_empty() {
+        false
+    } else {
+        globals.contains(&item)
+    }
+}
+
 /// Whether an entry breaks where enough is due.
+#[inline(always)]
 pub(crate) fn may_break_at(reason: Reason, entry: Entry<'_>) -> bool
     ensures { result ≡ may_break_at reason (entry_of entry.entry) }
 {
@@ -128,6 +149,7 @@ pub(crate) fn may_break_at(reason: Reason, entry: Entry<'_>) -> bool
     }
 }
 
+#[inline(always)]
 fn may_break(reason: Reason, what: &What) -> bool
     ensures { result ≡ may_break reason (out-What what.now) }
 {
@@ -140,6 +162,7 @@ fn may_break(reason: Reason, what: &What) -> bool
 }
 
 /// Whether a statement adds to what is due.
+#[inline(always)]
 fn adds(reason: Reason, what: &What) -> bool
     ensures { result ≡ adds reason (out-What what.now) }
 {
@@ -151,6 +174,7 @@ fn adds(reason: Reason, what: &What) -> bool
     }
 }
 
+#[inline(always)]
 fn clears(what: &What) -> bool
     ensures { result ≡ clears (out-What what.now) }
 {
@@ -160,6 +184,7 @@ fn clears(what: &What) -> bool
     }
 }
 
+#[inline(always)]
 fn reads(what: &What) -> bool
     ensures { result ≡ reads (out-What what.now) }
 {
@@ -173,6 +198,7 @@ fn reads(what: &What) -> bool
     }
 }
 
+#[inline(always)]
 fn sends(what: &What) -> bool
     ensures { result ≡ sends (out-What what.now) }
 {
@@ -192,6 +218,7 @@ fn sends(what: &What) -> bool
     }
 }
 
+#[inline(always)]
 fn asks(what: &What, file: u8) -> bool
     ensures { result ≡ is_among file (asked_by (out-What what.now)) }
 {
@@ -207,6 +234,7 @@ fn asks(what: &What, file: u8) -> bool
     }
 }
 
+#[inline(always)]
 fn changes(what: &What, item: u16) -> bool
     ensures { result ≡ is_among item (changed_by (out-What what.now)) }
 {
@@ -235,6 +263,7 @@ fn changes(what: &What, item: u16) -> bool
     }
 }
 
+#[inline(always)]
 fn is_in(spot: &Spot, item: u16) -> bool
     ensures { result ≡ is_among item (global_of_spot spot.now) }
 {
@@ -248,6 +277,7 @@ fn is_in(spot: &Spot, item: u16) -> bool
     }
 }
 
+#[inline(always)]
 fn is_global(variable: Variable, item: u16) -> bool
     ensures { result ≡ is_among item (global_of variable) }
 {
