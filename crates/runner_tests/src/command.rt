@@ -1,5 +1,6 @@
 use gd_io::{MemorySink, MemorySource, StdCommandLine};
 use gd_words::List;
+use path_semantics::{Reason, Refusal};
 use runner::{RunEnd, Status, command, exit_number};
 use std::alloc::{AllocError, Global};
 use std::env::FillError;
@@ -75,7 +76,7 @@ fn run_words(
     let mut sink = MemorySink::new(alloc, 100_000, failing)?;
     let outcome = command(alloc, &line, &mut source, &mut sink);
     let text = Vec::from_slice(alloc, sink.bytes())?;
-    if outcome.status == Status::NoMemory && text.is_empty() {
+    if matches!(outcome.status, Status::NoMemory) && text.is_empty() {
         return Err(Fail::from(AllocError));
     }
     Ok(Ended {
@@ -92,19 +93,14 @@ fn ends_as_the_ends_allow(rt: HostRuntime) -> Result<(), Fail> {
     let second: &[u64] = &[2];
     let both = b"R $T1 1: 5\nR $T1 2: 12\nEND idle\n".as_slice();
     let cases = [
-        (never, never, Status::Done, both),
-        (
-            never,
-            second,
-            Status::WriteFault,
-            b"R $T1 1: 5\n".as_slice(),
-        ),
-        (first, never, Status::ReadFault, b"".as_slice()),
+        (never, never, 0, both),
+        (never, second, 7, b"R $T1 1: 5\n".as_slice()),
+        (first, never, 6, b"".as_slice()),
     ];
-    for (reads, writes, status, text) in cases {
+    for (reads, writes, number, text) in cases {
         let deck = deck(rt.alloc(), 0, BOTH)?;
         let end = run_words(rt.alloc(), &[b"guardian", b"run"], deck, reads, writes)?;
-        assert!(rt; end.status == status);
+        assert!(rt; end.status.number() == number);
         assert!(rt; end.text.as_slice() == text);
     }
     Ok(())
@@ -114,16 +110,16 @@ fn ends_as_the_ends_allow(rt: HostRuntime) -> Result<(), Fail> {
 fn refuses_words_and_decks(rt: HostRuntime) -> Result<(), Fail> {
     let usage = b"USAGE guardian MODE [N] [--acts] [--fail P:K]\n".as_slice();
     let not_yet = b"DECK 0 11\n".as_slice();
-    let refused = Status::DeckRefused(DeckFault::NotYet);
     let failing = b"send 5\nschedule\nfail 0\ndrain 4000\nEND\n".as_slice();
-    let words: [&[&[u8]]; 13] = [
+    let words: [&[&[u8]]; 14] = [
         &[b"guardian"],
         &[b"guardian", b"run", b"3"],
         &[b"guardian", b"run", b""],
         &[b"guardian", b"run", b"\xff\xfe"],
         &[b"guardian", b"\xff\xfe"],
         &[b"guardian", b"run\xff"],
-        &[b"guardian", b"check"],
+        &[b"guardian", b"check", b"--acts"],
+        &[b"guardian", b"chec"],
         &[b"guardian", b"ru"],
         &[b"guardian", b"--acts"],
         &[b"guardian", b"--acts", b"run"],
@@ -133,7 +129,7 @@ fn refuses_words_and_decks(rt: HostRuntime) -> Result<(), Fail> {
     ];
     for given in words {
         let end = run_words(rt.alloc(), given, deck(rt.alloc(), 0, BOTH)?, &[], &[])?;
-        assert!(rt; end.status == Status::Usage);
+        assert!(rt; matches!(end.status, Status::Usage));
         assert!(rt; end.text.as_slice() == usage);
     }
     let end = run_words(
@@ -143,7 +139,7 @@ fn refuses_words_and_decks(rt: HostRuntime) -> Result<(), Fail> {
         &[],
         &[],
     )?;
-    assert!(rt; end.status == refused);
+    assert!(rt; matches!(end.status, Status::DeckRefused(DeckFault::NotYet)));
     assert!(rt; end.text.as_slice() == not_yet);
     Ok(())
 }
@@ -192,6 +188,35 @@ fn keeps_the_acts_of_one_request(rt: HostRuntime) -> Result<(), Fail> {
     ];
     let run = end.run.ok_or("no run")?;
     assert!(rt; run.acts.as_slice() == acts.as_slice());
+    Ok(())
+}
+
+/// A refused program has its process, its reason and its path in the outcome, and no run; `run` makes no act of it.
+#[test]
+fn refuses_what_the_discipline_refuses(rt: HostRuntime) -> Result<(), Fail> {
+    let program =
+        b"INT total, got, rcv; INT buf[0:0]; PROC p MAIN; BEGIN CALL CHECKMONITOR; CALL OPEN(\"$RECEIVE\", rcv, 1); total := 1;\nCALL CHECKPOINT(got) END;\n".as_slice();
+    for mode in [b"run".as_slice(), b"check".as_slice()] {
+        let mut deck = List::new(rt.alloc());
+        deck.extend_from_slice(b"processors 2\npair $P 0 1\n")?;
+        deck.extend_from_slice(program)?;
+        deck.extend_from_slice(b".\nschedule\ndrain 1\nEND\n")?;
+        let end = run_words(rt.alloc(), &[b"guardian", mode], deck, &[], &[])?;
+        assert!(rt;
+            end.text.as_slice()
+                == b"REFUSED $P Data TOTAL\nP 1 1\nP 2 1\nP 3 1\nP 4 2\nEND refused\n".as_slice()
+        );
+        assert!(rt; end.run.is_none());
+        let Status::Refused {
+            process: 0,
+            refusal: Refusal::Broken { reason, path },
+        } = end.status
+        else {
+            return Err(Fail::from("another end"));
+        };
+        assert!(rt; reason == Reason::Data(0));
+        assert!(rt; path.as_slice() == [1, 2, 3, 4].as_slice());
+    }
     Ok(())
 }
 

@@ -172,34 +172,3 @@ fn tells_what_stands_first(rt: HostRuntime) -> Result<(), Fail> {
     }
     Ok(())
 }
-
-/// Fifteen procedures of which each calls the one before.
-const CHAIN: &[u8] =
-    b"PROC a; BEGIN END;\nPROC b; BEGIN CALL a; END;\nPROC c; BEGIN CALL b; END;\nPROC d; BEGIN CALL c; END;\nPROC e; BEGIN CALL d; END;\nPROC f; BEGIN CALL e; END;\nPROC g; BEGIN CALL f; END;\nPROC h; BEGIN CALL g; END;\nPROC i; BEGIN CALL h; END;\nPROC j; BEGIN CALL i; END;\nPROC k; BEGIN CALL j; END;\nPROC l; BEGIN CALL k; END;\nPROC m; BEGIN CALL l; END;\nPROC n; BEGIN CALL m; END;\nPROC o; BEGIN CALL n; END;\n";
-
-#[test]
-fn takes_calls_up_to_sixteen_procedures_deep(rt: HostRuntime) -> Result<(), Fail> {
-    let none = b"".as_slice();
-    let disc = b"disc $D 0 1 16\n".as_slice();
-    let terminal = b"terminal $T2 $P\n".as_slice();
-    let sixteen = b"PROC z MAIN; BEGIN CALL CHECKMONITOR; CALL o; END;".as_slice();
-    let seventeen =
-        b"PROC p; BEGIN CALL o; END; PROC z MAIN; BEGIN CALL CHECKMONITOR; CALL p; END;".as_slice();
-    let not_yet = Some(DeckFault::NotYet);
-    let cases = [
-        (none, sixteen, None),
-        (b"# nothing else\n".as_slice(), sixteen, None),
-        (none, seventeen, not_yet),
-        (disc, sixteen, None),
-        (disc, seventeen, not_yet),
-        (terminal, sixteen, None),
-    ];
-    for (lines, main, fault) in cases {
-        let mut program = Vec::from_slice(rt.alloc(), CHAIN)?;
-        program.extend_from_slice(main)?;
-        let deck = with_pair(rt.alloc(), lines, program.as_slice())?;
-        let found = read_deck(rt.alloc(), deck.as_slice()).err();
-        assert!(rt; found == fault, "{lines:?}");
-    }
-    Ok(())
-}
