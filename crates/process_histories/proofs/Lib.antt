@@ -1,0 +1,9 @@
+pub mod Counts
+pub mod Deeds
+pub mod Kept
+pub mod OneKind
+pub mod Places
+pub mod Short
+pub mod Steady
+pub mod Whole
+pub mod Writes
