@@ -1,0 +1,12 @@
+pub mod Agreeing
+pub mod Beginning
+pub mod Changed
+pub mod Counted
+pub mod Doing
+pub mod Entries
+pub mod Held
+pub mod Openers
+pub mod Possible
+pub mod Slots
+pub mod Slotted
+pub mod Terminals

@@ -1,0 +1,5 @@
+pub mod Agreeing
+pub mod Booking
+pub mod Ledgers
+pub mod Served
+pub mod Slots
