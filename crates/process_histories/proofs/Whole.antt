@@ -21,7 +21,7 @@ use Rattle.process_histories.proofs.Writes.{last-count, stored-eight}
 writes-few : (deeds : List Deed) → writes_in deeds ≤ length deeds
 writes-few deeds = let same = length-filter is_write deeds in let few = count_by-le-length is_write deeds in omega (arith, same, few)
 
-bounded-before : {deed : Deed} {deeds : List Deed} → AreBounded (deed ∷ deeds) → AreBounded deeds
+pub bounded-before : {deed : Deed} {deeds : List Deed} → AreBounded (deed ∷ deeds) → AreBounded deeds
 bounded-before is = record { count = let many = is.count in omega (arith, many); short = is.short.1 }
 
 module _ {site : Site} {number : ℕ} {spec : ProcessSpec} where
