@@ -148,3 +148,11 @@ along-edge program reason dues entry globals =
     ap (min most) (amount-changed reason globals (dues_after dues entry) ∙ ap (after_changed reason globals) (amount-entry reason dues entry))
     ∙ cut-changed reason most (after_entry reason entry (amount reason dues)) (after_entry reason entry (min most (amount reason dues))) globals
     (cut-entry reason most (amount reason dues) (min most (amount reason dues)) entry (cut-twice most (amount reason dues)))
+
+-- an entry, from what is due cut, twice or once
+pub entry-cut : (program : Program) (reason : Reason) (dues : Dues) (entry : Entry) (due : ℕ) → due ≡ min (most_of program reason) (amount reason dues)
+    → min (most_of program reason) (after_entry reason entry (min (most_of program reason) due)) ≡ min (most_of program reason) (amount reason (dues_after dues entry))
+entry-cut program reason dues entry due is =
+    let most = most_of program reason in
+    cut-entry reason most (min most due) (amount reason dues) entry (sym (cut-twice most due) ∙ ap (min most) is ∙ sym (cut-twice most (amount reason dues)))
+    ∙ ap (min most) (sym (amount-entry reason dues entry))

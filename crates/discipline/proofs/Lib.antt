@@ -13,3 +13,8 @@ pub mod Impossible
 pub mod Numbers
 pub mod Scanned
 pub mod Tried
+pub mod Finding
+pub mod Walking
+pub mod Stepping
+pub mod Walked
+pub mod Broken

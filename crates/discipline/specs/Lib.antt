@@ -1,4 +1,6 @@
 pub mod Amounts
+pub mod Finding
 pub mod Scan
 pub mod Search
 pub mod Verdict
+pub mod Walker

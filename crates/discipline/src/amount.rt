@@ -1,9 +1,9 @@
-ghost use Rattle.std.specs.Prelude.{◌≡◌, ◌≤◌, min};
+ghost use Rattle.std.specs.Prelude.{◌≡◌, ◌≤◌, min, Some};
 ghost use Rattle.std.specs.Option.{option_copied};
 ghost use Rattle.gd_words.specs.Members.{is_among};
 ghost use Rattle.tal_tree.specs.declared.statement.What.{out-What};
 ghost use Rattle.process_semantics.specs.SeenEntries.{entry_of};
-ghost use Rattle.path_semantics.specs.Dues.{global_of_spot, global_of, changed_by, asked_by, reads};
+ghost use Rattle.path_semantics.specs.Dues.{global_of_spot, global_of, changed_by, changed_by_return, target_of, asked_by, reads};
 ghost use Rattle.discipline.specs.Amounts.{clears, adds, adds_at, adds_changed, one_more, after_what, after_changed, after_entry, omits_item, omits_file, sends, may_break, may_break_at, depth_in, most_of};
 
 use path_semantics::Reason;
@@ -94,6 +94,39 @@ pub(crate) fn cut_changed(reason: Reason, most: u8, globals: &[u16], due: u8) ->
         due
     };
     most.min(after)
+}
+
+/// How much is due after a return to a frame with this next entry, at most as much as breaks.
+pub(crate) fn after_return(reason: Reason, most: u8, entry: Entry<'_>, due: u8) -> u8
+    ensures { result ≡ min most (after_changed reason (changed_by_return (Some (entry_of entry.entry))) due) }
+{
+    let after = if returns_to(reason, entry) { 1 } else { due };
+    most.min(after)
+}
+
+fn returns_to(reason: Reason, entry: Entry<'_>) -> bool
+    ensures { result ≡ adds_changed reason (changed_by_return (Some (entry_of entry.entry))) }
+{
+    match entry {
+        Entry::Run(statement) => gives_to(reason, &statement.what),
+        _ => adds_changed(reason, &[]),
+    }
+}
+
+fn gives_to(reason: Reason, what: &What) -> bool
+    ensures { result ≡ adds_changed reason (target_of (out-What what.now)) }
+{
+    match reason {
+        Reason::Data(item) => match what {
+            What::AssignCall {
+                to,
+                procedure: _,
+                arguments: _,
+            } => is_in(to, item),
+            _ => false,
+        },
+        _ => false,
+    }
 }
 
 /// Whether a change of these globals adds to what is due.

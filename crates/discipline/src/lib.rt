@@ -1,16 +1,23 @@
-//! The checker of the checkpoint discipline: whether a program keeps it, and if not, a shortest path that breaks it.
+//! The checker of the checkpoint discipline: whether a program keeps it, and if not, a shortest path that breaks it; and
+//! whether a list of statement numbers is a path, and breaks.
 //!
 //! Below stand `path_semantics` with the paths, what is due along them and what breaks, and `flow_paths` with the graph that is
-//! searched in their place. The layer above uses `check`, whose contract is `IsVerdict` of `specs/Verdict.antt`, and the laws of
-//! this crate's public functions.
+//! searched in their place. The layer above uses `check`, whose contract is `IsVerdict` of `specs/Verdict.antt`, `is_path` and
+//! `breaks`, which take no memory, and the laws of this crate's public functions.
 #![tactic(auto)]
 
 mod amount;
 pub mod checker;
+mod find;
 pub mod laws;
+pub mod paths;
 mod queue;
 mod scan;
 mod search;
+mod stack;
+mod walk;
+mod walker;
 
 pub use checker::check;
 pub use laws::{accepted_is_ok, one_verdict};
+pub use paths::{breaks, is_path};
