@@ -21,5 +21,5 @@ pub use laws::{
     accepted_breaks_nowhere, bounds_follow_calls, break_is_path, checkpoint_clears, front_is_path,
     path_fixes_its_stand, places_are_told, quiet_programs_are_bounded, successors_differ,
 };
-pub use paths::{breaks, is_path};
+pub use paths::{breaks_there, leads_somewhere};
 pub use reason::{Reason, Refusal};

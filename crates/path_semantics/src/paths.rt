@@ -17,7 +17,7 @@ use std::alloc::Global;
 use tal_tree::{Program, What};
 
 /// Whether a list of statement numbers is a path of the program.
-pub fn is_path(alloc: Global, program: &Program, path: &[u16]) -> Result<bool, NoMemory>
+pub fn leads_somewhere(alloc: Global, program: &Program, path: &[u16]) -> Result<bool, NoMemory>
     ensures { IfOk result (λ is. IsTrue is ↔ IsPath program.now path.now) }
 {
     let stands = reached(alloc, program, path)?;
@@ -26,7 +26,7 @@ pub fn is_path(alloc: Global, program: &Program, path: &[u16]) -> Result<bool, N
 }
 
 /// Whether a list of statement numbers is a path of the program that breaks for a reason.
-pub fn breaks(
+pub fn breaks_there(
     alloc: Global,
     program: &Program,
     path: &[u16],

@@ -1,5 +1,5 @@
 use crate::programs::program_of;
-use path_semantics::{Reason, breaks, is_path};
+use path_semantics::{Reason, breaks_there, leads_somewhere};
 use std::alloc::Global;
 use std::test::Fail;
 
@@ -95,9 +95,9 @@ PROC m MAIN; BEGIN CALL CHECKMONITOR; x := g; CALL CHECKPOINT END;",
 /// Whether the path is one of the program and breaks for just these globals.
 fn is_due(alloc: Global, due: &Due) -> Result<bool, Fail> {
     let program = program_of(alloc, due.text)?;
-    let mut holds = is_path(alloc, &program, due.path)?;
+    let mut holds = leads_somewhere(alloc, &program, due.path)?;
     for (item, wanted) in [0, 1, 2, 3].into_iter().zip(due.globals) {
-        let found = breaks(alloc, &program, due.path, Reason::Data(item))?;
+        let found = breaks_there(alloc, &program, due.path, Reason::Data(item))?;
         holds = holds && found == wanted;
     }
     Ok(holds)
@@ -119,13 +119,13 @@ fn a_reply_to_a_request_read_since_breaks(rt: HostRuntime) -> Result<(), Fail> {
         b"INT rcv, n; INT b[0:3]; PROC m MAIN; BEGIN CALL CHECKMONITOR; CALL OPEN(\"$RECEIVE\", rcv, 1);
 CALL READUPDATE(rcv, b, 1, n); CALL REPLY(b, 1) END;",
     )?;
-    assert!(rt; breaks(alloc, &at_once, &[1, 2, 3, 4], Reason::Input)?);
+    assert!(rt; breaks_there(alloc, &at_once, &[1, 2, 3, 4], Reason::Input)?);
     let marked = program_of(
         alloc,
         b"INT rcv, n; INT b[0:3]; PROC m MAIN; BEGIN CALL CHECKMONITOR; CALL OPEN(\"$RECEIVE\", rcv, 1);
 CALL READUPDATE(rcv, b, 1, n); CALL CHECKPOINT(b, n); CALL REPLY(b, 1) END;",
     )?;
-    assert!(rt; is_path(alloc, &marked, &[1, 2, 3, 4, 5])?);
-    assert!(rt; !breaks(alloc, &marked, &[1, 2, 3, 4, 5], Reason::Input)?);
+    assert!(rt; leads_somewhere(alloc, &marked, &[1, 2, 3, 4, 5])?);
+    assert!(rt; !breaks_there(alloc, &marked, &[1, 2, 3, 4, 5], Reason::Input)?);
     Ok(())
 }

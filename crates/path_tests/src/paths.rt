@@ -1,5 +1,5 @@
 use crate::programs::program_of;
-use path_semantics::{Reason, breaks, call_depth, is_path};
+use path_semantics::{Reason, breaks_there, call_depth, leads_somewhere};
 use std::alloc::Global;
 use std::test::Fail;
 use tal_tree::Program;
@@ -118,7 +118,7 @@ fn longer(alloc: Global, program: &Program, paths: &[Vec<u16>]) -> Result<Vec<Ve
         for number in 1..NUMBERS {
             let mut more = Vec::from_slice(alloc, path.as_slice())?;
             more.push(number)?;
-            if is_path(alloc, program, more.as_slice())? {
+            if leads_somewhere(alloc, program, more.as_slice())? {
                 all.push(more)?;
             }
         }
@@ -134,7 +134,7 @@ fn least(alloc: Global, program: &Program, reason: Reason) -> Result<Option<Vec<
     for _ in 0..18 {
         paths = longer(alloc, program, paths.as_slice())?;
         for path in &paths {
-            if breaks(alloc, program, path.as_slice(), reason)? {
+            if breaks_there(alloc, program, path.as_slice(), reason)? {
                 return Ok(Some(Vec::from_slice(alloc, path.as_slice())?));
             }
         }

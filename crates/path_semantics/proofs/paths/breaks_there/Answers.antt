@@ -4,7 +4,7 @@ use Rattle.std.specs.List.{list_any}
 use Rattle.path_semantics.specs.Break.{Breaks}
 use Rattle.path_semantics.specs.Reached.{reached, breaks_next}
 use Rattle.path_semantics.proofs.Reaching.{breaks-if}
-use Rattle.path_semantics.proofs.paths.breaks.Goals as goal
+use Rattle.path_semantics.proofs.paths.breaks_there.Goals as goal
 
 pub returns : goal.returns
 returns c =

@@ -3,7 +3,7 @@ use Rattle.std.specs.Prelude.{IsTrue}
 use Rattle.path_semantics.specs.Path.{IsPath}
 use Rattle.path_semantics.specs.Reached.{reached}
 use Rattle.path_semantics.proofs.Reaching.{path-if}
-use Rattle.path_semantics.proofs.paths.is_path.Goals as goal
+use Rattle.path_semantics.proofs.paths.leads_somewhere.Goals as goal
 
 pub returns : goal.returns
 returns c =
