@@ -14,7 +14,7 @@ use Rattle.process_histories.specs.Histories.{HasDone, one_more}
 use Rattle.process_histories.specs.Words.{ask_on, awaits_on, one_if}
 use Rattle.process_histories.proofs.Counts.{asked-count}
 use Rattle.plain_histories.specs.Agreeing.{AreRegular}
-use Rattle.plain_histories.specs.Booking.{Awaits, AreBooked, deed_booked, AreHeld, none_held, take_held, step_held}
+use Rattle.plain_histories.specs.Booking.{RequestWaits, AreBooked, deed_booked, AreHeld, none_held, take_held, step_held}
 use Rattle.plain_histories.specs.Ledgers.{Ledger, with_deed, with_deeds, with_entered, with_printed, requests_of, taken_of, replies_of}
 use Rattle.plain_histories.proofs.Changed.{changed-other, deeds-same, requests-still, picked-none}
 use Rattle.plain_histories.proofs.Possible.{booked-ran}
@@ -45,7 +45,7 @@ none-waits one opener words regular booked is even waits =
 pub awaits-deed : {site : Site} {kept : List Act} {shown : List Shown} {ledger : Ledger} (number : ℕ) (spec : ProcessSpec) (deed : Deed) {before after : Core} (opener : Opener)
     (words : List ℤ) → AreRegular site → AreBooked site kept shown ledger → slice_get site.processes number ≡ Some spec
     → HasDone site number spec (ledger.deeds number) before → Advances (openers_of site number) before deed after → number ≢ opener.server
-    → Awaits site ledger opener words → Awaits site (with_deed number deed ledger) opener words
+    → RequestWaits site ledger opener words → RequestWaits site (with_deed number deed ledger) opener words
 awaits-deed {site = site} {ledger = ledger} number spec deed {before = before} opener words regular booked there done advances apart (one, is, waits) =
     (one, is, still one is waits ∙ waits ∙ ap (λ all. words ∷ all) (sym same-taken))
   where
@@ -74,7 +74,7 @@ awaits-deed {site = site} {ledger = ledger} number spec deed {before = before} o
 
 pub awaits-entry : {site : Site} {kept : List Act} {shown : List Shown} {ledger : Ledger} (terminal : ℕ) (entered : List ℤ) (opener : Opener) (words : List ℤ) → AreRegular site
     → AreBooked site kept shown ledger → length (ledger.entered terminal) ≡ length (ledger.printed terminal)
-    → Awaits site ledger opener words → Awaits site (with_entered terminal entered ledger) opener words
+    → RequestWaits site ledger opener words → RequestWaits site (with_entered terminal entered ledger) opener words
 awaits-entry terminal entered opener words regular booked even (who.File process file, is, waits) = (who.File process file, is, waits)
 awaits-entry {ledger = ledger} terminal entered opener words regular booked even (who.Terminal other, is, waits) = elim (eqb_tells terminal other) [
   | inl t ↦
@@ -84,12 +84,12 @@ awaits-entry {ledger = ledger} terminal entered opener words regular booked even
 ]
 
 pub awaits-reply : (site : Site) (ledger : Ledger) (terminal : ℕ) (printed : List ℤ) (opener : Opener) (words : List ℤ)
-    → Awaits site ledger opener words → Awaits site (with_printed terminal printed ledger) opener words
+    → RequestWaits site ledger opener words → RequestWaits site (with_printed terminal printed ledger) opener words
 awaits-reply site ledger terminal printed opener words (one, is, waits) = (one, is, requests-printed ledger terminal printed one ∙ waits)
 
 -- so held acts stay so
 pub held-stays : {site : Site} {ledger more : Ledger} {number : ℕ} {held : List Act} {deeds : List Deed}
-    → ((place : ℕ) (words : List ℤ) → Awaits site ledger (record { server = number; place = place }) words → Awaits site more (record { server = number; place = place }) words)
+    → ((place : ℕ) (words : List ℤ) → RequestWaits site ledger (record { server = number; place = place }) words → RequestWaits site more (record { server = number; place = place }) words)
     → AreHeld site ledger number held deeds → AreHeld site more number held deeds
 held-stays still none_held = none_held
 held-stays still (take_held {place = place} {words = words} awaits) = take_held (still place words awaits)

@@ -1,3 +1,4 @@
+pub mod Acting
 pub mod Agreeing
 pub mod Beginning
 pub mod Changed

@@ -28,17 +28,25 @@ shown_of number (Acted call found) = shown_by_device number call
 shown_of number _ = []
 
 -- a request of these words waits in the slot of an opener
-abbrev pub Awaits : Site → Ledger → Opener → List ℤ → Type 0
-Awaits site ledger opener words = (one : Who) × (opener_of site one ≡ Some opener) × (requests_of ledger one ≡ words ∷ taken_of ledger opener)
+abbrev pub RequestWaits : Site → Ledger → Opener → List ℤ → Type 0
+RequestWaits site ledger opener words = (one : Who) × (opener_of site one ≡ Some opener) × (requests_of ledger one ≡ words ∷ taken_of ledger opener)
 
 -- what else than its process a deed needs: a take the request that waits, a reply the answer that waits, and a call of the device what stands there
 abbrev pub IsAllowed : Site → Ledger → ℕ → ProcessSpec → Deed → Type 0
-IsAllowed site ledger number spec (Took place words) = Awaits site ledger (record { server = number; place = place }) words
+IsAllowed site ledger number spec (Took place words) = RequestWaits site ledger (record { server = number; place = place }) words
 IsAllowed site ledger number spec (Got file words) =
     (opener : Opener) × (opener_of site (who.File number file) ≡ Some opener)
     × (answered_of ledger opener ≡ words ∷ replies_of ledger (who.File number file))
 IsAllowed site ledger number spec (Acted call found) = found ≡ found_on (sectors_after spec.what (ledger.deeds number)) call
 IsAllowed site ledger number spec _ = Unit {0}
+
+-- a deed that a process can do after those that a ledger has, and that is allowed there
+pub record CanDo (site : Site) (ledger : Ledger) (number : ℕ) (spec : ProcessSpec) (deed : Deed) : Type 0 where
+  pub before : Core
+  pub after : Core
+  pub done : HasDone site number spec (ledger.deeds number) before
+  pub advances : Advances (openers_of site number) before deed after
+  pub allowed : IsAllowed site ledger number spec deed
 
 -- acts, the newest first, that show this make this ledger: each is a deed that its process can do and that is allowed, a terminal's next request after it
 -- printed all replies, or the reply to its last request
@@ -66,7 +74,7 @@ AreShortRequests site = (terminal entered : ℕ) (words : List ℤ) → next_req
 -- acts of a process that are held, the newest first, and their deeds: none, or the take of a request that waits and steps inside after it
 pub data AreHeld (site : Site) (ledger : Ledger) (number : ℕ) : List Act → List Deed → Type 0 where
   none_held : AreHeld site ledger number [] []
-  take_held : {place : ℕ} {words : List ℤ} → Awaits site ledger (record { server = number; place = place }) words
+  take_held : {place : ℕ} {words : List ℤ} → RequestWaits site ledger (record { server = number; place = place }) words
       → AreHeld site ledger number (Take number place ∷ []) (Took place words ∷ [])
   step_held : {first : Act} {acts : List Act} {deed : Deed} {deeds : List Deed} → AreHeld site ledger number (first ∷ acts) (deed ∷ deeds)
       → AreHeld site ledger number (Step number ∷ first ∷ acts) (Went ∷ deed ∷ deeds)

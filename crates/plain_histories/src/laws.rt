@@ -1,6 +1,7 @@
 ghost use Rattle.std.specs.Prelude.{◌≡◌, ◌≤◌, ◌+◌, ◌∷◌, ◌++◌, ℕ, ℤ, List, length, reverse, slice_get, Some};
 ghost use Rattle.gd_words.specs.Members.{IsAmong};
 ghost use Rattle.tal_tree.specs.declared.act.Act.{Act};
+ghost use Rattle.tal_tree.specs.declared.act.Act.TheVariants.{Step, Take};
 ghost use Rattle.tal_tree.specs.declared.act.Shown.{Shown};
 ghost use Rattle.tal_tree.specs.declared.site.ProcessSpec.{ProcessSpec};
 ghost use Rattle.tal_tree.specs.declared.site.Site.{Site};
@@ -9,14 +10,14 @@ ghost use Rattle.plain_semantics.specs.Machine.{Plain, Made, made, made_all, pla
 ghost use Rattle.plain_semantics.specs.declared.slot.Opener.{Opener};
 ghost use Rattle.plain_semantics.specs.declared.slot.Slot.{Slot};
 ghost use Rattle.plain_semantics.specs.declared.slot.Slot.TheVariants.{Waiting, Answered};
-ghost use Rattle.plain_semantics.specs.Openers.{openers_of};
-ghost use Rattle.world_semantics.specs.Core.{Core, Deed, Advances};
+ghost use Rattle.plain_semantics.specs.Openers.{openers_of, opener_of};
+ghost use Rattle.world_semantics.specs.Core.{Core, Deed, Took, Advances};
 ghost use Rattle.world_semantics.specs.Kept.{own_acts};
 ghost use Rattle.world_semantics.specs.Laws.{HasGrown};
-ghost use Rattle.process_histories.specs.Bounds.{AreShort};
+ghost use Rattle.process_histories.specs.Bounds.{AreShort, AreBounded};
 ghost use Rattle.process_histories.specs.Histories.{HasDone};
 ghost use Rattle.plain_histories.specs.Agreeing.{AreRegular, Agrees};
-ghost use Rattle.plain_histories.specs.Booking.{act_of, shown_of, IsAllowed, AreBooked, AreShortRequests, AreHeld};
+ghost use Rattle.plain_histories.specs.Booking.{act_of, shown_of, IsAllowed, CanDo, AreBooked, AreShortRequests, AreHeld};
 ghost use Rattle.plain_histories.specs.Ledgers.{Ledger, with_deed, with_deeds, with_entered, with_printed, requests_of, answered_of};
 ghost use Rattle.plain_histories.specs.Slots.{IsSlot, IsEntry};
 
@@ -26,6 +27,17 @@ pub fn a_deed_is_an_act()
         → Agrees site plain ledger → slice_get site.processes number ≡ Some spec → HasDone site number spec (ledger.deeds number) before
         → Advances (openers_of site number) before deed after → IsAllowed site ledger number spec deed
         → (next : Plain) × (made site plain (act_of number deed) ≡ Some (record { plain = next; shown = shown_of number deed })) × Agrees site next (with_deed number deed ledger) }
+{}
+
+/// An act that a process makes on the machine that a ledger describes is a deed that it can do and that is allowed: a step is one other than a take, and a
+/// take is of the request that waits.
+pub fn an_act_is_a_deed()
+    ensures step { (site : Site) (plain : Plain) (ledger : Ledger) (number : ℕ) (spec : ProcessSpec) (m : Made) → AreRegular site → Agrees site plain ledger
+        → slice_get site.processes number ≡ Some spec → AreBounded (ledger.deeds number) → made site plain (Step number) ≡ Some m
+        → (deed : Deed) × (act_of number deed ≡ Step number) × CanDo site ledger number spec deed }
+    ensures take { (site : Site) (plain : Plain) (ledger : Ledger) (number place : ℕ) (spec : ProcessSpec) (one : Who) (m : Made) → Agrees site plain ledger
+        → slice_get site.processes number ≡ Some spec → opener_of site one ≡ Some (record { server = number; place = place }) → made site plain (Take number place) ≡ Some m
+        → (words : List ℤ) × CanDo site ledger number spec (Took place words) }
 {}
 
 /// Booked acts are possible on the machine of single processes and show what is booked; the machine after them is as the ledger says, which has each of a

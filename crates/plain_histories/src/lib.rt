@@ -10,7 +10,7 @@ pub mod guards;
 pub mod laws;
 
 pub use laws::{
-    a_deed_is_an_act, booked_acts_are_possible, booked_words_are_short, deeds_count_acts,
-    entries_keep_their_numbers, held_acts_can_be_kept_later, lists_make_one_slot,
+    a_deed_is_an_act, an_act_is_a_deed, booked_acts_are_possible, booked_words_are_short,
+    deeds_count_acts, entries_keep_their_numbers, held_acts_can_be_kept_later, lists_make_one_slot,
     others_leave_a_process_alone,
 };
