@@ -1,5 +1,6 @@
 pub mod Goals
 pub mod Amounts
+pub mod Bits
 pub mod Cut
 pub mod Queued
 pub mod Unbroken
@@ -11,7 +12,7 @@ pub mod Trails
 pub mod Idle
 pub mod Impossible
 pub mod Numbers
-pub mod Scanned
+pub mod Settling
 pub mod Tried
 pub mod Finding
 pub mod Walking

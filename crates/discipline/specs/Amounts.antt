@@ -153,12 +153,7 @@ may_break (SyncBlock file) what = omits_file file what
 may_break Input what = sends what
 may_break (Depth file) what = is_among file (asked_by what)
 
--- whether an entry adds to it
-abbrev pub adds_at : Reason → Entry → Bool
-adds_at reason (Run statement) = adds reason (out-What statement.what)
-adds_at reason (Test statement) = false
-adds_at reason (Last statement) = adds_changed reason (changed_by (out-What statement.what))
-
+-- whether an entry breaks for a reason where enough is due
 abbrev pub may_break_at : Reason → Entry → Bool
 may_break_at reason (Run statement) = may_break reason (out-What statement.what)
 may_break_at reason (Test statement) = false

@@ -1,6 +1,6 @@
 pub mod Amounts
 pub mod Finding
-pub mod Scan
 pub mod Search
+pub mod Suspects
 pub mod Verdict
 pub mod Walker

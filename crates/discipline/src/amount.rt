@@ -4,7 +4,7 @@ ghost use Rattle.gd_words.specs.Members.{is_among};
 ghost use Rattle.tal_tree.specs.declared.statement.What.{out-What};
 ghost use Rattle.process_semantics.specs.SeenEntries.{entry_of};
 ghost use Rattle.path_semantics.specs.Dues.{global_of_spot, global_of, changed_by, changed_by_return, target_of, asked_by, reads};
-ghost use Rattle.discipline.specs.Amounts.{clears, adds, adds_at, adds_changed, one_more, after_what, after_changed, after_entry, omits_item, omits_file, sends, may_break, may_break_at, depth_in, most_of};
+ghost use Rattle.discipline.specs.Amounts.{clears, adds, adds_changed, one_more, after_what, after_changed, after_entry, omits_item, omits_file, sends, may_break, may_break_at, depth_in, most_of};
 
 use path_semantics::Reason;
 use process_semantics::Entry;
@@ -58,18 +58,6 @@ fn after_last(reason: Reason, what: &What, due: u8) -> u8
     ensures most { result ≤ 5 }
 {
     if adds_last(reason, what) { 1 } else { due }
-}
-
-/// Whether an entry adds to what is due.
-#[inline(always)]
-pub(crate) fn adds_at(reason: Reason, entry: Entry<'_>) -> bool
-    ensures { result ≡ adds_at reason (entry_of entry.entry) }
-{
-    match entry {
-        Entry::Run(statement) => adds(reason, &statement.what),
-        Entry::Test(_) => false,
-        Entry::Last(statement) => adds_last(reason, &statement.what),
-    }
 }
 
 /// Whether the last assignment of a FOR adds to what is due.
@@ -218,7 +206,7 @@ fn clears(what: &What) -> bool
 }
 
 #[inline(always)]
-fn reads(what: &What) -> bool
+pub(crate) fn reads(what: &What) -> bool
     ensures { result ≡ reads (out-What what.now) }
 {
     match what {
@@ -232,7 +220,7 @@ fn reads(what: &What) -> bool
 }
 
 #[inline(always)]
-fn sends(what: &What) -> bool
+pub(crate) fn sends(what: &What) -> bool
     ensures { result ≡ sends (out-What what.now) }
 {
     match what {

@@ -5,12 +5,13 @@ ghost use Rattle.tal_tree.specs.Regular.{IsRegular};
 ghost use Rattle.path_semantics.specs.declared.reason.Reason.TheVariants.{Data, SyncBlock, Input, Depth};
 ghost use Rattle.path_semantics.specs.Bounds.{IsWithinBounds};
 ghost use Rattle.flow_paths.specs.Flow.{IsFlow};
-ghost use Rattle.discipline.specs.Scan.{IsKnown};
+ghost use Rattle.discipline.specs.Suspects.{IsKnown, IsNear, HaveNodes, AreSuspects};
 ghost use Rattle.discipline.specs.Search.{IsClear};
 ghost use Rattle.discipline.specs.Verdict.{NoneBefore, IsVerdict, IsTried, AreTriedBefore};
 
-use crate::scan::{any_adds, any_may_break};
+use crate::reasons::Reasons;
 use crate::search::Search;
+use crate::suspects::suspects;
 use flow_paths::{Flow, FlowFault};
 use gd_words::NoMemory;
 use path_semantics::{Reason, Refusal};
@@ -47,10 +48,14 @@ fn check_reasons(alloc: Global, program: &Program, flow: &Flow<'_>) -> Result<()
         Ok(search) => search,
         Err(NoMemory) => return Err(Refusal::NoMemory),
     };
-    search.try_items(alloc, program, flow)?;
-    search.try_files(alloc, program, flow)?;
-    search.try_reason(alloc, program, flow, Reason::Input)?;
-    search.try_depths(alloc, program, flow)
+    let suspects = match suspects(alloc, flow) {
+        Ok(suspects) => suspects,
+        Err(NoMemory) => return Err(Refusal::NoMemory),
+    };
+    search.try_items(alloc, program, flow, suspects)?;
+    search.try_files(alloc, program, flow, suspects)?;
+    search.try_reason(alloc, program, flow, suspects, Reason::Input)?;
+    search.try_depths(alloc, program, flow, suspects)
 }
 
 impl Search {
@@ -60,12 +65,15 @@ impl Search {
         alloc: Global,
         program: &Program,
         flow: &Flow<'_>,
+        suspects: Reasons,
     ) -> Result<(), Refusal>
         requires ordered { IsOrdered program.now }
         requires limits { IsWithinLimits program.now }
         requires regular { IsRegular program.now }
         requires bounds { IsWithinBounds program.now }
         requires flow { IsFlow program.now flow.now }
+        requires suspects { AreSuspects flow.now suspects }
+        requires nodes { HaveNodes flow.now suspects }
         requires clear { IsClear self.old.seen.items }
         requires room { length self.old.seen.items ≡ length flow.now * 5 }
         ensures tried { AreTriedBefore program.now (SyncBlock 0) result }
@@ -73,7 +81,7 @@ impl Search {
         ensures room { length self.new.seen.items ≡ length self.old.seen.items }
     {
         for item in 0..program.items.len() as u16 {
-            self.try_reason(alloc, program, flow, Reason::Data(item))?;
+            self.try_reason(alloc, program, flow, suspects, Reason::Data(item))?;
         }
         Ok(())
     }
@@ -84,12 +92,15 @@ impl Search {
         alloc: Global,
         program: &Program,
         flow: &Flow<'_>,
+        suspects: Reasons,
     ) -> Result<(), Refusal>
         requires ordered { IsOrdered program.now }
         requires limits { IsWithinLimits program.now }
         requires regular { IsRegular program.now }
         requires bounds { IsWithinBounds program.now }
         requires flow { IsFlow program.now flow.now }
+        requires suspects { AreSuspects flow.now suspects }
+        requires nodes { HaveNodes flow.now suspects }
         requires before { NoneBefore program.now (SyncBlock 0) }
         requires clear { IsClear self.old.seen.items }
         requires room { length self.old.seen.items ≡ length flow.now * 5 }
@@ -98,7 +109,7 @@ impl Search {
         ensures room { length self.new.seen.items ≡ length self.old.seen.items }
     {
         for file in 0..program.files.len() as u8 {
-            self.try_reason(alloc, program, flow, Reason::SyncBlock(file))?;
+            self.try_reason(alloc, program, flow, suspects, Reason::SyncBlock(file))?;
         }
         Ok(())
     }
@@ -109,35 +120,42 @@ impl Search {
         alloc: Global,
         program: &Program,
         flow: &Flow<'_>,
+        suspects: Reasons,
     ) -> Result<(), Refusal>
         requires ordered { IsOrdered program.now }
         requires limits { IsWithinLimits program.now }
         requires bounds { IsWithinBounds program.now }
         requires flow { IsFlow program.now flow.now }
+        requires suspects { AreSuspects flow.now suspects }
+        requires nodes { HaveNodes flow.now suspects }
         requires before { NoneBefore program.now (Depth 0) }
         requires clear { IsClear self.old.seen.items }
         requires room { length self.old.seen.items ≡ length flow.now * 5 }
         ensures { IsVerdict program.now result }
     {
         for file in 0..program.files.len() as u8 {
-            self.try_reason(alloc, program, flow, Reason::Depth(file))?;
+            self.try_reason(alloc, program, flow, suspects, Reason::Depth(file))?;
         }
         Ok(())
     }
 
-    /// Tries a reason: searches for a shortest path that breaks for it, unless a scan of the graph shows that none does.
+    /// Tries a reason: searches for a shortest path that breaks for it, if it is among those for which any may.
     fn try_reason(
         &mut self,
         alloc: Global,
         program: &Program,
         flow: &Flow<'_>,
+        suspects: Reasons,
         reason: Reason,
     ) -> Result<(), Refusal>
         requires ordered { IsOrdered program.now }
         requires limits { IsWithinLimits program.now }
         requires bounds { IsWithinBounds program.now }
         requires flow { IsFlow program.now flow.now }
+        requires suspects { AreSuspects flow.now suspects }
+        requires nodes { HaveNodes flow.now suspects }
         requires known { IsKnown program.now reason }
+        requires near { IsNear reason }
         requires before { NoneBefore program.now reason }
         requires clear { IsClear self.old.seen.items }
         requires room { length self.old.seen.items ≡ length flow.now * 5 }
@@ -145,10 +163,7 @@ impl Search {
         ensures clear { OnOk result (IsClear self.new.seen.items) }
         ensures room { length self.new.seen.items ≡ length self.old.seen.items }
     {
-        if !any_may_break(flow, reason) {
-            return Ok(());
-        }
-        if !any_adds(flow, reason) {
+        if !suspects.has(reason) {
             return Ok(());
         }
         match self.first_break(program, flow, reason) {

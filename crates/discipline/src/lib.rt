@@ -10,11 +10,13 @@ mod amount;
 pub mod checker;
 mod find;
 pub mod laws;
+mod number_set;
 pub mod paths;
 mod queue;
-mod scan;
+mod reasons;
 mod search;
 mod stack;
+mod suspects;
 mod walk;
 mod walker;
 

@@ -1,18 +1,17 @@
-use Rattle.std.proofs.Common.{Some, subst}
+use Rattle.std.proofs.Common.{Some, subst, sym, ◌∙◌}
 use Rattle.std.proofs.lemmas.Option.{slice_get_within}
 use Rattle.discipline.specs.Search.{HasEnded}
-use Rattle.discipline.proofs.Idle.{none-breaks, none-adds}
 use Rattle.discipline.proofs.Numbers.{queue-trail}
 use Rattle.discipline.proofs.Tried.{ended-none, ended-some, has-most}
 use Rattle.discipline.proofs.search.Search.try_reason.Goals as goal
 
-pub returns-then-not-any_may_break-clause-tried : goal.returns-then-not-any_may_break-clause-tried
-returns-then-not-any_may_break-clause-tried c = none-breaks c.args.program.now c.args.flow.now c.requires.flow c.args.reason c.if-not-any_may_break.ensures.none
+pub returns-then-not-has-clause-tried : goal.returns-then-not-has-clause-tried
+returns-then-not-has-clause-tried c =
+    c.requires.suspects c.args.program.now c.args.reason c.requires.flow (has-most c.args.program.now c.args.reason c.requires.limits c.requires.known).some c.requires.near
+    (sym c.has.ensures ∙ c.if-not-has.true)
 
-pub returns-then-not-any_adds-clause-tried : goal.returns-then-not-any_adds-clause-tried
-returns-then-not-any_adds-clause-tried c =
-    none-adds c.args.program.now c.args.flow.now c.requires.flow c.args.reason c.if-not-any_adds.ensures
-    (has-most c.args.program.now c.args.reason c.requires.limits c.requires.known).some
+pub first_break-requires-clause-some : goal.first_break-requires-clause-some
+first_break-requires-clause-some c = c.requires.nodes c.args.reason (sym c.has.ensures ∙ c.if-not-has.false)
 
 pub first_break-requires-clause-there : goal.first_break-requires-clause-there
 first_break-requires-clause-there c = (has-most c.args.program.now c.args.reason c.requires.limits c.requires.known).there

@@ -1,0 +1,88 @@
+-- Which reasons a program may break for at all, told by what may be due at each node of its graph.
+use Rattle.std.specs.Prelude.{◌≡◌, ◌≤◌, ◌<◌, ℕ, ◌==◌, ◌||◌, Bool, false, if◌then◌else◌, IsTrue, List, length, slice_get, Some}
+use Rattle.std.specs.Int.{bit_at}
+use Rattle.gd_words.specs.Members.{IsAmong}
+use Rattle.tal_tree.specs.declared.program.Program.{Program}
+use Rattle.tal_tree.specs.declared.statement.What.{out-What}
+use Rattle.process_semantics.specs.State.{Entry, Run, Test, Last}
+use Rattle.path_semantics.specs.declared.reason.Reason.{Reason}
+use Rattle.path_semantics.specs.declared.reason.Reason.TheVariants.{Data, SyncBlock, Input, Depth}
+use Rattle.path_semantics.specs.Dues.{changed_by}
+use Rattle.path_semantics.specs.Break.{Breaks}
+use Rattle.flow_paths.specs.declared.graph.Edge.{Edge}
+use Rattle.flow_paths.specs.declared.graph.Goal.TheVariants.{At}
+use Rattle.flow_paths.specs.Graph.{Node, edges_of}
+use Rattle.flow_paths.specs.Flow.{IsFlow}
+use Rattle.discipline.specs.declared.number_set.Numbers.{Numbers}
+use Rattle.discipline.specs.declared.reasons.Reasons.{Reasons}
+use Rattle.discipline.specs.Amounts.{clears, adds, adds_changed, may_break_at, most_of}
+
+-- whether a number is in a set
+abbrev pub has_number : Numbers → ℕ → Bool
+has_number set n = bit_at set.bits n == 1
+
+-- a set holds those of the first 64 numbers for which this is true
+abbrev pub AreNumbers : Numbers → (ℕ → Bool) → Type 0
+AreNumbers set holds = (n : ℕ) → n < 64 → has_number set n ≡ holds n
+
+-- whether a reason is in a set
+abbrev pub has_reason : Reasons → Reason → Bool
+has_reason set (Data item) = has_number set.data item
+has_reason set (SyncBlock file) = has_number set.sync file
+has_reason set Input = set.input
+has_reason set (Depth file) = has_number set.depth file
+
+-- a reason that speaks of one of the first 64 globals or files, if of any
+abbrev pub IsNear : Reason → Type 0
+IsNear (Data item) = item < 64
+IsNear (SyncBlock file) = file < 64
+IsNear Input = Unit {0}
+IsNear (Depth file) = file < 64
+
+-- a reason that can be tried: a depth is that of a file that is there
+abbrev pub IsKnown : Program → Reason → Type 0
+IsKnown program (Data item) = Unit {0}
+IsKnown program (SyncBlock file) = Unit {0}
+IsKnown program Input = Unit {0}
+IsKnown program (Depth file) = file < length program.files
+
+-- a set holds those of these reasons for which this is true
+abbrev pub AreReasons : Reasons → (Reason → Bool) → Type 0
+AreReasons set holds = (reason : Reason) → IsNear reason → has_reason set reason ≡ holds reason
+
+-- whether something may be due after an entry, where it may be or not before
+abbrev pub due_after : Reason → Entry → Bool → Bool
+due_after reason (Run statement) before = if clears (out-What statement.what) then false else (adds reason (out-What statement.what) || before)
+due_after reason (Test statement) before = before
+due_after reason (Last statement) before = adds_changed reason (changed_by (out-What statement.what)) || before
+
+-- where an edge leads to a node, what may be due of a set or by its targets may be due there
+abbrev pub Reaches : List Reasons → Reasons → Edge → Type 0
+Reaches sets after edge = (j : ℕ) (there : Reasons) (reason : Reason) → edge.goal ≡ At j → slice_get sets j ≡ Some there → IsNear reason
+    → IsTrue (adds_changed reason edge.targets || has_reason after reason) → IsTrue (has_reason there reason)
+
+-- what may be due at a node may be due after its entry wherever its edges lead
+abbrev pub IsSettled : List Reasons → Reasons → Node → Type 0
+IsSettled sets here node = (edge : Edge) (j : ℕ) (there : Reasons) (reason : Reason) → IsAmong edge (edges_of node) → edge.goal ≡ At j → slice_get sets j ≡ Some there
+    → IsNear reason → IsTrue (adds_changed reason edge.targets || due_after reason node.entry (has_reason here reason)) → IsTrue (has_reason there reason)
+
+-- the same at each node
+abbrev pub AreSettled : List Node → List Reasons → Type 0
+AreSettled nodes sets = (k : ℕ) (node : Node) (here : Reasons) → slice_get nodes k ≡ Some node → slice_get sets k ≡ Some here → IsSettled sets here node
+
+-- the reasons for which the entry of a node may break, where something may be due
+abbrev pub AreFoundAt : Reasons → Reasons → Node → Type 0
+AreFoundAt found here node = (reason : Reason) → IsNear reason → IsTrue (has_reason here reason) → IsTrue (may_break_at reason node.entry) → IsTrue (has_reason found reason)
+
+-- the same of each of the first nodes
+abbrev pub AreFoundBefore : List Node → List Reasons → Reasons → ℕ → Type 0
+AreFoundBefore nodes sets found k = (j : ℕ) (node : Node) (here : Reasons) → j < k → slice_get nodes j ≡ Some node → slice_get sets j ≡ Some here → AreFoundAt found here node
+
+-- where a reason is in a set there are nodes
+abbrev pub HaveNodes : List Node → Reasons → Type 0
+HaveNodes nodes suspects = (reason : Reason) → IsTrue (has_reason suspects reason) → 0 < length nodes
+
+-- for no other of these reasons, where something must be due for it, a path of a program with this graph breaks
+abbrev pub AreSuspects : List Node → Reasons → Type 0
+AreSuspects nodes suspects = (program : Program) (reason : Reason) → IsFlow program nodes → 1 ≤ most_of program reason → IsNear reason
+    → has_reason suspects reason ≡ false → (path : List ℕ) → Breaks program path reason → ⊥
