@@ -1,0 +1,13 @@
+pub mod Backed
+pub mod Beginning
+pub mod Caused
+pub mod Frame
+pub mod Keeping
+pub mod Kept
+pub mod Own
+pub mod Pairs
+pub mod Passing
+pub mod Repeating
+pub mod Settled
+pub mod Stops
+pub mod Waiting
