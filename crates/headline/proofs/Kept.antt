@@ -14,7 +14,8 @@ use Rattle.plain_histories.proofs.Possible.{booked-ran}
 use Rattle.headline.specs.Fit.{IsFit}
 use Rattle.headline.specs.Invariant.{Invariant}
 use Rattle.headline.proofs.Beginning.{beginning-keeps}
-use Rattle.headline.proofs.Keeping.{acts_by, change-keeps}
+use Rattle.headline.proofs.Changing.{acts_by}
+use Rattle.headline.proofs.Keeping.{change-keeps}
 
 -- what is kept from change to change
 pub record IsGood (site : Site) (events : ℕ) (w : World) : Type 0 where

@@ -19,7 +19,7 @@ use Rattle.plain_histories.specs.Ledgers.{Ledger, with_deed}
 use Rattle.headline.specs.Invariant.{AreRepeatable, Stage, Level, Applied, Behind, IsLead, is_level, is_applied, is_behind, Watches, IsOther, is_lost, is_due, is_even, has_applied, FirstLeads, with_other, alone, exchanged, IsLed, by_first, by_second}
 use Rattle.headline.proofs.Backed.{IsBacked, IsSentBy, IsOld, IsNew, not-at-mark}
 use Rattle.headline.proofs.Own.{Becomes, lead_stays, lead_kept, lead-own}
-use Rattle.headline.proofs.Passing.{other-rests}
+use Rattle.headline.proofs.Checkpoints.{other-rests}
 use Rattle.headline.proofs.Repeating.{repeatable-join}
 
 -- an act leaves all of a copy that the other one's standing looks at

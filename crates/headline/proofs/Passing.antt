@@ -1,6 +1,5 @@
 -- A process after a checkpoint was sent, passed, applied or acknowledged.
-use Rattle.std.proofs.Common.{◌≡◌, ◌<◌, ◌≤◌, ◌⊎◌, inl, inr, ℕ, ◌+◌, ◌==◌, ◌&&◌, ◌||◌, Bool, true, false, List, [], ◌∷◌, ◌++◌, length, Some, slice_get, refl, ap, sym, ◌∙◌, subst, arith, append_assoc, length-append}
-use Rattle.std.proofs.lemmas.Bool.{eqb-true}
+use Rattle.std.proofs.Common.{◌≡◌, ◌<◌, ◌≤◌, ◌⊎◌, inl, inr, ℕ, ◌+◌, Bool, true, false, List, [], ◌∷◌, ◌++◌, length, Some, slice_get, refl, ap, sym, ◌∙◌, subst, arith, append_assoc, length-append}
 use Rattle.gd_words.specs.Members.{IsAmong}
 use Rattle.tal_tree.specs.declared.act.Act.{Act}
 use Rattle.tal_tree.specs.declared.act.Shown.{Shown}
@@ -11,16 +10,16 @@ use Rattle.process_semantics.specs.Process as process
 use Rattle.checkpoint_image.specs.declared.message.ImageMessage.{ImageMessage}
 use Rattle.checkpoint_image.specs.declared.message.TakenMessage.{TakenMessage}
 use Rattle.world_semantics.specs.declared.role.Role.TheVariants.{Acting, Watching, Gone}
-use Rattle.world_semantics.specs.Core.{Core, Deed, Went, Marked, Took, Asked, Got, Answered, Acted, marks, after_passing, carried, put_in}
+use Rattle.world_semantics.specs.Core.{Core, Deed, Marked, marks, after_passing, carried, put_in}
 use Rattle.world_semantics.specs.World.{Copy, Pair, Mark, has_marked, First, Second, may_pass}
 use Rattle.world_semantics.specs.Kept.{own_acts}
 use Rattle.world_semantics.specs.Messages.{Sending, Cause}
 use Rattle.world_semantics.specs.Passes.{Passes, by_send, by_pass_again, by_pass, by_apply, by_acknowledge, checkpoint_of, after_sending, after_mark, after_applying, kept_at_mark}
-use Rattle.world_semantics.proofs.Roles.{RolesOf, both-true}
+use Rattle.world_semantics.proofs.Roles.{RolesOf}
 use Rattle.world_semantics.proofs.Lists.{some-same}
 use Rattle.process_histories.specs.Bounds.{AreBounded}
 use Rattle.process_histories.specs.Histories.{HasDone, one_more}
-use Rattle.process_histories.proofs.Deeds.{point_of, done-before, done-last, stands-there}
+use Rattle.process_histories.proofs.Deeds.{done-before, done-last, stands-there}
 use Rattle.disciplines.specs.Disciplined.{AreIdle, IsDisciplined}
 use Rattle.plain_histories.specs.Agreeing.{AreRegular}
 use Rattle.plain_histories.specs.Booking.{AreBooked, AreHeld, none_held}
@@ -28,9 +27,10 @@ use Rattle.plain_histories.specs.Ledgers.{Ledger, with_deeds}
 use Rattle.plain_histories.proofs.Changed.{deeds-same}
 use Rattle.plain_histories.proofs.Counted.{booked-count, IsShortLedger}
 use Rattle.plain_histories.proofs.Possible.{booked-ran}
-use Rattle.headline.specs.Invariant.{IsRepeatable, Stage, Level, Applied, IsLead, is_level, is_applied, is_behind, Watches, IsOther, is_lost, is_due, is_even, has_applied, FirstLeads, with_other, alone, exchanged, IsLed, by_first, by_second}
+use Rattle.headline.specs.Invariant.{Stage, Level, Applied, IsLead, is_level, is_applied, is_behind, Watches, IsOther, is_lost, is_due, is_even, has_applied, FirstLeads, with_other, alone, exchanged, IsLed, by_first, by_second}
 use Rattle.headline.proofs.Repeating.{unmarked-join, short-join, repeatable-unmarked, held-unmarked, held-idle, held-length, held-short}
 use Rattle.headline.proofs.Settled.{IsSettled, settled-none, settled-more, settled-held}
+use Rattle.headline.proofs.Checkpoints.{marked-down, either, other-rests, no-mark-again, sent-most, sent-image, taken-most, passes-exchanged}
 
 -- what becomes of a process: so many deeds more are kept, none of which calls the device
 pub record HasPassed (site : Site) (marks : List Mark) (kept : List Act) (shown : List Shown) (ledger : Ledger) (number : ℕ) (spec : ProcessSpec) (pair : Pair) : Type 0 where
@@ -38,57 +38,6 @@ pub record HasPassed (site : Site) (marks : List Mark) (kept : List Act) (shown 
   pub settled : IsSettled site kept shown ledger number deeds
   pub idle : AreIdle deeds
   pub leads : FirstLeads site marks (with_deeds number deeds ledger) number spec (deeds ++ ledger.deeds number) pair
-
--- a mark that was made is of a processor that has stopped
-marked-down : (stopped : List Bool) (marks : List Mark) (node processor : ℕ) → ((mark : Mark) → IsAmong mark marks → slice_get stopped mark.down ≡ Some true)
-    → has_marked marks node processor ≡ true → slice_get stopped processor ≡ Some true
-marked-down stopped [] node processor down e = absurd (cc)
-marked-down stopped (mark ∷ rest) node processor down e =
-    by ((mark.node == node) && (mark.down == processor)) refl e (marked-down stopped rest node processor (λ m among. down m (inr among)))
-  where
-    by : (here : Bool) → ((mark.node == node) && (mark.down == processor)) ≡ here → (here || has_marked rest node processor) ≡ true
-        → (has_marked rest node processor ≡ true → slice_get stopped processor ≡ Some true) → slice_get stopped processor ≡ Some true
-    by true is e later =
-        let both = both-true (mark.node == node) (mark.down == processor) is in
-        subst (λ x. slice_get stopped x ≡ Some true) (eqb-true mark.down processor both.1) (down mark (inl refl))
-    by false is e later = later e
-
-either : (a b : Bool) → (a || b) ≡ true → (a ≡ true) ⊎ (b ≡ true)
-either true b e = inl refl
-either false b e = inr e
-
-pub other-rests : {site : Site} {number : ℕ} {spec : ProcessSpec} {deeds : List Deed} {pair : Pair} {stage : Stage} → IsOther site number spec deeds pair stage
-    → pair.second.role ≡ Acting → ⊥
-other-rests (is_lost gone) acting = absurd (cc)
-other-rests (is_due w sent told next body) acting = let role = w.role in absurd (cc)
-other-rests (is_even w next unsent told) acting = let role = w.role in absurd (cc)
-other-rests (has_applied w next) acting = let role = w.role in absurd (cc)
-
-no-mark-again : (deed : Deed) → IsRepeatable deed → point_of deed ≡ point.Mark → ⊥
-no-mark-again Marked again at = again
-no-mark-again Went again at = cc
-no-mark-again (Took place words) again at = cc
-no-mark-again (Asked file words) again at = cc
-no-mark-again (Got file words) again at = cc
-no-mark-again (Answered place words) again at = cc
-no-mark-again (Acted call found) again at = cc
-
--- Numbers of messages
-
-sent-most : {new : ImageMessage} (messages : List ImageMessage) {k : ℕ} → new.number ≡ k + 1 → ((m : ImageMessage) → IsAmong m messages → m.number ≤ k)
-    → (m : ImageMessage) → IsAmong m (new ∷ messages) → m.number ≤ k + 1
-sent-most messages next all m (inl same) = rw same (omega (arith, next))
-sent-most messages next all m (inr among) = let most = all m among in omega (arith, most)
-
-sent-image : {new : ImageMessage} (messages : List ImageMessage) {k : ℕ} → new.number ≡ k + 1 → ((m : ImageMessage) → IsAmong m messages → m.number ≤ k)
-    → (m : ImageMessage) → IsAmong m (new ∷ messages) → m.number ≡ k + 1 → m.image ≡ new.image
-sent-image messages next all m (inl same) is = ap (λ (x : ImageMessage). x.image) same
-sent-image messages next all m (inr among) is = let most = all m among in absurd (omega (arith, most, is))
-
-taken-most : {new : TakenMessage} (takens : List TakenMessage) {k n : ℕ} → new.number ≡ n → k ≤ n → ((t : TakenMessage) → IsAmong t takens → t.number ≤ k)
-    → (t : TakenMessage) → IsAmong t (new ∷ takens) → t.number ≤ n
-taken-most takens is less all t (inl same) = rw same (omega (arith, is))
-taken-most takens is less all t (inr among) = let most = all t among in omega (arith, most, less)
 
 module _ (site : Site) (regular : AreRegular site) (stopped : List Bool) (marked : List Mark) (kept : List Act) (shown : List Shown) (ledger : Ledger) (number : ℕ)
     (spec : ProcessSpec) (disciplined : IsDisciplined site number spec) (there : slice_get site.processes number ≡ Some spec)
@@ -314,20 +263,6 @@ module _ (site : Site) (regular : AreRegular site) (stopped : List Bool) (marked
   leads-pass pair next after cause sendings lost few leads (by_apply Second message applied role sent era is put) = applies pair message applied few role sent is put leads
   leads-pass pair next after cause sendings lost few leads (by_acknowledge First taken role sent among era is) = acknowledges pair taken sent among is leads
   leads-pass pair next after cause sendings lost few leads (by_acknowledge Second taken role sent among era is) = absurd (leads-idle leads role)
-
--- the rules are the same for both copies
-pub passes-exchanged : {number : ℕ} {marked : List Mark} {kept after : List Act} {pair next : Pair} {cause : Cause} {sendings : List Sending}
-    → Passes number marked kept pair cause sendings next after → Passes number marked kept (exchanged pair) cause sendings (exchanged next) after
-passes-exchanged (by_send First role at sent unmarked) = by_send Second role at sent unmarked
-passes-exchanged (by_send Second role at sent unmarked) = by_send First role at sent unmarked
-passes-exchanged (by_pass_again First role at may less) = by_pass_again Second role at may less
-passes-exchanged (by_pass_again Second role at may less) = by_pass_again First role at may less
-passes-exchanged (by_pass First role at may most) = by_pass Second role at may most
-passes-exchanged (by_pass Second role at may most) = by_pass First role at may most
-passes-exchanged (by_apply First message applied role sent era is put) = by_apply Second message applied role sent era is put
-passes-exchanged (by_apply Second message applied role sent era is put) = by_apply First message applied role sent era is put
-passes-exchanged (by_acknowledge First taken role sent among era is) = by_acknowledge Second taken role sent among era is
-passes-exchanged (by_acknowledge Second taken role sent among era is) = by_acknowledge First taken role sent among era is
 
 -- what becomes of a process, whichever of its copies leads
 pub record GoesOn (site : Site) (marks : List Mark) (kept : List Act) (shown : List Shown) (ledger : Ledger) (number : ℕ) (spec : ProcessSpec) (pair : Pair) : Type 0 where
