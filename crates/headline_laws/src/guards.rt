@@ -1,6 +1,6 @@
 ghost use Rattle.std.specs.Prelude.{◌≡◌, reverse};
 ghost use Rattle.plain_semantics.specs.Machine.{IsPossible, shown_by};
-ghost use Rattle.world_semantics.specs.Examples.{disc_site, disc_events};
+ghost use Rattle.world_semantics.specs.Examples.{disc_site, disc_events, echo_site, ahead_events, ahead_acts};
 ghost use Rattle.world_semantics.specs.Follows.{IsRun};
 ghost use Rattle.world_semantics.specs.Kept.{acts_of};
 ghost use Rattle.world_semantics.specs.World.{World};
@@ -19,4 +19,12 @@ pub fn a_run_of_a_disc_is_an_instance()
     ensures run { (w : World) × IsRun disc_site disc_events w }
     ensures possible { (w : World) → IsRun disc_site disc_events w → IsPossible disc_site (acts_of w) }
     ensures shown { (w : World) → IsRun disc_site disc_events w → shown_by disc_site (acts_of w) ≡ reverse w.shown }
+{}
+
+/// Without the premises the law is false: a program that answers with no checkpoint after its take has a run that keeps acts which aren't possible, so it isn't
+/// accepted.
+pub fn a_hasty_site_is_not_accepted()
+    ensures run { (w : World) × IsRun echo_site ahead_events w × (acts_of w ≡ ahead_acts) }
+    ensures impossible { IsPossible echo_site ahead_acts → ⊥ }
+    ensures refused { IsAcceptedSite echo_site → ⊥ }
 {}
