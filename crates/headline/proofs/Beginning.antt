@@ -20,7 +20,7 @@ first-pair site from (spec ∷ specs) (suc k) pair at =
     let rest = first-pair site (from + 1) specs k pair at in (rest.0, rest.1, rest.2 ∙ ap (λ n. pair_at_boot site n rest.0) (omega arith))
 
 -- at its beginning the first copy leads, and no checkpoint is due
-first-sound : (site : Site) (number : ℕ) (spec : ProcessSpec) → IsSound site [] empty_ledger 0 number spec (pair_at_boot site number spec)
+pub first-sound : (site : Site) (number : ℕ) (spec : ProcessSpec) → IsSound site [] empty_ledger 0 number spec (pair_at_boot site number spec)
 first-sound site number spec = record {
   led = by_first (with_other (λ e. absurd (cc)) (is_level {more = []} refl none_held refl nothing_done (λ sent. absurd (cc))) (λ e. absurd (cc))
       (is_even (record {
