@@ -2,9 +2,11 @@ ghost use Rattle.trace_print.specs.FaultLine.{IsOfDeck};
 
 use gd_io::MemorySink;
 use gd_words::{List, Name, NoMemory, Words};
+use plain_semantics::keeps_site_limits;
+use shown_sectors::SectorWords;
 use std::alloc::Global;
 use std::test::Fail;
-use tal_tree::{DeckFault, Kind, Place, ProcessSpec, Shown, Site, TalFault, TerminalSpec};
+use tal_tree::{Act, DeckFault, Kind, Place, ProcessSpec, Shown, Site, TalFault, TerminalSpec};
 use trace_print::{End, write_end, write_fault, write_report, write_shown, write_usage};
 
 fn empty_sink(alloc: Global) -> Result<MemorySink, NoMemory> {
@@ -52,9 +54,30 @@ fn lines_tell_what_is_shown(rt: HostRuntime) -> Result<(), Fail> {
     };
     let mut sink = empty_sink(alloc)?;
     write_shown(&mut sink, &site, &write)?;
-    write_report(&mut sink, &site, &[silent, reply], End::Idle)?;
+    if !keeps_site_limits(&site) {
+        return Err(Fail::from("past the limits of a site"));
+    }
+    let sector = SectorWords {
+        process: 0,
+        sector: 63,
+        words: [1, -2, 0, 32767, -32768, 6, 7, 80],
+    };
+    let take = Act::Take {
+        process: 0,
+        opener: 0,
+    };
+    let acts = [Act::Enter(0), take, Act::Step(0), Act::Print(0)];
+    write_report(
+        &mut sink,
+        &site,
+        &[silent, reply],
+        &[sector],
+        &acts,
+        End::Idle,
+    )?;
     let wanted =
-        b"W $DISC 63: 1 -2 0 32767 -32768 6 7 80\nR $T1 4294967295:\nR $T1 1: 0 -7\nEND idle\n";
+        b"W $DISC 63: 1 -2 0 32767 -32768 6 7 80\nR $T1 4294967295:\nR $T1 1: 0 -7\nD $DISC 63: 1 -2 0 32767 -32768 6 7 80
+A enter $T1\nA take $DISC $T1\nA step $DISC\nA print $T1\nEND idle\n";
     assert!(rt; sink.bytes() == wanted.as_slice());
     Ok(())
 }
@@ -67,13 +90,14 @@ fn lines_tell_the_end_and_the_usage(rt: HostRuntime) -> Result<(), Fail> {
         End::Cut,
         End::Second(15),
         End::Checked,
+        End::Refused,
         End::Swept,
     ] {
         write_end(&mut sink, end)?;
     }
     write_usage(&mut sink)?;
     let wanted =
-        b"END idle\nEND cut\nEND second 15\nEND checked\nEND swept\nUSAGE guardian MODE [N] [--acts] [--fail P:K]\n";
+        b"END idle\nEND cut\nEND second 15\nEND checked\nEND refused\nEND swept\nUSAGE guardian MODE [N] [--acts] [--fail P:K]\n";
     assert!(rt; sink.bytes() == wanted.as_slice());
     Ok(())
 }

@@ -201,16 +201,22 @@ fn refuses_what_the_discipline_refuses(rt: HostRuntime) -> Result<(), Fail> {
         deck.extend_from_slice(b"processors 2\npair $P 0 1\n")?;
         deck.extend_from_slice(program)?;
         deck.extend_from_slice(b".\nschedule\ndrain 1\nEND\n")?;
-        let end = run_words(rt.alloc(), &[b"guardian", mode], deck, &[], &[])?;
+        let Ended { status, run, text } = run_words(
+            rt.alloc(),
+            &[b"guardian", mode],
+            deck,
+            &[],
+            &[],
+        )?;
         assert!(rt;
-            end.text.as_slice()
+            text.as_slice()
                 == b"REFUSED $P Data TOTAL\nP 1 1\nP 2 1\nP 3 1\nP 4 2\nEND refused\n".as_slice()
         );
-        assert!(rt; end.run.is_none());
+        assert!(rt; run.is_none());
         let Status::Refused {
             process: 0,
             refusal: Refusal::Broken { reason, path },
-        } = end.status
+        } = status
         else {
             return Err(Fail::from("another end"));
         };
