@@ -5,7 +5,9 @@ use Rattle.gd_words.specs.declared.message.Request.{Request}
 use Rattle.tal_tree.specs.declared.site.ProcessSpec.{ProcessSpec}
 use Rattle.tal_tree.specs.declared.site.Site.{Site}
 use Rattle.tal_tree.specs.declared.site.TerminalSpec.{TerminalSpec}
-use Rattle.world_semantics.specs.World.{Pair, Terminal, boot, pair_at_boot, pairs_at_boot, Which, First, Second, copy_of}
+use Rattle.world_semantics.specs.declared.which.Which.{Which}
+use Rattle.world_semantics.specs.declared.which.Which.TheVariants.{First, Second}
+use Rattle.world_semantics.specs.World.{Pair, Terminal, boot, pair_at_boot, pairs_at_boot, copy_of}
 use Rattle.world_semantics.proofs.Lists.{some-same, mapped}
 use Rattle.process_histories.specs.Histories.{nothing_done}
 use Rattle.plain_histories.specs.Booking.{none_booked, none_held}

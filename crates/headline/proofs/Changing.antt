@@ -11,7 +11,9 @@ use Rattle.world_semantics.specs.Messages.{Message, Sending, Cause, Stopping, Ma
 use Rattle.world_semantics.specs.Own.{Around, Causes, by_inner, by_take, by_ask, by_answer, by_device, by_write, by_reply}
 use Rattle.world_semantics.specs.Passes.{Passes, by_send, by_pass_again, by_pass, by_apply, by_acknowledge, kept_at_mark}
 use Rattle.world_semantics.specs.Rules.{stopped_pair, after_marking}
-use Rattle.world_semantics.specs.World.{Copy, Pair, Mark, Which, First, Second, copy_of, with_copy}
+use Rattle.world_semantics.specs.declared.which.Which.{Which}
+use Rattle.world_semantics.specs.declared.which.Which.TheVariants.{First, Second}
+use Rattle.world_semantics.specs.World.{Copy, Pair, Mark, copy_of, with_copy}
 use Rattle.world_semantics.proofs.Counting.{own-append, own-step, own-one}
 use Rattle.headline.proofs.Waiting.{still-all}
 

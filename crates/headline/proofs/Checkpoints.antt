@@ -10,7 +10,8 @@ use Rattle.checkpoint_image.specs.declared.message.ImageMessage.{ImageMessage}
 use Rattle.checkpoint_image.specs.declared.message.TakenMessage.{TakenMessage}
 use Rattle.world_semantics.specs.declared.role.Role.TheVariants.{Acting}
 use Rattle.world_semantics.specs.Core.{Deed, Went, Marked, Took, Asked, Got, Answered, Acted}
-use Rattle.world_semantics.specs.World.{Pair, Mark, has_marked, First, Second}
+use Rattle.world_semantics.specs.declared.which.Which.TheVariants.{First, Second}
+use Rattle.world_semantics.specs.World.{Pair, Mark, has_marked}
 use Rattle.world_semantics.specs.Messages.{Sending, Cause}
 use Rattle.world_semantics.specs.Passes.{Passes, by_send, by_pass_again, by_pass, by_apply, by_acknowledge}
 use Rattle.world_semantics.proofs.Roles.{both-true}

@@ -9,7 +9,9 @@ use Rattle.plain_semantics.specs.Openers.{openers_of}
 use Rattle.disc_device.specs.declared.stored.Stored.{Stored}
 use Rattle.world_semantics.specs.declared.role.Role.TheVariants.{Acting, Watching}
 use Rattle.world_semantics.specs.Core.{Core, Deed, Marked, Advances}
-use Rattle.world_semantics.specs.World.{Copy, Pair, Mark, has_marked, Which, First, Second, copy_of, with_copy}
+use Rattle.world_semantics.specs.declared.which.Which.{Which}
+use Rattle.world_semantics.specs.declared.which.Which.TheVariants.{First, Second}
+use Rattle.world_semantics.specs.World.{Copy, Pair, Mark, has_marked, copy_of, with_copy}
 use Rattle.world_semantics.specs.Kept.{Enters, holds_on, repeats, begins, keeps}
 use Rattle.process_histories.specs.Histories.{HasDone}
 use Rattle.disciplines.specs.Disciplined.{IsDisciplined}

@@ -16,7 +16,9 @@ use Rattle.world_semantics.specs.Messages.{Message, Sending, Cause}
 use Rattle.world_semantics.specs.Own.{Around, around, Causes}
 use Rattle.world_semantics.specs.Passes.{Passes}
 use Rattle.world_semantics.specs.Rules.{after_own}
-use Rattle.world_semantics.specs.World.{Copy, Pair, Mark, World, Which, First, Second, copy_of, with_copy, with_pair}
+use Rattle.world_semantics.specs.declared.which.Which.{Which}
+use Rattle.world_semantics.specs.declared.which.Which.TheVariants.{First, Second}
+use Rattle.world_semantics.specs.World.{Copy, Pair, Mark, World, copy_of, with_copy, with_pair}
 use Rattle.world_semantics.proofs.Growing.{AreStopped}
 use Rattle.world_semantics.proofs.Roles.{AllRoles}
 use Rattle.process_histories.specs.Devices.{sectors_after}

@@ -5,7 +5,9 @@ use Rattle.tal_tree.specs.declared.site.ProcessSpec.{ProcessSpec}
 use Rattle.world_semantics.specs.declared.role.Role.{Role}
 use Rattle.world_semantics.specs.declared.role.Role.TheVariants.{Watching, Gone}
 use Rattle.world_semantics.specs.Core.{Deed}
-use Rattle.world_semantics.specs.World.{Copy, Pair, Mark, has_marked, Which, First, Second}
+use Rattle.world_semantics.specs.declared.which.Which.{Which}
+use Rattle.world_semantics.specs.declared.which.Which.TheVariants.{First, Second}
+use Rattle.world_semantics.specs.World.{Copy, Pair, Mark, has_marked}
 use Rattle.world_semantics.specs.Rules.{stopped_pair, taken_over, taker, after_marking, after_takeover, marked_pair}
 use Rattle.world_semantics.proofs.Roles.{RolesOf, Takes, taker-is}
 use Rattle.process_histories.specs.Histories.{HasDone}

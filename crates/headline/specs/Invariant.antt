@@ -14,7 +14,8 @@ use Rattle.checkpoint_image.specs.declared.message.ImageMessage.{ImageMessage}
 use Rattle.checkpoint_image.specs.declared.message.TakenMessage.{TakenMessage}
 use Rattle.world_semantics.specs.declared.role.Role.TheVariants.{Watching, Gone}
 use Rattle.world_semantics.specs.Core.{Deed, Marked, Took, carried}
-use Rattle.world_semantics.specs.World.{Copy, Pair, Terminal, Mark, World, has_marked, Which, copy_of}
+use Rattle.world_semantics.specs.declared.which.Which.{Which}
+use Rattle.world_semantics.specs.World.{Copy, Pair, Terminal, Mark, World, has_marked, copy_of}
 use Rattle.process_histories.specs.Devices.{sectors_after}
 use Rattle.process_histories.specs.Histories.{HasDone}
 use Rattle.plain_histories.specs.Booking.{AreBooked, AreHeld}

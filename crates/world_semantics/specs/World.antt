@@ -17,6 +17,8 @@ use Rattle.checkpoint_image.specs.declared.message.ImageMessage.{ImageMessage}
 use Rattle.checkpoint_image.specs.declared.message.TakenMessage.{TakenMessage}
 use Rattle.world_semantics.specs.declared.role.Role.{Role}
 use Rattle.world_semantics.specs.declared.role.Role.TheVariants.{Acting, Watching}
+pub use Rattle.world_semantics.specs.declared.which.Which.{Which}
+pub use Rattle.world_semantics.specs.declared.which.Which.TheVariants.{First, Second}
 use Rattle.world_semantics.specs.Core.{Core, core_at_boot}
 
 -- a copy of a process: the processor in which it is, its role, its era, the number of the last checkpoint sent or applied in that era, whether it has sent
@@ -131,11 +133,6 @@ is_running stopped node = runs_by node (slice_get stopped node)
 -- whether a node has marked a processor
 abbrev pub has_marked : List Mark → ℕ → ℕ → Bool
 has_marked marks node processor = list_any (λ mark. mark.node == node && mark.down == processor) marks
-
--- one of the two copies of a process: that in its first-named processor, or the other
-pub data Which : Type 0 where
-  First : Which
-  Second : Which
 
 abbrev pub other_of : Which → Which
 other_of First = Second

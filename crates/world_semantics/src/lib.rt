@@ -11,6 +11,7 @@ pub mod examples;
 pub mod laws;
 pub mod message_laws;
 pub mod role;
+pub mod which;
 
 pub use examples::{
     a_disc_finds_its_write_done, a_lost_take_is_replaced, a_repeated_request_is_answered_once,
@@ -30,3 +31,4 @@ pub use message_laws::{
     only_the_awaited_reply_is_printed, what_was_taken_does_not_wait,
 };
 pub use role::Role;
+pub use which::Which;

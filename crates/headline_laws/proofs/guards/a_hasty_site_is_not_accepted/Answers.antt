@@ -10,7 +10,8 @@ use Rattle.plain_semantics.specs.Machine.{IsPossible}
 use Rattle.world_semantics.specs.Examples.{echo_site, ahead_events, ahead_acts}
 use Rattle.world_semantics.specs.Follows.{IsRun}
 use Rattle.world_semantics.specs.Kept.{acts_of}
-use Rattle.world_semantics.specs.World.{World, First, Second, boot}
+use Rattle.world_semantics.specs.declared.which.Which.TheVariants.{First, Second}
+use Rattle.world_semantics.specs.World.{World, boot}
 use Rattle.world_semantics.proofs.Lists.{some-same}
 use Rattle.world_semantics.proofs.Moves.{Move, Runs, Enters, Brings, Prints, Fails, Ticks, Played, played}
 use Rattle.world_semantics.proofs.Played.{ahead-impossible}

@@ -1,0 +1,1 @@
+//! Laws of requests that are awaited.
