@@ -1,0 +1,28 @@
+-- Words for the laws of computed changes: what they need of a site and of the message that comes.
+use Rattle.std.specs.Prelude.{◌≡◌, ◌≢◌, ℕ, true, slice_get, Some}
+use Rattle.gd_words.specs.Members.{IsAmong}
+use Rattle.tal_tree.specs.declared.site.Site.{Site}
+use Rattle.tal_tree.specs.declared.site.ProcessSpec.{ProcessSpec}
+use Rattle.world_semantics.specs.World.{Pair, World, Which, copy_of}
+use Rattle.world_semantics.specs.Messages.{Message, Asking, Replying, Checkpointing, Taking}
+use Rattle.computed_changes.specs.Fitting.{depths_of, fits}
+
+-- each process of a site has its two copies in two processors
+abbrev pub HasCopiesApart : Site → Type 0
+HasCopiesApart site = (number : ℕ) (spec : ProcessSpec) → slice_get site.processes number ≡ Some spec → spec.primary ≢ spec.backup
+
+-- a message was sent, and what copies send each other by copies of the process that it names
+abbrev pub IsSent : World → Message → Type 0
+IsSent w (Asking request) = IsAmong request w.requests
+IsSent w (Replying reply) = IsAmong reply w.replies
+IsSent w (Checkpointing message) = (pair : Pair) × (slice_get w.processes message.process ≡ Some pair) × IsAmong message pair.checkpoints
+IsSent w (Taking taken) = (pair : Pair) × (slice_get w.processes taken.process ≡ Some pair) × IsAmong taken pair.takens
+
+-- what a checkpoint carries fits the copy at the node where it comes; any other message fits
+abbrev pub FitsWhereItComes : Site → World → ℕ → Message → Type 0
+FitsWhereItComes site w node (Checkpointing message) =
+    (pair : Pair) (k : Which) → slice_get w.processes message.process ≡ Some pair → (copy_of k pair).processor ≡ node
+    → fits (depths_of site message.process) (copy_of k pair).core message.image ≡ true
+FitsWhereItComes site w node (Asking request) = Unit {0}
+FitsWhereItComes site w node (Replying reply) = Unit {0}
+FitsWhereItComes site w node (Taking taken) = Unit {0}

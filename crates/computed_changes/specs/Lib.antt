@@ -1,0 +1,5 @@
+pub mod Entered
+pub mod Fitting
+pub mod Handed
+pub mod Laws
+pub mod Stopped
