@@ -1,0 +1,8 @@
+pub mod Causes
+pub mod Entered
+pub mod Homes
+pub mod Made
+pub mod Only
+pub mod Placed
+pub mod Reached
+pub mod Stopped
