@@ -3,6 +3,7 @@ pub mod Entered
 pub mod Homes
 pub mod Made
 pub mod Only
+pub mod Outcomes
 pub mod Placed
 pub mod Reached
 pub mod Stopped

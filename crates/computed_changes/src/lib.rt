@@ -2,5 +2,14 @@
 //! stops, and a node that marks one. `world_semantics` has the same for a process that runs.
 //!
 //! Below stand `world_semantics`, whose rules say which changes are permitted, and `sync_ids`, whose tables say which checkpoints
-//! fit. The layer above computes these functions, and uses the laws by which what is computed is permitted, and nothing else is.
+//! fit. The layer above computes these functions, and uses the laws of this crate: what is computed is permitted, and in a run
+//! nothing else is, but for a checkpoint that doesn't fit, which is ignored. No code runs here.
 #![tactic(auto)]
+
+
+pub mod laws;
+
+pub use laws::{
+    a_handing_has_one_outcome, a_handing_is_computed, a_mark_is_computed, a_stop_is_computed,
+    an_entry_is_computed, what_copies_send_names_their_process,
+};
