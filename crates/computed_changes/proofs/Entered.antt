@@ -1,5 +1,5 @@
 -- What is computed where a terminal enters is what is permitted there, and nothing else is.
-use Rattle.std.proofs.Common.{◌≡◌, ℕ, ◌==◌, ℤ, Bool, true, false, List, Option, Some, None, option_map, slice_get, refl, subst, sym, ap}
+use Rattle.std.proofs.Common.{◌≡◌, ℕ, ◌==◌, ℤ, Bool, true, false, List, Option, Some, None, slice_get, refl, subst}
 use Rattle.std.proofs.lemmas.Bool.{eqb-true, eq-eqb}
 use Rattle.tal_tree.specs.declared.site.Site.{Site}
 use Rattle.tal_tree.specs.declared.site.Who.TheVariants as who
@@ -11,7 +11,7 @@ use Rattle.world_semantics.specs.Messages.{Sending, Cause, Entering}
 use Rattle.world_semantics.specs.Rules.{Change, by_own, by_checkpoint, by_request, by_early_request, by_enter, by_print, by_stop, by_mark}
 use Rattle.world_semantics.specs.Running.{Done}
 use Rattle.world_semantics.proofs.Lists.{some-same}
-use Rattle.computed_changes.specs.Entered.{entered_done, enter_to, enter_where, enter_at, enter_done}
+use Rattle.computed_changes.specs.Entered.{enter_to, enter_where, enter_at, enter_done}
 use Rattle.computed_changes.proofs.Causes.{IsOfCopies, own-causes, passes-causes}
 
 abbrev MayEnter : Site → ℕ → World → Done → Type 0

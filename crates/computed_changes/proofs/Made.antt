@@ -1,5 +1,5 @@
 -- What is computed for a message that is handed over is permitted, where the message was sent.
-use Rattle.std.proofs.Common.{◌≡◌, ℕ, ◌+◌, ◌==◌, ◌&&◌, Bool, true, false, List, Option, Some, None, option_map, slice_get, refl, sym, ap, subst, ◌∙◌}
+use Rattle.std.proofs.Common.{◌≡◌, ℕ, ◌+◌, ◌==◌, Bool, true, false, Option, Some, None, option_map, slice_get, refl, sym, subst, ◌∙◌}
 use Rattle.std.proofs.lemmas.Bool.{eqb-true}
 use Rattle.gd_words.specs.Members.{IsAmong}
 use Rattle.gd_words.specs.declared.message.Request.{Request}
@@ -11,14 +11,14 @@ use Rattle.tal_tree.specs.declared.site.Who.TheVariants as who
 use Rattle.process_semantics.specs.declared.point.Point.{Point}
 use Rattle.process_semantics.specs.declared.point.Point.TheVariants as point
 use Rattle.process_semantics.specs.Process as process
-use Rattle.plain_semantics.specs.Openers.{openers_of, opener_of}
+use Rattle.plain_semantics.specs.Openers.{opener_of}
 use Rattle.checkpoint_image.specs.declared.message.Image.{Image}
 use Rattle.checkpoint_image.specs.declared.message.ImageMessage.{ImageMessage}
 use Rattle.checkpoint_image.specs.declared.message.TakenMessage.{TakenMessage}
 use Rattle.world_semantics.specs.declared.role.Role.{Role}
 use Rattle.world_semantics.specs.declared.role.Role.TheVariants.{Acting, Watching, Gone}
 use Rattle.world_semantics.specs.Core.{Core, next_on, put_in, gets}
-use Rattle.world_semantics.specs.World.{Copy, Pair, Terminal, World, terminal_node, Which, copy_of}
+use Rattle.world_semantics.specs.World.{Pair, Terminal, World, terminal_node, Which, copy_of}
 use Rattle.world_semantics.specs.Messages.{Message, Asking, Replying, Checkpointing, Taking, Handing}
 use Rattle.world_semantics.specs.Own.{by_reply}
 use Rattle.world_semantics.specs.Passes.{by_apply, by_acknowledge}
@@ -30,7 +30,7 @@ use Rattle.world_semantics.proofs.Running.{enters-as}
 use Rattle.computed_changes.specs.Fitting.{depths_of, put_where, put_fitting}
 use Rattle.computed_changes.specs.Handed.{is_to, asked_done, awaits, got_where, got_done, awaits_at, printed_where, printed_done, printed_at, replied_to, replied_done, is_next_for, applied_done, applied_where, checkpoint_done, is_of_last, acknowledged_where, taken_done, handed_done}
 use Rattle.computed_changes.specs.Laws.{IsSent}
-use Rattle.computed_changes.proofs.Homes.{AtCopy, at-copy}
+use Rattle.computed_changes.proofs.Homes.{at-copy}
 use Rattle.computed_changes.proofs.Placed.{is-to}
 
 -- a change that is made where a message is handed over

@@ -1,8 +1,7 @@
 -- Nothing else than what is computed is permitted where a message is handed over, if the copies of each process are in two processors, what they send each
 -- other names it, and a checkpoint fits.
-use Rattle.std.proofs.Common.{◌≡◌, ℕ, ◌+◌, ◌==◌, Bool, true, false, List, [], ◌∷◌, Option, Some, None, slice_get, refl, sym, ap, subst, ◌∙◌}
+use Rattle.std.proofs.Common.{◌≡◌, ℕ, ◌+◌, true, List, [], ◌∷◌, Option, Some, slice_get, refl, sym, ap, subst, ◌∙◌}
 use Rattle.std.proofs.lemmas.Bool.{eq-eqb}
-use Rattle.gd_words.specs.declared.message.Request.{Request}
 use Rattle.gd_words.specs.declared.message.Reply.{Reply}
 use Rattle.tal_tree.specs.declared.act.Act.{Act}
 use Rattle.tal_tree.specs.declared.site.Site.{Site}
@@ -16,14 +15,14 @@ use Rattle.world_semantics.specs.declared.role.Role.TheVariants.{Acting, Watchin
 use Rattle.world_semantics.specs.Core.{Core, Deed, next_on, put_in, Advances, gets}
 use Rattle.world_semantics.specs.Kept.{Enters}
 use Rattle.world_semantics.specs.World.{Copy, Pair, Terminal, World, terminal_node, Which, copy_of, other_of, with_copy, with_pair}
-use Rattle.world_semantics.specs.Messages.{Message, Asking, Replying, Checkpointing, Taking, Sending, sent_at, Cause, Handing}
+use Rattle.world_semantics.specs.Messages.{Message, Replying, Checkpointing, Taking, Sending, sent_at, Cause, Handing}
 use Rattle.world_semantics.specs.Own.{Around, around, Causes, by_inner, by_take, by_ask, by_answer, by_device, by_write, by_reply}
 use Rattle.world_semantics.specs.Passes.{Passes, by_send, by_pass_again, by_pass, by_apply, by_acknowledge, taken_of, after_applying, kept_at_mark}
 use Rattle.world_semantics.specs.Rules.{Change, by_own, by_checkpoint, by_request, by_early_request, by_enter, by_print, by_stop, by_mark, after_own}
 use Rattle.world_semantics.specs.Running.{Done, own_done}
 use Rattle.world_semantics.proofs.Running.{enters-only}
-use Rattle.computed_changes.specs.Fitting.{depths_of, fits, put_where}
-use Rattle.computed_changes.specs.Handed.{asked_done, own_got, awaits, got_where, got_done, awaits_at, printed_where, printed_at, replied_done, is_next_for, applied_where, applied_done, checkpoint_done, is_of_last, acknowledged_where, taken_done, handed_done}
+use Rattle.computed_changes.specs.Fitting.{depths_of, fits}
+use Rattle.computed_changes.specs.Handed.{asked_done, own_got, awaits, got_where, got_done, awaits_at, printed_where, replied_done, is_next_for, applied_where, applied_done, checkpoint_done, is_of_last, acknowledged_where, taken_done, handed_done}
 use Rattle.computed_changes.specs.Laws.{FitsWhereItComes}
 use Rattle.computed_changes.proofs.Homes.{AreApart, at-found}
 use Rattle.computed_changes.proofs.Placed.{opener-placed}

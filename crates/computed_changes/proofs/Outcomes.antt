@@ -1,21 +1,21 @@
 -- What follows from computed changes: nothing where none is computed, and what each event makes.
-use Rattle.std.proofs.Common.{◌≡◌, ℕ, Bool, true, false, List, [], Option, Some, None, slice_get, refl, sym, ◌∙◌}
+use Rattle.std.proofs.Common.{◌≡◌, ℕ, Bool, true, false, List, Option, Some, None, slice_get, refl}
 use Rattle.tal_tree.specs.declared.site.Site.{Site}
 use Rattle.schedule.specs.declared.event.Event.{Event}
 use Rattle.schedule.specs.declared.event.Event.TheVariants.{Enter, Deliver, Fail}
 use Rattle.world_semantics.specs.World.{World}
-use Rattle.world_semantics.specs.Messages.{Message, Sending, Cause, Entering, Handing, Stopping, Marking}
+use Rattle.world_semantics.specs.Messages.{Message, Sending, Cause, Entering, Handing, Stopping}
 use Rattle.world_semantics.specs.Rules.{Change}
-use Rattle.world_semantics.specs.Follows.{Follows, enters, cannot_enter, delivers_none, delivers, fails, cannot_fail, IsIdleFor, IsRun}
+use Rattle.world_semantics.specs.Follows.{Follows, enters, cannot_enter, delivers_none, delivers, delivers_mark, fails, cannot_fail, IsIdleFor, IsRun}
 use Rattle.world_semantics.specs.Running.{Done, world_after, sendings_of}
 use Rattle.computed_changes.specs.Entered.{enter_done}
 use Rattle.computed_changes.specs.Handed.{handed_done}
-use Rattle.computed_changes.specs.Stopped.{stop_where, stop_done}
+use Rattle.computed_changes.specs.Stopped.{stop_where, stop_done, marked_done}
 use Rattle.computed_changes.specs.Laws.{HasCopiesApart, IsSent, FitsWhereItComes}
 use Rattle.computed_changes.proofs.Made.{handed-may}
 use Rattle.computed_changes.proofs.Only.{handed-only}
 use Rattle.computed_changes.proofs.Entered.{enter-may, enter-only}
-use Rattle.computed_changes.proofs.Stopped.{stop-may, stop-only}
+use Rattle.computed_changes.proofs.Stopped.{stop-may, stop-only, mark-may}
 use Rattle.computed_changes.proofs.Reached.{run-apart, run-named}
 
 -- where each change is a computed one, and none is computed, none is possible
@@ -39,6 +39,17 @@ pub run-only : {site : Site} {events : List Event} (w next : World) (node : ℕ)
     → HasCopiesApart site → FitsWhereItComes site w node message → Change site w (Handing node message) sendings next
     → handed_done site node message w ≡ Some (record { world = next; sendings = sendings })
 run-only w next node message sendings run apart fitting c = handed-only w next node message sendings (run-apart apart run) (run-named run) fitting c
+
+-- Marks
+
+marked-as : (site : Site) (w : World) (y : Bool) (k node processor : ℕ) (done : Option Done) → marked_done node processor w ≡ done
+    → Follows site w (Deliver y k) (sendings_of done) (world_after w done)
+marked-as site w y k node processor None e = delivers_none
+marked-as site w y k node processor (Some done) e = delivers_mark node processor (mark-may site node processor w done e)
+
+pub mark-follows : (site : Site) (w : World) (y : Bool) (k node processor : ℕ)
+    → Follows site w (Deliver y k) (sendings_of (marked_done node processor w)) (world_after w (marked_done node processor w))
+mark-follows site w y k node processor = marked-as site w y k node processor (marked_done node processor w) refl
 
 -- Entries
 

@@ -1,7 +1,7 @@
 -- What is computed for a stop and for a mark is what is permitted there, and nothing else is.
-use Rattle.std.proofs.Common.{◌≡◌, ℕ, ◌&&◌, Bool, true, false, not, List, [], Option, Some, None, slice_get, refl, subst}
+use Rattle.std.proofs.Common.{◌≡◌, ℕ, Bool, true, false, not, List, Option, Some, None, slice_get, refl, subst}
 use Rattle.tal_tree.specs.declared.site.Site.{Site}
-use Rattle.world_semantics.specs.World.{World, is_running, has_marked}
+use Rattle.world_semantics.specs.World.{World, is_running}
 use Rattle.world_semantics.specs.Messages.{Sending, Cause, Stopping, Marking}
 use Rattle.world_semantics.specs.Rules.{Change, by_own, by_checkpoint, by_request, by_early_request, by_enter, by_print, by_stop, by_mark}
 use Rattle.world_semantics.specs.Running.{Done}

@@ -1,15 +1,29 @@
 -- Words for the laws of computed changes: what they need of a site and of the message that comes.
 use Rattle.std.specs.Prelude.{◌≡◌, ◌≢◌, ℕ, true, slice_get, Some}
+use Rattle.std.specs.Option.{option_map}
 use Rattle.gd_words.specs.Members.{IsAmong}
+use Rattle.gd_words.specs.declared.message.Reply.{Reply}
 use Rattle.tal_tree.specs.declared.site.Site.{Site}
 use Rattle.tal_tree.specs.declared.site.ProcessSpec.{ProcessSpec}
+use Rattle.tal_tree.specs.declared.site.Who.{Who}
+use Rattle.plain_semantics.specs.Openers.{openers_of}
 use Rattle.world_semantics.specs.World.{Pair, World, Which, copy_of}
 use Rattle.world_semantics.specs.Messages.{Message, Asking, Replying, Checkpointing, Taking}
 use Rattle.computed_changes.specs.Fitting.{depths_of, fits}
+use Rattle.computed_changes.specs.Handed.{copy_in}
 
 -- each process of a site has its two copies in two processors
 abbrev pub HasCopiesApart : Site → Type 0
 HasCopiesApart site = (number : ℕ) (spec : ProcessSpec) → slice_get site.processes number ≡ Some spec → spec.primary ≢ spec.backup
+
+-- a process has this copy at a node
+pub record IsCopyAt (w : World) (node number : ℕ) (k : Which) (pair : Pair) : Type 0 where
+  pub there : slice_get w.processes number ≡ Some pair
+  pub here : copy_in node pair ≡ Some k
+
+-- a reply goes to this opener
+abbrev pub GoesTo : Site → Reply → Who → Type 0
+GoesTo site reply one = option_map (λ opener. opener.who) (slice_get (openers_of site reply.process) reply.opener) ≡ Some one
 
 -- a message was sent, and what copies send each other by copies of the process that it names
 abbrev pub IsSent : World → Message → Type 0

@@ -61,4 +61,6 @@ pub fn a_mark_is_computed()
     ensures only { (site : Site) (w next : World) (node processor : ℕ) (sendings : List Sending) → Change site w (Marking node processor) sendings next
         → marked_done node processor w ≡ Some (record { world = next; sendings = sendings }) }
     ensures none { (site : Site) (w : World) (node processor : ℕ) → marked_done node processor w ≡ None → IsIdleFor site w (Marking node processor) }
+    ensures follows { (site : Site) (w : World) (y : Bool) (k node processor : ℕ)
+        → Follows site w (Deliver y k) (sendings_of (marked_done node processor w)) (world_after w (marked_done node processor w)) }
 {}

@@ -6,7 +6,7 @@
 //! nothing else is, but for a checkpoint that doesn't fit, which is ignored. No code runs here.
 #![tactic(auto)]
 
-
+pub mod guards;
 pub mod laws;
 
 pub use laws::{

@@ -1,7 +1,7 @@
 use Rattle.world_semantics.specs.Messages.{Marking}
 use Rattle.computed_changes.specs.Stopped.{marked_done}
 use Rattle.computed_changes.proofs.Stopped.{mark-may, mark-only}
-use Rattle.computed_changes.proofs.Outcomes.{idle-where}
+use Rattle.computed_changes.proofs.Outcomes.{idle-where, mark-follows}
 use Rattle.computed_changes.proofs.laws.a_mark_is_computed.Goals as goal
 
 pub returns : goal.returns
@@ -11,4 +11,5 @@ returns c = record {
   none = λ site w node processor e.
       idle-where site w (Marking node processor) (marked_done node processor w)
       (λ next sendings change. mark-only node processor w next sendings change) e;
+  follows = mark-follows;
 }
