@@ -1,2 +1,2 @@
 mod Openers
-mod Tables
+pub mod Tables

@@ -13,7 +13,7 @@ use Rattle.tal_tree.specs.declared.site.OpenerSpec.{OpenerSpec}
 use Rattle.sync_ids.specs.declared.opener.Opener.{Opener}
 use Rattle.sync_ids.specs.Openers.{block_of, depth_of, untaken_of, remembered}
 use Rattle.sync_ids.specs.Tables.{IsDepth, Remembered, IsSound, untaken, nothing_taken, is_of_depth, are_of_depths, is_unanswered, can_hold}
-use Rattle.sync_ids.proofs.Tables.{and-left, and-right, depth-at, depths-set, lengths, untaken-of, more-taken}
+use Rattle.sync_ids.proofs.Tables.{and-left, and-right, depth-at, depths-set, lengths, untaken-of, more-taken, one-more-kept}
 
 -- One opener changes
 
@@ -83,13 +83,6 @@ pub opener-held : (openers : List Opener) (in_hand : Option ℕ) (k place : ℕ)
 opener-held openers in_hand k place old is same read sound =
     let held = subst (λ (h : Option ℕ). IsSound (remembered openers h)) (is ∙ ap Some (sym same)) sound in
     (held, slice_get_read openers (length openers) k old refl (there-in openers k held) read)
-
-one-more-kept : (kept : List (List ℤ)) (words : List ℤ) (depth taken : ℕ) → length kept < taken
-    → (nat_le (length (last_ones depth (kept ++ words ∷ []))) depth && nat_le (length (last_ones depth (kept ++ words ∷ []))) taken) ≡ true
-one-more-kept kept words depth taken fewer =
-    let all = length-append kept (words ∷ []) in
-    let left = length-drop (length (kept ++ words ∷ []) - depth) (kept ++ words ∷ []) in
-    both_true (le-leb _ depth (omega (arith, all, left))) (le-leb _ taken (omega (arith, all, left, fewer)))
 
 pub sound-taking : (openers : List Opener) (before : Option ℕ) (place : ℕ) (old new : Opener) → slice_get openers place ≡ Some old
     → block_of new ≡ record (block_of old) { taken = old.taken + 1 } → depth_of new ≡ depth_of old

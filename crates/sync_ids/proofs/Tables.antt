@@ -1,8 +1,9 @@
 -- Tables of which one opener's block changes, and what a table that fits says of one opener.
-use Rattle.std.proofs.Common.{◌≡◌, ◌≢◌, ℕ, ◌+◌, ◌&&◌, ◌==◌, Bool, true, false, List, [], ◌∷◌, length, map, Some, zero, suc, refl, ap, ◌∙◌, arith, slice_get, slice_set}
+use Rattle.std.proofs.Common.{◌≡◌, ◌≢◌, ℕ, ◌+◌, ◌-◌, ◌<◌, ◌&&◌, ◌==◌, ℤ, Bool, true, false, List, [], ◌∷◌, ◌++◌, length, map, Some, zero, suc, refl, ap, ◌∙◌, arith, slice_get, slice_set, length-append, length-drop}
 use Rattle.std.specs.Prelude.{nat_le}
 use Rattle.std.specs.Cmp.Derive.{both_true}
 use Rattle.std.proofs.lemmas.Bool.{eqb-true, leb-true, le-leb}
+use Rattle.checkpoint_image.specs.Receive.{last_ones}
 use Rattle.checkpoint_image.specs.declared.receive.OpenerBlock.{OpenerBlock}
 use Rattle.sync_ids.specs.Tables.{untaken, is_of_depth, are_of_depths}
 
@@ -61,3 +62,11 @@ pub more-taken : (kept depth taken : ℕ) → (nat_le kept depth && nat_le kept 
 more-taken kept depth taken of =
     both_true (and-left (nat_le kept depth) (nat_le kept taken) of)
     (le-leb kept (taken + 1) (omega (arith, leb-true kept taken (and-right (nat_le kept depth) (nat_le kept taken) of))))
+
+-- one more kept
+pub one-more-kept : (kept : List (List ℤ)) (words : List ℤ) (depth taken : ℕ) → length kept < taken
+    → (nat_le (length (last_ones depth (kept ++ words ∷ []))) depth && nat_le (length (last_ones depth (kept ++ words ∷ []))) taken) ≡ true
+one-more-kept kept words depth taken fewer =
+    let all = length-append kept (words ∷ []) in
+    let left = length-drop (length (kept ++ words ∷ []) - depth) (kept ++ words ∷ []) in
+    both_true (le-leb _ depth (omega (arith, all, left))) (le-leb _ taken (omega (arith, all, left, fewer)))
