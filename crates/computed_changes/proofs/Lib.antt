@@ -1,9 +1,12 @@
 pub mod Causes
 pub mod Entered
+pub mod Files
+pub mod Fitting
 pub mod Homes
 pub mod Made
 pub mod Only
 pub mod Outcomes
 pub mod Placed
 pub mod Reached
+pub mod Saying
 pub mod Stopped

@@ -117,7 +117,7 @@ taken-only site taken k pair w found apart role sent era number =
     ∙ ap (taken_done taken k pair w) role ∙ ap (acknowledged_where taken k pair w) last
 
 passes-only : (site : Site) (w : World) {number node : ℕ} {message : Message} {kept : List Act} {pair next : Pair} {cause : Cause} {sendings : List Sending}
-    → slice_get w.processes number ≡ Some pair → AreApart pair → AreNamed number pair → cause ≡ Handing node message → FitsWhereItComes site w node message
+    → slice_get w.processes number ≡ Some pair → AreApart pair → AreNamed number pair.checkpoints pair.takens → cause ≡ Handing node message → FitsWhereItComes site w node message
     → Passes number w.marks w.kept pair cause sendings next kept
     → IsHanded site node message w sendings (record (with_pair number next w) { kept = kept })
 passes-only site w found apart named r fitting (by_send k role p s m) = absurd (cc)

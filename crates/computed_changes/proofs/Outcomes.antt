@@ -19,10 +19,10 @@ use Rattle.computed_changes.proofs.Stopped.{stop-may, stop-only, mark-may}
 use Rattle.computed_changes.proofs.Reached.{run-apart, run-named}
 
 -- where each change is a computed one, and none is computed, none is possible
-pub idle-where : (site : Site) (w : World) (cause : Cause) (done : Option Done)
-    → ((next : World) (sendings : List Sending) → Change site w cause sendings next → done ≡ Some (record { world = next; sendings = sendings }))
-    → done ≡ None → IsIdleFor site w cause
-idle-where site w cause done only none sendings next c = let one = only next sendings c in cc
+pub idle-where : (site : Site) (w : World) (cause : Cause) (computed : Option Done)
+    → ((next : World) (sendings : List Sending) → Change site w cause sendings next → computed ≡ Some (record { world = next; sendings = sendings }))
+    → computed ≡ None → IsIdleFor site w cause
+idle-where site w cause computed only none sendings next c = let one = only next sendings c in cc
 
 -- Messages
 

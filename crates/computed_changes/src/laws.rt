@@ -1,14 +1,20 @@
-ghost use Rattle.std.specs.Prelude.{◌≡◌, ℕ, Bool, List, Some, None};
+ghost use Rattle.std.specs.Prelude.{◌≡◌, ℕ, ◌<◌, Bool, true, List, length, slice_get, Some, None};
+ghost use Rattle.gd_words.specs.Members.{IsAmong};
 ghost use Rattle.tal_tree.specs.declared.site.Site.{Site};
+ghost use Rattle.tal_tree.specs.declared.site.ProcessSpec.{ProcessSpec};
 ghost use Rattle.schedule.specs.declared.event.Event.{Event};
 ghost use Rattle.schedule.specs.declared.event.Event.TheVariants.{Enter, Deliver, Fail};
-ghost use Rattle.world_semantics.specs.World.{World};
+ghost use Rattle.plain_semantics.specs.Openers.{files_of};
+ghost use Rattle.checkpoint_image.specs.declared.message.FileNumber.{FileNumber};
+ghost use Rattle.checkpoint_image.specs.declared.message.ImageMessage.{ImageMessage};
+ghost use Rattle.world_semantics.specs.World.{Pair, World, Which, copy_of};
 ghost use Rattle.world_semantics.specs.Messages.{Message, Sending, Entering, Handing, Stopping, Marking};
 ghost use Rattle.world_semantics.specs.Rules.{Change};
 ghost use Rattle.world_semantics.specs.Follows.{Follows, IsIdleFor, IsRun};
 ghost use Rattle.world_semantics.specs.Laws.{WasSent};
 ghost use Rattle.world_semantics.specs.Running.{Done, world_after, sendings_of};
 ghost use Rattle.computed_changes.specs.Entered.{enter_done};
+ghost use Rattle.computed_changes.specs.Fitting.{depths_of, fits};
 ghost use Rattle.computed_changes.specs.Handed.{handed_done};
 ghost use Rattle.computed_changes.specs.Stopped.{stop_done, marked_done};
 ghost use Rattle.computed_changes.specs.Laws.{HasCopiesApart, IsSent, FitsWhereItComes};
@@ -34,6 +40,14 @@ pub fn a_handing_has_one_outcome()
 /// In a run what copies ever sent each other names the process whose copies they are.
 pub fn what_copies_send_names_their_process()
     ensures { (site : Site) (events : List Event) (w : World) (message : Message) → IsRun site events w → WasSent w message → IsSent w message }
+{}
+
+/// In a run what a sent checkpoint carries fits each copy of its process, where the files that it names are the process's.
+pub fn a_sent_checkpoint_fits()
+    ensures { (site : Site) (events : List Event) (w : World) (number : ℕ) (spec : ProcessSpec) (pair : Pair) (k : Which) (message : ImageMessage) → IsRun site events w
+        → slice_get site.processes number ≡ Some spec → slice_get w.processes number ≡ Some pair → IsAmong message pair.checkpoints
+        → ((named : FileNumber) → IsAmong named message.image.files → named.file < length (files_of spec.what))
+        → fits (depths_of site number) (copy_of k pair).core message.image ≡ true }
 {}
 
 /// A terminal that enters makes the change that is computed, no other, and none where none is.
