@@ -20,7 +20,9 @@ use Rattle.checkpoint_image.specs.Receive.{after_taking, after_answering, last_o
 use Rattle.sync_ids.specs.Tables.{is_of_depth, are_of_depths, is_unanswered, can_hold}
 use Rattle.sync_ids.proofs.Tables.{and-left, and-right, depth-at, depths-set, more-taken, one-more-kept}
 use Rattle.world_semantics.specs.Core.{Core, Deed, Advances, goes, marks, takes, asks, gets, answers, acts, put_in}
-use Rattle.world_semantics.specs.World.{Copy, Pair, World, Which, First, Second, copy_of, pair_at_boot, pairs_at_boot}
+use Rattle.world_semantics.specs.declared.which.Which.{Which}
+use Rattle.world_semantics.specs.declared.which.Which.TheVariants.{First, Second}
+use Rattle.world_semantics.specs.World.{Copy, Pair, World, copy_of, pair_at_boot, pairs_at_boot}
 use Rattle.world_semantics.specs.Messages.{Sending, Cause}
 use Rattle.world_semantics.specs.Passes.{checkpoint_of}
 use Rattle.world_semantics.specs.Rules.{Change}

@@ -1,7 +1,9 @@
 -- Which copy of a process is at a node: where its two copies are in two processors, the one that is there.
 use Rattle.std.proofs.Common.{◌≡◌, ◌≢◌, ℕ, ◌==◌, Bool, true, false, if◌then◌else◌, Option, Some, None, option_and_then, refl, subst, ap, ◌∙◌}
 use Rattle.std.proofs.lemmas.Bool.{eqb-true, eq-eqb, ne_eqb}
-use Rattle.world_semantics.specs.World.{Pair, Which, First, Second, copy_of}
+use Rattle.world_semantics.specs.declared.which.Which.{Which}
+use Rattle.world_semantics.specs.declared.which.Which.TheVariants.{First, Second}
+use Rattle.world_semantics.specs.World.{Pair, copy_of}
 use Rattle.world_semantics.specs.Running.{Done}
 use Rattle.world_semantics.proofs.Lists.{some-same}
 use Rattle.computed_changes.specs.Handed.{copy_in, at_copy}

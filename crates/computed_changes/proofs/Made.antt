@@ -18,7 +18,8 @@ use Rattle.checkpoint_image.specs.declared.message.TakenMessage.{TakenMessage}
 use Rattle.world_semantics.specs.declared.role.Role.{Role}
 use Rattle.world_semantics.specs.declared.role.Role.TheVariants.{Acting, Watching, Gone}
 use Rattle.world_semantics.specs.Core.{Core, next_on, put_in, gets}
-use Rattle.world_semantics.specs.World.{Pair, Terminal, World, terminal_node, Which, copy_of}
+use Rattle.world_semantics.specs.declared.which.Which.{Which}
+use Rattle.world_semantics.specs.World.{Pair, Terminal, World, terminal_node, copy_of}
 use Rattle.world_semantics.specs.Messages.{Message, Asking, Replying, Checkpointing, Taking, Handing}
 use Rattle.world_semantics.specs.Own.{by_reply}
 use Rattle.world_semantics.specs.Passes.{by_apply, by_acknowledge}

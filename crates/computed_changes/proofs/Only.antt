@@ -14,7 +14,8 @@ use Rattle.checkpoint_image.specs.declared.message.TakenMessage.{TakenMessage}
 use Rattle.world_semantics.specs.declared.role.Role.TheVariants.{Acting, Watching}
 use Rattle.world_semantics.specs.Core.{Core, Deed, next_on, put_in, Advances, gets}
 use Rattle.world_semantics.specs.Kept.{Enters}
-use Rattle.world_semantics.specs.World.{Copy, Pair, Terminal, World, terminal_node, Which, copy_of, other_of, with_copy, with_pair}
+use Rattle.world_semantics.specs.declared.which.Which.{Which}
+use Rattle.world_semantics.specs.World.{Copy, Pair, Terminal, World, terminal_node, copy_of, other_of, with_copy, with_pair}
 use Rattle.world_semantics.specs.Messages.{Message, Replying, Checkpointing, Taking, Sending, sent_at, Cause, Handing}
 use Rattle.world_semantics.specs.Own.{Around, around, Causes, by_inner, by_take, by_ask, by_answer, by_device, by_write, by_reply}
 use Rattle.world_semantics.specs.Passes.{Passes, by_send, by_pass_again, by_pass, by_apply, by_acknowledge, taken_of, after_applying, kept_at_mark}

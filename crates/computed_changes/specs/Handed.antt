@@ -19,7 +19,9 @@ use Rattle.checkpoint_image.specs.Receive.{waits, came, repeated}
 use Rattle.world_semantics.specs.declared.role.Role.{Role}
 use Rattle.world_semantics.specs.declared.role.Role.TheVariants.{Acting, Watching, Gone}
 use Rattle.world_semantics.specs.Core.{Core, next_on}
-use Rattle.world_semantics.specs.World.{Copy, Pair, Terminal, World, terminal_node, Which, First, Second, other_of, copy_of, with_copy, with_pair}
+use Rattle.world_semantics.specs.declared.which.Which.{Which}
+use Rattle.world_semantics.specs.declared.which.Which.TheVariants.{First, Second}
+use Rattle.world_semantics.specs.World.{Copy, Pair, Terminal, World, terminal_node, other_of, copy_of, with_copy, with_pair}
 use Rattle.world_semantics.specs.Messages.{Message, Asking, Replying, Checkpointing, Taking, sent_at}
 use Rattle.world_semantics.specs.Own.{around}
 use Rattle.world_semantics.specs.Passes.{taken_of, after_applying, kept_at_mark}

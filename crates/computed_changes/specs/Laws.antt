@@ -7,7 +7,8 @@ use Rattle.tal_tree.specs.declared.site.Site.{Site}
 use Rattle.tal_tree.specs.declared.site.ProcessSpec.{ProcessSpec}
 use Rattle.tal_tree.specs.declared.site.Who.{Who}
 use Rattle.plain_semantics.specs.Openers.{openers_of}
-use Rattle.world_semantics.specs.World.{Pair, World, Which, copy_of}
+use Rattle.world_semantics.specs.declared.which.Which.{Which}
+use Rattle.world_semantics.specs.World.{Pair, World, copy_of}
 use Rattle.world_semantics.specs.Messages.{Message, Asking, Replying, Checkpointing, Taking}
 use Rattle.computed_changes.specs.Fitting.{depths_of, fits}
 use Rattle.computed_changes.specs.Handed.{copy_in}

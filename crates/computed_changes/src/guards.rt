@@ -13,7 +13,9 @@ ghost use Rattle.checkpoint_image.specs.declared.receive.Standing.TheVariants.{K
 ghost use Rattle.checkpoint_image.specs.Receive.{standing, reply_to};
 ghost use Rattle.world_semantics.specs.declared.role.Role.TheVariants.{Acting, Watching, Gone};
 ghost use Rattle.world_semantics.specs.Core.{Core, next_on};
-ghost use Rattle.world_semantics.specs.World.{Pair, World, Which, First, Second, copy_of, terminal_node, is_running, has_marked};
+ghost use Rattle.world_semantics.specs.declared.which.Which.{Which};
+ghost use Rattle.world_semantics.specs.declared.which.Which.TheVariants.{First, Second};
+ghost use Rattle.world_semantics.specs.World.{Pair, World, copy_of, terminal_node, is_running, has_marked};
 ghost use Rattle.world_semantics.specs.World.{Terminal as AtTerminal};
 ghost use Rattle.world_semantics.specs.Messages.{Asking, Replying, Checkpointing, Taking};
 ghost use Rattle.world_semantics.specs.Running.{sendings_of};

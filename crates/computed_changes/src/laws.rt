@@ -7,7 +7,8 @@ ghost use Rattle.schedule.specs.declared.event.Event.TheVariants.{Enter, Deliver
 ghost use Rattle.plain_semantics.specs.Openers.{files_of};
 ghost use Rattle.checkpoint_image.specs.declared.message.FileNumber.{FileNumber};
 ghost use Rattle.checkpoint_image.specs.declared.message.ImageMessage.{ImageMessage};
-ghost use Rattle.world_semantics.specs.World.{Pair, World, Which, copy_of};
+ghost use Rattle.world_semantics.specs.declared.which.Which.{Which};
+ghost use Rattle.world_semantics.specs.World.{Pair, World, copy_of};
 ghost use Rattle.world_semantics.specs.Messages.{Message, Sending, Entering, Handing, Stopping, Marking};
 ghost use Rattle.world_semantics.specs.Rules.{Change};
 ghost use Rattle.world_semantics.specs.Follows.{Follows, IsIdleFor, IsRun};
