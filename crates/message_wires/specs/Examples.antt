@@ -1,0 +1,81 @@
+-- Worked runs of the adder over whole messages: what is on the bus after each event, and what is owed at the end.
+use Rattle.std.specs.Prelude.{ℕ, pos, false, List, [], ◌∷◌, map}
+use Rattle.schedule.specs.declared.event.Event.{Event}
+use Rattle.schedule.specs.declared.event.Event.TheVariants as event
+use Rattle.world_semantics.specs.Examples.{adder_for, delivery, run}
+use Rattle.world_semantics.specs.Messages.{Message, Asking, Replying, Checkpointing, Taking}
+use Rattle.machine_states.specs.States.{Played, Makes, Skips, WouldStop}
+use Rattle.message_wires.specs.Wires.{Sent, Wires}
+use Rattle.message_wires.specs.Play.{Whole, whole_at_boot, play}
+
+-- of what sort a message is
+pub data Sort : Type 0 where
+  Request : Sort
+  Reply : Sort
+  Checkpoint : Sort
+  Taken : Sort
+
+abbrev pub sort_of : Message → Sort
+sort_of (Asking request) = Request
+sort_of (Replying reply) = Reply
+sort_of (Checkpointing message) = Checkpoint
+sort_of (Taking taken) = Taken
+
+-- a packet as it is seen on the bus
+pub record Sight : Type 0 where
+  pub sender : ℕ
+  pub receiver : ℕ
+  pub sort : Sort
+
+abbrev pub sight : Sent → Sight
+sight one = record { sender = one.letter.sender; receiver = one.letter.receiver; sort = sort_of one.letter.message }
+
+abbrev pub state_after : Played Wires → Whole → Whole
+state_after (Makes next) s = next
+state_after Skips s = s
+state_after (WouldStop processor) s = s
+
+abbrev pub end_of : Whole → List Event → Whole
+end_of s [] = s
+end_of s (event ∷ events) = end_of (state_after (play s event) s) events
+
+-- what is on the bus after each event
+abbrev pub buses_from : Whole → List Event → List (List Sight)
+buses_from s [] = []
+buses_from s (event ∷ events) = map sight (state_after (play s event) s).wires.bus ∷ buses_from (state_after (play s event) s) events
+
+-- the adder of world_semantics in the processors 0 and 1, and a terminal that sends it 5
+abbrev pub adder_at_boot : Whole
+adder_at_boot = whole_at_boot (adder_for (pos 5 ∷ []))
+
+abbrev pub asks : ℕ → Sight
+asks processor = record { sender = 16; receiver = processor; sort = Request }
+
+abbrev pub answers : ℕ → Sight
+answers processor = record { sender = processor; receiver = 16; sort = Reply }
+
+abbrev pub checkpoint : Sight
+checkpoint = record { sender = 0; receiver = 1; sort = Checkpoint }
+
+abbrev pub told : Sight
+told = record { sender = 1; receiver = 0; sort = Taken }
+
+-- Up to the checkpoint: the request is entered, the program comes to READUPDATE, the request is delivered, taken and added, and the checkpoint is sent
+abbrev pub up_to_checkpoint : List Event
+up_to_checkpoint = event.Enter 0 ∷ run ∷ run ∷ run ∷ delivery ∷ run ∷ run ∷ run ∷ run ∷ []
+
+abbrev pub buses_to_checkpoint : List (List Sight)
+buses_to_checkpoint =
+    (asks 0 ∷ []) ∷ (asks 0 ∷ []) ∷ (asks 0 ∷ []) ∷ (asks 0 ∷ []) ∷ [] ∷ [] ∷ [] ∷ [] ∷ (checkpoint ∷ []) ∷ []
+
+-- The takeover: the checkpoint is taken, the first copy passes its mark and answers, and its processor stops. Both nodes that run mark it: the second copy takes
+-- over, and the node of the terminals sends the request to it, and drops the reply of the node that it marked. The second copy answers anew; the request comes,
+-- whose kept reply is sent again; one reply is printed, and the other one isn't awaited
+abbrev pub after_checkpoint : List Event
+after_checkpoint =
+    delivery ∷ delivery ∷ run ∷ run ∷ event.Fail 0 ∷ event.Tick 1 ∷ event.Tick 16 ∷ delivery ∷ run ∷ delivery ∷ delivery ∷ delivery ∷ []
+
+abbrev pub buses_of_takeover : List (List Sight)
+buses_of_takeover =
+    (told ∷ []) ∷ [] ∷ [] ∷ (answers 0 ∷ []) ∷ (answers 0 ∷ []) ∷ (answers 0 ∷ []) ∷ (answers 0 ∷ asks 1 ∷ []) ∷ (asks 1 ∷ [])
+    ∷ (asks 1 ∷ answers 1 ∷ []) ∷ (answers 1 ∷ answers 1 ∷ []) ∷ (answers 1 ∷ []) ∷ [] ∷ []

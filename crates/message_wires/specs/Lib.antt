@@ -1,0 +1,4 @@
+pub mod Examples
+pub mod Play
+pub mod Runs
+pub mod Wires

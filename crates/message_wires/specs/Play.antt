@@ -1,0 +1,118 @@
+-- What each event makes of a state, the world with its wires, in the machine over whole messages.
+use Rattle.std.specs.Prelude.{ℕ, zero, suc, ◌+◌, ◌&&◌, Bool, true, false, not, if◌then◌else◌, List, ◌++◌, length, slice_get, Option, Some, None}
+use Rattle.std.specs.List.{list_any}
+use Rattle.tal_tree.specs.declared.site.Site.{Site}
+use Rattle.schedule.specs.declared.event.Event.{Event}
+use Rattle.schedule.specs.declared.event.Event.TheVariants.{Run, Enter, Deliver, Lose, Repeat, Tick, Fail}
+use Rattle.world_semantics.specs.World.{boot, is_running, has_marked}
+use Rattle.world_semantics.specs.Running.{Done, run_done}
+use Rattle.computed_changes.specs.Entered.{enter_done}
+use Rattle.computed_changes.specs.Handed.{handed_done}
+use Rattle.computed_changes.specs.Stopped.{stop_done, marked_done}
+use Rattle.letters.specs.Routes.{Letter, letters_of}
+use Rattle.letters.specs.Again.{sent_again}
+use Rattle.machine_states.specs.States.{State, Played, Makes, Skips, WouldStop}
+use Rattle.message_wires.specs.Wires.{Sent, Wires, wires_at_boot, all_posted, paid, paid_between, without_packet, repeated_packet, wires_again}
+
+-- a state of the machine over whole messages
+abbrev pub Whole : Type 0
+Whole = State Wires
+
+abbrev pub whole_at_boot : Site → Whole
+whole_at_boot site = record { site = site; world = boot site; wires = wires_at_boot }
+
+-- Changes of the world
+
+-- the state after a change of its world: what was sent is posted, by the routes of the world after the change
+abbrev pub after_done : Whole → Done → Whole
+after_done s done = record s { world = done.world; wires = all_posted (letters_of s.site done.world done.sendings) s.wires }
+
+abbrev pub made_by : Whole → Option Done → Played Wires
+made_by s None = Skips
+made_by s (Some done) = Makes (after_done s done)
+
+-- the state after a change, if one is made
+abbrev pub after_any : Whole → Option Done → Whole
+after_any s None = s
+after_any s (Some done) = after_done s done
+
+-- Packets
+
+-- the letter of a packet is handed over at its receiver, and owed no more
+abbrev pub handed : Sent → Whole → Whole
+handed packet s =
+    after_any (record s { wires = paid packet.number s.wires }) (handed_done s.site packet.letter.receiver packet.letter.message s.world)
+
+-- whether a letter comes in at its receiver: that runs, and hasn't marked the sender
+abbrev pub comes_in : Whole → Letter → Bool
+comes_in s letter = is_running s.world.stopped letter.receiver && not (has_marked s.world.marks letter.receiver letter.sender)
+
+abbrev pub received : Sent → Whole → Whole
+received packet s = if comes_in s packet.letter then handed packet s else s
+
+-- a packet is taken off the bus, and what it carries comes in or is dropped
+abbrev pub deliver_played : ℕ → Whole → Option Sent → Played Wires
+deliver_played k s None = Skips
+deliver_played k s (Some packet) = Makes (received packet (record s { wires = without_packet k s.wires }))
+
+abbrev pub lose_played : ℕ → Whole → Option Sent → Played Wires
+lose_played k s None = Skips
+lose_played k s (Some packet) = Makes (record s { wires = without_packet k s.wires })
+
+abbrev pub repeat_played : Whole → Option Sent → Played Wires
+repeat_played s None = Skips
+repeat_played s (Some packet) = Makes (record s { wires = repeated_packet packet s.wires })
+
+-- Stops and ticks
+
+abbrev pub has_stopped : List Bool → Bool
+has_stopped stopped = list_any (λ one. one) stopped
+
+-- a second processor doesn't stop
+abbrev pub fail_played : ℕ → Whole → Option Done → Played Wires
+fail_played processor s None = Skips
+fail_played processor s (Some done) = if has_stopped s.world.stopped then WouldStop processor else Makes (after_done s done)
+
+-- the state after a node marked a processor: what was owed between both is so no more, and what the mark sends and sends again is posted
+abbrev pub after_marked : ℕ → ℕ → Whole → Done → Whole
+after_marked node processor s done = record s {
+  world = done.world;
+  wires =
+      all_posted (letters_of s.site done.world (done.sendings ++ sent_again s.site s.world done.world node processor))
+      (paid_between node processor s.wires);
+}
+
+abbrev pub marked_by : ℕ → ℕ → Whole → Option Done → Whole
+marked_by node processor s None = s
+marked_by node processor s (Some done) = after_marked node processor s done
+
+-- a node marks each of so many processors, from one on, that has stopped and isn't marked yet
+abbrev pub marks_from : ℕ → ℕ → ℕ → Whole → Whole
+marks_from node processor zero s = s
+marks_from node processor (suc more) s =
+    marks_from node (processor + 1) more (marked_by node processor s (marked_done node processor s.world))
+
+-- a tick of a node: it marks, and then puts on the bus again what it sent, that is owed and not on the bus
+abbrev pub ticked : ℕ → Whole → Whole
+ticked node s = record s { wires = wires_again s.world.stopped node s.wires }
+
+abbrev pub tick_played : ℕ → Whole → Played Wires
+tick_played node s =
+    if is_running s.world.stopped node then Makes (ticked node (marks_from node 0 (length s.world.stopped) s)) else Skips
+
+-- Events
+
+-- the packet at a position of a bus: all are on bus X
+abbrev pub packet_at : Whole → Bool → ℕ → Option Sent
+packet_at s true k = None
+packet_at s false k = slice_get s.wires.bus k
+
+-- what an event makes of a state
+abbrev pub play : Whole → Event → Played Wires
+play s (Run number) = made_by s (run_done s.site number s.world)
+play s (Enter terminal) = made_by s (enter_done s.site terminal s.world)
+play s (Deliver y k) = deliver_played k s (packet_at s y k)
+play s (Lose y k) = lose_played k s (packet_at s y k)
+play s (Repeat y k) = repeat_played s (packet_at s y k)
+play s (Tick node) = tick_played node s
+play s (Fail processor) = fail_played processor s (stop_done processor s.world)

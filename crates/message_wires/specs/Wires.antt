@@ -1,0 +1,83 @@
+-- The wires of the machine over whole messages: the packets on its bus, each a whole letter, and the letters that are owed. That a message stays with its
+-- sender until it was handed over, and is put on the bus again, is Bartlett's retry by the message system; the form for whole messages is our own.
+use Rattle.std.specs.Prelude.{ℕ, ◌+◌, ◌==◌, ◌&&◌, Bool, true, false, not, if◌then◌else◌, nat_lt, List, [], ◌∷◌, ◌++◌, length}
+use Rattle.std.specs.List.{filter, list_any, remove}
+use Rattle.world_semantics.specs.World.{is_running}
+use Rattle.letters.specs.Routes.{Letter}
+use Rattle.letters.specs.Posts.{is_between}
+
+-- a letter that was sent, with the number of its sending: a message that is sent again is a new sending
+pub record Sent : Type 0 where
+  pub number : ℕ
+  pub letter : Letter
+
+-- how many letters were sent; the packets on the bus, in order; and the letters that are owed, the oldest first: those that weren't handed over
+pub record Wires : Type 0 where
+  pub count : ℕ
+  pub bus : List Sent
+  pub owed : List Sent
+
+-- at the beginning nothing was sent
+abbrev pub wires_at_boot : Wires
+wires_at_boot = record { count = 0; bus = []; owed = [] }
+
+-- a bus has room for 4,096 packets
+abbrev pub has_room : List Sent → Bool
+has_room bus = nat_lt (length bus) 4096
+
+-- a packet goes to the end of the bus, and is lost where there is no room
+abbrev pub put_on : Sent → List Sent → List Sent
+put_on packet bus = if has_room bus then bus ++ packet ∷ [] else bus
+
+-- a letter is sent: it is owed, and a packet of it goes to the bus
+abbrev pub posted : Letter → Wires → Wires
+posted letter wires = record {
+  count = wires.count + 1;
+  bus = put_on (record { number = wires.count; letter = letter }) wires.bus;
+  owed = wires.owed ++ record { number = wires.count; letter = letter } ∷ [];
+}
+
+abbrev pub all_posted : List Letter → Wires → Wires
+all_posted [] wires = wires
+all_posted (letter ∷ letters) wires = all_posted letters (posted letter wires)
+
+-- whether a letter is of this sending
+abbrev pub is_of : ℕ → Sent → Bool
+is_of number one = one.number == number
+
+-- a letter is owed no more
+abbrev pub without_number : ℕ → List Sent → List Sent
+without_number number [] = []
+without_number number (one ∷ rest) = if is_of number one then rest else one ∷ without_number number rest
+
+abbrev pub paid : ℕ → Wires → Wires
+paid number wires = record wires { owed = without_number number wires.owed }
+
+-- what is between two nodes is owed no more
+abbrev pub paid_between : ℕ → ℕ → Wires → Wires
+paid_between one other wires = record wires { owed = filter (λ sent. not (is_between one other sent.letter)) wires.owed }
+
+-- the packet at a position is taken off the bus
+abbrev pub without_packet : ℕ → Wires → Wires
+without_packet k wires = record wires { bus = remove wires.bus k }
+
+-- a packet is on the bus once more
+abbrev pub repeated_packet : Sent → Wires → Wires
+repeated_packet packet wires = record wires { bus = put_on packet wires.bus }
+
+-- whether a packet of a sending is on the bus
+abbrev pub is_on : List Sent → ℕ → Bool
+is_on bus number = list_any (is_of number) bus
+
+-- whether a letter that is owed is put on the bus again at a tick of a node: the node sent it, its receiver runs, and no packet of it is on the bus
+abbrev pub is_due : List Bool → ℕ → List Sent → Sent → Bool
+is_due stopped node bus one = one.letter.sender == node && (is_running stopped one.letter.receiver && not (is_on bus one.number))
+
+-- the bus after those of these letters that are due were put on it again, the oldest first
+abbrev pub put_again : List Bool → ℕ → List Sent → List Sent → List Sent
+put_again stopped node [] bus = bus
+put_again stopped node (one ∷ rest) bus =
+    put_again stopped node rest (if is_due stopped node bus one then put_on one bus else bus)
+
+abbrev pub wires_again : List Bool → ℕ → Wires → Wires
+wires_again stopped node wires = record wires { bus = put_again stopped node wires.owed wires.bus }

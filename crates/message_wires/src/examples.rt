@@ -1,0 +1,39 @@
+//! Worked runs over whole messages, packet by packet.
+ghost use Rattle.std.specs.Prelude.{◌≡◌, false, pos, [], ◌∷◌};
+ghost use Rattle.schedule.specs.declared.event.Event.TheVariants as event;
+ghost use Rattle.tal_tree.specs.declared.act.Act.TheVariants as act;
+ghost use Rattle.world_semantics.specs.Examples.{delivery, reply, run};
+ghost use Rattle.message_wires.specs.Examples.{adder_at_boot, after_checkpoint, answers, asks, buses_from, buses_of_takeover, buses_to_checkpoint, checkpoint, end_of, told, up_to_checkpoint};
+
+/// A takeover of the adder, event for event with the packets on the bus: the reply is printed once.
+pub fn an_adder_is_taken_over()
+    ensures before { buses_from adder_at_boot up_to_checkpoint ≡ buses_to_checkpoint }
+    ensures after { buses_from (end_of adder_at_boot up_to_checkpoint) after_checkpoint ≡ buses_of_takeover }
+    ensures shown { (end_of (end_of adder_at_boot up_to_checkpoint) after_checkpoint).world.shown ≡ reply 0 (pos 5) ∷ [] }
+    ensures owed { (end_of (end_of adder_at_boot up_to_checkpoint) after_checkpoint).wires.owed ≡ [] }
+{}
+
+/// A request that is lost on the bus stays owed, and is put on the bus again at its sender's tick, and not at another node's.
+pub fn a_lost_request_is_put_again()
+    ensures { buses_from adder_at_boot (event.Enter 0 ∷ event.Lose false 0 ∷ event.Tick 0 ∷ event.Tick 16 ∷ event.Tick 16 ∷ [])
+        ≡ (asks 0 ∷ []) ∷ [] ∷ [] ∷ (asks 0 ∷ []) ∷ (asks 0 ∷ []) ∷ [] }
+{}
+
+/// A repeat of a request that was handed over is handed over again, and is never put on the bus again.
+pub fn a_repeat_is_not_put_again()
+    ensures bus { buses_from adder_at_boot (event.Enter 0 ∷ event.Repeat false 0 ∷ delivery ∷ event.Tick 16 ∷ delivery ∷ event.Tick 16 ∷ [])
+        ≡ (asks 0 ∷ []) ∷ (asks 0 ∷ asks 0 ∷ []) ∷ (asks 0 ∷ []) ∷ (asks 0 ∷ []) ∷ [] ∷ [] ∷ [] }
+    ensures lost { buses_from adder_at_boot (event.Enter 0 ∷ event.Repeat false 0 ∷ delivery ∷ event.Lose false 0 ∷ event.Tick 16 ∷ [])
+        ≡ (asks 0 ∷ []) ∷ (asks 0 ∷ asks 0 ∷ []) ∷ (asks 0 ∷ []) ∷ [] ∷ [] ∷ [] }
+{}
+
+/// A checkpoint that was sent before its processor stopped is applied where it comes before the other node's mark, and dropped where it comes after it: then
+/// the second copy takes over at the beginning.
+pub fn a_stop_leaves_a_checkpoint_on_the_bus()
+    ensures in_time { buses_from (end_of adder_at_boot up_to_checkpoint) (event.Fail 0 ∷ delivery ∷ event.Tick 1 ∷ run ∷ [])
+        ≡ (checkpoint ∷ []) ∷ (told ∷ []) ∷ (told ∷ []) ∷ (told ∷ answers 1 ∷ []) ∷ [] }
+    ensures late { buses_from (end_of adder_at_boot up_to_checkpoint) (event.Fail 0 ∷ event.Tick 1 ∷ delivery ∷ event.Tick 16 ∷ [])
+        ≡ (checkpoint ∷ []) ∷ (checkpoint ∷ []) ∷ [] ∷ (asks 1 ∷ []) ∷ [] }
+    ensures kept { (end_of (end_of adder_at_boot up_to_checkpoint) (event.Fail 0 ∷ event.Tick 1 ∷ delivery ∷ [])).world.kept
+        ≡ act.Step 0 ∷ act.Step 0 ∷ act.Step 0 ∷ act.Enter 0 ∷ [] }
+{}
