@@ -39,7 +39,7 @@ module _ (site : Site) (fit : IsFit site) where
   more-good : {events : ℕ} (more : ℕ) {w : World} → events ≤ more → IsGood site events w → IsGood site more w
   more-good more few good = record { roles = good.roles; stopped = good.stopped; invariant = more-events more few good.invariant }
 
-  change-good : (events : ℕ) (w next : World) (cause : Cause) (sendings : List Sending) → events < 4294967295 → IsGood site events w → Change site w cause sendings next
+  pub change-good : (events : ℕ) (w next : World) (cause : Cause) (sendings : List Sending) → events < 4294967295 → IsGood site events w → Change site w cause sendings next
       → IsGood site (events + acts_by cause) next
   change-good events w next cause sendings few good change = record {
     roles = change-roles w next cause sendings change good.roles;
