@@ -1,0 +1,6 @@
+pub mod Awaited
+pub mod Depths
+pub mod Leads
+pub mod Near
+pub mod Seats
+pub mod Standing

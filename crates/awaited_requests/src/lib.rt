@@ -7,3 +7,5 @@
 #![tactic(auto)]
 
 pub mod laws;
+
+pub use laws::{awaited_requests_stand_at_their_server, copies_stay_seated};

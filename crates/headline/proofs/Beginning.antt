@@ -14,7 +14,7 @@ use Rattle.plain_histories.specs.Booking.{none_booked, none_held}
 use Rattle.plain_histories.specs.Ledgers.{empty_ledger}
 use Rattle.headline.specs.Invariant.{is_level, is_even, with_other, by_first, IsAsked, IsSound, IsSoundTerminal, Invariant}
 
-first-pair : (site : Site) (from : ℕ) (specs : List ProcessSpec) (k : ℕ) (pair : Pair) → slice_get (pairs_at_boot site from specs) k ≡ Some pair
+pub first-pair : (site : Site) (from : ℕ) (specs : List ProcessSpec) (k : ℕ) (pair : Pair) → slice_get (pairs_at_boot site from specs) k ≡ Some pair
     → (spec : ProcessSpec) × (slice_get specs k ≡ Some spec) × (pair ≡ pair_at_boot site (from + k) spec)
 first-pair site from [] k pair at = absurd (cc)
 first-pair site from (spec ∷ specs) zero pair at = (spec, refl, sym (some-same at) ∙ ap (λ n. pair_at_boot site n spec) (omega arith))

@@ -91,7 +91,7 @@ module _ (site : Site) (regular : AreRegular site) (number : ℕ) (spec : Proces
       let rest = held-shape held (λ e. absurd (cc)) in (Went ∷ rest.0, rest.1, rest.2, ap (λ all. Went ∷ all) rest.3, ((λ mark. mark), rest.4))
 
   -- so what comes after them is a step inside
-  quiet-held : {acts : List Act} {deeds : List Deed} (deed : Deed) {core : Core} → AreHeld site ledger number acts deeds → acts ≢ []
+  pub quiet-held : {acts : List Act} {deeds : List Deed} (deed : Deed) {core : Core} → AreHeld site ledger number acts deeds → acts ≢ []
       → HasDone site number spec (deed ∷ (deeds ++ ledger.deeds number)) core → deed ≢ Marked → deed ≡ Went
   quiet-held deed {core = core} held some done other =
       let shape = held-shape held some in
