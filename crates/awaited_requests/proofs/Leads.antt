@@ -6,14 +6,14 @@ use Rattle.tal_tree.specs.declared.site.ProcessSpec.{ProcessSpec}
 use Rattle.tal_tree.specs.declared.site.Site.{Site}
 use Rattle.world_semantics.specs.Core.{Core, Deed, Went, Marked, Took, Asked, Got, Answered, Acted}
 use Rattle.world_semantics.specs.World.{Copy, Pair, Mark, copy_of}
-use Rattle.world_semantics.specs.declared.role.Role.TheVariants.{Acting, Watching, Gone}
+use Rattle.world_semantics.specs.declared.role.Role.TheVariants.{Acting, Gone}
 use Rattle.world_semantics.specs.declared.which.Which.{Which}
 use Rattle.world_semantics.specs.declared.which.Which.TheVariants.{First, Second}
 use Rattle.process_histories.specs.Histories.{HasDone}
 use Rattle.process_histories.specs.Words.{take_from, answer_to, taken_from, answered_to}
 use Rattle.plain_histories.specs.Booking.{AreHeld, none_held, take_held, step_held}
 use Rattle.plain_histories.specs.Ledgers.{Ledger}
-use Rattle.headline.specs.Invariant.{AreRepeatable, Stage, IsLead, is_level, is_applied, is_behind, Watches, IsOther, is_lost, is_due, is_even, has_applied, FirstLeads, with_other, alone, exchanged, IsLed, by_first, by_second}
+use Rattle.headline.specs.Invariant.{AreRepeatable, Stage, IsLead, is_level, is_applied, is_behind, Watches, IsOther, is_lost, is_due, is_even, has_applied, FirstLeads, with_other, alone, IsLed, by_first, by_second}
 use Rattle.headline.proofs.Checkpoints.{other-rests}
 use Rattle.headline.proofs.Repeating.{repeatable-join}
 

@@ -1,5 +1,5 @@
 -- A request that is awaited is one of the last that its opener made, as many as replies are kept for it.
-use Rattle.std.proofs.Common.{◌≡◌, ◌≢◌, ◌==◌, ℕ, ◌+◌, ◌≤◌, ◌<◌, List, [], ◌∷◌, ◌++◌, length, Some, slice_get, refl, ap, sym, ◌∙◌, subst, arith, append_assoc, eq-eqb}
+use Rattle.std.proofs.Common.{◌≡◌, ◌≢◌, ℕ, ◌+◌, ◌≤◌, ◌<◌, List, [], ◌∷◌, ◌++◌, length, Some, slice_get, refl, ap, sym, ◌∙◌, subst, arith, append_assoc, eq-eqb}
 use Rattle.tal_tree.specs.declared.act.Act.{Act}
 use Rattle.tal_tree.specs.declared.site.OpenerSpec.{OpenerSpec}
 use Rattle.tal_tree.specs.declared.site.ProcessSpec.{ProcessSpec}
@@ -86,14 +86,17 @@ module _ (site : Site) (fit : IsFit site) (number : ℕ) (spec : ProcessSpec) (t
       let asked : length (requests_on file deeds) ≡ length (requests_on file more) + length (requests_on file past) =
       ap (λ d. length (requests_on file d)) split ∙ count-join (ask_on file) more past in
       let since : length (requests_on file deeds) ≡ length (requests_on file (more ++ mark.since)) + length (requests_on file mark.before) =
-      ap (λ d. length (requests_on file d)) all ∙ count-join (ask_on file) (more ++ mark.since) mark.before in
-      (omega (arith, next, numbered, count, one), omega (arith, next, numbered, asked), λ of placed.
-      (let has = depth-of site (who.File number file) opener of opens placed in
-      let same : has.0 ≡ spec = some-same (sym has.2 ∙ there) in
-      let opened : slice_get (files_of spec.what) file ≡ Some has.1 = subst (λ (s : ProcessSpec). slice_get (files_of s.what) file ≡ Some has.1) same has.3 in
-      let few = (fit.disciplined number spec there).depth (more ++ mark.since) mark.before file has.1 after (subst (λ d. HasDone site number spec d after) all whole)
-      (unmarked-join more mark.since unmarked mark.unmarked) opened in
-      omega (arith, has.4, few, one, next, numbered, count, got, since, mark.even)))
+      ap (λ d. length (requests_on file d)) all ∙ count-join (ask_on file) (more ++ mark.since) mark.before in (
+        omega (arith, next, numbered, count, one),
+        omega (arith, next, numbered, asked),
+        λ of placed.
+            (let has = depth-of site (who.File number file) opener of opens placed in
+            let same : has.0 ≡ spec = some-same (sym has.2 ∙ there) in
+            let opened : slice_get (files_of spec.what) file ≡ Some has.1 = subst (λ (s : ProcessSpec). slice_get (files_of s.what) file ≡ Some has.1) same has.3 in
+            let few = (fit.disciplined number spec there).depth (more ++ mark.since) mark.before file has.1 after (subst (λ d. HasDone site number spec d after) all whole)
+            (unmarked-join more mark.since unmarked mark.unmarked) opened in
+            omega (arith, has.4, few, one, next, numbered, count, got, since, mark.even)),
+      )
 
 module _ (site : Site) (fit : IsFit site) where
   -- a lead that awaits a reply holds no acts and is at no mark

@@ -1,5 +1,5 @@
 -- Copies stay seated, at the beginning and by each change.
-use Rattle.std.proofs.Common.{◌≡◌, ◌≢◌, ◌==◌, ◌&&◌, ◌||◌, ℕ, zero, suc, ◌+◌, ◌<◌, Bool, true, false, if◌then◌else◌, List, [], ◌∷◌, map, replicate, length, Option, Some, None, slice_get, slice_set, refl, ap, sym, ◌∙◌, subst, arith, length-set, eq-eqb}
+use Rattle.std.proofs.Common.{◌≡◌, ◌≢◌, ◌==◌, ℕ, zero, suc, ◌+◌, Bool, true, false, if◌then◌else◌, List, [], ◌∷◌, map, replicate, length, Option, Some, None, slice_get, slice_set, refl, ap, sym, ◌∙◌, subst, arith, length-set, eq-eqb}
 use Rattle.std.proofs.lemmas.Bool.{eqb-true}
 use Rattle.std.proofs.lemmas.List.{length-replicate}
 use Rattle.gd_words.specs.declared.message.Request.{Request}
@@ -88,8 +88,11 @@ unmarked-still marks node processor pair watching none unmarked =
     by : (here : Bool) → (node == pair.second.processor) ≡ here → (down : Bool) → (processor == pair.first.processor) ≡ down → takes_over node processor Second pair ≡ false
         → has_marked (record { node = node; down = processor } ∷ marks) pair.second.processor pair.first.processor ≡ false
     by true is true same stays =
-        let takes : takes_over node processor Second pair ≡ true = rw (watching, eq-eqb pair.second.processor node (sym (eqb-true node pair.second.processor is)),
-            eq-eqb pair.first.processor processor (sym (eqb-true processor pair.first.processor same))) refl in
+        let takes : takes_over node processor Second pair ≡ true = rw (
+          watching,
+          eq-eqb pair.second.processor node (sym (eqb-true node pair.second.processor is)),
+          eq-eqb pair.first.processor processor (sym (eqb-true processor pair.first.processor same)),
+        ) refl in
         absurd (let e : true ≡ false = sym takes ∙ stays in cc)
     by true is false same stays = rw (is, same) unmarked
     by false is down same stays = rw is unmarked

@@ -12,9 +12,9 @@ use Rattle.checkpoint_image.specs.Receive.{standing_at}
 use Rattle.world_semantics.specs.declared.role.Role.TheVariants.{Acting, Watching}
 use Rattle.world_semantics.specs.declared.which.Which.{Which}
 use Rattle.world_semantics.specs.Messages.{Asking, Replying}
-use Rattle.world_semantics.specs.World.{Copy, Pair, World, is_running, copy_of}
+use Rattle.world_semantics.specs.World.{Copy, Pair, is_running, copy_of}
 use Rattle.letters.specs.Posts.{Post}
-use Rattle.letters.specs.Routes.{Letter, route_of, home_of}
+use Rattle.letters.specs.Routes.{route_of, home_of}
 use Rattle.awaited_requests.specs.Awaited.{IsAwaited}
 
 -- a request of an opener of this number waits

@@ -6,6 +6,7 @@
 //! request is served in what machines play, and that nothing is left at an idle end. No code runs here.
 #![tactic(auto)]
 
+pub mod guards;
 pub mod laws;
 
 pub use laws::{awaited_requests_stand_at_their_server, copies_stay_seated};
