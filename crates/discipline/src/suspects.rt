@@ -1,4 +1,4 @@
-ghost use Rattle.std.specs.Prelude.{◌≡◌, ◌<◌, ℕ, length, slice_get, Some, IfOk};
+ghost use Rattle.std.specs.Prelude.{◌≡◌, ◌<◌, ℕ, length, slice_get, Some, IfOk, IfSome};
 ghost use Rattle.std.specs.Bool.{OnTrue};
 ghost use Rattle.std.specs.Option.{option_copied};
 ghost use Rattle.flow_paths.specs.Graph.{IsWithin};
@@ -10,7 +10,8 @@ use flow_paths::{Edge, Flow, Goal, Node};
 use gd_words::NoMemory;
 use std::alloc::Global;
 
-/// How often sets are spread over a graph at most. Once suffices without loops, and each loop that ends another takes one more.
+/// How often sets are spread over a graph at most. Once suffices without loops, and twice with loops, however deep they stand in
+/// one another; but each call that a RETURN leaves out of a loop may take one more, and at most 15 are in progress.
 const MOST_ROUNDS: u32 = 32;
 
 /// For each node the reasons of which something may be due there.
@@ -19,8 +20,8 @@ struct Sets {
     sets: Vec<Reasons>,
 }
 
-/// The reasons for which a program with this graph may break, found at all nodes at once: for no other it does. Where loops stand
-/// too deep in one another these are all.
+/// The reasons for which a program with this graph may break, found at all nodes at once: for no other it does. Where that takes
+/// too many rounds these are all.
 pub(crate) fn suspects(alloc: Global, flow: &Flow<'_>) -> Result<Reasons, NoMemory>
     ensures suspects { IfOk result (λ suspects. AreSuspects flow.now suspects) }
     ensures some { IfOk result (λ suspects. HaveNodes flow.now suspects) }
@@ -47,28 +48,57 @@ impl Sets {
         Ok(Sets { sets })
     }
 
-    /// Spreads along each edge what may be due.
+    /// Spreads along each edge what may be due, node by node. What comes back to a node before is spread on from there at once:
+    /// where a loop ends, it leaves that loop and all others that end with it.
     fn spread(&mut self, flow: &Flow<'_>)
         requires { length self.old.sets.items ≡ length flow.now }
         ensures { length self.new.sets.items ≡ length self.old.sets.items }
     {
         for k in 0..flow.len() {
-            let node = flow.node(k);
-            let after = self.sets[usize::from(k)].after(node.entry());
-            self.spread_along(after, node.first());
-            if let Some(edge) = node.second() {
-                self.spread_along(after, edge);
+            let mut place = k;
+            while let Some(back) = self.spread_from(flow, place) {
+                place = back;
             }
         }
     }
 
-    fn spread_along(&mut self, after: Reasons, edge: &Edge)
-        requires { (k : ℕ) → edge.now.goal ≡ At k → k < length self.old.sets.items }
-        ensures { length self.new.sets.items ≡ length self.old.sets.items }
+    /// Spreads along the edges of a node what may be due there; and the node before it, if any, at which more may be due now.
+    #[inline(always)]
+    fn spread_from(&mut self, flow: &Flow<'_>, k: u16) -> Option<u16>
+        requires count { length self.old.sets.items ≡ length flow.now }
+        requires there { k < length flow.now }
+        ensures count { length self.new.sets.items ≡ length self.old.sets.items }
+        ensures back { IfSome result (λ back. back < k) }
     {
-        if let Goal::At(k) = edge.goal {
-            let there = &mut self.sets[usize::from(k)];
-            *there = after.after_change(edge.targets.as_slice()).or(*there);
+        let node = flow.node(k);
+        let after = self.sets[usize::from(k)].after(node.entry());
+        let back = self.spread_along(k, after, node.first());
+        match node.second() {
+            None => back,
+            Some(edge) => match self.spread_along(k, after, edge) {
+                None => back,
+                Some(further) => Some(further),
+            },
+        }
+    }
+
+    /// Spreads along an edge of a node what may be due after it; and where it leads, if to a node before at which more may be
+    /// due now.
+    #[inline(always)]
+    fn spread_along(&mut self, k: u16, after: Reasons, edge: &Edge) -> Option<u16>
+        requires { (j : ℕ) → edge.now.goal ≡ At j → j < length self.old.sets.items }
+        ensures count { length self.new.sets.items ≡ length self.old.sets.items }
+        ensures back { IfSome result (λ back. back < k) }
+    {
+        match edge.goal {
+            Goal::At(goal) => {
+                let due = after.after_change(edge.targets.as_slice());
+                let there = &mut self.sets[usize::from(goal)];
+                let is_more = goal < k && !due.are_among(*there);
+                *there = due.or(*there);
+                if is_more { Some(goal) } else { None }
+            }
+            _ => None,
         }
     }
 
