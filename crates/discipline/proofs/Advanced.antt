@@ -11,7 +11,7 @@ use Rattle.flow_paths.specs.declared.graph.Goal.TheVariants.{At, Left, Ended}
 use Rattle.flow_paths.specs.Graph.{Node, edges_of}
 use Rattle.flow_paths.specs.Flow.{IsFlow}
 use Rattle.discipline.specs.declared.queue.Visit.{Visit}
-use Rattle.discipline.specs.Amounts.{most_of, after_entry, cut_after, breaks_with}
+use Rattle.reason_dues.specs.Amounts.{most_of, after_entry, cut_after, breaks_with}
 use Rattle.discipline.specs.Search.{first_visit, IsVisited, Extends, Comes, ComesBy, visit_after, ComesByEach, Follows, Stems, IsQueue, IsFollowedBy, IsDone, AreDone, IsSearched}
 use Rattle.discipline.proofs.Goals.{goal-within}
 

@@ -13,7 +13,7 @@ use Rattle.flow_paths.specs.declared.graph.Goal.TheVariants.{At, Left, Ended}
 use Rattle.flow_paths.specs.Graph.{Node}
 use Rattle.flow_paths.specs.Flow.{IsFlow}
 use Rattle.discipline.specs.declared.queue.Visit.{Visit}
-use Rattle.discipline.specs.Amounts.{most_of, after_entry, is_there, may_break_at, breaks_with}
+use Rattle.reason_dues.specs.Amounts.{most_of, after_entry, is_there, may_break_at, breaks_with}
 use Rattle.discipline.specs.Search.{HasRoom, ComesBy, visit_after, ComesByEach, IsMarked, IsSearched, BreaksAt}
 use Rattle.discipline.proofs.Goals.{goal-within}
 use Rattle.discipline.proofs.Marks.{few-visits}

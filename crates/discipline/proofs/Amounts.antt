@@ -10,7 +10,7 @@ use Rattle.path_semantics.specs.declared.dues.Dues.{Dues}
 use Rattle.path_semantics.specs.declared.reason.Reason.{Reason}
 use Rattle.path_semantics.specs.declared.reason.Reason.TheVariants.{Data, SyncBlock, Input, Depth}
 use Rattle.path_semantics.specs.Dues.{no_dues, with_changed, with_effects, after_statement, after_entry as dues_after, changed_by, asked_by, reads}
-use Rattle.discipline.specs.Amounts.{one_if, amount, adds, one_more, after_what, after_changed, after_entry}
+use Rattle.reason_dues.specs.Amounts.{one_if, amount, adds, one_more, after_what, after_changed, after_entry}
 
 or-assoc : (a b c : Bool) → (a || (b || c)) ≡ ((a || b) || c)
 or-assoc true b c = refl

@@ -12,7 +12,7 @@ use Rattle.path_semantics.specs.declared.reason.Reason.{Reason}
 use Rattle.path_semantics.specs.declared.reason.Reason.TheVariants.{Data, SyncBlock, Input, Depth}
 use Rattle.path_semantics.specs.Break.{asked_count, is_reached, breaks_by, breaks_entry}
 use Rattle.path_semantics.specs.Dues.{with_changed, changed_by, after_entry as dues_after}
-use Rattle.discipline.specs.Amounts.{one_if, amount, clears, adds, adds_changed, one_more, after_changed, after_entry, depth_in, most_of, cut_after, is_there, may_break, breaks_with}
+use Rattle.reason_dues.specs.Amounts.{one_if, amount, clears, adds, adds_changed, one_more, after_changed, after_entry, depth_in, most_of, cut_after, is_there, may_break, breaks_with}
 use Rattle.discipline.proofs.Amounts.{amount-changed, amount-entry}
 
 one-due : (b : Bool) → b ≡ nat_le 1 (one_if b)

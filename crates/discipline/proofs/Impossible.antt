@@ -25,7 +25,7 @@ use Rattle.path_semantics.specs.Path.{Walks, Leads}
 use Rattle.path_semantics.specs.Place.{Place, Stand, body_of, next_in, stand_at, settled, ways, stands_after, first_stand}
 use Rattle.path_semantics.proofs.Entries.{HoldsOf, HoldsFor, HoldsAt, entries-kept}
 use Rattle.path_semantics.proofs.Kept.{IsKept, one-mapped, kept-after, kept-led}
-use Rattle.discipline.specs.Amounts.{amount, most_of, may_break_at, breaks_with}
+use Rattle.reason_dues.specs.Amounts.{amount, most_of, may_break_at, breaks_with}
 use Rattle.discipline.proofs.Cut.{breaks-is}
 use Rattle.discipline.proofs.Idle.{never, and-false, none-due}
 

@@ -1,6 +1,5 @@
 pub mod Goals
 pub mod Amounts
-pub mod Bits
 pub mod Cut
 pub mod Queued
 pub mod Unbroken

@@ -21,7 +21,7 @@ use Rattle.flow_paths.specs.Flow.{IsFlow}
 use Rattle.flow_paths.specs.Walk.{StepsTo, Goes}
 use Rattle.flow_paths.proofs.Along.{walked}
 use Rattle.discipline.specs.declared.queue.Visit.{Visit}
-use Rattle.discipline.specs.Amounts.{amount, most_of, cut_after, breaks_with}
+use Rattle.reason_dues.specs.Amounts.{amount, most_of, cut_after, breaks_with}
 use Rattle.discipline.specs.Verdict.{IsLeast}
 use Rattle.discipline.specs.Search.{first_visit, number_in, node_in, from_in, number_at, back, IsVisited, Follows, Stems, IsQueue, IsDone, AreDone}
 use Rattle.discipline.proofs.Cut.{breaks-is, along-edge}

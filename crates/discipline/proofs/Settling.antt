@@ -14,9 +14,10 @@ use Rattle.flow_paths.specs.declared.graph.Edge.{Edge}
 use Rattle.flow_paths.specs.declared.graph.Goal.TheVariants.{At}
 use Rattle.flow_paths.specs.Graph.{Node, IsWithin, edges_of}
 use Rattle.flow_paths.specs.Flow.{IsFlow}
-use Rattle.discipline.specs.declared.reasons.Reasons.{Reasons}
-use Rattle.discipline.specs.Amounts.{clears, adds, adds_changed, one_more, after_entry, after_changed, most_of, cut_after, is_there, may_break_at, breaks_with}
-use Rattle.discipline.specs.Suspects.{has_reason, IsNear, AreReasons, due_after, Reaches, IsSettled, AreSettled, AreFoundAt, AreFoundBefore, AreSuspects}
+use Rattle.reason_dues.specs.declared.reasons.Reasons.{Reasons}
+use Rattle.reason_dues.specs.Amounts.{clears, adds, adds_changed, one_more, after_entry, after_changed, most_of, cut_after, is_there, may_break_at, breaks_with}
+use Rattle.reason_dues.specs.Sets.{has_reason, IsNear, AreReasons, due_after}
+use Rattle.discipline.specs.Suspects.{Reaches, IsSettled, AreSettled, AreFoundAt, AreFoundBefore, AreSuspects}
 use Rattle.discipline.proofs.Goals.{goal-within}
 use Rattle.discipline.proofs.Idle.{never, none-due}
 use Rattle.discipline.proofs.Unbroken.{unbroken}

@@ -20,7 +20,7 @@ use Rattle.discipline.specs.declared.stack.Position.{Position}
 use Rattle.discipline.specs.declared.walker.Way.{Way}
 use Rattle.discipline.specs.declared.walker.Way.TheVariants.{Onward, Into, End}
 use Rattle.discipline.specs.declared.walker.Ways.{Ways}
-use Rattle.discipline.specs.Amounts.{amount, most_of, after_entry}
+use Rattle.reason_dues.specs.Amounts.{amount, most_of, after_entry}
 use Rattle.discipline.specs.Walker.{rest_at, Tells, IsNext, LeadsBy, EachLeads, listed, AreWays, IsAt, IsSettled, HasGone, TellsNextIn}
 use Rattle.discipline.proofs.Cut.{entry-cut}
 use Rattle.discipline.proofs.Unbroken.{cut-none}

@@ -14,7 +14,7 @@ use Rattle.path_semantics.specs.Break.{Breaks}
 use Rattle.flow_paths.specs.Flow.{IsFlow}
 use Rattle.flow_paths.specs.Graph.{Node}
 use Rattle.discipline.specs.declared.queue.Visit.{Visit}
-use Rattle.discipline.specs.Amounts.{is_there, most_of, depth_in}
+use Rattle.reason_dues.specs.Amounts.{is_there, most_of, depth_in}
 use Rattle.discipline.specs.Suspects.{IsKnown}
 use Rattle.discipline.specs.Search.{back, HasEnded}
 use Rattle.discipline.specs.Verdict.{IsLeast, NoneBefore}

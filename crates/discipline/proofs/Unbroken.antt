@@ -16,7 +16,7 @@ use Rattle.flow_paths.specs.Graph.{Node, edges_of}
 use Rattle.flow_paths.specs.Flow.{IsFlow}
 use Rattle.flow_paths.specs.Walk.{IsKept, IsMet}
 use Rattle.flow_paths.proofs.Along.{led}
-use Rattle.discipline.specs.Amounts.{amount, most_of, cut_after, breaks_with}
+use Rattle.reason_dues.specs.Amounts.{amount, most_of, cut_after, breaks_with}
 use Rattle.discipline.proofs.Amounts.{amount-none}
 use Rattle.discipline.proofs.Cut.{breaks-is, along-edge}
 

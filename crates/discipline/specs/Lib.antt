@@ -1,4 +1,3 @@
-pub mod Amounts
 pub mod Finding
 pub mod Search
 pub mod Suspects

@@ -9,7 +9,7 @@ use Rattle.flow_paths.specs.declared.graph.Goal.{Goal}
 use Rattle.flow_paths.specs.declared.graph.Goal.TheVariants.{At, Left, Ended}
 use Rattle.flow_paths.specs.Graph.{Node, edges_of}
 use Rattle.discipline.specs.declared.queue.Visit.{Visit}
-use Rattle.discipline.specs.Amounts.{cut_after, after_changed, breaks_with}
+use Rattle.reason_dues.specs.Amounts.{cut_after, after_changed, breaks_with}
 
 -- the visit with which a search begins
 abbrev pub first_visit : Visit

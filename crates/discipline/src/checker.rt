@@ -5,16 +5,17 @@ ghost use Rattle.tal_tree.specs.Regular.{IsRegular};
 ghost use Rattle.path_semantics.specs.declared.reason.Reason.TheVariants.{Data, SyncBlock, Input, Depth};
 ghost use Rattle.path_semantics.specs.Bounds.{IsWithinBounds};
 ghost use Rattle.flow_paths.specs.Flow.{IsFlow};
-ghost use Rattle.discipline.specs.Suspects.{IsKnown, IsNear, HaveNodes, AreSuspects};
+ghost use Rattle.reason_dues.specs.Sets.{IsNear};
+ghost use Rattle.discipline.specs.Suspects.{IsKnown, HaveNodes, AreSuspects};
 ghost use Rattle.discipline.specs.Search.{IsClear};
 ghost use Rattle.discipline.specs.Verdict.{NoneBefore, IsVerdict, IsTried, AreTriedBefore};
 
-use crate::reasons::Reasons;
 use crate::search::Search;
 use crate::suspects::suspects;
 use flow_paths::{Flow, FlowFault};
 use gd_words::NoMemory;
 use path_semantics::{Reason, Refusal};
+use reason_dues::Reasons;
 use std::alloc::Global;
 use tal_tree::Program;
 

@@ -1,19 +1,16 @@
 //! The checker of the checkpoint discipline: whether a program keeps it, and if not, a shortest path that breaks it; and
 //! whether a list of statement numbers is a path, and breaks.
 //!
-//! Below stand `path_semantics` with the paths, what is due along them and what breaks, and `flow_paths` with the graph that is
-//! searched in their place. The layer above uses `check`, whose contract is `IsVerdict` of `specs/Verdict.antt`, `is_path` and
+//! Below stand `path_semantics` with the paths, what is due along them and what breaks, `flow_paths` with the graph that is
+//! searched in their place, and `reason_dues` with what is due as numbers and as sets. The layer above uses `check`, whose contract is `IsVerdict` of `specs/Verdict.antt`, `is_path` and
 //! `breaks`, which take no memory, and the laws of this crate's public functions.
 #![tactic(auto)]
 
-mod amount;
 pub mod checker;
 mod find;
 pub mod laws;
-mod number_set;
 pub mod paths;
 mod queue;
-mod reasons;
 mod search;
 mod stack;
 mod suspects;

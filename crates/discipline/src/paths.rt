@@ -3,13 +3,13 @@ ghost use Rattle.tal_tree.specs.Limits.{IsWithinLimits};
 ghost use Rattle.tal_tree.specs.Ordered.{IsOrdered};
 ghost use Rattle.path_semantics.specs.Break.{Breaks};
 ghost use Rattle.path_semantics.specs.Path.{IsPath};
-ghost use Rattle.discipline.specs.Amounts.{most_of, is_there};
+ghost use Rattle.reason_dues.specs.Amounts.{most_of, is_there};
 ghost use Rattle.discipline.specs.Walker.{BreaksNext};
 
-use crate::amount::{may_break_at, most_of};
 use crate::walk::{Course, Walker};
 use crate::walker::next;
 use path_semantics::Reason;
+use reason_dues::{may_break_at, most_of};
 use tal_tree::Program;
 
 /// Whether a list of statement numbers is a path of the program. It takes no memory.

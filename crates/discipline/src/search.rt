@@ -5,15 +5,15 @@ ghost use Rattle.tal_tree.specs.Statements.{last_of};
 ghost use Rattle.tal_tree.specs.declared.statement.What.{out-What};
 ghost use Rattle.flow_paths.specs.Flow.{IsFlow};
 ghost use Rattle.discipline.specs.declared.queue.Visit.{Visit};
-ghost use Rattle.discipline.specs.Amounts.{is_there, may_break_at, most_of};
+ghost use Rattle.reason_dues.specs.Amounts.{is_there, may_break_at, most_of};
 ghost use Rattle.discipline.specs.Search.{first_visit, mark_of, HasRoom, IsMarked, IsClear, Comes, ComesBy, visit_after, back, IsTrail, IsSearched, Advances, HasEnded};
 
-use crate::amount::{after_entry, cut_changed, may_break_at, most_of};
 use crate::queue::Visit;
 use flow_paths::{Edge, Flow, Goal};
 use gd_words::{List, NoMemory};
 use path_semantics::Reason;
 use process_semantics::Entry;
+use reason_dues::{after_entry, cut_changed, may_break_at, most_of};
 use std::alloc::Global;
 use tal_tree::{Program, What};
 

@@ -5,9 +5,9 @@ ghost use Rattle.flow_paths.specs.Graph.{IsWithin};
 ghost use Rattle.flow_paths.specs.declared.graph.Goal.TheVariants.{At};
 ghost use Rattle.discipline.specs.Suspects.{Reaches, IsSettled, AreSettled, AreFoundBefore, HaveNodes, AreSuspects};
 
-use crate::reasons::Reasons;
 use flow_paths::{Edge, Flow, Goal, Node};
 use gd_words::NoMemory;
+use reason_dues::Reasons;
 use std::alloc::Global;
 
 /// How often sets are spread over a graph at most. Once suffices without loops, and twice with loops, however deep they stand in

@@ -4,7 +4,7 @@ ghost use Rattle.gd_words.specs.Members.{is_among};
 ghost use Rattle.tal_tree.specs.declared.statement.What.{out-What};
 ghost use Rattle.process_semantics.specs.SeenEntries.{entry_of};
 ghost use Rattle.path_semantics.specs.Dues.{global_of_spot, global_of, changed_by, changed_by_return, target_of, asked_by, reads};
-ghost use Rattle.discipline.specs.Amounts.{clears, adds, adds_changed, one_more, after_what, after_changed, after_entry, omits_item, omits_file, sends, may_break, may_break_at, depth_in, most_of};
+ghost use Rattle.reason_dues.specs.Amounts.{clears, adds, adds_changed, one_more, after_what, after_changed, after_entry, omits_item, omits_file, sends, may_break, may_break_at, depth_in, most_of};
 
 use path_semantics::Reason;
 use process_semantics::Entry;
@@ -12,7 +12,7 @@ use tal_tree::{FileUse, Program, Spot, Variable, What};
 
 /// How much is due after an entry.
 #[inline(always)]
-pub(crate) fn after_entry(reason: Reason, entry: Entry<'_>, due: u8) -> u8
+pub fn after_entry(reason: Reason, entry: Entry<'_>, due: u8) -> u8
     requires { due ≤ 4 }
     ensures value { result ≡ after_entry reason (entry_of entry.entry) due }
     ensures most { result ≤ 5 }
@@ -73,7 +73,7 @@ fn adds_last(reason: Reason, what: &What) -> bool
 
 /// How much is due after a change of these globals, at most as much as breaks.
 #[inline(always)]
-pub(crate) fn cut_changed(reason: Reason, most: u8, globals: &[u16], due: u8) -> u8
+pub fn cut_changed(reason: Reason, most: u8, globals: &[u16], due: u8) -> u8
     ensures { result ≡ min most (after_changed reason globals.now due) }
 {
     let after = if adds_changed(reason, globals) {
@@ -85,7 +85,7 @@ pub(crate) fn cut_changed(reason: Reason, most: u8, globals: &[u16], due: u8) ->
 }
 
 /// How much is due after a return to a frame with this next entry, at most as much as breaks.
-pub(crate) fn after_return(reason: Reason, most: u8, entry: Entry<'_>, due: u8) -> u8
+pub fn after_return(reason: Reason, most: u8, entry: Entry<'_>, due: u8) -> u8
     ensures { result ≡ min most (after_changed reason (changed_by_return (Some (entry_of entry.entry))) due) }
 {
     let after = if returns_to(reason, entry) { 1 } else { due };
@@ -129,7 +129,7 @@ pub(crate) fn adds_changed(reason: Reason, globals: &[u16]) -> bool
 }
 
 /// How much is due where a reason breaks.
-pub(crate) fn most_of(program: &Program, reason: Reason) -> u8
+pub fn most_of(program: &Program, reason: Reason) -> u8
     ensures { result ≡ most_of program.now reason }
 {
     match reason {
@@ -161,7 +161,7 @@ fn has(globals: &[u16], item: u16) -> bool
 
 /// Whether an entry breaks where enough is due.
 #[inline(always)]
-pub(crate) fn may_break_at(reason: Reason, entry: Entry<'_>) -> bool
+pub fn may_break_at(reason: Reason, entry: Entry<'_>) -> bool
     ensures { result ≡ may_break_at reason (entry_of entry.entry) }
 {
     match entry {

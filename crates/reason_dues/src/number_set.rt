@@ -1,31 +1,31 @@
 ghost use Rattle.std.specs.Prelude.{◌≡◌, ◌<◌, ◌==◌, ◌||◌, ◌&&◌, not, ℕ, true, false, IsTrue};
 ghost use Rattle.std.specs.Bool.{OnTrue};
 ghost use Rattle.gd_words.specs.Members.{is_among};
-ghost use Rattle.discipline.specs.Suspects.{has_number, AreNumbers};
+ghost use Rattle.reason_dues.specs.Sets.{has_number, AreNumbers};
 
 /// A set of numbers below 64.
 #[derive(Clone, Copy)]
-pub(crate) struct Numbers {
-    bits: u64,
+pub struct Numbers {
+    pub bits: u64,
 }
 
 impl Numbers {
     /// No number.
-    pub(crate) fn none() -> Numbers
+    pub fn none() -> Numbers
         ensures { (n : ℕ) → has_number result n ≡ false }
     {
         Numbers { bits: 0 }
     }
 
     /// All numbers below 64.
-    pub(crate) fn all() -> Numbers
+    pub fn all() -> Numbers
         ensures { AreNumbers result (λ n. true) }
     {
         Numbers { bits: u64::MAX }
     }
 
     /// Whether a number is among them.
-    pub(crate) fn has(self, number: u16) -> bool
+    pub fn has(self, number: u16) -> bool
         requires { number < 64 }
         ensures { result ≡ has_number self number }
     {
@@ -34,7 +34,7 @@ impl Numbers {
 
     /// The set with one more, if it is below 64.
     #[inline(always)]
-    pub(crate) fn with(self, number: u16) -> Numbers
+    pub fn with(self, number: u16) -> Numbers
         ensures { AreNumbers result (λ n. (number == n) || has_number self n) }
     {
         if number < 64 {
@@ -47,7 +47,7 @@ impl Numbers {
     }
 
     /// The numbers that aren't among them.
-    pub(crate) fn others(self) -> Numbers
+    pub fn others(self) -> Numbers
         ensures { AreNumbers result (λ n. not (has_number self n)) }
     {
         Numbers { bits: !self.bits }
@@ -55,7 +55,7 @@ impl Numbers {
 
     /// The numbers of either set.
     #[inline(always)]
-    pub(crate) fn or(self, other: Numbers) -> Numbers
+    pub fn or(self, other: Numbers) -> Numbers
         ensures { (n : ℕ) → has_number result n ≡ (has_number self n || has_number other n) }
     {
         Numbers {
@@ -65,7 +65,7 @@ impl Numbers {
 
     /// The numbers of both sets.
     #[inline(always)]
-    pub(crate) fn and(self, other: Numbers) -> Numbers
+    pub fn and(self, other: Numbers) -> Numbers
         ensures { (n : ℕ) → has_number result n ≡ (has_number self n && has_number other n) }
     {
         Numbers {
@@ -75,14 +75,14 @@ impl Numbers {
 
     /// Whether all are among others.
     #[inline(always)]
-    pub(crate) fn are_among(self, others: Numbers) -> bool
+    pub fn are_among(self, others: Numbers) -> bool
         ensures { OnTrue result ((n : ℕ) → IsTrue (has_number self n) → IsTrue (has_number others n)) }
     {
         self.bits | others.bits == others.bits
     }
 
     /// The numbers of globals.
-    pub(crate) fn of_items(items: &[u16]) -> Numbers
+    pub fn of_items(items: &[u16]) -> Numbers
         ensures { AreNumbers result (λ n. is_among n items.now) }
     {
         let mut set = Numbers::none();
@@ -95,7 +95,7 @@ impl Numbers {
     }
 
     /// The numbers of files.
-    pub(crate) fn of_files(files: &[u8]) -> Numbers
+    pub fn of_files(files: &[u8]) -> Numbers
         ensures { AreNumbers result (λ n. is_among n files.now) }
     {
         let mut set = Numbers::none();

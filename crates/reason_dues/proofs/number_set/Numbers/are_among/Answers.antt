@@ -1,8 +1,8 @@
 use Rattle.std.proofs.Common.{ℕ, ◌==◌}
 use Rattle.std.specs.Prelude.{IsTrue, bit_or}
-use Rattle.discipline.specs.Suspects.{has_number}
-use Rattle.discipline.proofs.Bits.{among-has, when-true}
-use Rattle.discipline.proofs.number_set.Numbers.are_among.Goals as goal
+use Rattle.reason_dues.specs.Sets.{has_number}
+use Rattle.reason_dues.proofs.Bits.{among-has, when-true}
+use Rattle.reason_dues.proofs.number_set.Numbers.are_among.Goals as goal
 
 pub returns : goal.returns
 returns c = when-true (bit_or c.args.self.bits c.args.others.bits == c.args.others.bits) ((n : ℕ) → IsTrue (has_number c.args.self n) → IsTrue (has_number c.args.others n))

@@ -5,9 +5,9 @@ ghost use Rattle.tal_tree.specs.declared.statement.What.{out-What};
 ghost use Rattle.process_semantics.specs.SeenEntries.{entry_of};
 ghost use Rattle.path_semantics.specs.Dues.{changed_by, asked_by, global_of_spot, global_of};
 ghost use Rattle.path_semantics.specs.declared.reason.Reason.{Reason};
-ghost use Rattle.discipline.specs.Amounts.{adds, adds_changed, omits_item, omits_file, may_break, may_break_at};
+ghost use Rattle.reason_dues.specs.Amounts.{adds, adds_changed, omits_item, omits_file, may_break, may_break_at};
 ghost use Rattle.path_semantics.specs.declared.reason.Reason.TheVariants.{Data, SyncBlock, Input, Depth};
-ghost use Rattle.discipline.specs.Suspects.{has_number, AreNumbers, AreReasons, IsNear, has_reason, due_after};
+ghost use Rattle.reason_dues.specs.Sets.{has_number, AreNumbers, AreReasons, IsNear, has_reason, due_after};
 
 use crate::amount::{reads, sends};
 use crate::number_set::Numbers;
@@ -17,16 +17,16 @@ use tal_tree::{Spot, Variable, What};
 
 /// A set of reasons that speak of globals and files below 64: at a node those of which something may be due there.
 #[derive(Clone, Copy)]
-pub(crate) struct Reasons {
-    data: Numbers,
-    sync: Numbers,
-    input: bool,
-    depth: Numbers,
+pub struct Reasons {
+    pub data: Numbers,
+    pub sync: Numbers,
+    pub input: bool,
+    pub depth: Numbers,
 }
 
 impl Reasons {
     /// No reason.
-    pub(crate) fn none() -> Reasons
+    pub fn none() -> Reasons
         ensures { (reason : Reason) → has_reason result reason ≡ false }
     {
         let none = Numbers::none();
@@ -39,7 +39,7 @@ impl Reasons {
     }
 
     /// All of them.
-    pub(crate) fn all() -> Reasons
+    pub fn all() -> Reasons
         ensures { AreReasons result (λ reason. true) }
     {
         let all = Numbers::all();
@@ -52,7 +52,7 @@ impl Reasons {
     }
 
     /// Whether a reason is among them.
-    pub(crate) fn has(self, reason: Reason) -> bool
+    pub fn has(self, reason: Reason) -> bool
         requires { IsNear reason }
         ensures { result ≡ has_reason self reason }
     {
@@ -66,7 +66,7 @@ impl Reasons {
 
     /// The reasons of either set.
     #[inline(always)]
-    pub(crate) fn or(self, other: Reasons) -> Reasons
+    pub fn or(self, other: Reasons) -> Reasons
         ensures { (reason : Reason) → has_reason result reason ≡ (has_reason self reason || has_reason other reason) }
     {
         Reasons {
@@ -79,7 +79,7 @@ impl Reasons {
 
     /// The reasons of both sets.
     #[inline(always)]
-    pub(crate) fn and(self, other: Reasons) -> Reasons
+    pub fn and(self, other: Reasons) -> Reasons
         ensures { (reason : Reason) → has_reason result reason ≡ (has_reason self reason && has_reason other reason) }
     {
         Reasons {
@@ -92,7 +92,7 @@ impl Reasons {
 
     /// Whether all are among others.
     #[inline(always)]
-    pub(crate) fn are_among(self, others: Reasons) -> bool
+    pub fn are_among(self, others: Reasons) -> bool
         ensures { OnTrue result ((reason : Reason) → IsTrue (has_reason self reason) → IsTrue (has_reason others reason)) }
     {
         let input = !self.input | others.input;
@@ -104,7 +104,7 @@ impl Reasons {
 
     /// Those of which something may be due after an entry, where it may be of these before.
     #[inline(always)]
-    pub(crate) fn after(self, entry: Entry<'_>) -> Reasons
+    pub fn after(self, entry: Entry<'_>) -> Reasons
         ensures { AreReasons result (λ reason. due_after reason (entry_of entry.entry) (has_reason self reason)) }
     {
         match entry {
@@ -119,7 +119,7 @@ impl Reasons {
 
     /// The same after a change of these globals.
     #[inline(always)]
-    pub(crate) fn after_change(self, globals: &[u16]) -> Reasons
+    pub fn after_change(self, globals: &[u16]) -> Reasons
         ensures { AreReasons result (λ reason. adds_changed reason globals.now || has_reason self reason) }
     {
         Reasons::of_data(Numbers::of_items(globals)).or(self)
@@ -155,7 +155,7 @@ impl Reasons {
     }
 
     /// The reasons for which an entry breaks where something is due, or enough.
-    pub(crate) fn broken_by(entry: Entry<'_>) -> Reasons
+    pub fn broken_by(entry: Entry<'_>) -> Reasons
         ensures { AreReasons result (λ reason. may_break_at reason (entry_of entry.entry)) }
     {
         match entry {

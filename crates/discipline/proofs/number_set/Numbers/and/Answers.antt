@@ -1,5 +1,0 @@
-use Rattle.discipline.proofs.Bits.{and-has}
-use Rattle.discipline.proofs.number_set.Numbers.and.Goals as goal
-
-pub returns : goal.returns
-returns c = and-has c.args.self.bits c.args.other.bits
