@@ -1,2 +1,9 @@
 pub mod Accepted
+pub mod AdderSyntax
+pub mod BankSyntax
 pub mod Discs
+pub mod Listed
+pub mod Pairs
+pub mod Paths
+pub mod Readings
+pub mod Syntaxes

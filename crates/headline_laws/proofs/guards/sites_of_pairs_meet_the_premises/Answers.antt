@@ -1,0 +1,14 @@
+use Rattle.headline_laws.proofs.Pairs.{adders-accepted, bank-site-accepted}
+use Rattle.headline_laws.proofs.Paths.{adder-accepted, bank-accepted}
+use Rattle.headline_laws.proofs.Readings.{adder-read, bank-read}
+use Rattle.headline_laws.proofs.guards.sites_of_pairs_meet_the_premises.Goals as goal
+
+pub returns : goal.returns
+returns c = record {
+  adder_read = adder-read;
+  adder_accepted = adder-accepted;
+  adders = adders-accepted;
+  bank_read = bank-read;
+  bank_accepted = bank-accepted;
+  banks = bank-site-accepted;
+}
