@@ -1,9 +1,8 @@
 -- Where each process that is behind its deeds awaits a reply that its server hasn't given, none is behind. This is the one place where the order of the kept acts
 -- of different processes matters: it excludes that processes wait for each other, each of them behind.
-use Rattle.std.proofs.Common.{◌≡◌, ◌⊎◌, inl, inr, ℕ, ◌+◌, ◌<◌, ◌≤◌, ◌==◌, ◌&&◌, List, [], ◌∷◌, ◌++◌, length, filter_map, Some, slice_get, refl, ap, sym, ◌∙◌, subst, arith, length-append, eq-eqb}
+use Rattle.std.proofs.Common.{◌≡◌, ◌⊎◌, inl, inr, ℕ, ◌+◌, ◌<◌, ◌≤◌, List, [], ◌∷◌, ◌++◌, length, Some, slice_get, refl, ap, sym, ◌∙◌, subst, arith, length-append, eq-eqb}
 use Rattle.std.proofs.lemmas.Bool.{cases_lt}
 use Rattle.std.proofs.lemmas.Bool.Decides.{eqb_tells}
-use Rattle.std.proofs.lemmas.List.Elements.{filter_map-append}
 use Rattle.tal_tree.specs.declared.act.Act.{Act}
 use Rattle.tal_tree.specs.declared.act.Shown.{Shown}
 use Rattle.tal_tree.specs.declared.site.Site.{Site}
@@ -15,7 +14,7 @@ use Rattle.plain_semantics.specs.declared.slot.Opener.{Opener}
 use Rattle.plain_semantics.specs.Openers.{openers_of, opener_of}
 use Rattle.world_semantics.specs.Core.{Core, Deed, Advances, goes, marks, takes, asks, gets, answers, acts}
 use Rattle.world_semantics.specs.Laws.{HasGrown}
-use Rattle.world_semantics.proofs.Lists.{some-same, grown-none, grown-one, grown-both}
+use Rattle.world_semantics.proofs.Lists.{some-same, grown-one, grown-both}
 use Rattle.process_histories.specs.Histories.{HasDone}
 use Rattle.process_histories.specs.Words.{answer_to, answered_to, requests_on, awaits_on, one_if}
 use Rattle.process_histories.proofs.Counts.{asked-count}
@@ -25,6 +24,7 @@ use Rattle.plain_histories.specs.Booking.{IsAllowed, AreBooked, none_booked, dee
 use Rattle.plain_histories.specs.Ledgers.{Ledger, with_deed, answered_of, replies_of}
 use Rattle.plain_histories.proofs.Changed.{changed-same, changed-other}
 use Rattle.plain_histories.proofs.Openers.{opener-is}
+use Rattle.awaited_requests.proofs.Leads.{count-join}
 
 -- Of two lists that grew to one, the shorter grew to the longer
 
@@ -41,12 +41,8 @@ pub grown-same : {xs ys : List Deed} → HasGrown xs ys → length ys ≤ length
 grown-same ([], same) most = same
 grown-same {xs = xs} (deed ∷ more, same) most = absurd (omega (arith, ap length same, length-append more xs, most))
 
-pub count-append : (place : ℕ) (more deeds : List Deed) → length (answered_to place (more ++ deeds)) ≡ length (answered_to place more) + length (answered_to place deeds)
-count-append place more deeds =
-    ap length (filter_map-append (answer_to place) more deeds) ∙ length-append (answered_to place more) (answered_to place deeds)
-
 answered-grown : (place : ℕ) {before after : List Deed} → HasGrown before after → length (answered_to place before) ≤ length (answered_to place after)
-answered-grown place {before = before} (more, same) = let count = count-append place more before in rw same (omega (arith, count))
+answered-grown place {before = before} (more, same) = let count = count-join (answer_to place) more before in rw same (omega (arith, count))
 
 -- how far a process is with its deeds: it has done all but the newest ones
 pub record HasPast (site : Site) (number : ℕ) (spec : ProcessSpec) (deeds : List Deed) : Type 0 where

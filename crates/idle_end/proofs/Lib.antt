@@ -6,4 +6,3 @@ pub mod Owned
 pub mod Reached
 pub mod Resting
 pub mod Still
-mod Stub

@@ -1,6 +1,6 @@
 -- On the machine of single processes each slot that isn't empty, and each request in hand, has an owner: a file or a terminal that is an opener there. Where two
 -- processes have one name, the second one's openers own no slot.
-use Rattle.std.proofs.Common.{◌≡◌, ◌≢◌, ℕ, zero, suc, ◌+◌, ℤ, List, [], ◌∷◌, length, map, Option, Some, None, option_map, option_and_then, slice_get, slice_set, refl, sym, ◌∙◌, subst, arith, length-set}
+use Rattle.std.proofs.Common.{◌≡◌, ◌≢◌, ℕ, zero, suc, ◌+◌, ℤ, List, [], ◌∷◌, length, Option, Some, None, option_map, option_and_then, slice_get, slice_set, refl, sym, ◌∙◌, subst, arith, length-set}
 use Rattle.tal_tree.specs.declared.act.Act.{Act}
 use Rattle.tal_tree.specs.declared.act.Act.TheVariants.{Step, Take, Enter, Print}
 use Rattle.tal_tree.specs.declared.act.Shown.{Shown}

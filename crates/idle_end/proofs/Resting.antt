@@ -1,8 +1,7 @@
 -- Copies that act at an idle end: none of them can do more than take a request or get a reply, what is awaited of one waits there as its next request or is in hand, and
 -- none is behind the deeds of its process.
-use Rattle.std.proofs.Common.{◌≡◌, ◌≢◌, ◌⊎◌, inl, inr, ◌≤◌, ℕ, ◌+◌, ◌<◌, ◌||◌, ◌==◌, ◌&&◌, ℤ, Bool, true, false, if◌then◌else◌, nat_lt, List, [], ◌∷◌, ◌++◌, length, Option, Some, None, slice_get, refl, ap, sym, ◌∙◌, subst, arith, append_assoc, unwrap_or}
+use Rattle.std.proofs.Common.{◌≡◌, ◌⊎◌, inl, inr, ℕ, ◌+◌, ◌<◌, ◌||◌, ◌==◌, ◌&&◌, ℤ, Bool, true, false, if◌then◌else◌, nat_lt, List, [], ◌∷◌, ◌++◌, length, Option, Some, None, slice_get, refl, ap, sym, ◌∙◌, subst, arith, append_assoc}
 use Rattle.std.proofs.lemmas.Bool.{cases_lt, eqb-true}
-use Rattle.std.proofs.lemmas.Option.{slice_get_within, slice_get-get_or}
 use Rattle.gd_words.specs.declared.device.DeviceCall.{DeviceCall}
 use Rattle.gd_words.specs.declared.device.DeviceCall.TheVariants as call
 use Rattle.tal_tree.specs.declared.act.Act.TheVariants.{Step}
@@ -13,7 +12,7 @@ use Rattle.tal_tree.specs.declared.site.Who.TheVariants as who
 use Rattle.process_semantics.specs.declared.point.Point.TheVariants as point
 use Rattle.process_semantics.specs.Process as process
 use Rattle.plain_semantics.specs.declared.slot.Opener.{Opener}
-use Rattle.plain_semantics.specs.Openers.{files_of, openers_of, opener_of}
+use Rattle.plain_semantics.specs.Openers.{openers_of, opener_of}
 use Rattle.checkpoint_image.specs.declared.receive.OpenerBlock.{OpenerBlock}
 use Rattle.checkpoint_image.specs.declared.receive.Standing.{Standing}
 use Rattle.checkpoint_image.specs.declared.receive.Standing.TheVariants.{Next, Ahead, InHand}
@@ -21,7 +20,7 @@ use Rattle.checkpoint_image.specs.Receive.{holds, answered as last_answered, rep
 use Rattle.world_semantics.specs.declared.role.Role.TheVariants.{Acting}
 use Rattle.world_semantics.specs.declared.which.Which.{Which}
 use Rattle.world_semantics.specs.declared.which.Which.TheVariants.{First, Second}
-use Rattle.world_semantics.specs.Core.{Core, Deed, Went, Marked, Took, Asked, Got, Answered, Acted, Advances, goes, marks, takes, asks, gets, answers, acts, next_on}
+use Rattle.world_semantics.specs.Core.{Core, Deed, Went, Marked, Took, Asked, Got, Answered, Acted, Advances, goes, marks, takes, asks, gets, answers, acts}
 use Rattle.world_semantics.specs.Kept.{own_acts}
 use Rattle.world_semantics.specs.Laws.{HasGrown}
 use Rattle.world_semantics.specs.Own.{by_inner, by_ask, by_answer, by_device, by_write, is_new_write}
@@ -31,34 +30,23 @@ use Rattle.world_semantics.specs.World.{Copy, Pair, World, is_running, has_marke
 use Rattle.world_semantics.proofs.Lists.{some-same, grown-none}
 use Rattle.world_semantics.proofs.Running.{enters-as}
 use Rattle.process_histories.specs.Histories.{HasDone}
-use Rattle.process_histories.specs.Words.{taken_from, requests_on, answered_to, one_if}
-use Rattle.process_histories.proofs.Counts.{next-number, taken-count, taken-number}
+use Rattle.process_histories.specs.Words.{answer_to, taken_from, requests_on, answered_to, one_if}
+use Rattle.process_histories.proofs.Counts.{taken-count, taken-number}
 use Rattle.process_histories.proofs.Deeds.{point_of, stands-there, done-before, done-last, done-one}
-use Rattle.process_histories.proofs.OneKind.{files-same}
 use Rattle.plain_histories.specs.Booking.{AreHeld, none_held}
 use Rattle.plain_histories.specs.Ledgers.{Ledger}
-use Rattle.plain_histories.proofs.Openers.{opener-opened}
 use Rattle.plain_histories.proofs.Possible.{booked-ran}
 use Rattle.letters.specs.Posts.{Post}
 use Rattle.letters.specs.Routes.{route_of}
 use Rattle.awaited_requests.specs.Awaited.{IsAwaited, by_copy, StandsThere}
 use Rattle.awaited_requests.specs.Served.{WaitsFor, HasSeen, IsServed, route_stopped, is_owed, is_seen}
+use Rattle.awaited_requests.proofs.Awaited.{awaited-stands}
+use Rattle.awaited_requests.proofs.Leads.{count-join, acting-leads}
 use Rattle.headline.specs.Invariant.{IsRepeatable, Stage, IsLead, is_level, is_applied, is_behind, IsSound}
-use Rattle.idle_end.proofs.CaughtUp.{HasPast, AwaitsMore, IsStuck, caught, grown-same, count-append}
+use Rattle.headline.proofs.Backed.{next-is}
+use Rattle.idle_end.proofs.CaughtUp.{HasPast, AwaitsMore, IsStuck, caught, grown-same}
 use Rattle.idle_end.proofs.Closing.{CanClose}
 use Rattle.idle_end.proofs.Ends.{IsEnd, who_acts, acts-runs, acting, only-acts, route-acts, asker-runs, asker-found}
-use Rattle.idle_end.proofs.Stub.{acting-leads, awaited-stands}
-
--- the next number on a file is one more than how many requests were asked on it
-pub next-asked : (site : Site) (number : ℕ) (spec : ProcessSpec) (deeds : List Deed) (file : ℕ) (opener : Opener) {core : Core} → slice_get site.processes number ≡ Some spec
-    → opener_of site (who.File number file) ≡ Some opener → HasDone site number spec deeds core → next_on core file ≡ length (requests_on file deeds) + 1
-next-asked site number spec deeds file opener {core = core} there opens done =
-    let opened = opener-opened site number file opener opens in
-    let same : opened.spec ≡ spec = some-same (sym opened.there ∙ there) in
-    let within = slice_get_within (files_of opened.spec.what) file opened.use_of opened.opened in
-    let long : length core.next ≡ length (files_of opened.spec.what) = files-same done ∙ ap (λ (s : ProcessSpec). length (files_of s.what)) (sym same) in
-    let next = slice_get-get_or core.next file 0 (omega (arith, within, long)) in
-    ap (λ found. unwrap_or found 1) next ∙ next-number done file _ next
 
 -- a copy has a request that is awaited of it: it stands next there and waits, or it is in hand
 abbrev pub HasRequest : Copy → Opener → ℕ → Type 0
@@ -286,11 +274,11 @@ module _ {site : Site} {events : ℕ} {post : Post} (end : IsEnd site events pos
       → length (answered_to opener.place it.past) < length (requests_on (process.asked_file (copy_of (who_acts pair) pair).core.state) past)
   few-answered number spec past pair opener server known there done awaits opens it =
       let file : ℕ = process.asked_file (copy_of (who_acts pair) pair).core.state in
-      let next = next-asked site number spec past file opener known opens done in
+      let next = next-is site end.fit.regular number spec known past file opener opens done in
       let awaited = by_copy {number = number} pair (who_acts pair) there (acting end number pair there) awaits refl next in
       let has = at-server _ (who.File number file) (length (requests_on file past)) opener it.pair (who_acts it.pair) opens it.there (acting end opener.server it.pair it.there) awaited in
       let fewer = not-answered opener (length (requests_on file past)) it.done (elim has [ inl next ↦ inl next.0 | inr hand ↦ inr hand ]) in
-      let count = count-append opener.place it.more it.past in
+      let count = count-join (answer_to opener.place) it.more it.past in
       omega (arith, fewer, count)
 
   stuck : (number : ℕ) (spec : ProcessSpec) (known : slice_get site.processes number ≡ Some spec)

@@ -1,5 +1,5 @@
 -- After the kept acts and the held ones no act is left, and each process is as its copy that acts.
-use Rattle.std.proofs.Common.{◌≡◌, ◌≢◌, ◌⊎◌, inl, inr, ℕ, ◌+◌, ◌<◌, ◌==◌, ◌&&◌, ℤ, Bool, true, false, if◌then◌else◌, nat_lt, List, [], ◌∷◌, length, map, reverse, Option, Some, None, slice_get, refl, ap, sym, ◌∙◌, subst, arith}
+use Rattle.std.proofs.Common.{◌≡◌, ◌≢◌, ◌⊎◌, inl, inr, ℕ, ◌+◌, ◌==◌, ℤ, Bool, true, false, if◌then◌else◌, nat_lt, List, [], ◌∷◌, length, map, reverse, Option, Some, None, slice_get, refl, ap, sym, ◌∙◌, subst, arith}
 use Rattle.std.proofs.lemmas.Bool.{eqb-true}
 use Rattle.std.proofs.lemmas.Option.{slice_get_within, slice_get_cases}
 use Rattle.gd_words.specs.Members.{IsAmong}
@@ -17,19 +17,19 @@ use Rattle.plain_semantics.specs.declared.slot.Opener.{Opener}
 use Rattle.plain_semantics.specs.declared.slot.Slot.{Slot}
 use Rattle.plain_semantics.specs.declared.slot.Slot.TheVariants.{Empty, Waiting, Taken, Answered}
 use Rattle.plain_semantics.specs.Openers.{openers_of, opener_of}
-use Rattle.plain_semantics.specs.Machine.{Plain, PlainProcess, Made, made, made_all, plain_start, slot_at, slot_of, step_made, take_slot, take_at, take_made, enter_request, enter_made, print_made, next_request, entered_at, IsStill, IsNoneLeft, shown_by}
+use Rattle.plain_semantics.specs.Machine.{PlainProcess, Made, made, made_all, plain_start, slot_of, step_made, take_slot, take_at, take_made, enter_request, enter_made, print_made, next_request, entered_at, IsStill, IsNoneLeft, shown_by}
 use Rattle.disc_device.specs.declared.stored.Stored.{Stored}
 use Rattle.checkpoint_image.specs.declared.receive.OpenerBlock.{OpenerBlock}
 use Rattle.checkpoint_image.specs.declared.receive.ReceiveBlock.{ReceiveBlock}
 use Rattle.checkpoint_image.specs.declared.receive.Standing.TheVariants.{Next, Ahead, InHand}
-use Rattle.checkpoint_image.specs.Receive.{is_place, answered as last_answered, reply_kept, kept_or_old, standing_in, standing_by, standing_at, standing, Chosen, chosen, chosen_by, chosen_after, is_next}
+use Rattle.checkpoint_image.specs.Receive.{is_place, answered as last_answered, reply_kept, kept_or_old, standing_by, standing_at, standing, Chosen, chosen, chosen_by, chosen_after, is_next}
 use Rattle.world_semantics.specs.declared.role.Role.TheVariants.{Acting}
 use Rattle.world_semantics.specs.declared.which.Which.{Which}
 use Rattle.world_semantics.specs.Core.{Core, Deed, Advances, goes, marks, takes, asks, gets, answers, acts}
 use Rattle.world_semantics.specs.Kept.{closed}
 use Rattle.world_semantics.specs.Own.{by_take}
 use Rattle.world_semantics.specs.Rules.{by_own, by_enter}
-use Rattle.world_semantics.specs.World.{Copy, Pair, terminal_node, copy_of}
+use Rattle.world_semantics.specs.World.{Pair, terminal_node, copy_of}
 use Rattle.world_semantics.proofs.Lists.{some-same}
 use Rattle.world_semantics.proofs.Roles.{both-true}
 use Rattle.world_semantics.proofs.Running.{enters-as}
@@ -39,18 +39,19 @@ use Rattle.process_histories.specs.Words.{is_await, awaits_on, one_if}
 use Rattle.process_histories.proofs.Counts.{asked-count, take-free}
 use Rattle.process_histories.proofs.Deeds.{done-one}
 use Rattle.plain_histories.specs.Booking.{IsAllowed, CanDo}
-use Rattle.plain_histories.specs.Ledgers.{Ledger, requests_of, taken_of, answered_of, replies_of}
+use Rattle.plain_histories.specs.Ledgers.{requests_of, taken_of, answered_of, replies_of}
 use Rattle.plain_histories.specs.Slots.{IsSlot, is_empty, is_waiting, is_taken, is_answered}
 use Rattle.plain_histories.proofs.Acting.{step-deed, take-deed}
 use Rattle.plain_histories.proofs.Openers.{opener-is, opener-opened, opener-terminal}
 use Rattle.letters.specs.Posts.{Post}
 use Rattle.awaited_requests.specs.Awaited.{IsAwaited, by_copy, by_terminal}
 use Rattle.awaited_requests.specs.Served.{WaitsFor}
+use Rattle.headline.proofs.Backed.{next-is}
 use Rattle.headline.proofs.Waiting.{chosen-is}
 use Rattle.idle_end.specs.Ends.{IsAsCopy}
 use Rattle.idle_end.proofs.Closed.{IsClosed, is-closed}
 use Rattle.idle_end.proofs.Ends.{IsEnd, who_acts, acting, only-acts}
-use Rattle.idle_end.proofs.Resting.{next-asked, HasRequest, not-answered, takes-in, at-server}
+use Rattle.idle_end.proofs.Resting.{not-answered, takes-in, at-server}
 
 -- Slots
 
@@ -144,7 +145,7 @@ module _ {site : Site} {events : ℕ} {post : Post} (end : IsEnd site events pos
       let stands = awaits-is (copy_of (who_acts seat.0) seat.0).core.state file (omega (arith, lacks, count)) in
       ((copy_of (who_acts seat.0) seat.0).processor,
       by_copy seat.0 (who_acts seat.0) seat.1 (acting end number seat.0 seat.1) stands.0 stands.1
-      (next-asked site number opened.spec (all.last.deeds number) file opener opened.there opens done))
+      (next-is site end.fit.regular number opened.spec opened.there (all.last.deeds number) file opener opens done))
 
   -- so no answer waits
   none-answered : (one : Who) (opener : Opener) (words : List ℤ) → opener_of site one ≡ Some opener → answered_of all.last opener ≡ words ∷ replies_of all.last one → ⊥
