@@ -1,8 +1,12 @@
+pub mod Awaited
 pub mod CaughtUp
 pub mod Closed
 pub mod Closing
+pub mod Doing
 pub mod Ends
+pub mod Lacking
 pub mod Owned
 pub mod Reached
 pub mod Resting
 pub mod Still
+pub mod Unanswered
