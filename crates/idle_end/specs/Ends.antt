@@ -1,4 +1,4 @@
--- What it means that a run has come to an idle end.
+-- What it means that a run has come to an idle end at which all is served, and what each process is there.
 use Rattle.std.specs.Prelude.{◌≡◌, ◌<◌, List, length, map}
 use Rattle.tal_tree.specs.declared.site.Site.{Site}
 use Rattle.schedule.specs.declared.event.Event.{Event}
@@ -8,7 +8,7 @@ use Rattle.world_semantics.specs.World.{Copy, Pair}
 use Rattle.headline.specs.Fit.{IsFit}
 use Rattle.letters.specs.Idle.{IsIdle, OneStops}
 use Rattle.letters.specs.Posts.{Post}
-use Rattle.awaited_requests.specs.Seats.{IsLaidOut, AreSeated}
+use Rattle.awaited_requests.specs.Seats.{IsLaidOut}
 use Rattle.awaited_requests.specs.Served.{AreServed}
 
 -- a run of a fit site that is laid out has come to a post that is idle, at which every awaited request is served and at most one processor has stopped
@@ -18,7 +18,6 @@ pub record IsIdleEnd (site : Site) (events : List Event) (post : Post) : Type 0 
   pub few : length events < 4294967296
   pub run : IsRun site events post.world
   pub one_stops : OneStops post.world
-  pub seated : AreSeated site post.world
   pub served : AreServed site post
   pub idle : IsIdle site post
 

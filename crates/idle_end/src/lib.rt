@@ -8,4 +8,4 @@
 
 pub mod laws;
 
-pub use laws::an_idle_end_of_served_requests_leaves_none;
+pub use laws::{an_idle_end_of_served_requests_leaves_none, no_copy_is_behind_at_an_idle_end};
