@@ -6,6 +6,7 @@ pub mod Doing
 pub mod Ends
 pub mod Lacking
 pub mod Owned
+pub mod Quiet
 pub mod Reached
 pub mod Resting
 pub mod Still

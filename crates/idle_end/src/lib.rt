@@ -6,6 +6,7 @@
 //! play, and uses `an_idle_end_of_served_requests_leaves_none`. No code runs here.
 #![tactic(auto)]
 
+pub mod guards;
 pub mod laws;
 
 pub use laws::{an_idle_end_of_served_requests_leaves_none, no_copy_is_behind_at_an_idle_end};
