@@ -99,10 +99,11 @@ module _ {site : Site} {events : ℕ} {post : Post} (end : IsEnd site events pos
       let seat = end.seated.processes number opened.spec opened.there in
       let done = copy-done number opened.spec seat.0 opened.there seat.1 in
       let count = asked-count (end.fit.regular number opened.spec opened.there) done file in
-      let stands = awaits-is (copy_of (who_acts seat.0) seat.0).core.state file (omega (arith, lacks, count)) in
-      ((copy_of (who_acts seat.0) seat.0).processor,
-      by_copy seat.0 (who_acts seat.0) seat.1 (acting end number seat.0 seat.1) stands.0 stands.1
-      (next-is site end.fit.regular number opened.spec opened.there (all.last.deeds number) file opener opens done))
+      let stands = awaits-is (copy_of (who_acts seat.0) seat.0).core.state file (omega (arith, lacks, count)) in (
+        (copy_of (who_acts seat.0) seat.0).processor,
+        by_copy seat.0 (who_acts seat.0) seat.1 (acting end number seat.0 seat.1) stands.0 stands.1
+            (next-is site end.fit.regular number opened.spec opened.there (all.last.deeds number) file opener opens done),
+      )
 
   -- so no answer waits
   pub none-answered : (one : Who) (opener : Opener) (words : List ℤ) → opener_of site one ≡ Some opener → answered_of all.last opener ≡ words ∷ replies_of all.last one → ⊥

@@ -1,6 +1,6 @@
-use Rattle.std.proofs.Common.{◌≡◌, ◌≢◌, ℕ, zero, suc, [], ◌∷◌, Option, Some, None, slice_get, refl, ap, sym, ◌∙◌, subst}
-use Rattle.tal_tree.specs.declared.act.Act.TheVariants.{Take, Enter}
-use Rattle.plain_semantics.specs.Machine.{Made, made, made_all, plain_start, IsStill}
+use Rattle.std.proofs.Common.{◌≡◌, ◌≢◌, ℕ, zero, suc, Option, Some, None, slice_get, refl, subst}
+use Rattle.tal_tree.specs.declared.act.Act.TheVariants.{Take}
+use Rattle.plain_semantics.specs.Machine.{Made, made}
 use Rattle.process_histories.specs.Served.{disc_site}
 use Rattle.world_semantics.specs.Running.{run_done}
 use Rattle.world_semantics.specs.World.{Terminal}

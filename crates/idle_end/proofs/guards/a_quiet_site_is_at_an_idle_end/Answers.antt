@@ -1,24 +1,21 @@
-use Rattle.std.proofs.Common.{◌≡◌, ◌≢◌, ◌<◌, ℕ, zero, suc, List, [], ◌∷◌, Some, None, slice_get, refl, ap, sym, ◌∙◌, subst, arith}
+use Rattle.std.proofs.Common.{◌≡◌, ◌≢◌, ◌<◌, ℕ, zero, suc, Some, None, slice_get, refl, sym, subst, arith}
 use Rattle.tal_tree.specs.declared.site.ProcessSpec.{ProcessSpec}
-use Rattle.tal_tree.specs.declared.site.Site.{Site}
 use Rattle.tal_tree.specs.declared.site.Who.{Who}
 use Rattle.process_semantics.specs.declared.point.Point.TheVariants as point
 use Rattle.process_semantics.specs.Process as process
 use Rattle.whole_states.specs.Processes.{IsRegularKind}
 use Rattle.disciplines.specs.Disciplined.{IsDisciplined}
 use Rattle.disciplines.proofs.Discs.{disc-disciplined}
-use Rattle.process_histories.specs.Served.{disc, disc_site}
+use Rattle.process_histories.specs.Served.{disc}
 use Rattle.world_semantics.specs.declared.which.Which.{Which}
 use Rattle.world_semantics.specs.declared.which.Which.TheVariants.{First, Second}
 use Rattle.world_semantics.specs.Follows.{stays}
 use Rattle.world_semantics.specs.Rules.{by_enter}
 use Rattle.world_semantics.specs.Running.{run_done}
-use Rattle.world_semantics.specs.World.{Pair, Terminal, boot, pair_at_boot, copy_of}
+use Rattle.world_semantics.specs.World.{Pair, boot, pair_at_boot, copy_of}
 use Rattle.world_semantics.proofs.Lists.{some-same}
 use Rattle.letters.specs.Posts.{post_at_boot}
-use Rattle.headline.specs.Fit.{IsFit}
 use Rattle.awaited_requests.specs.Awaited.{IsAwaited, by_copy, by_terminal}
-use Rattle.awaited_requests.specs.Seats.{IsLaidOut}
 use Rattle.idle_end.specs.Examples.{quiet_site}
 use Rattle.idle_end.proofs.Quiet.{disc-idle, none-stopped}
 use Rattle.idle_end.proofs.guards.a_quiet_site_is_at_an_idle_end.Goals as goal
