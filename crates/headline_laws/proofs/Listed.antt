@@ -1,10 +1,10 @@
 -- When a program is accepted whose stands can be listed: each leads only to others of the list, and at none a statement breaks.
 use Rattle.std.proofs.Common.{◌≡◌, inl, inr, ℕ, ◌==◌, Bool, true, false, not, ◌&&◌, List, [], ◌∷◌, map, slice_get, Option, Some, None, refl, ap, subst, sym}
 use Rattle.std.specs.List.{list_all}
+use Rattle.std.proofs.lemmas.Bool.{eqb-true}
 use Rattle.gd_words.specs.Members.{IsAmong, is_among}
 use Rattle.gd_words.proofs.Among.{among-at}
 use Rattle.gd_words.proofs.AmongTest.{among_there}
-use Rattle.std.proofs.lemmas.Bool.{eqb-true}
 use Rattle.tal_tree.specs.declared.program.Program.{Program}
 use Rattle.tal_tree.specs.declared.statement.Statement.{Statement}
 use Rattle.tal_tree.specs.declared.statement.What.{What, What-F, out-What}
@@ -41,18 +41,21 @@ all-do p [] x all among = absurd among
 all-do p (y ∷ xs) x all (inl same) = subst (λ z. p z ≡ true) (sym same) (both _ _ all).0
 all-do p (y ∷ xs) x all (inr among) = all-do p xs x (both _ _ all).1 among
 
-named-by : (due names : List ℕ) (n : ℕ) (is : Bool) → is_among n due ≡ is → list_all (λ m. is_among m names) due ≡ true → (is && not (is_among n names)) ≡ false
+named-by : (due names : List ℕ) (n : ℕ) (is : Bool)
+    → is_among n due ≡ is → list_all (λ m. is_among m names) due ≡ true → (is && not (is_among n names)) ≡ false
 named-by due names n true there all = ap (λ b. not b) (all-do (λ m. is_among m names) due n all (among_there n due there))
 named-by due names n false there all = refl
 
 named : (due names : List ℕ) (n : ℕ) → list_all (λ m. is_among m names) due ≡ true → (is_among n due && not (is_among n names)) ≡ false
 named due names n all = named-by due names n (is_among n due) refl all
 
-unnamed-data : (item : ℕ) (program : Program) (dues : Dues) (what : What-F What Statement) → is_safe program dues what ≡ true → breaks_data item dues what ≡ false
+unnamed-data : (item : ℕ) (program : Program) (dues : Dues) (what : What-F What Statement)
+    → is_safe program dues what ≡ true → breaks_data item dues what ≡ false
 unnamed-data item program dues (What-F.Checkpoint items files) safe = named dues.globals items item (both _ _ safe).0
 unnamed-data item program dues _ safe = refl
 
-unnamed-sync : (file : ℕ) (program : Program) (dues : Dues) (what : What-F What Statement) → is_safe program dues what ≡ true → breaks_sync file dues what ≡ false
+unnamed-sync : (file : ℕ) (program : Program) (dues : Dues) (what : What-F What Statement)
+    → is_safe program dues what ≡ true → breaks_sync file dues what ≡ false
 unnamed-sync file program dues (What-F.Checkpoint items files) safe = named dues.asked files file (both _ _ safe).1
 unnamed-sync file program dues _ safe = refl
 
@@ -68,11 +71,13 @@ unreached-by program dues asked file true same free =
     subst (λ f. is_reached (slice_get program.files f) (asked_count f dues) ≡ false) (eqb-true asked file same) free
 unreached-by program dues asked file false same free = refl
 
-unreached : (program : Program) (file : ℕ) (dues : Dues) (what : What-F What Statement) → is_safe program dues what ≡ true → breaks_depth program file dues what ≡ false
+unreached : (program : Program) (file : ℕ) (dues : Dues) (what : What-F What Statement)
+    → is_safe program dues what ≡ true → breaks_depth program file dues what ≡ false
 unreached program file dues (What-F.WriteRead asked buffer send room got) safe = unreached-by program dues asked file (asked == file) refl (isnt _ (both _ _ safe).1)
 unreached program file dues _ safe = refl
 
-safe-by : (program : Program) (reason : Reason) (dues : Dues) (what : What-F What Statement) → is_safe program dues what ≡ true → breaks_by program reason dues what ≡ false
+safe-by : (program : Program) (reason : Reason) (dues : Dues) (what : What-F What Statement)
+    → is_safe program dues what ≡ true → breaks_by program reason dues what ≡ false
 safe-by program (Data item) dues what safe = unnamed-data item program dues what safe
 safe-by program (SyncBlock file) dues what safe = unnamed-sync file program dues what safe
 safe-by program Input dues what safe = unread program dues what safe
@@ -87,7 +92,8 @@ is_safe_entry program dues _ = true
 abbrev pub is_safe_at : Program → Stand → Bool
 is_safe_at program stand = is_safe_entry program stand.dues (next_entry stand)
 
-safe-entry : (program : Program) (reason : Reason) (dues : Dues) (entry : Option Entry) → is_safe_entry program dues entry ≡ true → breaks_entry program reason dues entry ≡ false
+safe-entry : (program : Program) (reason : Reason) (dues : Dues) (entry : Option Entry)
+    → is_safe_entry program dues entry ≡ true → breaks_entry program reason dues entry ≡ false
 safe-entry program reason dues (Some (Run statement)) safe = safe-by program reason dues (out-What statement.what) safe
 safe-entry program reason dues (Some (Test statement)) safe = refl
 safe-entry program reason dues (Some (Last statement)) safe = refl
@@ -99,7 +105,8 @@ safe-entry program reason dues None safe = refl
 abbrev pub AreLed : Program → List Stand → List (List ℕ) → Type 0
 AreLed program all places = map (λ ks. map (slice_get all) ks) places ≡ map (λ here. map Some (successors program here)) all
 
-found-among : (all : List Stand) (ks : List ℕ) (theres : List Stand) → map (slice_get all) ks ≡ map Some theres → (there : Stand) → IsAmong there theres → IsAmong there all
+found-among : (all : List Stand) (ks : List ℕ) (theres : List Stand) → map (slice_get all) ks ≡ map Some theres → (there : Stand)
+    → IsAmong there theres → IsAmong there all
 found-among all [] [] are there among = absurd among
 found-among all [] (one ∷ theres) are there among = absurd (cc)
 found-among all (k ∷ ks) [] are there among = absurd (cc)
@@ -127,15 +134,15 @@ walks-among program all places led (number ∷ path) here there among walk =
     walks-among program all places led path walk.0 there (led-among program all places all led here walk.0 among walk.1.leads) walk.2
 
 not-both : (b : Bool) → b ≡ true → b ≡ false → ⊥
-not-both b yes-it no-it = absurd (cc)
+not-both b is isnt-it = absurd (cc)
 
--- the list begins with the first stand
-pub listed-accepted : (program : Program) (first : ℕ) (all : List Stand) (places : List (List ℕ)) → IsWithinBounds program
-    → slice_get all first ≡ Some (first_stand program) → AreLed program all places → list_all (is_safe_at program) all ≡ true → IsAccepted program
-listed-accepted program first all places bounds begins led safe = record { bounds = bounds; unbroken = unbroken }
+-- a program within bounds is accepted where the list begins with its first stand
+pub listed-accepted : (program : Program) (all : List Stand) (places : List (List ℕ)) → IsWithinBounds program
+    → slice_get all 0 ≡ Some (first_stand program) → AreLed program all places → list_all (is_safe_at program) all ≡ true → IsAccepted program
+listed-accepted program all places bounds begins led safe = record { bounds = bounds; unbroken = unbroken }
   where
     unbroken : (path : List ℕ) (reason : Reason) → Breaks program path reason → ⊥
     unbroken path reason broken =
-        let among = walks-among program all places led broken.front (first_stand program) broken.stand (among-at all first (first_stand program) begins) broken.leads in
+        let among = walks-among program all places led broken.front (first_stand program) broken.stand (among-at all 0 (first_stand program) begins) broken.leads in
         not-both (breaks_at program reason broken.stand) broken.breaks
         (safe-entry program reason broken.stand.dues (next_entry broken.stand) (all-do (is_safe_at program) all broken.stand safe among))

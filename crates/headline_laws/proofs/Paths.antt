@@ -52,7 +52,7 @@ unfolding out-What shown-the_row-Statement-0 shown out
 adder-bounds = record { depth = omega arith; size = omega arith }
 
 pub adder-accepted : IsAccepted adder
-adder-accepted = listed-accepted adder 0 adder_stands adder_ways adder-bounds refl adder-led adder-safe
+adder-accepted = listed-accepted adder adder_stands adder_ways adder-bounds refl adder-led adder-safe
 
 -- what is due behind a round of the bank
 abbrev after_round : Dues
@@ -83,4 +83,4 @@ unfolding out-What shown-the_row-Statement-0 shown out
 bank-bounds = record { depth = omega arith; size = omega arith }
 
 pub bank-accepted : IsAccepted bank
-bank-accepted = listed-accepted bank 0 bank_stands bank_ways bank-bounds refl bank-led bank-safe
+bank-accepted = listed-accepted bank bank_stands bank_ways bank-bounds refl bank-led bank-safe
