@@ -1,0 +1,13 @@
+pub mod Again
+pub mod Asked
+pub mod Askers
+pub mod Awaited
+pub mod Calm
+pub mod Early
+pub mod Entered
+pub mod Given
+pub mod Honest
+pub mod Known
+pub mod Reached
+pub mod Replies
+pub mod Sent
