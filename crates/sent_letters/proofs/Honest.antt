@@ -28,6 +28,7 @@ use Rattle.sent_letters.proofs.Asked.{change-awaited, awaited-begins}
 use Rattle.sent_letters.proofs.Awaited.{acting-done}
 use Rattle.sent_letters.proofs.Calm.{change-calm, calm-begins}
 use Rattle.sent_letters.proofs.Entered.{change-entered, entered-begins}
+use Rattle.sent_letters.proofs.Files.{change-files, files-begin}
 use Rattle.sent_letters.proofs.Given.{letter-from}
 use Rattle.sent_letters.proofs.Reached.{IsReached, change-reached}
 use Rattle.sent_letters.proofs.Replies.{kept-sent}
@@ -74,6 +75,7 @@ module _ (site : Site) (fit : IsFit site) where
     calm = change-calm post.world next cause sendings change honest.calm;
     entered = change-entered post.world next cause sendings change honest.entered;
     awaited = change-awaited site fit.regular events post.world good honest.calm honest.awaited next cause sendings change;
+    files = change-files site fit.regular events post.world good honest.files next cause sendings change;
   }
 
   pub honest-change : (events : ℕ) (post : Post) (next : World) (owed : List Letter) (cause : Cause) (sendings : List Sending) → IsGood site events post.world
@@ -102,7 +104,7 @@ module _ (site : Site) (fit : IsFit site) where
   -- with other letters owed that were sent
   pub honest-owed : (post : Post) (owed : List Letter) → IsHonest site post → WereSent post owed → IsHonest site (record post { owed = owed })
   honest-owed post owed honest within =
-      record { reached = honest.reached; owed = within; letters = honest.letters; calm = honest.calm; entered = honest.entered; awaited = honest.awaited }
+      record { reached = honest.reached; owed = within; letters = honest.letters; calm = honest.calm; entered = honest.entered; awaited = honest.awaited; files = honest.files }
 
   -- a change by which nothing is sent
   pub honest-stop : (events : ℕ) (post : Post) (next : World) (cause : Cause) → IsGood site events post.world → IsHonest site post → Change site post.world cause [] next
@@ -119,6 +121,7 @@ module _ (site : Site) (fit : IsFit site) where
     calm = calm-begins site;
     entered = entered-begins site;
     awaited = awaited-begins site;
+    files = files-begin site;
   }
 
   -- Events

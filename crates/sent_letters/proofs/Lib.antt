@@ -5,6 +5,8 @@ pub mod Awaited
 pub mod Calm
 pub mod Early
 pub mod Entered
+pub mod Files
+pub mod Fitting
 pub mod Given
 pub mod Honest
 pub mod Known

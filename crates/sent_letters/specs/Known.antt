@@ -1,14 +1,17 @@
 -- What is known of all letters that were ever sent, and of those who await a reply. Our own rule.
-use Rattle.std.specs.Prelude.{◌≡◌, ◌≢◌, ◌≤◌, ◌<◌, ℕ, ◌-◌, ℤ, true, List, slice_get, Some}
+use Rattle.std.specs.Prelude.{◌≡◌, ◌≢◌, ◌≤◌, ◌<◌, ℕ, ◌-◌, ℤ, true, List, length, slice_get, Some}
 use Rattle.gd_words.specs.Members.{IsAmong}
 use Rattle.gd_words.specs.declared.message.Request.{Request}
+use Rattle.tal_tree.specs.declared.site.ProcessSpec.{ProcessSpec}
 use Rattle.tal_tree.specs.declared.site.Site.{Site}
 use Rattle.tal_tree.specs.declared.site.Who.TheVariants as who
 use Rattle.schedule.specs.declared.event.Event.{Event}
 use Rattle.process_semantics.specs.declared.point.Point.TheVariants as point
 use Rattle.process_semantics.specs.Process as process
 use Rattle.plain_semantics.specs.Machine.{next_request}
-use Rattle.plain_semantics.specs.Openers.{opener_of}
+use Rattle.plain_semantics.specs.Openers.{files_of, opener_of}
+use Rattle.checkpoint_image.specs.declared.message.FileNumber.{FileNumber}
+use Rattle.checkpoint_image.specs.declared.message.ImageMessage.{ImageMessage}
 use Rattle.world_semantics.specs.declared.role.Role.TheVariants.{Acting, Watching}
 use Rattle.world_semantics.specs.declared.which.Which.{Which}
 use Rattle.world_semantics.specs.Core.{next_on}
@@ -41,6 +44,15 @@ pub record AwaitedWereSent (site : Site) (w : World) : Type 0 where
   pub terminals : (number : ℕ) (terminal : Terminal) (request : Request) → slice_get w.terminals number ≡ Some terminal
       → IsAmong request (awaited_from site number terminal) → IsAmong request w.requests
 
+-- Checkpoints
+
+-- the files that the checkpoints name which the copies of a process ever sent are the process's
+abbrev pub CheckpointsNameFiles : Site → World → Type 0
+CheckpointsNameFiles site w =
+    (number : ℕ) (pair : Pair) (spec : ProcessSpec) → slice_get w.processes number ≡ Some pair → slice_get site.processes number ≡ Some spec
+    → (message : ImageMessage) → IsAmong message pair.checkpoints → (named : FileNumber) → IsAmong named message.image.files
+    → named.file < length (files_of spec.what)
+
 -- Requests that come to copies that watch
 
 -- a request has its asker: if its opener is a file, then a copy of the file's process acts and has asked it
@@ -66,7 +78,7 @@ pub record AreEarly (site : Site) (post : Post) : Type 0 where
 -- All of it
 
 -- a post is honest, however many processors stop: a run reaches its world; all letters that are owed were sent, and all that were ever sent carry messages
--- that were; no copy that watches awaits a reply; terminals enter their own requests; and what is awaited was sent
+-- that were; no copy that watches awaits a reply; terminals enter their own requests; what is awaited was sent; and checkpoints name files of their process
 pub record IsHonest (site : Site) (post : Post) : Type 0 where
   pub reached : (events : List Event) × IsRun site events post.world
   pub owed : (letter : Letter) → IsAmong letter post.owed → IsAmong letter post.sent
@@ -74,6 +86,7 @@ pub record IsHonest (site : Site) (post : Post) : Type 0 where
   pub calm : WatchersAreCalm post.world
   pub entered : TerminalsEnterTheirs site post.world
   pub awaited : AwaitedWereSent site post.world
+  pub files : CheckpointsNameFiles site post.world
 
 -- all that is known of a post where at most one processor stops
 pub record IsKnown (site : Site) (post : Post) : Type 0 where

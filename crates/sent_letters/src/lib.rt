@@ -8,4 +8,4 @@
 
 pub mod laws;
 
-pub use laws::letters_were_sent;
+pub use laws::{checkpoints_that_come_fit, letters_were_sent};
