@@ -6,6 +6,7 @@
 //! above keep `IsKnown`, of `specs/Known.antt`, from event to event. No code runs here.
 #![tactic(auto)]
 
+pub mod guards;
 pub mod laws;
 
 pub use laws::{checkpoints_that_come_fit, letters_were_sent};
