@@ -1,5 +1,5 @@
 -- What a node sends again when it has marked a processor: requests that are awaited there, and kept replies.
-use Rattle.std.proofs.Common.{◌≡◌, ◌==◌, inl, inr, ℕ, zero, suc, ◌+◌, Bool, true, false, if◌then◌else◌, List, [], ◌∷◌, ◌++◌, map, Some, slice_get, refl, sym, subst, arith}
+use Rattle.std.proofs.Common.{◌≡◌, ◌==◌, inl, inr, ℕ, suc, ◌+◌, Bool, true, false, if◌then◌else◌, List, [], ◌∷◌, ◌++◌, Some, slice_get, refl, subst, arith}
 use Rattle.gd_words.specs.Members.{IsAmong}
 use Rattle.gd_words.specs.declared.message.Reply.{Reply}
 use Rattle.gd_words.specs.declared.message.Request.{Request}
@@ -42,13 +42,13 @@ of-copies f number [] message none = absurd none
 of-copies f number (pair ∷ pairs) message among =
     elim (among-either message (f number pair.first ++ f number pair.second) (of_copies f (number + 1) pairs) among) [
       | inr later ↦ (let rest = of-copies f (number + 1) pairs message later in
-        let same : rest.at + (number + 1) ≡ suc rest.at + number = omega arith in
-        record { at = suc rest.at; pair = rest.pair; k = rest.k; there = rest.there; within = subst (λ n. IsAmong message (f n (copy_of rest.k rest.pair))) same rest.within })
+          let same : rest.at + (number + 1) ≡ suc rest.at + number = omega arith in
+          record { at = suc rest.at; pair = rest.pair; k = rest.k; there = rest.there; within = subst (λ n. IsAmong message (f n (copy_of rest.k rest.pair))) same rest.within })
       | inl here ↦ (let same : number ≡ 0 + number = omega arith in
-        elim (among-either message (f number pair.first) (f number pair.second) here) [
-          | inl one ↦ record { at = 0; pair = pair; k = First; there = refl; within = subst (λ n. IsAmong message (f n pair.first)) same one }
-          | inr two ↦ record { at = 0; pair = pair; k = Second; there = refl; within = subst (λ n. IsAmong message (f n pair.second)) same two }
-        ])
+          elim (among-either message (f number pair.first) (f number pair.second) here) [
+            | inl one ↦ record { at = 0; pair = pair; k = First; there = refl; within = subst (λ n. IsAmong message (f n pair.first)) same one }
+            | inr two ↦ record { at = 0; pair = pair; k = Second; there = refl; within = subst (λ n. IsAmong message (f n pair.second)) same two }
+          ])
     ]
 
 record IsOfTerminals (f : ℕ → Terminal → List Message) (number : ℕ) (terminals : List Terminal) (message : Message) : Type 0 where
@@ -63,10 +63,10 @@ of-terminals f number [] message none = absurd none
 of-terminals f number (terminal ∷ terminals) message among =
     elim (among-either message (f number terminal) (of_terminals f (number + 1) terminals) among) [
       | inl here ↦ (let same : number ≡ 0 + number = omega arith in
-        record { at = 0; terminal = terminal; there = refl; within = subst (λ n. IsAmong message (f n terminal)) same here })
+          record { at = 0; terminal = terminal; there = refl; within = subst (λ n. IsAmong message (f n terminal)) same here })
       | inr later ↦ (let rest = of-terminals f (number + 1) terminals message later in
-        let same : rest.at + (number + 1) ≡ suc rest.at + number = omega arith in
-        record { at = suc rest.at; terminal = rest.terminal; there = rest.there; within = subst (λ n. IsAmong message (f n rest.terminal)) same rest.within })
+          let same : rest.at + (number + 1) ≡ suc rest.at + number = omega arith in
+          record { at = suc rest.at; terminal = rest.terminal; there = rest.there; within = subst (λ n. IsAmong message (f n rest.terminal)) same rest.within })
     ]
 
 -- for one opener
@@ -86,11 +86,15 @@ of-openers w node processor number table place [] reply none = absurd none
 of-openers w node processor number table place (opener ∷ openers) reply among =
     elim (among-either reply (if is_moved w node processor opener.who then kept_for number table place else []) (kept_from w node processor number table (place + 1) openers) among) [
       | inl here ↦ (let same : place ≡ 0 + place = omega arith in
-        record { at = 0; opener = opener; there = refl;
-          within = subst (λ n. IsAmong reply (kept_for number table n)) same (if-among reply (is_moved w node processor opener.who) (kept_for number table place) here) })
+          record {
+            at = 0;
+            opener = opener;
+            there = refl;
+            within = subst (λ n. IsAmong reply (kept_for number table n)) same (if-among reply (is_moved w node processor opener.who) (kept_for number table place) here);
+          })
       | inr later ↦ (let rest = of-openers w node processor number table (place + 1) openers reply later in
-        let same : rest.at + (place + 1) ≡ suc rest.at + place = omega arith in
-        record { at = suc rest.at; opener = rest.opener; there = rest.there; within = subst (λ n. IsAmong reply (kept_for number table n)) same rest.within })
+          let same : rest.at + (place + 1) ≡ suc rest.at + place = omega arith in
+          record { at = suc rest.at; opener = rest.opener; there = rest.there; within = subst (λ n. IsAmong reply (kept_for number table n)) same rest.within })
     ]
 
 -- of a copy that acts
@@ -120,7 +124,7 @@ again-is site before w node processor sending among =
       | inl asked ↦ elim (among-either sending.message asking (terminals_ask site before node processor w.terminals) asked) [
         | inl copies ↦ of-asked (of-copies (asks_again site before node processor) 0 w.processes sending.message copies)
         | inr terminals ↦ of-terminal
-          (of-terminals entered 0 w.terminals sending.message (if-among sending.message (node == terminal_node) (of_terminals entered 0 w.terminals) terminals))
+            (of-terminals entered 0 w.terminals sending.message (if-among sending.message (node == terminal_node) (of_terminals entered 0 w.terminals) terminals))
       ]
     ]
   where

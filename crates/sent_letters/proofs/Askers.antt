@@ -1,11 +1,10 @@
 -- A request that is sent, or sent again, has its asker.
-use Rattle.std.proofs.Common.{◌≡◌, inl, inr, ℕ, ◌+◌, ◌-◌, ◌<◌, ℤ, List, [], ◌∷◌, map, Option, Some, None, slice_get, slice_set, refl, ap, sym, subst, ◌∙◌, arith}
+use Rattle.std.proofs.Common.{◌≡◌, inl, inr, ℕ, ◌+◌, ◌-◌, ◌<◌, ℤ, List, map, Option, Some, None, slice_get, refl, ap, sym, subst, ◌∙◌, arith}
 use Rattle.gd_words.specs.Members.{IsAmong}
 use Rattle.gd_words.specs.declared.message.Reply.{Reply}
 use Rattle.gd_words.specs.declared.message.Request.{Request}
 use Rattle.tal_tree.specs.declared.act.Act.{Act}
 use Rattle.tal_tree.specs.declared.site.Site.{Site}
-use Rattle.tal_tree.specs.declared.site.Who.{Who}
 use Rattle.tal_tree.specs.declared.site.Who.TheVariants as who
 use Rattle.process_semantics.specs.Process as process
 use Rattle.plain_semantics.specs.Machine.{next_request}
@@ -16,7 +15,7 @@ use Rattle.disc_device.specs.declared.stored.Stored.{Stored}
 use Rattle.world_semantics.specs.declared.role.Role.TheVariants.{Acting}
 use Rattle.world_semantics.specs.declared.which.Which.{Which}
 use Rattle.world_semantics.specs.declared.which.Which.TheVariants.{First, Second}
-use Rattle.world_semantics.specs.Core.{Core, Deed, Asked, Advances, next_on}
+use Rattle.world_semantics.specs.Core.{Core, Deed, Advances, next_on}
 use Rattle.world_semantics.specs.Messages.{Message, Asking, Replying, Sending, Cause}
 use Rattle.world_semantics.specs.Own.{Around, around, Causes, by_inner, by_take, by_ask, by_answer, by_device, by_write, by_reply, request_to, asked_on}
 use Rattle.world_semantics.specs.Passes.{Passes, by_send, by_pass_again, by_pass, by_apply, by_acknowledge}
@@ -28,11 +27,11 @@ use Rattle.world_semantics.proofs.Members.{among-map, among-flat_map}
 use Rattle.plain_histories.specs.Agreeing.{AreRegular}
 use Rattle.plain_histories.proofs.Openers.{opener-one}
 use Rattle.headline.proofs.Kept.{IsGood}
-use Rattle.letters.specs.Again.{awaited_by, awaited_from, entered_last}
+use Rattle.letters.specs.Again.{entered_last}
 use Rattle.sent_letters.specs.Known.{HasAsker}
 use Rattle.sent_letters.proofs.Again.{IsAgain, by_copy, by_terminal, by_keeping}
 use Rattle.sent_letters.proofs.Asked.{awaited-odd}
-use Rattle.sent_letters.proofs.Awaited.{IsDone, acting-done, awaited-last, last-less, asked-next}
+use Rattle.sent_letters.proofs.Awaited.{acting-done, awaited-last, last-less, asked-next}
 use Rattle.sent_letters.proofs.Given.{message-of, only}
 
 asking-same : {one other : Request} → Asking one ≡ Asking other → one ≡ other

@@ -1,11 +1,9 @@
 -- What is awaited was sent.
-use Rattle.std.proofs.Common.{◌≡◌, ◌≢◌, ◌==◌, inl, inr, ℕ, ◌+◌, ◌-◌, ◌<◌, ℤ, Bool, true, false, if◌then◌else◌, List, [], ◌∷◌, ◌++◌, length, Option, Some, None, slice_get, slice_set, refl, ap, sym, subst, ◌∙◌, arith}
-use Rattle.std.proofs.lemmas.Bool.{eqb-true}
+use Rattle.std.proofs.Common.{◌≡◌, inl, ℕ, ◌+◌, ◌-◌, ◌<◌, ℤ, List, ◌∷◌, length, Option, Some, None, slice_get, slice_set, refl, sym, subst, ◌∙◌, arith}
 use Rattle.gd_words.specs.Members.{IsAmong}
 use Rattle.gd_words.specs.declared.message.Request.{Request}
 use Rattle.gd_words.proofs.Among.{among-left}
 use Rattle.tal_tree.specs.declared.act.Act.{Act}
-use Rattle.tal_tree.specs.declared.site.OpenerSpec.{OpenerSpec}
 use Rattle.tal_tree.specs.declared.site.ProcessSpec.{ProcessSpec}
 use Rattle.tal_tree.specs.declared.site.Site.{Site}
 use Rattle.tal_tree.specs.declared.site.Who.TheVariants as who
@@ -13,36 +11,23 @@ use Rattle.process_semantics.specs.declared.point.Point.{Point}
 use Rattle.process_semantics.specs.declared.point.Point.TheVariants as point
 use Rattle.process_semantics.specs.Process as process
 use Rattle.plain_semantics.specs.declared.slot.Opener.{Opener}
-use Rattle.plain_semantics.specs.Machine.{next_request}
 use Rattle.plain_semantics.specs.Openers.{openers_of, opener_of}
-use Rattle.disc_device.specs.declared.stored.Stored.{Stored}
-use Rattle.world_semantics.specs.declared.role.Role.TheVariants.{Acting, Watching}
+use Rattle.world_semantics.specs.declared.role.Role.TheVariants.{Acting}
 use Rattle.world_semantics.specs.declared.which.Which.{Which}
-use Rattle.world_semantics.specs.declared.which.Which.TheVariants.{First, Second}
-use Rattle.world_semantics.specs.Core.{Core, Deed, Asked, Advances, goes, marks, takes, asks, gets, answers, acts, next_on}
-use Rattle.world_semantics.specs.Messages.{Message, Sending, Cause}
-use Rattle.world_semantics.specs.Own.{Around, around, Causes, by_inner, by_take, by_ask, by_answer, by_device, by_write, by_reply, request_to, asked_on}
-use Rattle.world_semantics.specs.Passes.{Passes, by_send, by_pass_again, by_pass, by_apply, by_acknowledge}
-use Rattle.world_semantics.specs.Rules.{Change, by_own, by_checkpoint, by_request, by_early_request, by_enter, by_print, by_stop, by_mark, stopped_copy, stopped_pair, taker, after_marking, marked_pair, entered_request}
-use Rattle.world_semantics.specs.World.{Copy, Pair, Terminal, Mark, World, boot, copy_of, with_copy}
-use Rattle.world_semantics.proofs.Becoming.{was-role}
-use Rattle.world_semantics.proofs.Growing.{causes-grow, change-grows}
-use Rattle.world_semantics.proofs.Lists.{some-same, set-all, map-all}
-use Rattle.world_semantics.proofs.Roles.{taker-is}
+use Rattle.world_semantics.specs.Core.{Core, Deed, Asked, Advances, goes, takes, asks, gets, answers, acts, next_on}
+use Rattle.world_semantics.specs.Messages.{Message, Cause}
+use Rattle.world_semantics.specs.Own.{Around, Causes, by_inner, by_take, by_ask, by_answer, by_device, by_write, by_reply, request_to, asked_on}
+use Rattle.world_semantics.specs.World.{Pair, World, copy_of}
 use Rattle.process_histories.specs.Histories.{HasDone, one_more}
 use Rattle.process_histories.specs.Words.{requests_on}
 use Rattle.process_histories.proofs.Counts.{if-same}
-use Rattle.process_histories.proofs.Steady.{IsSteady, calm-away, inner-calm, took-calm, asked-same, got-calm, answered-calm, marked-calm, device-calm, done-steady}
+use Rattle.process_histories.proofs.Steady.{IsSteady, calm-away, inner-calm, took-calm, asked-same, got-calm, answered-calm, device-calm, done-steady}
 use Rattle.plain_histories.specs.Agreeing.{AreRegular}
 use Rattle.headline.proofs.Backed.{next-is}
 use Rattle.headline.proofs.Kept.{IsGood}
 use Rattle.awaited_requests.proofs.Leads.{copy-takes}
-use Rattle.letters.specs.Again.{awaited_at, awaited_by, entered_last, awaited_from}
-use Rattle.sent_letters.specs.Known.{WatchersAreCalm, AwaitedWereSent}
-use Rattle.sent_letters.proofs.Calm.{not-both, begins-resting}
-use Rattle.sent_letters.proofs.Entered.{begins-even}
+use Rattle.letters.specs.Again.{awaited_at, awaited_by}
 use Rattle.sent_letters.proofs.Given.{only}
-use Rattle.sent_letters.proofs.Sent.{among-grown}
 
 -- Which request a process awaits
 

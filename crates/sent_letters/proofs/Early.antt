@@ -1,7 +1,5 @@
 -- Requests that come to copies that watch came early, and stay so.
-use Rattle.std.proofs.Common.{◌≡◌, ◌⊎◌, ◌==◌, inl, inr, ℕ, zero, suc, ◌+◌, ◌<◌, ◌≤◌, Bool, true, false, if◌then◌else◌, List, [], ◌∷◌, Option, Some, None, slice_get, slice_set, refl, ap, sym, subst, ◌∙◌, arith}
-use Rattle.std.proofs.lemmas.Bool.Decides.{eqb_tells}
-use Rattle.std.proofs.lemmas.Bool.{eq-eqb}
+use Rattle.std.proofs.Common.{◌≡◌, ◌⊎◌, ◌==◌, inl, inr, ℕ, zero, suc, ◌+◌, ◌≤◌, List, [], ◌∷◌, slice_get, slice_set, refl, ◌∙◌, arith}
 use Rattle.std.specs.Option.{unwrap_or}
 use Rattle.gd_words.specs.Members.{IsAmong}
 use Rattle.gd_words.specs.declared.message.Request.{Request}
@@ -9,20 +7,16 @@ use Rattle.tal_tree.specs.declared.act.Act.{Act}
 use Rattle.tal_tree.specs.declared.site.OpenerSpec.{OpenerSpec}
 use Rattle.tal_tree.specs.declared.site.Site.{Site}
 use Rattle.checkpoint_image.specs.declared.message.ImageMessage.{ImageMessage}
-use Rattle.world_semantics.specs.declared.role.Role.{Role}
-use Rattle.world_semantics.specs.declared.role.Role.TheVariants.{Acting, Watching, Gone}
+use Rattle.world_semantics.specs.declared.role.Role.TheVariants.{Acting, Watching}
 use Rattle.world_semantics.specs.declared.which.Which.{Which}
-use Rattle.world_semantics.specs.declared.which.Which.TheVariants.{First, Second}
 use Rattle.world_semantics.specs.Core.{Core, Deed, Advances, goes, marks, takes, asks, gets, answers, acts, next_on}
 use Rattle.world_semantics.specs.Kept.{Enters, holds_on, repeats, begins, keeps}
-use Rattle.world_semantics.specs.Messages.{Message, Asking, Sending, Cause, Handing, Stopping}
+use Rattle.world_semantics.specs.Messages.{Asking, Sending, Cause, Handing, Stopping}
 use Rattle.world_semantics.specs.Rules.{Change}
 use Rattle.world_semantics.specs.World.{Copy, Pair, World, copy_of}
 use Rattle.world_semantics.proofs.Becoming as becoming
 use Rattle.world_semantics.proofs.Becoming.{Becomes, entered-same, was-role, change-was, change-copy}
-use Rattle.world_semantics.proofs.Growing.{AreStopped, change-grows}
 use Rattle.world_semantics.proofs.Later.{change-later}
-use Rattle.world_semantics.proofs.Lists.{some-same, set-there, set-other, Changed, is_new, is_same, changed}
 use Rattle.world_semantics.proofs.Waiting.{waits-all}
 use Rattle.sent_letters.specs.Known.{HasAsker}
 use Rattle.sent_letters.proofs.Calm.{not-both}
@@ -62,9 +56,11 @@ module _ {site : Site} {w : World} {number : ℕ} {pair : Pair} {sent : List Ima
   becomes-watching (becoming.is_told taken acting was among era same) role = (role, λ request there. inl there)
   becomes-watching becoming.is_freed role = (role, λ request there. inl there)
   becomes-watching (becoming.hears request acting) role = absurd (not-both acting role)
-  becomes-watching (becoming.hears_early request watches) role =
-      (watches, waits-all (λ one. IsAmong one (copy_of k pair).waiting ⊎ (Handing (copy_of k pair).processor (Asking request) ≡ Handing (copy_of k pair).processor (Asking one)))
-        (copy_of k pair).waiting request (inr refl) (λ one among. inl among))
+  becomes-watching (becoming.hears_early request watches) role = (
+    watches,
+    waits-all (λ one. IsAmong one (copy_of k pair).waiting ⊎ (Handing (copy_of k pair).processor (Asking request) ≡ Handing (copy_of k pair).processor (Asking one)))
+        (copy_of k pair).waiting request (inr refl) (λ one among. inl among),
+  )
   becomes-watching (becoming.stops processor) role =
       (was-role ((copy_of k pair).processor == processor) (copy_of k pair).role Watching (λ same. cc) role, λ request there. inl there)
   becomes-watching (becoming.takes_over node processor taking) role = absurd (cc)

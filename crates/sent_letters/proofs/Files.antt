@@ -1,5 +1,5 @@
 -- The files that a sent checkpoint names are those of its process.
-use Rattle.std.proofs.Common.{◌≡◌, ◌<◌, inl, inr, ℕ, List, ◌∷◌, length, map, Option, Some, None, slice_get, refl, ap, sym, subst, ◌∙◌}
+use Rattle.std.proofs.Common.{◌≡◌, ◌<◌, inl, inr, ℕ, List, ◌∷◌, length, Option, Some, None, slice_get, ap, sym, subst, ◌∙◌}
 use Rattle.gd_words.specs.Members.{IsAmong}
 use Rattle.tal_tree.specs.declared.act.Act.{Act}
 use Rattle.tal_tree.specs.declared.site.ProcessSpec.{ProcessSpec}

@@ -1,13 +1,13 @@
 -- Posts are honest, however many processors stop.
-use Rattle.std.proofs.Common.{◌≡◌, ◌≢◌, ◌<◌, ◌≤◌, inl, inr, ℕ, ◌+◌, true, List, [], ◌∷◌, ◌++◌, length, Some, refl, sym, subst, arith, length-append}
+use Rattle.std.proofs.Common.{◌<◌, ◌≤◌, inl, inr, ℕ, ◌+◌, List, [], ◌∷◌, ◌++◌, length, sym, subst, arith, length-append}
 use Rattle.gd_words.specs.Members.{IsAmong}
 use Rattle.gd_words.proofs.Among.{among-left, among-right, among-either}
 use Rattle.tal_tree.specs.declared.site.Site.{Site}
 use Rattle.schedule.specs.declared.event.Event.{Event}
 use Rattle.world_semantics.specs.Follows.{stays}
-use Rattle.world_semantics.specs.Messages.{Message, Asking, Replying, Sending, Cause, Running, Entering, Handing, Stopping, Marking}
+use Rattle.world_semantics.specs.Messages.{Message, Sending, Cause, Running, Entering, Handing, Stopping, Marking}
 use Rattle.world_semantics.specs.Rules.{Change}
-use Rattle.world_semantics.specs.World.{World, boot, copy_of}
+use Rattle.world_semantics.specs.World.{World}
 use Rattle.world_semantics.proofs.Fair.{fair-of, run-fair}
 use Rattle.world_semantics.proofs.Members.{among-filter}
 use Rattle.world_semantics.proofs.Roles.{roles-begin}

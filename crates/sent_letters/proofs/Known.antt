@@ -1,5 +1,5 @@
 -- All that is known of posts is kept from event to event, where at most one processor stops.
-use Rattle.std.proofs.Common.{◌≡◌, ◌≢◌, ◌⊎◌, ◌<◌, inl, inr, ℕ, ◌+◌, Bool, true, false, if◌then◌else◌, List, [], ◌∷◌, ◌++◌, Option, Some, slice_get, refl, ap, sym, subst, ◌∙◌, arith, option_map}
+use Rattle.std.proofs.Common.{◌≡◌, ◌≢◌, ◌<◌, inl, inr, ℕ, ◌+◌, Bool, true, false, if◌then◌else◌, List, [], ◌++◌, Some, slice_get, refl, ap, sym, subst, ◌∙◌, arith, option_map}
 use Rattle.gd_words.specs.Members.{IsAmong}
 use Rattle.gd_words.specs.declared.message.Request.{Request}
 use Rattle.gd_words.proofs.Among.{among-either}
@@ -9,7 +9,7 @@ use Rattle.schedule.specs.declared.event.Event.{Event}
 use Rattle.world_semantics.specs.declared.role.Role.TheVariants.{Watching}
 use Rattle.world_semantics.specs.declared.which.Which.{Which}
 use Rattle.world_semantics.specs.declared.which.Which.TheVariants.{First, Second}
-use Rattle.world_semantics.specs.Messages.{Message, Asking, Sending, Cause, Running, Entering, Handing, Stopping, Marking}
+use Rattle.world_semantics.specs.Messages.{Message, Asking, Sending, Cause, Handing, Stopping, Marking}
 use Rattle.world_semantics.specs.Rules.{Change}
 use Rattle.world_semantics.specs.World.{Pair, World, boot, copy_of, has_marked, pair_at_boot}
 use Rattle.world_semantics.proofs.Becoming.{change-was}
@@ -24,11 +24,10 @@ use Rattle.awaited_requests.specs.Seats.{AreSeated}
 use Rattle.letters.proofs.Owed.{taken-there, rest-there}
 use Rattle.letters.specs.Again.{sent_again}
 use Rattle.letters.specs.Idle.{OneStops}
-use Rattle.letters.specs.Posts.{Post, post_at_boot, with_letters, after_change, without_those_between, after_marking, IsTaken, MakesMarks, no_mark, one_mark, Plays, plays_run, plays_no_run, plays_enter, plays_no_enter, plays_nothing, plays_hand, plays_drop, plays_again, plays_mark, plays_loss, plays_repeat, plays_no_tick, plays_tick, plays_tick_stop, plays_fail, plays_no_fail}
+use Rattle.letters.specs.Posts.{Post, post_at_boot, with_letters, after_change, without_those_between, after_marking, MakesMarks, no_mark, one_mark, Plays, plays_run, plays_no_run, plays_enter, plays_no_enter, plays_nothing, plays_hand, plays_drop, plays_again, plays_mark, plays_loss, plays_repeat, plays_no_tick, plays_tick, plays_tick_stop, plays_fail, plays_no_fail}
 use Rattle.letters.specs.Routes.{Letter, route_of, receiver_of, letters_of}
-use Rattle.sent_letters.specs.Known.{HasAsker, IsEarly, AreEarly, IsHonest, IsKnown}
+use Rattle.sent_letters.specs.Known.{HasAsker, IsEarly, AreEarly, IsKnown}
 use Rattle.sent_letters.proofs.Again.{again-is}
-use Rattle.sent_letters.proofs.Asked.{change-awaited}
 use Rattle.sent_letters.proofs.Askers.{change-asker, again-asker}
 use Rattle.sent_letters.proofs.Early.{becomes-there, becomes-watching, asker-stays}
 use Rattle.sent_letters.proofs.Given.{letter-from, one-before}
@@ -127,7 +126,7 @@ module _ (site : Site) (fit : IsFit site) where
           (elim (before.1 request among) [
             | inl waited ↦ early.waiting number was.before k request was.there before.0 waited
             | inr comes ↦ (let sent = handed (copy_of k was.before).processor request comes in
-              early.sent sent.0 request was.before k sent.1 sent.3 known sent.2 before.0)
+                early.sent sent.0 request was.before k sent.1 sent.3 known sent.2 before.0)
           ])
 
   -- one change that isn't a mark

@@ -4,7 +4,7 @@ use Rattle.tal_tree.specs.declared.site.Site.{Site}
 use Rattle.schedule.specs.declared.event.Event.{Event}
 use Rattle.schedule.specs.declared.event.Event.TheVariants.{Fail}
 use Rattle.world_semantics.specs.Follows.{Follows, runs, enters, delivers, delivers_mark, fails, IsRun}
-use Rattle.world_semantics.specs.Messages.{Message, Sending, Cause, Running, Entering, Handing, Stopping, Marking}
+use Rattle.world_semantics.specs.Messages.{Sending, Cause, Running, Entering, Handing, Stopping, Marking}
 use Rattle.world_semantics.specs.Rules.{Change}
 use Rattle.world_semantics.specs.Running.{Done}
 use Rattle.world_semantics.specs.World.{World}

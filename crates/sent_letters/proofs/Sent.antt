@@ -1,5 +1,5 @@
 -- What was sent stays sent.
-use Rattle.std.proofs.Common.{◌≡◌, List, slice_get, sym, subst}
+use Rattle.std.proofs.Common.{List, sym, subst}
 use Rattle.gd_words.specs.Members.{IsAmong}
 use Rattle.gd_words.proofs.Among.{among-right}
 use Rattle.tal_tree.specs.declared.site.Site.{Site}

@@ -8,6 +8,6 @@ returns-clause-unsent c = λ sent. sent.terminals 0 (record { entered = 1; print
 
 pub returns-clause-other : goal.returns-clause-other
 returns-clause-other c = λ sent. elim (sent.terminals 0 (record { entered = 1; printed = 0 }) first_request refl (inl refl)) [
-    | inl same ↦ (let number = ap (λ (r : Request). r.number) same in cc)
-    | inr none ↦ none
-  ]
+  | inl same ↦ (let number = ap (λ (r : Request). r.number) same in cc)
+  | inr none ↦ none
+]
