@@ -19,7 +19,7 @@ use Rattle.awaited_requests.proofs.Near.{awaited-near}
 use Rattle.awaited_requests.proofs.Standing.{near-stands}
 
 -- of the requests of an opener all but one were taken at least, and no more were answered
-slot-counts : {requests taken answered replies : List (List ℤ)} {slot : Slot} → IsSlot requests taken answered replies slot
+pub slot-counts : {requests taken answered replies : List (List ℤ)} {slot : Slot} → IsSlot requests taken answered replies slot
     → (length requests ≤ length taken + 1) × (length answered ≤ length requests)
 slot-counts (is_empty asked even last) = let n = ap (length {A = List ℤ}) asked in (omega (arith, n), omega (arith, n, even))
 slot-counts (is_waiting asked even last) = let n = ap (length {A = List ℤ}) asked in (omega (arith, n), omega (arith, n, even))
