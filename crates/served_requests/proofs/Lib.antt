@@ -1,0 +1,15 @@
+pub mod Again
+pub mod Changing
+pub mod Awaiting
+pub mod Coming
+pub mod Dropping
+pub mod Marking
+pub mod Numbers
+pub mod Played
+pub mod Queues
+pub mod Routes
+pub mod Running
+pub mod Seeing
+pub mod Sending
+pub mod Standings
+pub mod Turns
