@@ -1,10 +1,13 @@
--- Worked examples: a disc that nobody asks, and a request that was lost on its way to its disc.
-use Rattle.std.specs.Prelude.{[], ◌∷◌}
-use Rattle.tal_tree.specs.declared.act.Act.TheVariants.{Enter}
+-- Worked examples: a disc that nobody asks, a request that was lost on its way to its disc, and one that two copies hold.
+use Rattle.std.specs.Prelude.{List, [], ◌∷◌}
+use Rattle.tal_tree.specs.declared.act.Act.{Act}
+use Rattle.tal_tree.specs.declared.act.Act.TheVariants.{Take, Enter}
 use Rattle.tal_tree.specs.declared.site.Site.{Site}
+use Rattle.world_semantics.specs.declared.role.Role.TheVariants.{Acting, Gone}
+use Rattle.world_semantics.specs.World.{World}
 use Rattle.letters.specs.Posts.{Post}
 use Rattle.process_histories.specs.Served.{disc_site}
-use Rattle.awaited_requests.specs.Examples.{entered, first_request, letter_to}
+use Rattle.awaited_requests.specs.Examples.{disc_pair, entered, first_request, letter_to}
 
 -- a site of one disc and no terminal
 abbrev pub quiet_site : Site
@@ -16,4 +19,13 @@ lost = record {
   world = record entered { requests = first_request ∷ []; kept = Enter 0 ∷ [] };
   owed = [];
   sent = letter_to 0 ∷ [];
+}
+
+-- its disc after a takeover, where the copy that took over has taken the request and the lost one holds these acts
+abbrev pub taken_over_from : List Act → World
+taken_over_from held = record lost.world {
+  processes = record disc_pair {
+    first = record disc_pair.first { role = Gone; held = held };
+    second = record disc_pair.second { role = Acting; held = Take 0 0 ∷ [] };
+  } ∷ [];
 }

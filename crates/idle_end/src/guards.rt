@@ -1,13 +1,14 @@
 ghost use Rattle.std.specs.Prelude.{List, [], ◌∷◌};
 ghost use Rattle.schedule.specs.declared.event.Event.{Event};
-ghost use Rattle.plain_semantics.specs.Machine.{IsNoneLeft, process_at_first};
+ghost use Rattle.tal_tree.specs.declared.act.Act.TheVariants.{Take};
+ghost use Rattle.plain_semantics.specs.Machine.{IsPossible, IsNoneLeft, process_at_first};
 ghost use Rattle.process_histories.specs.Served.{disc, disc_site, after_one};
 ghost use Rattle.world_semantics.specs.Kept.{closed};
 ghost use Rattle.letters.specs.Idle.{IsIdle};
 ghost use Rattle.letters.specs.Posts.{post_at_boot};
 ghost use Rattle.awaited_requests.specs.Examples.{disc_pair};
 ghost use Rattle.idle_end.specs.Ends.{IsIdleEnd, IsAsCopy};
-ghost use Rattle.idle_end.specs.Examples.{quiet_site, lost};
+ghost use Rattle.idle_end.specs.Examples.{quiet_site, lost, taken_over_from};
 
 /// A disc that nobody asks is at an idle end at once. One whose terminal has a request left isn't.
 pub fn a_quiet_site_is_at_an_idle_end()
@@ -26,4 +27,10 @@ pub fn processes_are_told_apart()
     ensures beginning { IsAsCopy (process_at_first disc_site 0 disc) disc_pair.first disc_pair }
     ensures state { IsAsCopy (record (process_at_first disc_site 0 disc) { state = after_one.state }) disc_pair.first disc_pair → ⊥ }
     ensures sectors { IsAsCopy (record (process_at_first disc_site 0 disc) { sectors = [] }) disc_pair.first disc_pair → ⊥ }
+{}
+
+/// What a lost copy held can't follow the kept acts beside what the copy that took over holds, so it has to be dropped.
+pub fn a_lost_copy_holds_nothing()
+    ensures both { IsPossible disc_site (closed (taken_over_from (Take 0 0 ∷ []))) → ⊥ }
+    ensures one { IsPossible disc_site (closed (taken_over_from [])) }
 {}
