@@ -18,7 +18,7 @@ use Rattle.checkpoint_image.specs.Receive.{is_place, standing_by, standing_at, s
 use Rattle.world_semantics.specs.Core.{takes}
 use Rattle.world_semantics.specs.Own.{by_take}
 use Rattle.world_semantics.specs.Rules.{by_own}
-use Rattle.world_semantics.specs.World.{Pair, terminal_node, copy_of}
+use Rattle.world_semantics.specs.World.{Pair, Terminal, terminal_node, copy_of}
 use Rattle.world_semantics.proofs.Lists.{some-same}
 use Rattle.world_semantics.proofs.Roles.{both-true}
 use Rattle.world_semantics.proofs.Running.{enters-as}
@@ -84,16 +84,26 @@ module _ {site : Site} {events : ℕ} {post : Post} (end : IsEnd site events pos
       let has = all.each number pair there in
       subst (λ (s : ProcessSpec). HasDone site number s (all.last.deeds number) (copy_of (who_acts pair) pair).core) (some-same (sym has.there ∙ known)) has.done
 
+  -- a terminal has entered and printed as often as the ledger says
+  pub terminal-there : (number : ℕ) (opener : Opener) → opener_of site (who.Terminal number) ≡ Some opener
+      → (terminal : Terminal) × (slice_get post.world.terminals number ≡ Some terminal) × (terminal.entered ≡ length (all.last.entered number))
+      × (terminal.printed ≡ length (all.last.printed number))
+  terminal-there number opener opens =
+      let spec = opener-terminal site number opener opens in
+      let seat = end.seated.terminals number spec.0 spec.1 in
+      let sound = end.good.invariant.terminals number seat.0 seat.1 in (
+        seat.0,
+        seat.1,
+        sound.entered ∙ ap (λ (f : ℕ → List (List ℤ)). length (f number)) (sym all.entered),
+        sound.printed ∙ ap (λ (f : ℕ → List (List ℤ)). length (f number)) (sym all.printed),
+      )
+
   -- an opener that lacks a reply awaits it
   awaits-last : (one : Who) (opener : Opener) → opener_of site one ≡ Some opener → length (requests_of all.last one) ≡ length (replies_of all.last one) + 1
       → (asker : ℕ) × IsAwaited site post.world asker one (length (requests_of all.last one))
   awaits-last (who.Terminal number) opener opens lacks =
-      let spec = opener-terminal site number opener opens in
-      let seat = end.seated.terminals number spec.0 spec.1 in
-      let sound = end.good.invariant.terminals number seat.0 seat.1 in
-      let entered : length (all.last.entered number) ≡ seat.0.entered = ap (λ (f : ℕ → List (List ℤ)). length (f number)) all.entered ∙ sym sound.entered in
-      let printed : length (all.last.printed number) ≡ seat.0.printed = ap (λ (f : ℕ → List (List ℤ)). length (f number)) all.printed ∙ sym sound.printed in
-      (terminal_node, subst (λ n. IsAwaited site post.world terminal_node (who.Terminal number) n) (sym entered) (by_terminal seat.0 seat.1 (omega (arith, lacks, entered, printed))))
+      let has = terminal-there number opener opens in
+      (terminal_node, subst (λ n. IsAwaited site post.world terminal_node (who.Terminal number) n) has.2 (by_terminal has.0 has.1 (omega (arith, lacks, has.2, has.3))))
   awaits-last (who.File number file) opener opens lacks =
       let opened = opener-opened site number file opener opens in
       let seat = end.seated.processes number opened.spec opened.there in
