@@ -1,0 +1,24 @@
+-- Where machines play until they are idle, they have come to an idle end at which all is served.
+use Rattle.std.proofs.Common.{◌<◌, List, length, arith}
+use Rattle.tal_tree.specs.declared.site.Site.{Site}
+use Rattle.schedule.specs.declared.event.Event.{Event}
+use Rattle.letters.specs.Idle.{IsIdle, OneStops}
+use Rattle.letters.specs.Posts.{Post, HasPlayed}
+use Rattle.letters.proofs.Worlds.{played-run}
+use Rattle.awaited_requests.specs.Seats.{IsLaidOut}
+use Rattle.headline_laws.proofs.Accepted.{accepted-fit}
+use Rattle.headline_laws.specs.Premises.{IsAcceptedSite}
+use Rattle.idle_end.specs.Ends.{IsIdleEnd}
+use Rattle.idle_laws.proofs.Sound.{played-sound}
+
+pub played-ends : (site : Site) (events : List Event) (post : Post) → IsAcceptedSite site → IsLaidOut site → length events < 4294967295
+    → HasPlayed site events post → OneStops post.world → IsIdle site post → IsIdleEnd site events post
+played-ends site events post accepted out few played one_stops idle = record {
+  fit = accepted-fit site accepted;
+  laid_out = out;
+  few = omega (arith, few);
+  run = played-run played;
+  one_stops = one_stops;
+  served = (played-sound site (accepted-fit site accepted) out few one_stops played).served;
+  idle = idle;
+}

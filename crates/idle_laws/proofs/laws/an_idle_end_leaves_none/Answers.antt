@@ -1,0 +1,12 @@
+use Rattle.idle_end.proofs.Reached.{end-of}
+use Rattle.idle_end.proofs.Still.{none-left, closed-shows-nothing, same-state}
+use Rattle.idle_laws.proofs.Ended.{played-ends}
+use Rattle.idle_laws.proofs.laws.an_idle_end_leaves_none.Goals as goal
+
+pub returns : goal.returns
+returns c = record {
+  none = λ site events post accepted out few played one idle. none-left (end-of (played-ends site events post accepted out few played one idle));
+  shown = λ site events post accepted out few played one idle. closed-shows-nothing (end-of (played-ends site events post accepted out few played one idle));
+  state = λ site events post made number pair k one accepted out few played one_stops idle.
+      same-state (end-of (played-ends site events post accepted out few played one_stops idle)) made number pair k one;
+}

@@ -1,0 +1,6 @@
+use Rattle.headline_laws.proofs.Accepted.{accepted-fit}
+use Rattle.idle_laws.proofs.Sound.{played-sound}
+use Rattle.idle_laws.proofs.laws.every_awaited_request_is_served.Goals as goal
+
+pub returns : goal.returns
+returns c = λ site events post accepted out few played one_stops. (played-sound site (accepted-fit site accepted) out few one_stops played).served
