@@ -1,5 +1,5 @@
 -- The worked runs, played.
-use Rattle.std.proofs.Common.{◌≡◌, false, pos, [], ◌∷◌, refl}
+use Rattle.std.proofs.Common.{◌≡◌, pos, [], ◌∷◌, refl}
 use Rattle.std.specs.Int.{int_wrap}
 use denote.Hole.Carrier.{shown, out}
 use Rattle.tal_tree.specs.declared.statement.What.{out-What}

@@ -1,5 +1,5 @@
 -- Worked runs of the adder over whole messages: what is on the bus after each event, and what is owed at the end.
-use Rattle.std.specs.Prelude.{ℕ, pos, false, List, [], ◌∷◌, map}
+use Rattle.std.specs.Prelude.{ℕ, pos, List, [], ◌∷◌, map}
 use Rattle.schedule.specs.declared.event.Event.{Event}
 use Rattle.schedule.specs.declared.event.Event.TheVariants as event
 use Rattle.world_semantics.specs.Examples.{adder_for, delivery, run}

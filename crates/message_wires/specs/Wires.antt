@@ -1,6 +1,6 @@
 -- The wires of the machine over whole messages: the packets on its bus, each a whole letter, and the letters that are owed. That a message stays with its
 -- sender until it was handed over, and is put on the bus again, is Bartlett's retry by the message system; the form for whole messages is our own.
-use Rattle.std.specs.Prelude.{ℕ, ◌+◌, ◌==◌, ◌&&◌, Bool, true, false, not, if◌then◌else◌, nat_lt, List, [], ◌∷◌, ◌++◌, length}
+use Rattle.std.specs.Prelude.{ℕ, ◌+◌, ◌==◌, ◌&&◌, Bool, not, if◌then◌else◌, nat_lt, List, [], ◌∷◌, ◌++◌, length}
 use Rattle.std.specs.List.{filter, list_any, remove}
 use Rattle.world_semantics.specs.World.{is_running}
 use Rattle.letters.specs.Routes.{Letter}

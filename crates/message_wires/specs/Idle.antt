@@ -1,0 +1,60 @@
+-- Whether nothing is left to do in a state, computed. Our own rule, as that of posts is.
+use Rattle.std.specs.Prelude.{ℕ, zero, suc, ◌+◌, ◌&&◌, ◌||◌, Bool, true, false, not, List, length, slice_get, Option, Some, None, is_none}
+use Rattle.std.specs.List.{list_all}
+use Rattle.world_semantics.specs.declared.role.Role.{Role}
+use Rattle.world_semantics.specs.declared.role.Role.TheVariants.{Acting, Watching, Gone}
+use Rattle.world_semantics.specs.World.{Copy, Pair, World, terminal_node, is_running, has_marked}
+use Rattle.world_semantics.specs.Running.{run_done}
+use Rattle.computed_changes.specs.Entered.{enter_done}
+use Rattle.message_wires.specs.Wires.{Sent}
+use Rattle.message_wires.specs.Play.{Whole}
+
+-- each of so many numbers, from a number on, passes a test
+abbrev pub all_from : (ℕ → Bool) → ℕ → ℕ → Bool
+all_from test number zero = true
+all_from test number (suc left) = test number && all_from test (number + 1) left
+
+-- no terminal can enter
+abbrev pub none_enters : Whole → Bool
+none_enters s = all_from (λ terminal. is_none (enter_done s.site terminal s.world)) 0 (length s.world.terminals)
+
+-- no process can run
+abbrev pub none_runs : Whole → Bool
+none_runs s = all_from (λ number. is_none (run_done s.site number s.world)) 0 (length s.world.processes)
+
+-- whether a copy of this role acts and waits at a mark, its checkpoint sent
+abbrev pub waits_as : Role → Bool → Bool
+waits_as Acting sent = sent
+waits_as Watching sent = false
+waits_as Gone sent = false
+
+abbrev pub waits_at_mark : Copy → Bool
+waits_at_mark copy = waits_as copy.role copy.sent
+
+-- no copy that acts waits at a mark
+abbrev pub none_waits : List Pair → Bool
+none_waits processes = list_all (λ pair. not (waits_at_mark pair.first) && not (waits_at_mark pair.second)) processes
+
+-- nothing is owed between nodes that run
+abbrev pub none_owed : List Bool → List Sent → Bool
+none_owed stopped owed = list_all (λ one. not (is_running stopped one.letter.sender && is_running stopped one.letter.receiver)) owed
+
+-- whether a node has marked a processor, if that has stopped
+abbrev pub has_marked_if : World → ℕ → ℕ → Option Bool → Bool
+has_marked_if w node processor (Some true) = has_marked w.marks node processor
+has_marked_if w node processor (Some false) = true
+has_marked_if w node processor None = true
+
+-- whether a node, if it runs, has marked each processor that has stopped
+abbrev pub has_marked_all : World → ℕ → Bool
+has_marked_all w node =
+    not (is_running w.stopped node)
+    || all_from (λ processor. has_marked_if w node processor (slice_get w.stopped processor)) 0 (length w.stopped)
+
+-- each node has, the processors and the node of the terminals
+abbrev pub all_marked : World → Bool
+all_marked w = all_from (λ node. has_marked_all w node) 0 (length w.stopped) && has_marked_all w terminal_node
+
+-- nothing is left to do
+abbrev pub is_idle : Whole → Bool
+is_idle s = none_enters s && (none_runs s && (none_waits s.world.processes && (none_owed s.world.stopped s.wires.owed && all_marked s.world)))
