@@ -1,11 +1,11 @@
 -- What each event makes of a state is what it does to its post.
-use Rattle.std.proofs.Common.{◌≡◌, inl, inr, ℕ, zero, suc, ◌+◌, ◌&&◌, Bool, true, false, not, if◌then◌else◌, List, [], ◌∷◌, ◌++◌, length, Option, Some, None, slice_get, refl, sym, ap, ◌∙◌, subst}
+use Rattle.std.proofs.Common.{◌≡◌, inl, inr, ℕ, zero, suc, ◌+◌, Bool, true, false, if◌then◌else◌, List, [], ◌∷◌, ◌++◌, length, Option, Some, None, slice_get, refl, sym, ap, subst}
 use Rattle.gd_words.specs.Members.{IsAmong}
 use Rattle.gd_words.proofs.Among.{among-at}
 use Rattle.schedule.specs.declared.event.Event.{Event}
 use Rattle.schedule.specs.declared.event.Event.TheVariants.{Run, Enter, Deliver, Lose, Repeat, Tick, Fail}
-use Rattle.world_semantics.specs.World.{World, is_running, has_marked}
-use Rattle.world_semantics.specs.Messages.{Message, Sending, Running, Entering, Handing, Stopping, Marking}
+use Rattle.world_semantics.specs.World.{is_running}
+use Rattle.world_semantics.specs.Messages.{Entering, Handing, Stopping}
 use Rattle.world_semantics.specs.Rules.{Change}
 use Rattle.world_semantics.specs.Follows.{IsIdleFor}
 use Rattle.world_semantics.specs.Running.{Done, run_done}
@@ -21,13 +21,13 @@ use Rattle.computed_changes.specs.Handed.{handed_done}
 use Rattle.computed_changes.specs.Stopped.{stop_done, stop_where, stopped_world, marked_done}
 use Rattle.letters.specs.Routes.{Letter, letters_of}
 use Rattle.letters.specs.Again.{sent_again}
-use Rattle.letters.specs.Posts.{Post, HasPlayed, after_change, with_letters, without_those_between, played_more, Plays, plays_run, plays_no_run, plays_enter, plays_no_enter, plays_nothing, plays_hand, plays_drop, plays_again, plays_loss, plays_repeat, plays_no_tick, plays_tick, plays_fail, plays_no_fail, MakesMarks, no_mark, one_mark, after_marking, IsTaken}
+use Rattle.letters.specs.Posts.{HasPlayed, after_change, played_more, Plays, plays_run, plays_no_run, plays_enter, plays_no_enter, plays_nothing, plays_hand, plays_drop, plays_again, plays_loss, plays_repeat, plays_no_tick, plays_tick, plays_fail, plays_no_fail, MakesMarks, no_mark, one_mark, IsTaken}
 use Rattle.machine_states.specs.States.{Played, Makes, Skips, WouldStop}
-use Rattle.message_wires.specs.Wires.{Sent, Wires, all_posted, without_number, paid, paid_between, without_packet, repeated_packet, wires_again}
-use Rattle.message_wires.specs.Play.{Whole, after_done, made_by, after_any, handed, comes_in, received, deliver_played, lose_played, repeat_played, has_stopped, fail_played, after_marked, marked_by, marks_from, ticked, tick_played, packet_at, play}
+use Rattle.message_wires.specs.Wires.{Sent, Wires, without_number, paid, without_packet, repeated_packet}
+use Rattle.message_wires.specs.Play.{Whole, after_done, made_by, after_any, handed, comes_in, deliver_played, lose_played, repeat_played, has_stopped, fail_played, after_marked, marked_by, marks_from, ticked, packet_at, play}
 use Rattle.message_wires.specs.Runs.{letters_in, post_of}
 use Rattle.wires_laws.specs.Carried.{AreTidy, IsCarried}
-use Rattle.wires_laws.proofs.Tidy.{without-tidy, repeated-tidy, again-tidy, paid-tidy, between-tidy, Pays, was_owed, was_paid, pays, between-letters}
+use Rattle.wires_laws.proofs.Tidy.{without-tidy, repeated-tidy, again-tidy, paid-tidy, Pays, was_owed, was_paid, pays}
 use Rattle.wires_laws.proofs.Posting.{Carries, posted-on, posted-between}
 
 -- what an event makes of a state is carried as well
@@ -36,12 +36,12 @@ GoesOn events s sent (Makes next) = Carries events next
 GoesOn events s sent Skips = IsCarried events s sent
 GoesOn events s sent (WouldStop processor) = Unit {0}
 
--- a state that is carried after these events: each letter that was sent carries a message that was, and where a message that comes changes nothing no change
--- is possible
+-- a state that is carried after these events: each letter that was sent carries a message that was, and where one that comes changes nothing no change is
+-- possible
 module _ (events : List Event) (s : Whole) (sent : List Letter) (carried : IsCarried events s sent)
     (honest : (letter : Letter) → IsAmong letter sent → IsSent s.world letter.message)
-    (only : (node : ℕ) (message : Message) → IsSent s.world message → handed_done s.site node message s.world ≡ None → IsIdleFor s.site s.world (Handing node message)) where
-
+    (only : (letter : Letter) → IsAmong letter sent → handed_done s.site letter.receiver letter.message s.world ≡ None
+    → IsIdleFor s.site s.world (Handing letter.receiver letter.message)) where
   -- nothing happens to the post
   skips : (event : Event) → Plays s.site (post_of s sent) event (post_of s sent) → IsCarried (events ++ event ∷ []) s sent
   skips event plays = record { played = played_more carried.played plays; tidy = carried.tidy }
@@ -141,7 +141,7 @@ module _ (events : List Event) (s : Whole) (sent : List Letter) (carried : IsCar
         by None e taken = (
           sent,
           record {
-            played = played_more carried.played (plays_drop packet.letter taken running (only _ _ (honest packet.letter sent-before) e));
+            played = played_more carried.played (plays_drop packet.letter taken running (only packet.letter sent-before e));
             tidy = paid-tidy packet.number (without-tidy k carried.tidy);
           },
         )
@@ -206,8 +206,7 @@ tick-on events s sent carried node = by (is_running s.world.stopped node) refl
         → GoesOn (events ++ Tick node ∷ []) s sent (if test then Makes (ticked node (marks_from node 0 (length s.world.stopped) s)) else Skips)
     by false e = record { played = played_more carried.played plays_no_tick; tidy = carried.tidy }
     by true e =
-        let marked = marks-on node 0 (length s.world.stopped) s sent carried.tidy in
-        (
+        let marked = marks-on node 0 (length s.world.stopped) s sent carried.tidy in (
           marked.all,
           record {
             played =
@@ -220,7 +219,8 @@ tick-on events s sent carried node = by (is_running s.world.stopped node) refl
 -- an event goes on
 pub plays-on : (events : List Event) (s : Whole) (sent : List Letter) → IsCarried events s sent
     → ((letter : Letter) → IsAmong letter sent → IsSent s.world letter.message)
-    → ((node : ℕ) (message : Message) → IsSent s.world message → handed_done s.site node message s.world ≡ None → IsIdleFor s.site s.world (Handing node message))
+    → ((letter : Letter) → IsAmong letter sent → handed_done s.site letter.receiver letter.message s.world ≡ None
+    → IsIdleFor s.site s.world (Handing letter.receiver letter.message))
     → (event : Event) → GoesOn (events ++ event ∷ []) s sent (play s event)
 plays-on events s sent carried honest only (Run number) = run-on events s sent carried honest only number
 plays-on events s sent carried honest only (Enter number) = enter-on events s sent carried honest only number

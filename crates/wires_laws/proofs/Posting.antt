@@ -1,14 +1,13 @@
 -- What is posted on the wires is owed by the post.
-use Rattle.std.proofs.Common.{◌≡◌, ℕ, List, [], ◌∷◌, ◌++◌, sym, ◌∙◌, ap, subst, refl}
-use Rattle.gd_words.specs.Members.{IsAmong}
+use Rattle.std.proofs.Common.{◌≡◌, ℕ, List, ◌++◌, sym, ◌∙◌, ap, subst}
 use Rattle.gd_words.proofs.Among.{among-left, among-right}
 use Rattle.schedule.specs.declared.event.Event.{Event}
 use Rattle.world_semantics.specs.World.{World}
 use Rattle.letters.specs.Routes.{Letter}
 use Rattle.letters.specs.Posts.{HasPlayed, with_letters, without_those_between}
-use Rattle.message_wires.specs.Wires.{Sent, Wires, all_posted, paid_between}
+use Rattle.message_wires.specs.Wires.{Wires, all_posted, paid_between}
 use Rattle.message_wires.specs.Play.{Whole}
-use Rattle.message_wires.specs.Runs.{letters_in, post_of}
+use Rattle.message_wires.specs.Runs.{letters_in}
 use Rattle.wires_laws.specs.Carried.{AreTidy, IsCarried}
 use Rattle.wires_laws.proofs.Tidy.{more-tidy, posted-tidy, posted-owed, between-tidy, between-letters}
 
@@ -37,5 +36,5 @@ pub posted-between : (s : Whole) (sent : List Letter) (node processor : ℕ) (wo
 posted-between s sent node processor world letters tidy = (
   posted-owed letters (paid_between node processor s.wires) ∙ ap (λ (all : List Letter). all ++ letters) (between-letters node processor s.wires.owed),
   posted-tidy letters (λ letter among. among-left letter letters sent among)
-  (more-tidy (λ letter among. among-right letter letters sent among) (between-tidy node processor tidy)),
+      (more-tidy (λ letter among. among-right letter letters sent among) (between-tidy node processor tidy)),
 )

@@ -1,10 +1,10 @@
 -- What is on the wires stays tidy.
-use Rattle.std.proofs.Common.{◌≡◌, ◌<◌, ◌⊎◌, inl, inr, ℕ, zero, suc, ◌+◌, ◌==◌, ◌&&◌, Bool, true, false, not, if◌then◌else◌, nat_lt, List, [], ◌∷◌, ◌++◌, length, map, refl, ap, sym, ◌∙◌, subst, arith}
+use Rattle.std.proofs.Common.{◌≡◌, ◌<◌, ◌⊎◌, inl, inr, ℕ, zero, suc, Bool, true, false, not, if◌then◌else◌, List, [], ◌∷◌, ◌++◌, refl, ap, sym, ◌∙◌, subst, arith}
 use Rattle.std.specs.List.{filter, remove}
 use Rattle.std.proofs.lemmas.Bool.{eqb-true}
 use Rattle.std.proofs.lemmas.List.{map-append, append-nil, append_assoc}
 use Rattle.gd_words.specs.Members.{IsAmong}
-use Rattle.gd_words.proofs.Among.{among-left, among-right, among-either}
+use Rattle.gd_words.proofs.Among.{among-either}
 use Rattle.world_semantics.proofs.Members.{among-filter}
 use Rattle.letters.specs.Routes.{Letter}
 use Rattle.letters.specs.Posts.{is_between, without_those_between, IsTaken, takes_first, takes_later}

@@ -1,5 +1,5 @@
 -- What is on the wires of a state that is played.
-use Rattle.std.specs.Prelude.{◌≡◌, ◌<◌, ◌⊎◌, ℕ, List}
+use Rattle.std.specs.Prelude.{◌≡◌, ◌<◌, ◌⊎◌, List}
 use Rattle.gd_words.specs.Members.{IsAmong}
 use Rattle.schedule.specs.declared.event.Event.{Event}
 use Rattle.letters.specs.Routes.{Letter}

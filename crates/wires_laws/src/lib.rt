@@ -7,3 +7,8 @@
 #![tactic(auto)]
 
 pub mod laws;
+
+pub use laws::{
+    a_second_processor_never_stops, an_idle_state_is_idle, what_is_owed_is_put_again,
+    what_is_played_follows,
+};
