@@ -1,8 +1,11 @@
 //! Worked runs over whole messages, packet by packet.
-ghost use Rattle.std.specs.Prelude.{◌≡◌, false, pos, [], ◌∷◌};
+ghost use Rattle.std.specs.Prelude.{◌≡◌, true, false, pos, [], ◌∷◌};
 ghost use Rattle.schedule.specs.declared.event.Event.TheVariants as event;
 ghost use Rattle.tal_tree.specs.declared.act.Act.TheVariants as act;
 ghost use Rattle.world_semantics.specs.Examples.{delivery, reply, run};
+ghost use Rattle.tal_tree.specs.declared.act.Shown.TheVariants.{Reply};
+ghost use Rattle.message_wires.specs.Idle.{is_idle};
+ghost use Rattle.message_wires.specs.Tiers.{after_rounds, before_stop, in_hand, stopped_after};
 ghost use Rattle.message_wires.specs.Examples.{adder_at_boot, after_checkpoint, answers, asks, buses_from, buses_of_takeover, buses_to_checkpoint, checkpoint, end_of, told, up_to_checkpoint};
 
 /// A takeover of the adder, event for event with the packets on the bus: the reply is printed once.
@@ -36,4 +39,13 @@ pub fn a_stop_leaves_a_checkpoint_on_the_bus()
         ≡ (checkpoint ∷ []) ∷ (checkpoint ∷ []) ∷ [] ∷ (asks 1 ∷ []) ∷ [] }
     ensures kept { (end_of (end_of adder_at_boot up_to_checkpoint) (event.Fail 0 ∷ event.Tick 1 ∷ delivery ∷ [])).world.kept
         ≡ act.Step 0 ∷ act.Step 0 ∷ act.Step 0 ∷ act.Enter 0 ∷ [] }
+{}
+
+/// Two tiers that are lost together: when processor 0 stops, the front and the adder that it asks both have a request in hand there. Both are taken over in
+/// processor 1, and rounds go on to an idle end, at which both replies were printed once and nothing is owed.
+pub fn two_tiers_come_to_an_idle_end()
+    ensures both_serve { in_hand (before_stop 12) ≡ true ∷ true ∷ [] }
+    ensures idle { is_idle (after_rounds 24 (stopped_after 12)) ≡ true }
+    ensures shown { (after_rounds 24 (stopped_after 12)).world.shown ≡ Reply 0 2 (pos 12 ∷ []) ∷ Reply 0 1 (pos 5 ∷ []) ∷ [] }
+    ensures owed { (after_rounds 24 (stopped_after 12)).wires.owed ≡ [] }
 {}
