@@ -16,26 +16,25 @@ use Rattle.world_semantics.specs.declared.role.Role.TheVariants.{Acting}
 use Rattle.world_semantics.specs.declared.which.Which.{Which}
 use Rattle.world_semantics.specs.declared.which.Which.TheVariants.{First, Second}
 use Rattle.world_semantics.specs.Core.{after_passing}
+use Rattle.world_semantics.specs.Laws.{HasGrown}
 use Rattle.world_semantics.specs.Messages.{Sending, Cause}
 use Rattle.world_semantics.specs.Passes.{Passes, by_send, by_pass_again, by_pass, by_apply, by_acknowledge}
 use Rattle.world_semantics.specs.Rules.{Change, by_own, by_checkpoint, by_request, by_early_request, by_enter, by_print, by_stop, by_mark, stopped_copy, stopped_pair, taker, after_marking, marked_pair, entered_request}
 use Rattle.world_semantics.specs.World.{Copy, Pair, Terminal, World, boot, copy_of, with_copy}
 use Rattle.world_semantics.proofs.Becoming.{was-role}
 use Rattle.world_semantics.proofs.Growing.{causes-grow}
-use Rattle.world_semantics.proofs.Lists.{set-all, map-all}
+use Rattle.world_semantics.proofs.Lists.{set-all, map-all, grown-none, grown-one}
 use Rattle.world_semantics.proofs.Roles.{taker-is}
 use Rattle.process_histories.proofs.Steady.{calm-away, marked-calm, done-steady}
 use Rattle.plain_histories.specs.Agreeing.{AreRegular}
 use Rattle.headline.proofs.Kept.{IsGood}
 use Rattle.letters.specs.Again.{awaited_by, entered_last, awaited_from}
 use Rattle.sent_letters.specs.Known.{WatchersAreCalm, AwaitedWereSent}
+use Rattle.sent_letters.proofs.Awaited.{awaited-last, acting-done, own-awaited}
 use Rattle.sent_letters.proofs.Calm.{not-both, begins-resting}
 use Rattle.sent_letters.proofs.Entered.{begins-even}
 use Rattle.sent_letters.proofs.Given.{only}
 use Rattle.sent_letters.proofs.Sent.{among-grown}
-use Rattle.world_semantics.specs.Laws.{HasGrown}
-use Rattle.world_semantics.proofs.Lists.{grown-none, grown-one}
-use Rattle.sent_letters.proofs.Awaited.{awaited-last, acting-done, own-awaited}
 
 -- what a copy that acts awaits was sent
 abbrev CopySent : Site → List Request → ℕ → Copy → Type 0
