@@ -28,6 +28,7 @@ use Rattle.headline.proofs.Kept.{IsGood}
 use Rattle.awaited_requests.specs.Awaited.{IsAwaited, by_copy, by_terminal}
 use Rattle.awaited_requests.specs.Served.{request_of}
 use Rattle.sent_letters.specs.Known.{WatchersAreCalm}
+use Rattle.sent_letters.proofs.Calm.{not-both}
 use Rattle.served_requests.proofs.Turns.{steady, Turns, is_quiet, has_asked, has_taken, has_answered, has_heard, has_heard_early, has_taken_over, change-turned}
 
 -- what is awaited after a change was before, or is asked now
@@ -93,7 +94,7 @@ module _ (site : Site) (fit : IsFit site) (events : ℕ) (w : World) (good : IsG
       of (has_taken found block acted acts away free is known table rest) = absurd (away at)
       of (has_answered place depth said block acted acts away hand known table waits sent) = absurd (away at)
       of (has_heard request acted acts core process waits told is) = same acted core
-      of (has_heard_early request watched watches process waits is) = absurd (let other : Acting ≡ Watching = sym role ∙ watches in cc)
+      of (has_heard_early request watched watches process waits is) = absurd (not-both role watches)
       of (has_taken_over watched acts away table waits told) = absurd (away at)
 
   pub awaited-before : {next : World} {cause : Cause} {sendings : List Sending} → Change site w cause sendings next → {asker : ℕ} {one : Who} {n : ℕ}

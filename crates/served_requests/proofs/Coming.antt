@@ -26,6 +26,7 @@ use Rattle.letters.specs.Routes.{Letter}
 use Rattle.awaited_requests.specs.Awaited.{IsAwaited}
 use Rattle.awaited_requests.specs.Served.{request_of, reply_of, HasSeen}
 use Rattle.sent_letters.specs.Known.{IsEarly}
+use Rattle.sent_letters.proofs.Calm.{not-both}
 use Rattle.served_requests.proofs.Numbers.{asked-low, early-low}
 use Rattle.served_requests.proofs.Queues.{waits-now}
 use Rattle.served_requests.proofs.Sending.{map-in, sent-in, IsTold}
@@ -92,7 +93,7 @@ module _ (site : Site) (fit : IsFit site) (events : ℕ) (w : World) (good : IsG
         → HasSeen next asker one
         (record (copy_of k pair) { waiting = came (copy_of k pair).core.receive (copy_of k pair).waiting (request_of opener n words) }) opener n
     heard-seen role told = record {
-      watching = λ r. absurd (let other : Acting ≡ Watching = sym role ∙ r in cc);
+      watching = λ r. absurd (not-both role r);
       next = λ r is.
           let stands = next-is (copy_of k pair).core.receive opener.place n is in
           let wait : is_waiting (standing (copy_of k pair).core.receive (request_of opener n words)) ≡ true = rw is refl in
@@ -125,8 +126,8 @@ module _ (site : Site) (fit : IsFit site) (events : ℕ) (w : World) (good : IsG
       watching = λ r. waits-now (request_of opener n words) (copy_of k pair).waiting (λ other among.
           let known = (good.invariant.processes opener.server pair there).2.waiting k other among in
           (known.0, λ same. early-low site fit events w good other asker one n opener (early other among) known.1 opens awaited known.0 same));
-      next = λ r. absurd (let other : Watching ≡ Acting = sym role ∙ r in cc);
-      kept = λ r. absurd (let other : Watching ≡ Acting = sym role ∙ r in cc);
+      next = λ r. absurd (not-both r role);
+      kept = λ r. absurd (not-both r role);
     }
 
   -- a request that comes is seen to where it comes

@@ -29,6 +29,7 @@ use Rattle.headline.specs.Invariant.{IsAsked}
 use Rattle.headline.proofs.Kept.{IsGood}
 use Rattle.awaited_requests.specs.Awaited.{IsAwaited, by_copy, by_terminal}
 use Rattle.sent_letters.specs.Known.{IsEarly}
+use Rattle.sent_letters.proofs.Awaited.{acting-done}
 use Rattle.served_requests.proofs.Standings.{stands-low}
 use Rattle.awaited_requests.proofs.Awaited.{slot-counts, awaited-stands}
 use Rattle.awaited_requests.proofs.Leads.{copy-takes}
@@ -89,15 +90,14 @@ module _ (site : Site) (fit : IsFit site) (events : ℕ) (w : World) (good : IsG
       (block : OpenerBlock) → slice_get (openers_of site number) place ≡ Some spec → slice_get (copy_of k pair).core.receive.openers place ≡ Some block
       → length block.kept ≤ answered (holds (copy_of k pair).core.receive place) block
   few-kept number pair k there role place spec block placed at =
-      let done = (copy-takes pair k (good.invariant.processes number pair there).2.led (λ gone. let same : Acting ≡ Gone = sym role ∙ gone in cc)).done in
-      let whole = (copy-takes pair k (good.invariant.processes number pair there).2.led (λ gone. let same : Acting ≡ Gone = sym role ∙ gone in cc)).whole in
-      let all = reverse (answered_to place whole) in
-      let kept = ap length (kept-last done place block at spec placed) in
+      let is = acting-done site events w good number pair k there role in
+      let all = reverse (answered_to place is.deeds) in
+      let kept = ap length (kept-last is.done place block at spec placed) in
       let fewer = length-drop (length all - spec.depth) all in
-      let turned = length-reverse (answered_to place whole) in
-      let number = taken-number done place block at in
-      let count = taken-count done place in
-      by (holds (copy_of k pair).core.receive place) (length (answered_to place whole)) (omega (arith, kept, fewer, turned)) (omega (arith, number, count))
+      let turned = length-reverse (answered_to place is.deeds) in
+      let number = taken-number is.done place block at in
+      let count = taken-count is.done place in
+      by (holds (copy_of k pair).core.receive place) (length (answered_to place is.deeds)) (omega (arith, kept, fewer, turned)) (omega (arith, number, count))
     where
       by : (held : Bool) (count : ℕ) → length block.kept ≤ count → block.taken ≡ count + one_if held → length block.kept ≤ answered held block
       by true count few taken = omega (arith, few, taken)

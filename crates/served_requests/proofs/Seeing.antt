@@ -15,6 +15,7 @@ use Rattle.world_semantics.specs.Messages.{Asking, Replying, Sending, Cause, Han
 use Rattle.world_semantics.specs.World.{Copy}
 use Rattle.letters.specs.Posts.{Post}
 use Rattle.awaited_requests.specs.Served.{WaitsFor, reply_of, HasSeen}
+use Rattle.sent_letters.proofs.Calm.{not-both}
 use Rattle.served_requests.proofs.Queues.{filter-in, waits-still, came-still, chosen-leaves}
 use Rattle.served_requests.proofs.Sending.{IsTold}
 use Rattle.served_requests.proofs.Standings.{next-is, took-next, took-kept, answered-next, answered-kept}
@@ -48,7 +49,7 @@ module _ (site : Site) (post next : Post) (asker : ℕ) (one : Who) (opener : Op
       → ((words : List ℤ) → IsKeptIn after.core.receive words → IsTold next asker one opener n before.processor words ⊎ IsKeptIn before.core.receive words)
       → HasSeen post asker one before opener n → HasSeen next asker one after opener n
   acting-seen acted acts was_next waits was_kept has = record {
-    watching = λ r. absurd (let other : Acting ≡ Watching = sym acts ∙ r in cc);
+    watching = λ r. absurd (not-both acts r);
     next = λ r is. waits is (has.next acted (was_next is));
     kept = λ r words is. moved words (elim (was_kept words is) [
       | inl told ↦ told
@@ -60,8 +61,8 @@ module _ (site : Site) (post next : Post) (asker : ℕ) (one : Who) (opener : Op
   watching-seen : after.role ≡ Watching → WaitsFor after.waiting opener n → HasSeen next asker one after opener n
   watching-seen watches waits = record {
     watching = λ r. waits;
-    next = λ r. absurd (let other : Watching ≡ Acting = sym watches ∙ r in cc);
-    kept = λ r. absurd (let other : Watching ≡ Acting = sym watches ∙ r in cc);
+    next = λ r. absurd (not-both r watches);
+    kept = λ r. absurd (not-both r watches);
   }
 
   same-seen : after.core.receive ≡ before.core.receive → after.waiting ≡ before.waiting → before.role ≡ Acting → after.role ≡ Acting
@@ -124,7 +125,7 @@ module _ (site : Site) (post next : Post) (asker : ℕ) (one : Who) (opener : Op
         wait.4,
       )
   turn-seen (has_taken_over watched acts away table waits told) has = record {
-    watching = λ r. absurd (let other : Acting ≡ Watching = sym acts ∙ r in cc);
+    watching = λ r. absurd (not-both acts r);
     next = λ r is.
         let next : standing before.core.receive wait.0 ≡ Next = rw (wait.3, wait.4) (subst (λ t. standing_at t opener.place n ≡ Next) table is) in
         (wait.0, subst (λ ws. IsAmong wait.0 ws) (sym waits) (filter-in (λ request. is_waiting (standing before.core.receive request)) wait.0 before.waiting (rw next refl) wait.1), wait.2, wait.3, wait.4);

@@ -38,6 +38,8 @@ use Rattle.headline.specs.Fit.{IsFit}
 use Rattle.headline.proofs.Kept.{IsGood}
 use Rattle.awaited_requests.specs.Served.{request_of}
 use Rattle.sent_letters.specs.Known.{WatchersAreCalm}
+use Rattle.sent_letters.proofs.Awaited.{acting-done, asked-next}
+use Rattle.sent_letters.proofs.Calm.{not-both}
 use Rattle.served_requests.proofs.Sending.{map-in, sent-in}
 use Rattle.awaited_requests.proofs.Leads.{HasAllTakes, copy-takes}
 
@@ -123,15 +125,8 @@ enters-seat (begins empty most take) = refl
 enters-seat (keeps empty most step) = refl
 
 module _ (site : Site) (fit : IsFit site) (events : ℕ) (w : World) (good : IsGood site events w) (calm : WatchersAreCalm w) where
-  -- what a copy that isn't gone has done
-  pub has-done : (number : ℕ) (pair : Pair) (k : Which) (there : slice_get w.processes number ≡ Some pair) → (copy_of k pair).role ≢ Gone
-      → HasAllTakes site number (good.invariant.processes number pair there).0 (good.invariant.ledger.deeds number) (copy_of k pair).core
-  has-done number pair k there here = copy-takes pair k (good.invariant.processes number pair there).2.led here
-
   pub steady : (number : ℕ) (pair : Pair) (k : Which) → slice_get w.processes number ≡ Some pair → (copy_of k pair).role ≡ Acting → IsSteady (copy_of k pair).core.state
-  steady number pair k there role =
-      let is = good.invariant.processes number pair there in
-      done-steady (fit.regular number is.0 is.1) (has-done number pair k there (λ gone. let same : Acting ≡ Gone = sym role ∙ gone in cc)).done
+  steady number pair k there role = let is = acting-done site events w good number pair k there role in done-steady (fit.regular number is.spec is.there) is.done
 
   -- A deed
 
@@ -140,7 +135,7 @@ module _ (site : Site) (fit : IsFit site) (events : ℕ) (w : World) (good : IsG
     rests : {cause : Cause} {sendings : List Sending} (core : Core) → core.receive ≡ (copy_of k pair).core.receive → IsCalm core.state
         → Turns site number cause sendings (copy_of k pair) (record entered { core = core; waiting = (copy_of k pair).waiting })
     rests core same away = is_quiet (record {
-      watches = λ r. absurd (let other : Acting ≡ Watching = sym acting ∙ r in cc);
+      watches = λ r. absurd (not-both acting r);
       acts = λ r. role;
       table = λ r. same;
       awaits = λ r at. absurd (calm-away core.state away at);
@@ -157,7 +152,7 @@ module _ (site : Site) (fit : IsFit site) (events : ℕ) (w : World) (good : IsG
     own-turns (by_reply {words = words} among is last said) (gets at file) = rests _ refl (got-calm (copy_of k pair).core.state words (steady number pair k there role) at)
     own-turns (by_take {found = found} is) (takes block at known) =
         has_taken found block role acting (calm-away _ (took-calm (copy_of k pair).core.state found.request.words (steady number pair k there role) at))
-        (take-free (has-done number pair k there (λ gone. let same : Acting ≡ Gone = sym role ∙ gone in cc)).done at) is known refl refl
+        (take-free (acting-done site events w good number pair k there role).done at) is known refl refl
     own-turns (by_answer {place = place} {words = words} {block = block} known) (answers opener old at hand is stood said) =
         let same : old ≡ block = some-same (sym stood ∙ known) in
         has_answered place opener.depth words block role acting (calm-away _ (answered-calm (copy_of k pair).core.state (steady number pair k there role) at)) hand known
@@ -172,16 +167,12 @@ module _ (site : Site) (fit : IsFit site) (events : ℕ) (w : World) (good : IsG
             → IsAmong (record { node = (copy_of k pair).processor; message = Asking (request_of opener n words) })
             (sent_at (copy_of k pair).processor (map Asking (asked_on site number (copy_of k pair).core asked words)))
         sent file n opener on next opens =
-            let is = good.invariant.processes number pair there in
             let here : asked ≡ file = named ∙ sym (asked-same core.state) ∙ on in
-            let opened = opener-opened site number file opener opens in
-            let same : opened.spec ≡ is.0 = some-same (sym opened.there ∙ is.1) in
-            let within = slice_get_within (files_of is.0.what) file opened.use_of (subst (λ (s : ProcessSpec). slice_get (files_of s.what) file ≡ Some opened.use_of) same opened.opened) in
-            let size = files-same (has-done number pair k there (λ gone. let same : Acting ≡ Gone = sym role ∙ gone in cc)).done in
-            let old = slice_get-get_or core.next file 1 (omega (arith, within, size)) in
-            let set = set-there core.next file _ (next_on core file + 1) old in
-            let count : next_on core file + 1 ≡ n + 1 = rw (here, set) at next in
-            let number_is : next_on core file ≡ n = omega (arith, count) in
+            let more = asked-next site fit.regular number core _ (acting-done site events w good number pair k there role) asked words opener (asks at named said)
+                (subst (λ f. opener_of site (who.File number f) ≡ Some opener) (sym here) opens) in
+            let count : unwrap_or (slice_get (slice_set core.next asked (next_on core asked + 1)) asked) 1 ≡ n + 1 =
+                subst (λ f. unwrap_or (slice_get (slice_set core.next asked (next_on core asked + 1)) f) 1 ≡ n + 1) (sym here) next in
+            let number_is : next_on core file ≡ n = subst (λ f. next_on core f ≡ n) here (omega (arith, count, more)) in
             rw (here, opens, number_is) (inl refl)
 
   -- A checkpoint
@@ -228,8 +219,8 @@ module _ (site : Site) (fit : IsFit site) (events : ℕ) (w : World) (good : IsG
             is_quiet (record {
               watches = λ r. r;
               acts = λ r. r;
-              table = λ r. absurd (let other : Watching ≡ Acting = sym role ∙ r in cc);
-              awaits = λ r at. absurd (let other : Watching ≡ Acting = sym role ∙ r in cc);
+              table = λ r. absurd (not-both r role);
+              awaits = λ r at. absurd (not-both r role);
               waits = refl;
             }),
           ) (others First) (others Second)
