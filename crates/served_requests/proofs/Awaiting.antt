@@ -10,7 +10,7 @@ use Rattle.process_semantics.specs.declared.point.Point.TheVariants as point
 use Rattle.process_semantics.specs.Process as process
 use Rattle.plain_semantics.specs.declared.slot.Opener.{Opener}
 use Rattle.plain_semantics.specs.Openers.{openers_of, opener_of}
-use Rattle.world_semantics.specs.declared.role.Role.TheVariants.{Acting, Watching}
+use Rattle.world_semantics.specs.declared.role.Role.TheVariants.{Acting}
 use Rattle.world_semantics.specs.declared.which.Which.{Which}
 use Rattle.world_semantics.specs.declared.which.Which.TheVariants.{First, Second}
 use Rattle.world_semantics.specs.Core.{Core, Deed, Advances, gets, next_on}

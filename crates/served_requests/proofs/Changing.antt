@@ -23,6 +23,7 @@ use Rattle.awaited_requests.specs.Awaited.{IsAwaited}
 use Rattle.awaited_requests.specs.Seats.{AreSeated}
 use Rattle.awaited_requests.specs.Served.{reply_of, request_of, IsServed, route_stopped, is_owed, is_seen, AreServed}
 use Rattle.sent_letters.specs.Known.{IsKnown}
+use Rattle.sent_letters.proofs.Known.{WasSentTo}
 use Rattle.served_requests.proofs.Awaiting.{WasAwaited, was_awaited, is_asked, awaited-before, come-none}
 use Rattle.served_requests.proofs.Coming.{come-seen}
 use Rattle.served_requests.proofs.Numbers.{asked-low, awaited-low, early-low}
@@ -31,12 +32,6 @@ use Rattle.served_requests.proofs.Seeing.{LeavesTold, turn-seen}
 use Rattle.served_requests.proofs.Sending.{letter-in, IsTold, told-now}
 use Rattle.served_requests.proofs.Turns.{Turned, change-turned}
 
--- what is handed over at a node was ever sent to it
-abbrev pub WasSentThere : Post → Cause → Type 0
-WasSentThere post cause =
-    (node : ℕ) (request : Request) → cause ≡ Handing node (Asking request)
-    → (letter : Letter) × IsAmong letter post.sent × (letter.receiver ≡ node) × (letter.message ≡ Asking request)
-
 -- of the letters that were owed these are, but for what is handed over
 abbrev pub AreLeft : Post → Cause → List Letter → Type 0
 AreLeft post cause rest = (letter : Letter) → IsAmong letter post.owed → IsAmong letter rest ⊎ (cause ≡ Handing letter.receiver letter.message)
@@ -44,7 +39,7 @@ AreLeft post cause rest = (letter : Letter) → IsAmong letter post.owed → IsA
 module _ (site : Site) (fit : IsFit site) (events : ℕ) (post : Post) (good : IsGood site events post.world) (seated : AreSeated site post.world)
     (known : IsKnown site post) (served : AreServed site post) where
   module _ (next : World) (cause : Cause) (sendings : List Sending) (rest : List Letter) (change : Change site post.world cause sendings next)
-      (unmarked : (node processor : ℕ) → cause ≡ Marking node processor → ⊥) (sent : WasSentThere post cause) (left : AreLeft post cause rest) where
+      (unmarked : (node processor : ℕ) → cause ≡ Marking node processor → ⊥) (sent : WasSentTo post cause) (left : AreLeft post cause rest) where
     abbrev After : Post
     After = after_change site sendings next (record post { owed = rest })
 
@@ -117,7 +112,7 @@ module _ (site : Site) (fit : IsFit site) (events : ℕ) (post : Post) (good : I
 
   -- a change but a mark leaves what is awaited served
   pub change-served : (next : World) (cause : Cause) (sendings : List Sending) (rest : List Letter) → Change site post.world cause sendings next
-      → ((node processor : ℕ) → cause ≡ Marking node processor → ⊥) → WasSentThere post cause → AreLeft post cause rest
+      → ((node processor : ℕ) → cause ≡ Marking node processor → ⊥) → WasSentTo post cause → AreLeft post cause rest
       → AreServed site (after_change site sendings next (record post { owed = rest }))
   change-served next cause sendings rest change unmarked sent left asker one n opener now opens there awaited = by (awaited-before site fit events post.world good known.honest.calm change awaited)
     where

@@ -1,5 +1,5 @@
 -- A request that comes is seen to by the copy to which it comes.
-use Rattle.std.proofs.Common.{◌≡◌, inl, ℕ, ℤ, true, List, map, Some, slice_get, slice_set, refl, ap, sym, ◌∙◌, subst, arith}
+use Rattle.std.proofs.Common.{◌≡◌, inl, ℕ, ℤ, true, List, map, Some, slice_get, slice_set, refl, ap, sym, subst, arith}
 use Rattle.gd_words.specs.Members.{IsAmong}
 use Rattle.gd_words.specs.declared.message.Request.{Request}
 use Rattle.tal_tree.specs.declared.act.Act.{Act}

@@ -19,8 +19,8 @@ use Rattle.sent_letters.specs.Known.{IsKnown}
 use Rattle.sent_letters.proofs.Calm.{begins-resting}
 use Rattle.sent_letters.proofs.Entered.{begins-even}
 use Rattle.sent_letters.proofs.Given.{one-before}
-use Rattle.sent_letters.proofs.Known.{known-stop, known-mark}
-use Rattle.served_requests.proofs.Changing.{WasSentThere, change-served}
+use Rattle.sent_letters.proofs.Known.{WasSentTo, known-stop, known-mark}
+use Rattle.served_requests.proofs.Changing.{change-served}
 use Rattle.served_requests.proofs.Dropping.{taken-or, drop-served}
 use Rattle.served_requests.proofs.Marking.{mark-served}
 
@@ -37,7 +37,7 @@ module _ (site : Site) (fit : IsFit site) (out : IsLaidOut site) where
 
   -- a change by which all that was owed stays so
   added-served : (events : ℕ) (post : Post) (next : World) (cause : Cause) (sendings : List Sending) → IsGood site events post.world → AreSeated site post.world → IsKnown site post
-      → AreServed site post → Change site post.world cause sendings next → ((node processor : ℕ) → cause ≡ Marking node processor → ⊥) → WasSentThere post cause
+      → AreServed site post → Change site post.world cause sendings next → ((node processor : ℕ) → cause ≡ Marking node processor → ⊥) → WasSentTo post cause
       → AreServed site (after_change site sendings next post)
   added-served events post next cause sendings good seated known served change unmarked sent =
       change-served site fit events post good seated known served next cause sendings post.owed change unmarked sent (λ letter among. inl among)

@@ -1,6 +1,5 @@
 -- What a change makes of a copy of a process, so far as requests and replies go: said once for each rule.
 use Rattle.std.proofs.Common.{◌≡◌, ◌≢◌, inl, ℕ, ◌+◌, ◌==◌, true, ℤ, List, [], ◌∷◌, ◌++◌, map, Option, Some, None, slice_get, slice_set, refl, ap, sym, ◌∙◌, subst, arith}
-use Rattle.std.proofs.lemmas.Option.{slice_get_within, slice_get-get_or}
 use Rattle.std.specs.List.{flat_map}
 use Rattle.std.specs.Option.{unwrap_or}
 use Rattle.gd_words.specs.Members.{IsAmong}
@@ -8,16 +7,15 @@ use Rattle.gd_words.specs.declared.message.Request.{Request}
 use Rattle.gd_words.specs.declared.message.Reply.{Reply}
 use Rattle.gd_words.proofs.Among.{among-at, among-given}
 use Rattle.tal_tree.specs.declared.act.Act.{Act}
-use Rattle.tal_tree.specs.declared.site.ProcessSpec.{ProcessSpec}
 use Rattle.tal_tree.specs.declared.site.Site.{Site}
 use Rattle.tal_tree.specs.declared.site.Who.TheVariants as who
 use Rattle.process_semantics.specs.declared.point.Point.TheVariants as point
 use Rattle.process_semantics.specs.Process as process
 use Rattle.plain_semantics.specs.declared.slot.Opener.{Opener}
-use Rattle.plain_semantics.specs.Openers.{files_of, openers_of, opener_of}
+use Rattle.plain_semantics.specs.Openers.{openers_of, opener_of}
 use Rattle.checkpoint_image.specs.declared.receive.OpenerBlock.{OpenerBlock}
 use Rattle.checkpoint_image.specs.Receive.{waits, came, repeated, still_waiting, all_repeated, after_taking, after_answering, Chosen, chosen}
-use Rattle.world_semantics.specs.declared.role.Role.TheVariants.{Acting, Watching, Gone}
+use Rattle.world_semantics.specs.declared.role.Role.TheVariants.{Acting, Watching}
 use Rattle.world_semantics.specs.declared.which.Which.{Which}
 use Rattle.world_semantics.specs.declared.which.Which.TheVariants.{First, Second}
 use Rattle.world_semantics.specs.Core.{Core, Deed, Advances, goes, takes, asks, gets, answers, acts, next_on}
@@ -28,12 +26,10 @@ use Rattle.world_semantics.specs.Own.{Around, around, Causes, by_inner, by_take,
 use Rattle.world_semantics.specs.Passes.{Passes, by_send, by_pass_again, by_pass, by_apply, by_acknowledge, checkpoint_of, taken_of, after_sending, after_mark, kept_at_mark}
 use Rattle.world_semantics.specs.Rules.{Change, by_own, by_checkpoint, by_request, by_early_request, by_enter, by_print, by_stop, by_mark, stopped_copy, stopped_pair, taken_over, taker, told_at_mark, marked_pair, after_marking}
 use Rattle.world_semantics.proofs.Becoming.{entered-same, was-role}
-use Rattle.world_semantics.proofs.Lists.{some-same, set-there, Changed, is_new, is_same, changed, mapped}
+use Rattle.world_semantics.proofs.Lists.{some-same, Changed, is_new, is_same, changed, mapped}
 use Rattle.world_semantics.proofs.Roles.{taker-is}
 use Rattle.process_histories.proofs.Counts.{take-free}
-use Rattle.process_histories.proofs.OneKind.{files-same}
 use Rattle.process_histories.proofs.Steady.{IsSteady, IsCalm, done-steady, calm-away, inner-calm, took-calm, asked-same, got-calm, answered-calm, marked-calm, device-calm}
-use Rattle.plain_histories.proofs.Openers.{opener-opened}
 use Rattle.headline.specs.Fit.{IsFit}
 use Rattle.headline.proofs.Kept.{IsGood}
 use Rattle.awaited_requests.specs.Served.{request_of}
@@ -41,7 +37,6 @@ use Rattle.sent_letters.specs.Known.{WatchersAreCalm}
 use Rattle.sent_letters.proofs.Awaited.{acting-done, asked-next}
 use Rattle.sent_letters.proofs.Calm.{not-both}
 use Rattle.served_requests.proofs.Sending.{map-in, sent-in}
-use Rattle.awaited_requests.proofs.Leads.{HasAllTakes, copy-takes}
 
 -- a change bears on no request at a copy: if that watches afterwards, it did before; if it acts it did, with the same table, and as the same core if it awaits;
 -- and the same requests wait
@@ -169,9 +164,9 @@ module _ (site : Site) (fit : IsFit site) (events : ℕ) (w : World) (good : IsG
         sent file n opener on next opens =
             let here : asked ≡ file = named ∙ sym (asked-same core.state) ∙ on in
             let more = asked-next site fit.regular number core _ (acting-done site events w good number pair k there role) asked words opener (asks at named said)
-                (subst (λ f. opener_of site (who.File number f) ≡ Some opener) (sym here) opens) in
+            (subst (λ f. opener_of site (who.File number f) ≡ Some opener) (sym here) opens) in
             let count : unwrap_or (slice_get (slice_set core.next asked (next_on core asked + 1)) asked) 1 ≡ n + 1 =
-                subst (λ f. unwrap_or (slice_get (slice_set core.next asked (next_on core asked + 1)) f) 1 ≡ n + 1) (sym here) next in
+            subst (λ f. unwrap_or (slice_get (slice_set core.next asked (next_on core asked + 1)) f) 1 ≡ n + 1) (sym here) next in
             let number_is : next_on core file ≡ n = subst (λ f. next_on core f ≡ n) here (omega (arith, count, more)) in
             rw (here, opens, number_is) (inl refl)
 
