@@ -1,5 +1,6 @@
 -- Requests that are awaited at an idle end: each is at its server's copy that acts.
-use Rattle.std.proofs.Common.{◌≡◌, ◌⊎◌, inl, inr, ℕ, true, false, Some, slice_get, refl, sym, ◌∙◌, subst}
+use Rattle.std.proofs.Common.{◌≡◌, ◌⊎◌, ◌<◌, inl, inr, ℕ, true, false, List, length, Some, slice_get, refl, sym, ◌∙◌, subst}
+use Rattle.tal_tree.specs.declared.site.ProcessSpec.{ProcessSpec}
 use Rattle.tal_tree.specs.declared.site.Site.{Site}
 use Rattle.tal_tree.specs.declared.site.Who.{Who}
 use Rattle.plain_semantics.specs.declared.slot.Opener.{Opener}
@@ -9,21 +10,32 @@ use Rattle.checkpoint_image.specs.Receive.{standing_at}
 use Rattle.world_semantics.specs.declared.role.Role.TheVariants.{Acting}
 use Rattle.world_semantics.specs.declared.which.Which.{Which}
 use Rattle.world_semantics.specs.declared.which.Which.TheVariants.{First, Second}
+use Rattle.world_semantics.specs.Core.{Deed}
 use Rattle.world_semantics.specs.World.{Copy, Pair, is_running, copy_of}
+use Rattle.process_histories.specs.Histories.{HasDone}
+use Rattle.process_histories.specs.Words.{answered_to}
 use Rattle.letters.specs.Posts.{Post}
 use Rattle.letters.specs.Routes.{route_of}
 use Rattle.awaited_requests.specs.Awaited.{IsAwaited, StandsThere}
 use Rattle.awaited_requests.specs.Served.{WaitsFor, HasSeen, IsServed, route_stopped, is_owed, is_seen}
 use Rattle.awaited_requests.proofs.Awaited.{awaited-stands}
 use Rattle.idle_end.proofs.Ends.{IsEnd, acts-runs, route-acts, asker-runs, asker-found}
+use Rattle.idle_end.proofs.Unanswered.{not-answered}
 
 -- a copy has a request that is awaited of it: it stands next there and waits, or it is in hand
 abbrev pub HasRequest : Copy → Opener → ℕ → Type 0
 HasRequest copy opener n =
     ((standing_at copy.core.receive opener.place n ≡ Next) × WaitsFor copy.waiting opener n) ⊎ (standing_at copy.core.receive opener.place n ≡ InHand)
 
+-- so it isn't answered
+pub unanswered : {site : Site} {spec : ProcessSpec} {deeds : List Deed} (copy : Copy) (opener : Opener) (n : ℕ) → HasDone site opener.server spec deeds copy.core
+    → HasRequest copy opener n → length (answered_to opener.place deeds) < n
+unanswered copy opener n done (inl (next, waits)) = not-answered opener n done (inl next)
+unanswered copy opener n done (inr hand) = not-answered opener n done (inr hand)
+
 module _ {site : Site} {events : ℕ} {post : Post} (end : IsEnd site events post) where
-  same-seat : (number : ℕ) (pair : Pair) (j k : Which) → slice_get post.world.processes number ≡ Some pair → (copy_of j pair).processor ≡ (copy_of k pair).processor → j ≡ k
+  same-seat : (number : ℕ) (pair : Pair) (j k : Which) → slice_get post.world.processes number ≡ Some pair
+      → (copy_of j pair).processor ≡ (copy_of k pair).processor → j ≡ k
   same-seat number pair First First there same = refl
   same-seat number pair Second Second there same = refl
   same-seat number pair First Second there same = absurd ((end.seated.pairs number pair there).apart same)
@@ -31,7 +43,8 @@ module _ {site : Site} {events : ℕ} {post : Post} (end : IsEnd site events pos
 
   -- a request that is awaited is at its server's copy that acts: no letter is owed that could bring it or its reply
   pub at-server : (asker : ℕ) (one : Who) (n : ℕ) (opener : Opener) (pair : Pair) (k : Which) → opener_of site one ≡ Some opener
-      → slice_get post.world.processes opener.server ≡ Some pair → (copy_of k pair).role ≡ Acting → IsAwaited site post.world asker one n → HasRequest (copy_of k pair) opener n
+      → slice_get post.world.processes opener.server ≡ Some pair → (copy_of k pair).role ≡ Acting → IsAwaited site post.world asker one n
+      → HasRequest (copy_of k pair) opener n
   at-server asker one n opener pair k opens there role awaited = by (end.served asker one n opener pair opens there awaited)
     where
       here : is_running post.world.stopped asker ≡ true
@@ -53,7 +66,8 @@ module _ {site : Site} {events : ℕ} {post : Post} (end : IsEnd site events pos
 
       by : IsServed site post asker one n opener pair → HasRequest (copy_of k pair) opener n
       by (route_stopped stopped) =
-          let down : is_running post.world.stopped (copy_of k pair).processor ≡ false = subst (λ node. is_running post.world.stopped node ≡ false) route stopped in
+          let down : is_running post.world.stopped (copy_of k pair).processor ≡ false =
+          subst (λ node. is_running post.world.stopped node ≡ false) route stopped in
           let up = runs in absurd (cc)
       by (is_owed words letter) = absurd (end.idle.owed _ letter here (subst (λ node. is_running post.world.stopped node ≡ true) (sym route) runs))
       by (is_seen j at has) =

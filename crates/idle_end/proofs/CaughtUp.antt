@@ -68,7 +68,8 @@ module _ (site : Site) (regular : AreRegular site) (end : Ledger)
 
   -- no process has done fewer deeds than this ledger has
   abbrev AreWithin : Ledger → Type 0
-  AreWithin ledger = (number : ℕ) (spec : ProcessSpec) (there : slice_get site.processes number ≡ Some spec) → length (ledger.deeds number) ≤ length (at number spec there).past
+  AreWithin ledger =
+      (number : ℕ) (spec : ProcessSpec) (there : slice_get site.processes number ≡ Some spec) → length (ledger.deeds number) ≤ length (at number spec there).past
 
   module _ (stuck : (number : ℕ) (spec : ProcessSpec) (there : slice_get site.processes number ≡ Some spec) → IsStuck number spec there) where
     -- where a process has done just the deeds of a ledger, none of them is next
@@ -114,8 +115,8 @@ module _ (site : Site) (regular : AreRegular site) (end : Ledger)
             (subst (λ deeds. AwaitsMore number deeds before) same (subst (λ core. AwaitsMore number (at number spec there).past core) core_same awaits))
 
     -- so all processes have done what any ledger has that came before the last
-    pub caught : {acts : List Act} {shown : List Shown} {ledger : Ledger} → AreBooked site acts shown ledger → ((other : ℕ) → HasGrown (ledger.deeds other) (end.deeds other))
-        → AreWithin ledger
+    pub caught : {acts : List Act} {shown : List Shown} {ledger : Ledger} → AreBooked site acts shown ledger
+        → ((other : ℕ) → HasGrown (ledger.deeds other) (end.deeds other)) → AreWithin ledger
     caught none_booked grown = λ number spec there. omega arith
     caught (entry_booked terminal opener words booked is even next) grown = caught booked grown
     caught (reply_booked terminal opener words booked is ready) grown = caught booked grown
@@ -132,18 +133,21 @@ module _ (site : Site) (regular : AreRegular site) (end : Ledger)
 
         by : AreWithin ledger → AreWithin (with_deed number deed ledger)
         by within other one known = elim (eqb_tells number other) [
-          | inl t ↦ subst (λ k. (spec : ProcessSpec) (there : slice_get site.processes k ≡ Some spec) → length ((with_deed number deed ledger).deeds k) ≤ length (at k spec there).past) t.1 here one known
+          | inl t ↦ subst (λ k. (spec : ProcessSpec) (there : slice_get site.processes k ≡ Some spec)
+              → length ((with_deed number deed ledger).deeds k) ≤ length (at k spec there).past) t.1 here one known
           | inr t ↦ rw t.0 (within other one known)
         ]
           where
-            here : (one : ProcessSpec) (known : slice_get site.processes number ≡ Some one) → length ((with_deed number deed ledger).deeds number) ≤ length (at number one known).past
+            here : (one : ProcessSpec) (known : slice_get site.processes number ≡ Some one)
+                → length ((with_deed number deed ledger).deeds number) ≤ length (at number one known).past
             here one known =
                 let same : spec ≡ one = some-same (sym there ∙ known) in
                 let size : length ((with_deed number deed ledger).deeds number) ≡ length (ledger.deeds number) + 1 =
                 ap length (changed-same number (deed ∷ ledger.deeds number) ledger.deeds) ∙ omega arith in
                 elim (cases_lt (length (ledger.deeds number)) (length (at number one known).past)) [
                   | inl less ↦ omega (arith, size, less)
-                  | inr most ↦ absurd (no-next ledger number one known old within (subst (λ (s : ProcessSpec). HasDone site number s (ledger.deeds number) before) same done) advances
+                  | inr most ↦ absurd (no-next ledger number one known old within
+                      (subst (λ (s : ProcessSpec). HasDone site number s (ledger.deeds number) before) same done) advances
                       (subst (λ (s : ProcessSpec). IsAllowed site ledger number s deed) same allowed) last
                       (let under = within number one known in omega (arith, most, under)))
                 ]

@@ -63,7 +63,8 @@ module _ {site : Site} {events : ℕ} {post : Post} (end : IsEnd site events pos
           ran : made_all site (plain_start site) (closed post.world) ≡ Some (record { plain = run.plain; shown = reverse post.world.shown })
           ran = subst (λ (acts : List Act). made_all site (plain_start site) acts ≡ Some (record { plain = run.plain; shown = reverse post.world.shown })) all.order run.ran
 
-          each : (number : ℕ) (pair : Pair) → slice_get post.world.processes number ≡ Some pair → HasClosed site end.good.invariant.ledger all.closed number (copy_of (who_acts pair) pair)
+          each : (number : ℕ) (pair : Pair) → slice_get post.world.processes number ≡ Some pair
+              → HasClosed site end.good.invariant.ledger all.closed number (copy_of (who_acts pair) pair)
           each number pair there =
               let same : 0 + number ≡ number = omega arith in
               subst (λ n. HasClosed site end.good.invariant.ledger all.closed n (copy_of (who_acts pair) pair)) same (all.each number pair there)

@@ -35,22 +35,22 @@ use Rattle.headline.proofs.Backed.{next-is}
 use Rattle.headline.proofs.Waiting.{chosen-is}
 use Rattle.idle_end.proofs.Closed.{IsClosed}
 use Rattle.idle_end.proofs.Ends.{IsEnd, who_acts, acting}
-use Rattle.idle_end.proofs.Awaited.{at-server}
-use Rattle.idle_end.proofs.Unanswered.{not-answered, none-in-hand, chosen-there}
+use Rattle.idle_end.proofs.Awaited.{unanswered, at-server}
+use Rattle.idle_end.proofs.Unanswered.{none-in-hand, chosen-there}
 
 -- Slots
 
 -- an opener whose request waits has one reply less than it has requests
-waiting-counts : {requests taken answered replies : List (List ℤ)} {slot : Slot} {words : List ℤ} → IsSlot requests taken answered replies slot → requests ≡ words ∷ taken
-    → length requests ≡ length replies + 1
+waiting-counts : {requests taken answered replies : List (List ℤ)} {slot : Slot} {words : List ℤ} → IsSlot requests taken answered replies slot
+    → requests ≡ words ∷ taken → length requests ≡ length replies + 1
 waiting-counts (is_empty asked even last) waits = absurd (omega (arith, ap length asked, ap length waits))
 waiting-counts (is_waiting asked even last) waits = omega (arith, even, ap length asked, ap length last)
 waiting-counts (is_taken asked even last) waits = absurd (omega (arith, ap length asked, ap length waits))
 waiting-counts (is_answered asked even last) waits = absurd (omega (arith, ap length asked, ap length waits))
 
 -- and so has one whose answer waits, all of whose requests were answered
-answered-counts : {requests taken answered replies : List (List ℤ)} {slot : Slot} {words : List ℤ} → IsSlot requests taken answered replies slot → answered ≡ words ∷ replies
-    → (length requests ≡ length replies + 1) × (length requests ≡ length answered)
+answered-counts : {requests taken answered replies : List (List ℤ)} {slot : Slot} {words : List ℤ} → IsSlot requests taken answered replies slot
+    → answered ≡ words ∷ replies → (length requests ≡ length replies + 1) × (length requests ≡ length answered)
 answered-counts (is_empty asked even last) ready = absurd (omega (arith, ap length last, ap length ready))
 answered-counts (is_waiting asked even last) ready = absurd (omega (arith, ap length last, ap length ready))
 answered-counts (is_taken asked even last) ready = absurd (omega (arith, ap length last, ap length ready))
@@ -102,8 +102,10 @@ module _ {site : Site} {events : ℕ} {post : Post} (end : IsEnd site events pos
   awaits-last : (one : Who) (opener : Opener) → opener_of site one ≡ Some opener → length (requests_of all.last one) ≡ length (replies_of all.last one) + 1
       → (asker : ℕ) × IsAwaited site post.world asker one (length (requests_of all.last one))
   awaits-last (who.Terminal number) opener opens lacks =
-      let has = terminal-there number opener opens in
-      (terminal_node, subst (λ n. IsAwaited site post.world terminal_node (who.Terminal number) n) has.2 (by_terminal has.0 has.1 (omega (arith, lacks, has.2, has.3))))
+      let has = terminal-there number opener opens in (
+        terminal_node,
+        subst (λ n. IsAwaited site post.world terminal_node (who.Terminal number) n) has.2 (by_terminal has.0 has.1 (omega (arith, lacks, has.2, has.3))),
+      )
   awaits-last (who.File number file) opener opens lacks =
       let opened = opener-opened site number file opener opens in
       let seat = end.seated.processes number opened.spec opened.there in
@@ -116,14 +118,15 @@ module _ {site : Site} {events : ℕ} {post : Post} (end : IsEnd site events pos
       )
 
   -- so no answer waits
-  pub none-answered : (one : Who) (opener : Opener) (words : List ℤ) → opener_of site one ≡ Some opener → answered_of all.last opener ≡ words ∷ replies_of all.last one → ⊥
+  pub none-answered : (one : Who) (opener : Opener) (words : List ℤ) → opener_of site one ≡ Some opener
+      → answered_of all.last opener ≡ words ∷ replies_of all.last one → ⊥
   none-answered one opener words opens ready =
       let counts = answered-counts (all.agrees.slots one opener opens).2 ready in
       let last = awaits-last one opener opens counts.0 in
       let is = opener-is site one opener opens in
       let seat = end.seated.processes opener.server is.server is.named in
       let has = at-server end last.0 one (length (requests_of all.last one)) opener seat.0 (who_acts seat.0) opens seat.1 (acting end opener.server seat.0 seat.1) last.1 in
-      let fewer = not-answered opener (length (requests_of all.last one)) (copy-done opener.server is.server seat.0 is.named seat.1) (elim has [ inl next ↦ inl next.0 | inr hand ↦ inr hand ]) in
+      let fewer = unanswered (copy_of (who_acts seat.0) seat.0) opener (length (requests_of all.last one)) (copy-done opener.server is.server seat.0 is.named seat.1) has in
       omega (arith, fewer, counts.1)
 
   -- and no request waits for a process at Take

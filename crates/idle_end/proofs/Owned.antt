@@ -39,15 +39,16 @@ module _ (site : Site) where
 
   -- Changes of one process or one slot
 
-  process-owned : (number : ℕ) (changed : PlainProcess) (plain : Plain) → IsOwned site number changed → AreOwned site plain → AreOwned site (with_process number changed plain)
+  process-owned : (number : ℕ) (changed : PlainProcess) (plain : Plain) → IsOwned site number changed → AreOwned site plain
+      → AreOwned site (with_process number changed plain)
   process-owned number changed plain own all = record {
     count = length-set plain.processes number changed ∙ all.count;
     each = set-all (λ other one. IsOwned site other one) plain.processes number changed all.each own;
   }
 
   -- the slots and the hand of a process stay
-  rest-owned : (number : ℕ) (old changed : PlainProcess) (plain : Plain) → slice_get plain.processes number ≡ Some old → changed.slots ≡ old.slots → changed.hand ≡ old.hand
-      → AreOwned site plain → AreOwned site (with_process number changed plain)
+  rest-owned : (number : ℕ) (old changed : PlainProcess) (plain : Plain) → slice_get plain.processes number ≡ Some old → changed.slots ≡ old.slots
+      → changed.hand ≡ old.hand → AreOwned site plain → AreOwned site (with_process number changed plain)
   rest-owned number old changed plain there slots hand all =
       let own = all.each number old there in
       process-owned number changed plain
@@ -56,8 +57,8 @@ module _ (site : Site) where
         hand = λ place held. own.hand place (sym hand ∙ held);
       }) all
 
-  slot-owned : (opener : Option Opener) (slot : Slot) (plain : Plain) → ((o : Opener) → opener ≡ Some o → slot ≢ Empty → HasOwner site o.server o.place) → AreOwned site plain
-      → AreOwned site (with_slot opener slot plain)
+  slot-owned : (opener : Option Opener) (slot : Slot) (plain : Plain) → ((o : Opener) → opener ≡ Some o → slot ≢ Empty → HasOwner site o.server o.place)
+      → AreOwned site plain → AreOwned site (with_slot opener slot plain)
   slot-owned None slot plain owner all = all
   slot-owned (Some opener) slot plain owner all = by (slice_get plain.processes opener.server) refl
     where
@@ -76,8 +77,8 @@ module _ (site : Site) where
 
   -- Acts
 
-  got-owned : (number : ℕ) (one : PlainProcess) (opener : Option Opener) (plain : Plain) (slot : Option Slot) → slice_get plain.processes number ≡ Some one → AreOwned site plain
-      → StayOwned (got_made number one opener plain slot)
+  got-owned : (number : ℕ) (one : PlainProcess) (opener : Option Opener) (plain : Plain) (slot : Option Slot) → slice_get plain.processes number ≡ Some one
+      → AreOwned site plain → StayOwned (got_made number one opener plain slot)
   got-owned number one opener plain None there all = tt
   got-owned number one opener plain (Some Empty) there all = tt
   got-owned number one opener plain (Some (Waiting words)) there all = tt
@@ -129,7 +130,8 @@ module _ (site : Site) where
             hand = λ at held. subst (HasOwner site number) (some-same held) owner;
           }) all
 
-  enter-owned : (terminal : ℕ) (plain : Plain) (slot : Option Slot) → AreOwned site plain → StayOwned (enter_made site terminal (opener_of site (who.Terminal terminal)) plain slot)
+  enter-owned : (terminal : ℕ) (plain : Plain) (slot : Option Slot) → AreOwned site plain
+      → StayOwned (enter_made site terminal (opener_of site (who.Terminal terminal)) plain slot)
   enter-owned terminal plain None all = tt
   enter-owned terminal plain (Some (Waiting words)) all = tt
   enter-owned terminal plain (Some Taken) all = tt

@@ -27,9 +27,8 @@ use Rattle.headline.proofs.Backed.{next-is}
 use Rattle.idle_end.proofs.CaughtUp.{HasPast, AwaitsMore, IsStuck, caught, grown-same}
 use Rattle.idle_end.proofs.Closing.{CanClose}
 use Rattle.idle_end.proofs.Ends.{IsEnd, who_acts, acting, only-acts}
-use Rattle.idle_end.proofs.Awaited.{at-server}
+use Rattle.idle_end.proofs.Awaited.{unanswered, at-server}
 use Rattle.idle_end.proofs.Doing.{TakesIn, takes-in}
-use Rattle.idle_end.proofs.Unanswered.{not-answered}
 
 got-again : (deed : Deed) → TakesIn deed → IsRepeatable deed → point_of deed ≡ point.Await
 got-again (Got file words) takes_in again = refl
@@ -60,34 +59,36 @@ record StandsAt (site : Site) (w : World) (ledger : Ledger) (number : ℕ) (spec
   ends : (ledger.deeds number ≡ past) ⊎ ((process.point (copy_of (who_acts pair) pair).core.state ≡ point.Await) × (more ≡ []))
 
 module _ {site : Site} {events : ℕ} {post : Post} (end : IsEnd site events post) where
+  -- the ledger of the kept acts
   abbrev pub the_ledger : Ledger
   the_ledger = end.good.invariant.ledger
 
-  stands-at : (number : ℕ) (spec : ProcessSpec) → slice_get site.processes number ≡ Some spec → StandsAt site post.world end.good.invariant.ledger number spec
+  stands-at : (number : ℕ) (spec : ProcessSpec) → slice_get site.processes number ≡ Some spec → StandsAt site post.world the_ledger number spec
   stands-at number spec known =
       let seat = end.seated.processes number spec known in
       let role = acting end number seat.0 seat.1 in
       let was = end.good.invariant.processes number seat.0 seat.1 in
       let same : was.0 ≡ spec = some-same (sym was.1 ∙ known) in
-      let sound : IsSound site post.world.marks end.good.invariant.ledger events number spec seat.0 =
-      subst (λ (s : ProcessSpec). IsSound site post.world.marks end.good.invariant.ledger events number s seat.0) same was.2 in
+      let sound : IsSound site post.world.marks the_ledger events number spec seat.0 =
+      subst (λ (s : ProcessSpec). IsSound site post.world.marks the_ledger events number s seat.0) same was.2 in
       by seat.0 seat.1 role (acting-leads seat.0 (who_acts seat.0) sound.led role).1
     where
       by : (pair : Pair) → slice_get post.world.processes number ≡ Some pair → (copy_of (who_acts pair) pair).role ≡ Acting → {stage : Stage}
-          → IsLead site end.good.invariant.ledger number spec (end.good.invariant.ledger.deeds number) (copy_of (who_acts pair) pair) stage
-          → StandsAt site post.world end.good.invariant.ledger number spec
+          → IsLead site the_ledger number spec (the_ledger.deeds number) (copy_of (who_acts pair) pair) stage
+          → StandsAt site post.world the_ledger number spec
       by pair there role (is_level {more = more} is held position done sent) = record {
         pair = pair;
         there = there;
-        past = end.good.invariant.ledger.deeds number;
-        grown = grown-none (end.good.invariant.ledger.deeds number);
+        past = the_ledger.deeds number;
+        grown = grown-none (the_ledger.deeds number);
         more = more;
         held = rw is held;
         done = done;
         position = position;
         ends = inl refl;
       }
-      by pair there role (is_applied before is split position done sent) = let unsent = end.idle.waits number pair (who_acts pair) there role in absurd (cc)
+      by pair there role (is_applied before is split position done sent) =
+          let unsent = end.idle.waits number pair (who_acts pair) there role in absurd (cc)
       by pair there role (is_behind since next before is split one all position done unsent) = record {
         pair = pair;
         there = there;
@@ -106,7 +107,7 @@ module _ {site : Site} {events : ℕ} {post : Post} (end : IsEnd site events pos
               let next_done = next-advances since next before split all.2.done done in
               stands-there next_done.1 ∙ got-again next (takes-in end number pair (who_acts pair) there role next_done.1) one
 
-  abbrev past-at : (number : ℕ) (spec : ProcessSpec) → slice_get site.processes number ≡ Some spec → HasPast site number spec (end.good.invariant.ledger.deeds number)
+  abbrev past-at : (number : ℕ) (spec : ProcessSpec) → slice_get site.processes number ≡ Some spec → HasPast site number spec (the_ledger.deeds number)
   past-at number spec known = record {
     past = (stands-at number spec known).past;
     grown = (stands-at number spec known).grown;
@@ -114,46 +115,48 @@ module _ {site : Site} {events : ℕ} {post : Post} (end : IsEnd site events pos
     done = (done-before (stands-at number spec known).more (stands-at number spec known).past (stands-at number spec known).done).1;
   }
 
-  -- a copy that awaits a reply, whose server's copy has done these deeds and hasn't answered
+  -- a copy that awaits a reply has asked more than its server's copy has answered of what is kept
   few-answered : (number : ℕ) (spec : ProcessSpec) (past : List Deed) (pair : Pair) (opener : Opener) (server : ProcessSpec)
-      → slice_get site.processes number ≡ Some spec → slice_get post.world.processes number ≡ Some pair → HasDone site number spec past (copy_of (who_acts pair) pair).core
-      → process.point (copy_of (who_acts pair) pair).core.state ≡ point.Await
+      → slice_get site.processes number ≡ Some spec → slice_get post.world.processes number ≡ Some pair
+      → HasDone site number spec past (copy_of (who_acts pair) pair).core → process.point (copy_of (who_acts pair) pair).core.state ≡ point.Await
       → opener_of site (who.File number (process.asked_file (copy_of (who_acts pair) pair).core.state)) ≡ Some opener
-      → (it : StandsAt site post.world end.good.invariant.ledger opener.server server)
+      → (it : StandsAt site post.world the_ledger opener.server server)
       → length (answered_to opener.place it.past) < length (requests_on (process.asked_file (copy_of (who_acts pair) pair).core.state) past)
   few-answered number spec past pair opener server known there done awaits opens it =
       let file : ℕ = process.asked_file (copy_of (who_acts pair) pair).core.state in
       let next = next-is site end.fit.regular number spec known past file opener opens done in
       let awaited = by_copy {number = number} pair (who_acts pair) there (acting end number pair there) awaits refl next in
-      let has = at-server end _ (who.File number file) (length (requests_on file past)) opener it.pair (who_acts it.pair) opens it.there (acting end opener.server it.pair it.there) awaited in
-      let fewer = not-answered opener (length (requests_on file past)) it.done (elim has [ inl next ↦ inl next.0 | inr hand ↦ inr hand ]) in
+      let has = at-server end _ (who.File number file) (length (requests_on file past)) opener it.pair (who_acts it.pair) opens it.there
+      (acting end opener.server it.pair it.there) awaited in
+      let fewer = unanswered (copy_of (who_acts it.pair) it.pair) opener (length (requests_on file past)) it.done has in
       let count = count-join (answer_to opener.place) it.more it.past in
       omega (arith, fewer, count)
 
   stuck : (number : ℕ) (spec : ProcessSpec) (known : slice_get site.processes number ≡ Some spec)
-      → IsStuck site end.fit.regular end.good.invariant.ledger past-at number spec known
+      → IsStuck site end.fit.regular the_ledger past-at number spec known
   stuck number spec known = by (stands-at number spec known).ends
     where
-      by : (end.good.invariant.ledger.deeds number ≡ (stands-at number spec known).past)
-          ⊎ ((process.point (copy_of (who_acts (stands-at number spec known).pair) (stands-at number spec known).pair).core.state ≡ point.Await) × ((stands-at number spec known).more ≡ []))
-          → IsStuck site end.fit.regular end.good.invariant.ledger past-at number spec known
+      by : (the_ledger.deeds number ≡ (stands-at number spec known).past)
+          ⊎ ((process.point (copy_of (who_acts (stands-at number spec known).pair) (stands-at number spec known).pair).core.state ≡ point.Await)
+          × ((stands-at number spec known).more ≡ []))
+          → IsStuck site end.fit.regular the_ledger past-at number spec known
       by (inl same) = inl same
       by (inr (awaits, none)) =
           let me = stands-at number spec known in
           let done : HasDone site number spec me.past (copy_of (who_acts me.pair) me.pair).core =
           subst (λ more. HasDone site number spec (more ++ me.past) (copy_of (who_acts me.pair) me.pair).core) none me.done in
           let same : (copy_of (who_acts me.pair) me.pair).core ≡ (past-at number spec known).core = done-one done (past-at number spec known).done in
-          inr (subst (AwaitsMore site end.fit.regular end.good.invariant.ledger past-at number me.past) same
+          inr (subst (AwaitsMore site end.fit.regular the_ledger past-at number me.past) same
           (awaits, λ opener server its opens. few-answered number spec me.past me.pair opener server known me.there done awaits opens (stands-at opener.server server its)))
 
   -- each process's copy that acts has done all of its deeds
-  level : (number : ℕ) (spec : ProcessSpec) (known : slice_get site.processes number ≡ Some spec) → end.good.invariant.ledger.deeds number ≡ (stands-at number spec known).past
+  level : (number : ℕ) (spec : ProcessSpec) (known : slice_get site.processes number ≡ Some spec) → the_ledger.deeds number ≡ (stands-at number spec known).past
   level number spec known =
       grown-same (stands-at number spec known).grown
-      (caught site end.fit.regular end.good.invariant.ledger past-at stuck end.good.invariant.booked (λ other. grown-none (end.good.invariant.ledger.deeds other)) number spec known)
+      (caught site end.fit.regular the_ledger past-at stuck end.good.invariant.booked (λ other. grown-none (the_ledger.deeds other)) number spec known)
 
   pub caught-up : (number : ℕ) (pair : Pair) (k : Which) → slice_get post.world.processes number ≡ Some pair → (copy_of k pair).role ≡ Acting
-      → (copy_of k pair).position ≡ length (end.good.invariant.ledger.deeds number)
+      → (copy_of k pair).position ≡ length (the_ledger.deeds number)
   caught-up number pair k there role =
       let was = end.good.invariant.processes number pair there in
       let at = stands-at number was.0 was.1 in
@@ -163,12 +166,12 @@ module _ {site : Site} {events : ℕ} {post : Post} (end : IsEnd site events pos
       ap (λ (c : Copy). c.position) (sym copy_same) ∙ at.position ∙ ap length (sym (level number was.0 was.1))
 
   -- so its held acts may follow
-  pub can-close : (number : ℕ) (pair : Pair) → slice_get post.world.processes number ≡ Some pair → CanClose site end.good.invariant.ledger number pair (who_acts pair)
+  pub can-close : (number : ℕ) (pair : Pair) → slice_get post.world.processes number ≡ Some pair → CanClose site the_ledger number pair (who_acts pair)
   can-close number pair there =
       let was = end.good.invariant.processes number pair there in
       let at = stands-at number was.0 was.1 in
       let same : at.pair ≡ pair = some-same (sym at.there ∙ there) in
-      subst (λ (p : Pair). CanClose site end.good.invariant.ledger number p (who_acts p)) same (record {
+      subst (λ (p : Pair). CanClose site the_ledger number p (who_acts p)) same (record {
         spec = was.0;
         there = was.1;
         more = at.more;

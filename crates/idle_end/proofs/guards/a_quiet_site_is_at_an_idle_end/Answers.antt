@@ -46,7 +46,10 @@ returns-clause-quiet c = record {
     disciplined = λ number. each (IsDisciplined quiet_site number) (disc-disciplined quiet_site number 2 disc refl) number;
     requests = λ terminal entered words next. absurd (cc);
   };
-  laid_out = record { few = omega arith; places = each (λ spec. (spec.primary < 2) × (spec.backup < 2) × (spec.primary ≢ spec.backup)) (omega arith, omega arith, λ same. cc) };
+  laid_out = record {
+    few = omega arith;
+    places = each (λ spec. (spec.primary < 2) × (spec.backup < 2) × (spec.primary ≢ spec.backup)) (omega arith, omega arith, λ same. cc);
+  };
   few = omega arith;
   run = stays;
   one_stops = λ one other first second. absurd (none-stopped one first);
