@@ -1,0 +1,72 @@
+ghost use Rattle.std.specs.Prelude.{◌≡◌, ◌↔◌, [], ◌∷◌, length, reverse, IsTrue, OnOk, OnErr};
+
+use gd_words::NoMemory;
+use std::alloc::Global;
+use std::marker::Model;
+
+/// What happened, item by item: a list that grows at its front, so that contracts see the newest item first.
+#[derive(Drop)]
+pub struct Log<T> {
+    items: Vec<T>,
+}
+
+impl<T> Model for Log<T> {
+    ghost use Rattle.std.specs.Coded.{coded_list};
+    ghost use Rattle.std.specs.Prelude.{List, reverse};
+
+    ghost Value = { List T };
+
+    ghost coded = { coded_list T.code };
+
+    ghost view = { λ log. reverse log.items.items };
+}
+
+impl<T> Log<T> {
+    /// Nothing happened. The allocator is kept for later items.
+    pub fn new(alloc: Global) -> Log<T>
+        ensures { result ≡ [] }
+    {
+        Log {
+            items: Vec::new(alloc),
+        }
+    }
+
+    /// How many items there are.
+    pub fn len(&self) -> usize
+        ensures { result ≡ length self.now }
+    {
+        self.items.len()
+    }
+
+    /// Whether there is no item.
+    pub fn is_empty(&self) -> bool
+        ensures { IsTrue result ↔ (self.now ≡ []) }
+    {
+        self.items.is_empty()
+    }
+
+    /// All items, the oldest first.
+    pub fn as_slice(&self) -> &[T]
+        ensures { result.now ≡ reverse self.now }
+    {
+        self.items.as_slice()
+    }
+}
+
+impl<T: Drop> Log<T> {
+    /// One more item, before all others.
+    pub fn add(&mut self, item: T) -> Result<(), NoMemory>
+        ensures ok { OnOk result (self.new ≡ item ∷ self.old) }
+        ensures err { OnErr result (self.new ≡ self.old) }
+    {
+        self.items.push(item)?;
+        Ok(())
+    }
+
+    /// Lets go of all items.
+    pub fn clear(&mut self)
+        ensures { self.new ≡ [] }
+    {
+        self.items.clear();
+    }
+}
