@@ -1,4 +1,4 @@
-ghost use Rattle.std.specs.Prelude.{◌≡◌, ◌<◌, ◌≤◌, ◌+◌, length, replicate, slice_index, slice_set};
+ghost use Rattle.std.specs.Prelude.{◌≡◌, ◌<◌, ◌≤◌, ◌+◌, length, replicate, slice_get, slice_index, slice_set};
 
 use arrayvec::ArrayVec;
 use std::marker::Model;
@@ -28,6 +28,28 @@ impl Asker {
             next.push(1);
         }
         Asker { next }
+    }
+
+    /// How many files there are.
+    pub fn len(&self) -> usize
+        ensures value { result ≡ length self.now }
+        ensures few { result ≤ 8 }
+    {
+        self.next.len()
+    }
+
+    /// The number of the next request on a file, if the file is there.
+    pub fn get(&self, file: u8) -> Option<u32>
+        ensures { result ≡ slice_get self.now file }
+    {
+        self.next.as_slice().get(usize::from(file)).copied()
+    }
+
+    /// All next numbers, from file 0 on.
+    pub fn as_slice(&self) -> &[u32]
+        ensures { result.now ≡ self.now }
+    {
+        self.next.as_slice()
     }
 
     /// The number of the next request on a file.

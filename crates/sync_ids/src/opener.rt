@@ -89,7 +89,7 @@ impl Opener {
     pub fn block(&self, alloc: Global) -> Result<OpenerBlock, NoMemory>
         ensures { IfOk result (λ block. block ≡ block_of self.now) }
     {
-        let mut kept = List::new(alloc);
+        let mut kept = List::from_vec(Vec::with_capacity(alloc, self.kept.len())?);
         let (older, newer) = self.kept.as_slices();
         put_copies(older, &mut kept)?;
         put_copies(newer, &mut kept)?;

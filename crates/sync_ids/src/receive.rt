@@ -35,7 +35,8 @@ impl Receive {
     pub fn new(alloc: Global, openers: &[OpenerSpec]) -> Result<Receive, NoMemory>
         requires few { length openers.now < 4096 }
         requires depths { All (λ opener. IsDepth opener.depth) openers.now }
-        ensures { IfOk result (λ receive. receive ≡ nothing_taken (map (λ opener. opener.depth) openers.now)) }
+        ensures value { IfOk result (λ receive. receive ≡ nothing_taken (map (λ opener. opener.depth) openers.now)) }
+        ensures sound { IfOk result IsSound }
     {
         let openers = openers_of(alloc, openers)?;
         Ok(Receive {
@@ -79,11 +80,11 @@ impl Receive {
     /// Takes the next request of an opener: it is in hand then.
     pub fn take(&mut self, opener: u16)
         requires there { opener < length self.old.depths }
-        requires free { self.old.table.in_hand ≡ None }
         requires room { last_taken self.old.table opener < 4294967295 }
         ensures table { (block : OpenerBlock) → slice_get self.old.table.openers opener ≡ Some block → self.new.table ≡ after_taking opener block self.old.table }
         ensures held { self.new.table.in_hand ≡ Some opener }
         ensures depths { self.new.depths ≡ self.old.depths }
+        ensures sound { IsSound self.new }
     {
         self.openers[usize::from(opener)].take();
         self.in_hand = Some(opener);
@@ -97,6 +98,7 @@ impl Receive {
         ensures free { self.new.table.in_hand ≡ None }
         ensures table { (block : OpenerBlock) (depth : ℕ) → slice_get self.old.table.openers result ≡ Some block → slice_get self.old.depths result ≡ Some depth → self.new.table ≡ after_answering depth result block words.now self.old.table }
         ensures depths { self.new.depths ≡ self.old.depths }
+        ensures sound { IsSound self.new }
     {
         let opener = self.in_hand.unwrap();
         self.openers[usize::from(opener)].keep(words);
@@ -128,6 +130,7 @@ impl Receive {
         ensures told { result ≡ fits self.old block.now }
         ensures table { self.new.table ≡ (if result then block.now else self.old.table) }
         ensures depths { self.new.depths ≡ self.old.depths }
+        ensures sound { IsSound self.new }
     {
         let fits = self.fits(block);
         if fits {
@@ -142,7 +145,7 @@ impl Receive {
 fn openers_of(alloc: Global, openers: &[OpenerSpec]) -> Result<Vec<Opener>, NoMemory>
     ensures { IfOk result (λ made. made.items ≡ map (λ opener. untaken_of opener.depth) openers.now) }
 {
-    let mut made = Vec::new(alloc);
+    let mut made = Vec::with_capacity(alloc, openers.len())?;
     for opener in openers {
         made.push(Opener::new(alloc, opener.depth)?)?;
     }
@@ -153,7 +156,7 @@ fn openers_of(alloc: Global, openers: &[OpenerSpec]) -> Result<Vec<Opener>, NoMe
 fn blocks_of(alloc: Global, openers: &[Opener]) -> Result<List<OpenerBlock>, NoMemory>
     ensures { IfOk result (λ blocks. blocks ≡ map block_of openers.now) }
 {
-    let mut blocks = List::new(alloc);
+    let mut blocks = List::from_vec(Vec::with_capacity(alloc, openers.len())?);
     for opener in openers {
         blocks.push(opener.block(alloc)?)?;
     }

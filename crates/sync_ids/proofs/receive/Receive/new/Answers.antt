@@ -10,5 +10,10 @@ invariant_of-result c =
     subst IsSound (sym (ap (λ (openers : List Opener). remembered openers None) c.in_ok-openers.ensures ∙ remembered-untaken c.args.openers.now))
     (sound-untaken c.args.openers.now c.requires.few c.requires.depths)
 
-pub returns : goal.returns
-returns c = ap (λ (openers : List Opener). remembered openers None) c.in_ok-openers.ensures ∙ remembered-untaken c.args.openers.now
+pub returns-clause-value : goal.returns-clause-value
+returns-clause-value c = ap (λ (openers : List Opener). remembered openers None) c.in_ok-openers.ensures ∙ remembered-untaken c.args.openers.now
+
+pub returns-clause-sound : goal.returns-clause-sound
+returns-clause-sound c =
+    subst IsSound (sym (ap (λ (openers : List Opener). remembered openers None) c.in_ok-openers.ensures ∙ remembered-untaken c.args.openers.now))
+    (sound-untaken c.args.openers.now c.requires.few c.requires.depths)

@@ -26,3 +26,11 @@ returns-clause-depths c =
     c.index_mut.ensures.value c.self.invariant in
     depths-same c.self.inside.openers.items c.from.result c.index_mut.result.now c.keep.new.self held.1 c.keep.ensures.depth
     ∙ ap (λ (r : Remembered). r.depths) c.self.view_is
+
+pub returns-clause-sound : goal.returns-clause-sound
+returns-clause-sound c =
+    let held =
+    opener-held c.self.inside.openers.items c.self.inside.in_hand c.from.result c.unwrap-opener.result c.index_mut.result.now c.unwrap-opener.ensures c.from.ensures
+    c.index_mut.ensures.value c.self.invariant in
+    sound-answering c.self.inside.openers.items c.from.result c.index_mut.result.now c.keep.new.self c.args.words.now held.1
+    c.keep.ensures.block c.keep.ensures.depth held.0

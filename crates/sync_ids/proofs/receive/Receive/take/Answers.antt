@@ -27,3 +27,12 @@ returns-clause-depths c =
     c.index_mut.ensures.value in
     depths-same c.self.inside.openers.items c.from.result c.index_mut.result.now c.take.new.self old c.take.ensures.depth
     ∙ ap (λ (r : Remembered). r.depths) c.self.view_is
+
+pub returns-clause-sound : goal.returns-clause-sound
+returns-clause-sound c =
+    let old =
+    opener-at c.self.inside.openers.items c.self.inside.in_hand c.args.self.now c.from.result c.args.opener c.index_mut.result.now c.self.view_is c.from.ensures c.requires.there
+    c.index_mut.ensures.value in
+    rw (← c.from.ensures)
+    (sound-taking c.self.inside.openers.items c.self.inside.in_hand c.from.result c.index_mut.result.now c.take.new.self old
+    c.take.ensures.block c.take.ensures.depth c.self.invariant)
