@@ -1,0 +1,5 @@
+mod Consistent
+mod Numbers
+mod Ordered
+mod Starting
+mod Tables

@@ -1,0 +1,87 @@
+-- One copy of a process by itself: all that a copy in the world of copies has but its processor, the requests that wait, its position and its held acts.
+-- Checkpoints and takeover are Bartlett's ("A NonStop Kernel"); that era and number choose a checkpoint is our own rule.
+use Rattle.std.specs.Option.{option_map}
+use Rattle.std.specs.Prelude.{ℕ, ◌+◌, ◌==◌, ◌&&◌, Bool, true, false, List, Option, None}
+use Rattle.tal_tree.specs.declared.site.OpenerSpec.{OpenerSpec}
+use Rattle.process_semantics.specs.Process.{ProcessState}
+use Rattle.checkpoint_image.specs.declared.message.ImageMessage.{ImageMessage}
+use Rattle.checkpoint_image.specs.declared.message.TakenMessage.{TakenMessage}
+use Rattle.world_semantics.specs.declared.role.Role.{Role}
+use Rattle.world_semantics.specs.declared.role.Role.TheVariants.{Acting, Watching, Gone}
+use Rattle.world_semantics.specs.Core.{Core, after_passing, carried}
+use Rattle.process_control.specs.Cores.{CoreAndDepths, core_at_start}
+use Rattle.computed_changes.specs.Fitting.{put_fitting}
+
+-- a copy: its role, its era, the number of the last checkpoint sent or applied in that era, whether it has sent the checkpoint of the mark at which it stands,
+-- whether that was acknowledged, its core, and how many replies are kept at most of each opener of its process
+pub record CopyState : Type 0 where
+  pub role : Role
+  pub era : ℕ
+  pub number : ℕ
+  pub sent : Bool
+  pub acknowledged : Bool
+  pub core : Core
+  pub depths : List ℕ
+
+-- a copy at its start: in era 0, with no checkpoint sent or applied
+abbrev pub copy_of_core : Role → CoreAndDepths → CopyState
+copy_of_core role it = record {
+  role = role;
+  era = 0;
+  number = 0;
+  sent = false;
+  acknowledged = false;
+  core = it.core;
+  depths = it.depths;
+}
+
+abbrev pub copy_at_start : Role → ProcessState → ℕ → List OpenerSpec → CopyState
+copy_at_start role state files openers = copy_of_core role (core_at_start state files openers)
+
+-- the copy with this core
+abbrev pub with_core : CopyState → Core → CopyState
+with_core copy core = record copy { core = core }
+
+-- Sending
+
+-- the checkpoint that a copy sends: the next one of its era
+abbrev pub copy_checkpoint : ℕ → CopyState → ImageMessage
+copy_checkpoint process copy = record { process = process; era = copy.era; number = copy.number + 1; image = carried copy.core }
+
+-- the copy after it sent its checkpoint
+abbrev pub copy_sending : CopyState → CopyState
+copy_sending copy = record copy { number = copy.number + 1; sent = true; acknowledged = false }
+
+-- whether it is what a copy sent last that was taken
+abbrev pub is_of_last : CopyState → TakenMessage → Bool
+is_of_last copy taken = copy.sent && (taken.era == copy.era && taken.number == copy.number)
+
+-- the copy after it passed its mark
+abbrev pub copy_passing : CopyState → CopyState
+copy_passing copy = record copy { core = after_passing copy.core; sent = false; acknowledged = false }
+
+-- Applying
+
+-- whether a checkpoint is the next one for a copy: of the copy's own era, and of the number next to its own
+abbrev pub is_next_for : CopyState → ImageMessage → Bool
+is_next_for copy message = message.era == copy.era && message.number == copy.number + 1
+
+abbrev pub copy_applied : ImageMessage → CopyState → Core → CopyState
+copy_applied message copy core = record copy { core = core; number = message.number }
+
+abbrev pub applied_where : ImageMessage → CopyState → Bool → Option CopyState
+applied_where message copy true = option_map (copy_applied message copy) (put_fitting copy.depths copy.core message.image)
+applied_where message copy false = None
+
+abbrev pub applied_as : ImageMessage → CopyState → Role → Option CopyState
+applied_as message copy Watching = applied_where message copy (is_next_for copy message)
+applied_as message copy Acting = None
+applied_as message copy Gone = None
+
+-- the copy after a checkpoint came to it; none where it is ignored. A copy that watches applies it whole where it is the next one and fits
+abbrev pub copy_applying : ImageMessage → CopyState → Option CopyState
+copy_applying message copy = applied_as message copy copy.role
+
+-- the copy after it took over: it acts in the next era, in which no checkpoint was sent yet
+abbrev pub copy_taking_over : CopyState → CopyState
+copy_taking_over copy = record copy { role = Acting; era = copy.era + 1; number = 0 }

@@ -1,0 +1,93 @@
+-- What the steps of a copy do to its core. What each step is stands with the definitions of processes and of receive tables.
+use Rattle.std.specs.Option.{option_map}
+use Rattle.std.specs.Prelude.{ℕ, ◌+◌, ℤ, Bool, nat_lt, List, map, replicate, slice_get, slice_set, Option, Some, None}
+use Rattle.std.specs.List.{list_all}
+use Rattle.gd_words.specs.declared.message.Request.{Request}
+use Rattle.tal_tree.specs.declared.site.OpenerSpec.{OpenerSpec}
+use Rattle.process_semantics.specs.Process as process
+use Rattle.checkpoint_image.specs.declared.receive.OpenerBlock.{OpenerBlock}
+use Rattle.checkpoint_image.specs.Receive.{after_taking, after_answering}
+use Rattle.sync_ids.specs.Tables.{last_taken, nothing_taken}
+use Rattle.world_semantics.specs.Core.{Core, next_on}
+use Rattle.process_control.specs.declared.told.Asking.{Asking}
+use Rattle.process_control.specs.declared.told.Answering.{Answering}
+
+-- a core, and how many replies are kept at most of each opener of its process
+pub record CoreAndDepths : Type 0 where
+  pub core : Core
+  pub depths : List ℕ
+
+-- at the start of a process in this state, with so many files and these openers: all next numbers are 1, and nothing is taken, kept or in hand
+abbrev pub core_at_start : process.ProcessState → ℕ → List OpenerSpec → CoreAndDepths
+core_at_start state files openers = record {
+  core = record { state = state; next = replicate files 1; receive = (nothing_taken (map (λ opener. opener.depth) openers)).table };
+  depths = map (λ opener. opener.depth) openers;
+}
+
+-- a step inside
+abbrev pub core_going : Core → Core
+core_going core = record core { state = process.after_inner core.state }
+
+-- A request that is taken
+
+abbrev pub core_taken : Request → Core → OpenerBlock → Core
+core_taken request core block =
+    record core { state = process.after_took core.state request.words; receive = after_taking request.opener block core.receive }
+
+-- the core after the request was taken; none where its opener isn't there
+abbrev pub core_taking : Request → Core → Option Core
+core_taking request core = option_map (core_taken request core) (slice_get core.receive.openers request.opener)
+
+-- A request that is asked
+
+-- whether each file has a number left after its next one, within 32 bits
+abbrev pub have_next : List ℕ → Bool
+have_next next = list_all (λ number. nat_lt number 4294967295) next
+
+-- what is asked: the file, the number of the request on it, and the words
+abbrev pub asking_of : Core → Asking
+asking_of core = record {
+  file = process.asked_file core.state;
+  number = next_on core (process.asked_file core.state);
+  words = process.asked_words core.state;
+}
+
+abbrev pub core_asking : Core → Core
+core_asking core = record core {
+  state = process.after_asked core.state;
+  next = slice_set core.next (process.asked_file core.state) (next_on core (process.asked_file core.state) + 1);
+}
+
+-- a reply that is got
+abbrev pub core_getting : List ℤ → Core → Core
+core_getting words core = record core { state = process.after_got core.state words }
+
+-- A request that is answered
+
+abbrev pub answering_at : Core → Option ℕ → Option Answering
+answering_at core None = None
+answering_at core (Some place) =
+    Some (record { opener = place; number = last_taken core.receive place; words = process.answer_of core.state })
+
+-- what is answered: the opener whose request is in hand, the number last taken from it, and the words; none where nothing is in hand
+abbrev pub answering_of : Core → Option Answering
+answering_of core = answering_at core core.receive.in_hand
+
+abbrev pub core_answered : Core → ℕ → Option ℕ → Option OpenerBlock → Option Core
+core_answered core place (Some depth) (Some block) = Some (record core {
+  state = process.after_answered core.state;
+  receive = after_answering depth place block (process.answer_of core.state) core.receive;
+})
+core_answered core place _ _ = None
+
+abbrev pub core_answering_at : List ℕ → Core → Option ℕ → Option Core
+core_answering_at depths core None = None
+core_answering_at depths core (Some place) = core_answered core place (slice_get depths place) (slice_get core.receive.openers place)
+
+-- the core after it answered the request in hand, with openers of these depths; none where nothing is in hand, or the opener isn't there
+abbrev pub core_answering : List ℕ → Core → Option Core
+core_answering depths core = core_answering_at depths core core.receive.in_hand
+
+-- an act on the device, with the words that stood on the sector
+abbrev pub core_acting : List ℤ → Core → Core
+core_acting found core = record core { state = process.after_device core.state found }

@@ -1,0 +1,336 @@
+ghost use Rattle.std.specs.Prelude.{◌≡◌, ◌<◌, ◌≤◌, ◌+◌, ◌↔◌, ◌^◌, All, false, true, is_some, length, Some, IfOk, IsOk, IsTrue, OnOk, OnErr};
+ghost use Rattle.std.specs.Option.{option_map, unwrap_or};
+ghost use Rattle.process_semantics.specs.declared.point.Point.TheVariants.{Inner, Take, Ask, Await, Answer, Mark, Device};
+ghost use Rattle.process_semantics.specs.Process.{point, in_hand, call_of};
+ghost use Rattle.whole_states.specs.Listing.{files_of};
+ghost use Rattle.whole_states.specs.Processes.{IsWholeProcess};
+ghost use Rattle.checkpoint_image.specs.Behaving.{last_write_of};
+ghost use Rattle.checkpoint_image.specs.Receive.{standing};
+ghost use Rattle.checkpoint_image.specs.declared.receive.Standing.TheVariants.{Next};
+ghost use Rattle.sync_ids.specs.Tables.{IsDepth};
+ghost use Rattle.world_semantics.specs.declared.role.Role.TheVariants.{Watching, Gone};
+ghost use Rattle.world_semantics.specs.Core.{next_on};
+ghost use Rattle.process_control.specs.Cores.{core_going, core_taking, have_next, asking_of, core_asking, core_getting, answering_of, core_answering, core_acting};
+ghost use Rattle.process_control.specs.Copies.{applied_where, copy_applying, copy_at_start, copy_checkpoint, copy_passing, copy_sending, copy_taking_over, is_of_last, is_next_for, with_core};
+
+use crate::core::CopyCore;
+use crate::told::{Answering, Asking};
+use checkpoint_image::{Behaviour, ImageMessage, Standing, TakenMessage};
+use gd_words::{DeviceCall, NoMemory, Request, Sector, Words};
+use process_semantics::Point;
+use std::alloc::Global;
+use std::marker::Model;
+use sync_ids::Receive;
+use tal_tree::OpenerSpec;
+use world_semantics::Role;
+
+/// One copy of a process.
+#[derive(Drop)]
+pub struct CopyControl<B: Behaviour> {
+    role: Role,
+    era: u32,
+    number: u32,
+    sent: bool,
+    acknowledged: bool,
+    core: CopyCore<B>,
+}
+
+impl<B: Behaviour> Model for CopyControl<B> {
+    ghost use Rattle.std.specs.Coded.{codes};
+    ghost use Rattle.tal_tree.specs.contracts.statement.Statement as statement;
+    ghost use Rattle.process_control.specs.Copies.{CopyState};
+
+    ghost Value = { CopyState };
+
+    ghost coded = { Prim.hlevel (codes, statement.the_row.coded) };
+
+    ghost view = { λ copy. record {
+      role = copy.role;
+      era = copy.era;
+      number = copy.number;
+      sent = copy.sent;
+      acknowledged = copy.acknowledged;
+      core = copy.core.core;
+      depths = copy.core.depths;
+    } };
+}
+
+impl<B: Behaviour> CopyControl<B> {
+    /// A copy at its start: of a process that has nothing in hand, with so many files and these openers.
+    pub fn start(
+        alloc: Global,
+        behaviour: B,
+        role: Role,
+        openers: &[OpenerSpec],
+        files: u8,
+    ) -> Result<CopyControl<B>, NoMemory>
+        requires whole { IsWholeProcess (B.state behaviour) }
+        requires free { in_hand (B.state behaviour) ≡ false }
+        requires files { files ≡ files_of (B.state behaviour) }
+        requires few_files { files ≤ 8 }
+        requires few_openers { length openers.now < 4096 }
+        requires depths { All (λ opener. IsDepth opener.depth) openers.now }
+        ensures { IfOk result (λ copy. copy ≡ copy_at_start role (B.state behaviour) files openers.now) }
+    {
+        let core = CopyCore::start(alloc, behaviour, files, openers)?;
+        Ok(CopyControl {
+            role,
+            era: 0,
+            number: 0,
+            sent: false,
+            acknowledged: false,
+            core,
+        })
+    }
+
+    pub fn role(&self) -> Role
+        ensures { result ≡ self.now.role }
+    {
+        self.role
+    }
+
+    pub fn era(&self) -> u32
+        ensures { result ≡ self.now.era }
+    {
+        self.era
+    }
+
+    /// The number of the last checkpoint sent or applied in its era.
+    pub fn number(&self) -> u32
+        ensures { result ≡ self.now.number }
+    {
+        self.number
+    }
+
+    /// Whether it has sent the checkpoint of its mark.
+    pub fn sent(&self) -> bool
+        ensures { result ≡ self.now.sent }
+    {
+        self.sent
+    }
+
+    /// Whether what it sent was acknowledged.
+    pub fn acknowledged(&self) -> bool
+        ensures { result ≡ self.now.acknowledged }
+    {
+        self.acknowledged
+    }
+
+    /// Where its process stands.
+    pub fn point(&self) -> Point
+        ensures { result ≡ point self.now.core.state }
+    {
+        self.core.point()
+    }
+
+    /// Its process.
+    pub fn behaviour(&self) -> &B
+        ensures { B.state result.now ≡ self.now.core.state }
+    {
+        self.core.behaviour()
+    }
+
+    /// Its receive table, which tells what waits and which reply is sent again.
+    pub fn receive(&self) -> &Receive
+        ensures table { result.now.table ≡ self.now.core.receive }
+        ensures depths { result.now.depths ≡ self.now.depths }
+    {
+        self.core.receive()
+    }
+
+    /// The place of the opener whose request is in hand.
+    pub fn in_hand(&self) -> Option<u16>
+        ensures { result ≡ self.now.core.receive.in_hand }
+    {
+        self.core.receive().in_hand()
+    }
+
+    /// How a request stands to its receive table. Where it was answered, and the reply is kept, this is told again.
+    pub fn standing(&self, request: &Request) -> Standing
+        requires { request.now.opener < length self.now.depths }
+        ensures { result ≡ standing self.now.core.receive request.now }
+    {
+        self.core.receive().standing(request.opener, request.number)
+    }
+
+    /// The number of the next request on a file.
+    pub fn next_on(&self, file: u8) -> u32
+        ensures { result ≡ next_on self.now.core file }
+    {
+        self.core.next_on(file)
+    }
+
+    /// A step inside.
+    pub fn inner(&mut self)
+        requires { point self.old.core.state ≡ Inner }
+        ensures { self.new ≡ with_core self.old (core_going self.old.core) }
+    {
+        self.core.inner();
+    }
+
+    /// Takes a request that stands Next: it is in hand then.
+    pub fn take(&mut self, request: &Request)
+        requires point { point self.old.core.state ≡ Take }
+        requires next { standing self.old.core.receive request.now ≡ Next }
+        ensures { option_map (with_core self.old) (core_taking request.now self.old.core) ≡ Some self.new }
+    {
+        self.core.take(request);
+    }
+
+    /// Asks on a file, and awaits the reply from now on. Want of memory is answered where a file has no number left, and then nothing
+    /// changes.
+    pub fn ask(&mut self) -> Result<Asking, NoMemory>
+        requires { point self.old.core.state ≡ Ask }
+        ensures room { IsTrue (have_next self.old.core.next) ↔ IsOk result }
+        ensures asking { IfOk result (λ asking. asking ≡ asking_of self.old.core) }
+        ensures ok { OnOk result (self.new ≡ with_core self.old (core_asking self.old.core)) }
+        ensures err { OnErr result (self.new ≡ self.old) }
+    {
+        let asking = self.core.ask()?;
+        Ok(asking)
+    }
+
+    /// Gets the reply that it awaits.
+    pub fn got(&mut self, words: &Words)
+        requires { point self.old.core.state ≡ Await }
+        ensures { self.new ≡ with_core self.old (core_getting words.now self.old.core) }
+    {
+        self.core.got(words);
+    }
+
+    /// Answers the request in hand, and keeps the reply.
+    pub fn answer(&mut self) -> Answering
+        requires { point self.old.core.state ≡ Answer }
+        ensures answering { answering_of self.old.core ≡ Some result }
+        ensures copy { option_map (with_core self.old) (core_answering self.old.depths self.old.core) ≡ Some self.new }
+    {
+        self.core.answer()
+    }
+
+    /// What it does to its device.
+    pub fn device(&self) -> DeviceCall
+        requires point { point self.now.core.state ≡ Device }
+        requires numbers { last_write_of self.now.core.state + 1 < 2 ^ 32 }
+        ensures { result ≡ call_of self.now.core.state }
+    {
+        self.core.device()
+    }
+
+    /// The step at its device, with the words that stood on the sector.
+    pub fn device_done(&mut self, found: &Sector)
+        requires point { point self.old.core.state ≡ Device }
+        requires numbers { last_write_of self.old.core.state + 1 < 2 ^ 32 }
+        ensures { self.new ≡ with_core self.old (core_acting found.now self.old.core) }
+    {
+        self.core.device_done(found);
+    }
+
+    /// The checkpoint of the mark at which it stands, for the other copy of its process. Want of memory is answered too where the era
+    /// has no number left. An error changes nothing.
+    pub fn checkpoint_out(&mut self, alloc: Global, process: u8) -> Result<ImageMessage, NoMemory>
+        requires { point self.old.core.state ≡ Mark }
+        ensures message { IfOk result (λ message. message ≡ copy_checkpoint process self.old) }
+        ensures ok { OnOk result (self.new ≡ copy_sending self.old) }
+        ensures err { OnErr result (self.new ≡ self.old) }
+    {
+        match self.number.checked_add(1) {
+            None => Err(NoMemory),
+            Some(number) => {
+                let image = self.core.carried(alloc)?;
+                self.number = number;
+                self.sent = true;
+                self.acknowledged = false;
+                Ok(ImageMessage {
+                    process,
+                    era: self.era,
+                    number,
+                    image,
+                })
+            }
+        }
+    }
+
+    /// A checkpoint came: it is applied whole, or ignored, and then nothing changes. It takes no memory.
+    pub fn checkpoint_in(&mut self, message: &ImageMessage) -> bool
+        ensures told { result ≡ is_some (copy_applying message.now self.old) }
+        ensures copy { self.new ≡ unwrap_or (copy_applying message.now self.old) self.old }
+    {
+        match self.role {
+            Role::Watching => {
+                let is_next = self.is_next_for(message);
+                self.apply_where(message, is_next)
+            }
+            Role::Acting | Role::Gone => false,
+        }
+    }
+
+    fn is_next_for(&self, message: &ImageMessage) -> bool
+        ensures { result ≡ is_next_for self.now message.now }
+    {
+        message.era == self.era && u64::from(message.number) == u64::from(self.number) + 1
+    }
+
+    fn apply_where(&mut self, message: &ImageMessage, is_next: bool) -> bool
+        ensures told { result ≡ is_some (applied_where message.now self.old is_next) }
+        ensures copy { self.new ≡ unwrap_or (applied_where message.now self.old is_next) self.old }
+    {
+        if !is_next {
+            return false;
+        }
+        let applied = self.core.put(&message.image);
+        if applied {
+            self.number = message.number;
+        }
+        applied
+    }
+
+    /// Whether it is what it sent last that was taken.
+    pub fn is_of_last(&self, taken: TakenMessage) -> bool
+        ensures { result ≡ is_of_last self.now taken }
+    {
+        self.sent && taken.era == self.era && taken.number == self.number
+    }
+
+    /// What it sent last was taken.
+    pub fn acked(&mut self)
+        ensures { self.new ≡ record self.old { acknowledged = true } }
+    {
+        self.acknowledged = true;
+    }
+
+    /// Goes on after its mark.
+    pub fn pass(&mut self)
+        requires { point self.old.core.state ≡ Mark }
+        ensures { self.new ≡ copy_passing self.old }
+    {
+        self.core.pass();
+        self.sent = false;
+        self.acknowledged = false;
+    }
+
+    /// Takes over from the other copy, whose processor is marked: it acts from the last checkpoint on that it has applied. Want of memory
+    /// is answered where there is no era left, and then nothing changes.
+    pub fn take_over(&mut self) -> Result<(), NoMemory>
+        requires { self.old.role ≡ Watching }
+        ensures room { self.old.era < 4294967295 ↔ IsOk result }
+        ensures ok { OnOk result (self.new ≡ copy_taking_over self.old) }
+        ensures err { OnErr result (self.new ≡ self.old) }
+    {
+        match self.era.checked_add(1) {
+            None => Err(NoMemory),
+            Some(era) => {
+                self.role = Role::Acting;
+                self.era = era;
+                self.number = 0;
+                Ok(())
+            }
+        }
+    }
+
+    /// Its processor stops.
+    pub fn stop(&mut self)
+        ensures { self.new ≡ record self.old { role = Gone } }
+    {
+        self.role = Role::Gone;
+    }
+}

@@ -1,0 +1,218 @@
+ghost use Rattle.std.specs.Prelude.{◌≡◌, ◌<◌, ◌≤◌, ◌+◌, ◌↔◌, ◌^◌, All, false, is_some, length, Some, IfOk, IsOk, IsTrue, OnOk, OnErr};
+ghost use Rattle.std.specs.Option.{unwrap_or};
+ghost use Rattle.process_semantics.specs.declared.point.Point.TheVariants.{Inner, Take, Ask, Await, Answer, Mark, Device};
+ghost use Rattle.process_semantics.specs.Process.{point, in_hand, call_of};
+ghost use Rattle.whole_states.specs.Listing.{files_of};
+ghost use Rattle.whole_states.specs.Processes.{IsWholeProcess};
+ghost use Rattle.checkpoint_image.specs.Behaving.{last_write_of};
+ghost use Rattle.checkpoint_image.specs.Receive.{standing};
+ghost use Rattle.checkpoint_image.specs.declared.receive.Standing.TheVariants.{Next};
+ghost use Rattle.sync_ids.specs.Tables.{IsDepth};
+ghost use Rattle.world_semantics.specs.Core.{after_passing, carried, next_on};
+ghost use Rattle.process_control.specs.Cores.{core_at_start, core_going, core_taking, have_next, asking_of, core_asking, core_getting, answering_of, core_answering, core_acting};
+ghost use Rattle.computed_changes.specs.Fitting.{put_fitting};
+
+use crate::files::{are_files, have_next, next_on, numbers_of, put_files};
+use crate::told::{Answering, Asking};
+use checkpoint_image::{Behaviour, Image};
+use gd_words::{DeviceCall, NoMemory, Request, Sector, Words};
+use process_semantics::Point;
+use std::alloc::Global;
+use std::marker::Model;
+use sync_ids::{Asker, Receive};
+use tal_tree::OpenerSpec;
+
+/// What a copy's checkpoints carry: the process, its receive table and the numbers of its files.
+#[derive(Drop)]
+pub struct CopyCore<B: Behaviour> {
+    behaviour: B,
+    receive: Receive,
+    asker: Asker,
+}
+
+impl<B: Behaviour> Model for CopyCore<B> {
+    ghost use Rattle.std.specs.Coded.{codes};
+    ghost use Rattle.tal_tree.specs.contracts.statement.Statement as statement;
+    ghost use Rattle.process_control.specs.Cores.{CoreAndDepths};
+    ghost use Rattle.process_control.specs.Consistent.{IsConsistent};
+
+    ghost Value = { CoreAndDepths };
+
+    ghost coded = { Prim.hlevel (codes, statement.the_row.coded) };
+
+    ghost view = { λ it. record {
+      core = record { state = B.state it.behaviour; next = it.asker; receive = it.receive.table };
+      depths = it.receive.depths;
+    } };
+
+    ghost invariant = { λ it. IsConsistent (B.state it.behaviour) it.asker it.receive };
+}
+
+impl<B: Behaviour> CopyCore<B> {
+    pub fn start(
+        alloc: Global,
+        behaviour: B,
+        files: u8,
+        openers: &[OpenerSpec],
+    ) -> Result<CopyCore<B>, NoMemory>
+        requires whole { IsWholeProcess (B.state behaviour) }
+        requires free { in_hand (B.state behaviour) ≡ false }
+        requires files { files ≡ files_of (B.state behaviour) }
+        requires few_files { files ≤ 8 }
+        requires few_openers { length openers.now < 4096 }
+        requires depths { All (λ opener. IsDepth opener.depth) openers.now }
+        ensures { IfOk result (λ it. it ≡ core_at_start (B.state behaviour) files openers.now) }
+    {
+        let receive = Receive::new(alloc, openers)?;
+        Ok(CopyCore {
+            behaviour,
+            receive,
+            asker: Asker::new(files),
+        })
+    }
+
+    pub fn point(&self) -> Point
+        ensures { result ≡ point self.now.core.state }
+    {
+        self.behaviour.at()
+    }
+
+    pub fn behaviour(&self) -> &B
+        ensures { B.state result.now ≡ self.now.core.state }
+    {
+        &self.behaviour
+    }
+
+    pub fn receive(&self) -> &Receive
+        ensures table { result.now.table ≡ self.now.core.receive }
+        ensures depths { result.now.depths ≡ self.now.depths }
+    {
+        &self.receive
+    }
+
+    pub fn next_on(&self, file: u8) -> u32
+        ensures { result ≡ next_on self.now.core file }
+    {
+        next_on(&self.asker, file)
+    }
+
+    pub fn inner(&mut self)
+        requires { point self.old.core.state ≡ Inner }
+        ensures { self.new ≡ record self.old { core = core_going self.old.core } }
+    {
+        self.behaviour.inner();
+    }
+
+    pub fn take(&mut self, request: &Request)
+        requires point { point self.old.core.state ≡ Take }
+        requires next { standing self.old.core.receive request.now ≡ Next }
+        ensures core { core_taking request.now self.old.core ≡ Some self.new.core }
+        ensures depths { self.new.depths ≡ self.old.depths }
+    {
+        prove!(request.number <= 4_294_967_295);
+        self.receive.take(request.opener);
+        self.behaviour.took(&request.words);
+    }
+
+    pub fn ask(&mut self) -> Result<Asking, NoMemory>
+        requires { point self.old.core.state ≡ Ask }
+        ensures room { IsTrue (have_next self.old.core.next) ↔ IsOk result }
+        ensures asking { IfOk result (λ asking. asking ≡ asking_of self.old.core) }
+        ensures ok { OnOk result (self.new ≡ record self.old { core = core_asking self.old.core }) }
+        ensures err { OnErr result (self.new ≡ self.old) }
+    {
+        if !have_next(&self.asker) {
+            return Err(NoMemory);
+        }
+        let asked = self.behaviour.asked();
+        let number = next_on(&self.asker, asked.file);
+        self.asker.set(asked.file, number + 1);
+        Ok(Asking {
+            file: asked.file,
+            number,
+            words: asked.words,
+        })
+    }
+
+    pub fn got(&mut self, words: &Words)
+        requires { point self.old.core.state ≡ Await }
+        ensures { self.new ≡ record self.old { core = core_getting words.now self.old.core } }
+    {
+        self.behaviour.got(words);
+    }
+
+    pub fn answer(&mut self) -> Answering
+        requires { point self.old.core.state ≡ Answer }
+        ensures answering { answering_of self.old.core ≡ Some result }
+        ensures core { core_answering self.old.depths self.old.core ≡ Some self.new.core }
+        ensures depths { self.new.depths ≡ self.old.depths }
+    {
+        let words = self.behaviour.answered();
+        let opener = self.receive.reply(&words);
+        let number = self.receive.taken(opener);
+        Answering {
+            opener,
+            number,
+            words,
+        }
+    }
+
+    pub fn device(&self) -> DeviceCall
+        requires point { point self.now.core.state ≡ Device }
+        requires numbers { last_write_of self.now.core.state + 1 < 2 ^ 32 }
+        ensures { result ≡ call_of self.now.core.state }
+    {
+        self.behaviour.device()
+    }
+
+    pub fn device_done(&mut self, found: &Sector)
+        requires point { point self.old.core.state ≡ Device }
+        requires numbers { last_write_of self.old.core.state + 1 < 2 ^ 32 }
+        ensures { self.new ≡ record self.old { core = core_acting found.now self.old.core } }
+    {
+        self.behaviour.device_done(found);
+    }
+
+    pub fn carried(&self, alloc: Global) -> Result<Image, NoMemory>
+        requires { point self.now.core.state ≡ Mark }
+        ensures { IfOk result (λ image. image ≡ carried self.now.core) }
+    {
+        let listed = self.behaviour.listed();
+        let body = self.behaviour.image(alloc, listed)?;
+        let files = numbers_of(alloc, &self.asker, listed.files.as_slice())?;
+        let receive = self.receive.block(alloc)?;
+        Ok(Image {
+            body,
+            files,
+            receive,
+        })
+    }
+
+    pub fn pass(&mut self)
+        requires { point self.old.core.state ≡ Mark }
+        ensures { self.new ≡ record self.old { core = after_passing self.old.core } }
+    {
+        self.behaviour.marked();
+    }
+
+    /// Puts what a checkpoint carries in the place of its own, all of it or nothing, and says whether it did.
+    pub fn put(&mut self, image: &Image) -> bool
+        ensures told { result ≡ is_some (put_fitting self.old.depths self.old.core image.now) }
+        ensures core { self.new.core ≡ unwrap_or (put_fitting self.old.depths self.old.core image.now) self.old.core }
+        ensures depths { self.new.depths ≡ self.old.depths }
+    {
+        if !are_files(&self.asker, image.files.as_slice()) {
+            return false;
+        }
+        if !self.receive.fits(&image.receive) {
+            return false;
+        }
+        let in_hand = image.receive.in_hand.is_some();
+        if !self.behaviour.apply(image.body.as_slice(), in_hand) {
+            return false;
+        }
+        let _fits = self.receive.put_block(&image.receive);
+        put_files(&mut self.asker, image.files.as_slice());
+        true
+    }
+}
