@@ -1,5 +1,5 @@
 mod Consistent
 mod Numbers
 mod Ordered
-mod Starting
+pub mod Starting
 mod Tables

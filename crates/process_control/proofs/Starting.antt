@@ -1,11 +1,23 @@
--- The numbers and the receive table of a copy at its start.
-use Rattle.std.proofs.Common.{◌≡◌, ℕ, List, [], ◌∷◌, length, map, refl, ap, ap₂}
+-- A process at its beginning, and the numbers and the receive table of a copy at its start.
+use Rattle.std.proofs.Common.{◌≡◌, ℕ, false, List, [], ◌∷◌, length, map, refl, ap, ap₂}
 use Rattle.std.specs.Prelude.{replicate, None}
 use Rattle.tal_tree.specs.declared.site.OpenerSpec.{OpenerSpec}
-use Rattle.process_semantics.specs.Process.{ProcessState}
+use Rattle.tal_tree.specs.declared.site.Kind.{Kind}
+use Rattle.tal_tree.specs.declared.site.Kind.TheVariants as kind
+use Rattle.process_semantics.specs.Process.{ProcessState, in_hand, start_of}
+use Rattle.whole_states.specs.Listing.{files_of}
+use Rattle.plain_semantics.specs.Openers as openers
 use Rattle.checkpoint_image.specs.declared.receive.OpenerBlock.{OpenerBlock}
 use Rattle.sync_ids.specs.Tables.{untaken}
 use Rattle.world_semantics.specs.Core.{Core}
+
+pub start-free : (what : Kind) → in_hand (start_of what) ≡ false
+start-free (kind.Disc sectors) = refl
+start-free (kind.Pair program) = refl
+
+pub start-files : (what : Kind) → length (openers.files_of what) ≡ files_of (start_of what)
+start-files (kind.Disc sectors) = refl
+start-files (kind.Pair program) = refl
 
 ones : {A : Type 0} (items : List A) → replicate {A = ℕ} (length items) 1 ≡ map (λ item. 1) items
 ones [] = refl

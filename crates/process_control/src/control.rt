@@ -1,6 +1,6 @@
-ghost use Rattle.std.specs.Prelude.{◌≡◌, ◌<◌, ◌≤◌, ◌+◌, ◌↔◌, ◌^◌, All, false, true, is_some, length, Some, IfOk, IsOk, IsTrue, OnOk, OnErr};
-ghost use Rattle.std.specs.Option.{option_map, unwrap_or};
-ghost use Rattle.process_semantics.specs.declared.point.Point.TheVariants.{Inner, Take, Ask, Await, Answer, Mark, Device};
+ghost use Rattle.std.specs.Prelude.{◌≡◌, ◌<◌, ◌≤◌, ◌+◌, ◌↔◌, ◌^◌, All, false, length, Some, IfOk, IsOk, IsTrue, OnOk, OnErr};
+ghost use Rattle.std.specs.Option.{option_map};
+ghost use Rattle.process_semantics.specs.declared.point.Point.TheVariants.{Inner, Take, Ask, Await, Answer, Device};
 ghost use Rattle.process_semantics.specs.Process.{point, in_hand, call_of};
 ghost use Rattle.whole_states.specs.Listing.{files_of};
 ghost use Rattle.whole_states.specs.Processes.{IsWholeProcess};
@@ -8,14 +8,13 @@ ghost use Rattle.checkpoint_image.specs.Behaving.{last_write_of};
 ghost use Rattle.checkpoint_image.specs.Receive.{standing};
 ghost use Rattle.checkpoint_image.specs.declared.receive.Standing.TheVariants.{Next};
 ghost use Rattle.sync_ids.specs.Tables.{IsDepth};
-ghost use Rattle.world_semantics.specs.declared.role.Role.TheVariants.{Watching, Gone};
 ghost use Rattle.world_semantics.specs.Core.{next_on};
 ghost use Rattle.process_control.specs.Cores.{core_going, core_taking, have_next, asking_of, core_asking, core_getting, answering_of, core_answering, core_acting};
-ghost use Rattle.process_control.specs.Copies.{applied_where, copy_applying, copy_at_start, copy_checkpoint, copy_passing, copy_sending, copy_taking_over, is_of_last, is_next_for, with_core};
+ghost use Rattle.process_control.specs.Copies.{copy_at_start, with_core};
 
-use crate::core::CopyCore;
+use crate::inside::CopyCore;
 use crate::told::{Answering, Asking};
-use checkpoint_image::{Behaviour, ImageMessage, Standing, TakenMessage};
+use checkpoint_image::{Behaviour, Standing};
 use gd_words::{DeviceCall, NoMemory, Request, Sector, Words};
 use process_semantics::Point;
 use std::alloc::Global;
@@ -27,12 +26,12 @@ use world_semantics::Role;
 /// One copy of a process.
 #[derive(Drop)]
 pub struct CopyControl<B: Behaviour> {
-    role: Role,
-    era: u32,
-    number: u32,
-    sent: bool,
-    acknowledged: bool,
-    core: CopyCore<B>,
+    pub(crate) role: Role,
+    pub(crate) era: u32,
+    pub(crate) number: u32,
+    pub(crate) sent: bool,
+    pub(crate) acknowledged: bool,
+    pub(crate) core: CopyCore<B>,
 }
 
 impl<B: Behaviour> Model for CopyControl<B> {
@@ -223,114 +222,5 @@ impl<B: Behaviour> CopyControl<B> {
         ensures { self.new ≡ with_core self.old (core_acting found.now self.old.core) }
     {
         self.core.device_done(found);
-    }
-
-    /// The checkpoint of the mark at which it stands, for the other copy of its process. Want of memory is answered too where the era
-    /// has no number left. An error changes nothing.
-    pub fn checkpoint_out(&mut self, alloc: Global, process: u8) -> Result<ImageMessage, NoMemory>
-        requires { point self.old.core.state ≡ Mark }
-        ensures message { IfOk result (λ message. message ≡ copy_checkpoint process self.old) }
-        ensures ok { OnOk result (self.new ≡ copy_sending self.old) }
-        ensures err { OnErr result (self.new ≡ self.old) }
-    {
-        match self.number.checked_add(1) {
-            None => Err(NoMemory),
-            Some(number) => {
-                let image = self.core.carried(alloc)?;
-                self.number = number;
-                self.sent = true;
-                self.acknowledged = false;
-                Ok(ImageMessage {
-                    process,
-                    era: self.era,
-                    number,
-                    image,
-                })
-            }
-        }
-    }
-
-    /// A checkpoint came: it is applied whole, or ignored, and then nothing changes. It takes no memory.
-    pub fn checkpoint_in(&mut self, message: &ImageMessage) -> bool
-        ensures told { result ≡ is_some (copy_applying message.now self.old) }
-        ensures copy { self.new ≡ unwrap_or (copy_applying message.now self.old) self.old }
-    {
-        match self.role {
-            Role::Watching => {
-                let is_next = self.is_next_for(message);
-                self.apply_where(message, is_next)
-            }
-            Role::Acting | Role::Gone => false,
-        }
-    }
-
-    fn is_next_for(&self, message: &ImageMessage) -> bool
-        ensures { result ≡ is_next_for self.now message.now }
-    {
-        message.era == self.era && u64::from(message.number) == u64::from(self.number) + 1
-    }
-
-    fn apply_where(&mut self, message: &ImageMessage, is_next: bool) -> bool
-        ensures told { result ≡ is_some (applied_where message.now self.old is_next) }
-        ensures copy { self.new ≡ unwrap_or (applied_where message.now self.old is_next) self.old }
-    {
-        if !is_next {
-            return false;
-        }
-        let applied = self.core.put(&message.image);
-        if applied {
-            self.number = message.number;
-        }
-        applied
-    }
-
-    /// Whether it is what it sent last that was taken.
-    pub fn is_of_last(&self, taken: TakenMessage) -> bool
-        ensures { result ≡ is_of_last self.now taken }
-    {
-        self.sent && taken.era == self.era && taken.number == self.number
-    }
-
-    /// What it sent last was taken.
-    pub fn acked(&mut self)
-        ensures { self.new ≡ record self.old { acknowledged = true } }
-    {
-        self.acknowledged = true;
-    }
-
-    /// Goes on after its mark.
-    pub fn pass(&mut self)
-        requires { point self.old.core.state ≡ Mark }
-        ensures { self.new ≡ copy_passing self.old }
-    {
-        self.core.pass();
-        self.sent = false;
-        self.acknowledged = false;
-    }
-
-    /// Takes over from the other copy, whose processor is marked: it acts from the last checkpoint on that it has applied. Want of memory
-    /// is answered where there is no era left, and then nothing changes.
-    pub fn take_over(&mut self) -> Result<(), NoMemory>
-        requires { self.old.role ≡ Watching }
-        ensures room { self.old.era < 4294967295 ↔ IsOk result }
-        ensures ok { OnOk result (self.new ≡ copy_taking_over self.old) }
-        ensures err { OnErr result (self.new ≡ self.old) }
-    {
-        match self.era.checked_add(1) {
-            None => Err(NoMemory),
-            Some(era) => {
-                self.role = Role::Acting;
-                self.era = era;
-                self.number = 0;
-                Ok(())
-            }
-        }
-    }
-
-    /// Its processor stops.
-    pub fn stop(&mut self)
-        ensures { self.new ≡ record self.old { role = Gone } }
-    {
-        self.role = Role::Gone;
     }
 }

@@ -9,13 +9,14 @@
 //! take memory.
 #![tactic(auto)]
 
+mod checkpoints;
 pub mod control;
-mod core;
 mod files;
 pub mod guards;
+mod inside;
 pub mod laws;
 pub mod told;
 
 pub use control::CopyControl;
-pub use laws::a_copy_starts_as_in_the_world;
+pub use laws::{a_copy_starts_as_in_the_world, a_process_at_its_beginning_can_start};
 pub use told::{Answering, Asking};

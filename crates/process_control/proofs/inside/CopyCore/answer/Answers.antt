@@ -4,7 +4,7 @@ use Rattle.process_semantics.specs.declared.point.Point.TheVariants.{Answer}
 use Rattle.process_control.specs.Cores.{CoreAndDepths, answering_of, core_answering}
 use Rattle.process_control.proofs.Consistent.{answering}
 use Rattle.process_control.proofs.Tables.{answered-core, answers, as-many, found}
-use Rattle.process_control.proofs.core.CopyCore.answer.Goals as goal
+use Rattle.process_control.proofs.inside.CopyCore.answer.Goals as goal
 
 pub invariant_of-self : goal.invariant_of-self
 invariant_of-self g c =

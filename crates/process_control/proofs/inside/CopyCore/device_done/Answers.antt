@@ -3,7 +3,7 @@ use Rattle.process_semantics.specs.Process.{point}
 use Rattle.process_semantics.specs.declared.point.Point.TheVariants.{Device}
 use Rattle.process_control.specs.Cores.{CoreAndDepths}
 use Rattle.process_control.proofs.Consistent.{acting}
-use Rattle.process_control.proofs.core.CopyCore.device_done.Goals as goal
+use Rattle.process_control.proofs.inside.CopyCore.device_done.Goals as goal
 
 pub invariant_of-self : goal.invariant_of-self
 invariant_of-self g c =

@@ -2,7 +2,7 @@ use Rattle.std.proofs.Common.{List, ℕ, sym, subst}
 use Rattle.process_semantics.specs.Image.{listed_items}
 use Rattle.whole_states.specs.Listing.{MayList}
 use Rattle.process_control.proofs.Ordered.{listed-order}
-use Rattle.process_control.proofs.core.CopyCore.carried.Goals as goal
+use Rattle.process_control.proofs.inside.CopyCore.carried.Goals as goal
 
 pub image-requires : goal.image-requires
 image-requires g c =

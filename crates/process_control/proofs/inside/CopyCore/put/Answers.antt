@@ -2,7 +2,7 @@ use Rattle.std.proofs.Common.{◌≡◌, is_some, sym, ap, ◌∙◌}
 use Rattle.checkpoint_image.specs.declared.receive.ReceiveBlock.{ReceiveBlock}
 use Rattle.process_control.proofs.Consistent.{applying}
 use Rattle.process_control.proofs.Tables.{put-table}
-use Rattle.process_control.proofs.core.CopyCore.put.Goals as goal
+use Rattle.process_control.proofs.inside.CopyCore.put.Goals as goal
 
 pub invariant_of-self-2 : goal.invariant_of-self-2
 invariant_of-self-2 g c =

@@ -7,7 +7,7 @@ use Rattle.process_control.specs.Cores.{CoreAndDepths}
 use Rattle.process_control.proofs.Consistent.{taking}
 use Rattle.process_control.proofs.Numbers.{next-there}
 use Rattle.process_control.proofs.Tables.{as-many}
-use Rattle.process_control.proofs.core.CopyCore.take.Goals as goal
+use Rattle.process_control.proofs.inside.CopyCore.take.Goals as goal
 
 pub take-requires-clause-there : goal.take-requires-clause-there
 take-requires-clause-there g c =

@@ -6,7 +6,7 @@ use Rattle.process_control.proofs.Ordered.{asked-order-there}
 use Rattle.whole_states.specs.Listing.{files_of}
 use Rattle.process_control.specs.Cores.{CoreAndDepths}
 use Rattle.process_control.proofs.Numbers.{next-below}
-use Rattle.process_control.proofs.core.CopyCore.ask.Goals as goal
+use Rattle.process_control.proofs.inside.CopyCore.ask.Goals as goal
 
 pub overflow_add-number : goal.overflow_add-number
 overflow_add-number g c =

@@ -1,5 +1,5 @@
 use Rattle.process_control.proofs.Consistent.{going}
-use Rattle.process_control.proofs.core.CopyCore.inner.Goals as goal
+use Rattle.process_control.proofs.inside.CopyCore.inner.Goals as goal
 
 pub invariant_of-self : goal.invariant_of-self
 invariant_of-self g c =

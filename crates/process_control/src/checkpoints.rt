@@ -1,0 +1,123 @@
+ghost use Rattle.std.specs.Prelude.{◌≡◌, ◌<◌, ◌↔◌, true, is_some, IfOk, IsOk, OnOk, OnErr};
+ghost use Rattle.std.specs.Option.{unwrap_or};
+ghost use Rattle.process_semantics.specs.declared.point.Point.TheVariants.{Mark};
+ghost use Rattle.process_semantics.specs.Process.{point};
+ghost use Rattle.world_semantics.specs.declared.role.Role.TheVariants.{Watching, Gone};
+ghost use Rattle.process_control.specs.Copies.{applied_where, copy_applying, copy_checkpoint, copy_passing, copy_sending, copy_taking_over, is_of_last, is_next_for};
+
+use crate::control::CopyControl;
+use checkpoint_image::{Behaviour, ImageMessage, TakenMessage};
+use gd_words::NoMemory;
+use std::alloc::Global;
+use world_semantics::Role;
+
+impl<B: Behaviour> CopyControl<B> {
+    /// The checkpoint of the mark at which it stands, for the other copy of its process. Want of memory is answered too where the era
+    /// has no number left. An error changes nothing.
+    pub fn checkpoint_out(&mut self, alloc: Global, process: u8) -> Result<ImageMessage, NoMemory>
+        requires { point self.old.core.state ≡ Mark }
+        ensures message { IfOk result (λ message. message ≡ copy_checkpoint process self.old) }
+        ensures ok { OnOk result (self.new ≡ copy_sending self.old) }
+        ensures err { OnErr result (self.new ≡ self.old) }
+    {
+        match self.number.checked_add(1) {
+            None => Err(NoMemory),
+            Some(number) => {
+                let image = self.core.carried(alloc)?;
+                self.number = number;
+                self.sent = true;
+                self.acknowledged = false;
+                Ok(ImageMessage {
+                    process,
+                    era: self.era,
+                    number,
+                    image,
+                })
+            }
+        }
+    }
+
+    /// A checkpoint came: it is applied whole, or ignored, and then nothing changes. It takes no memory.
+    pub fn checkpoint_in(&mut self, message: &ImageMessage) -> bool
+        ensures told { result ≡ is_some (copy_applying message.now self.old) }
+        ensures copy { self.new ≡ unwrap_or (copy_applying message.now self.old) self.old }
+    {
+        match self.role {
+            Role::Watching => {
+                let is_next = self.is_next_for(message);
+                self.apply_where(message, is_next)
+            }
+            Role::Acting | Role::Gone => false,
+        }
+    }
+
+    fn is_next_for(&self, message: &ImageMessage) -> bool
+        ensures { result ≡ is_next_for self.now message.now }
+    {
+        message.era == self.era && u64::from(message.number) == u64::from(self.number) + 1
+    }
+
+    fn apply_where(&mut self, message: &ImageMessage, is_next: bool) -> bool
+        ensures told { result ≡ is_some (applied_where message.now self.old is_next) }
+        ensures copy { self.new ≡ unwrap_or (applied_where message.now self.old is_next) self.old }
+    {
+        if !is_next {
+            return false;
+        }
+        let applied = self.core.put(&message.image);
+        if applied {
+            self.number = message.number;
+        }
+        applied
+    }
+
+    /// Whether it is what it sent last that was taken.
+    pub fn is_of_last(&self, taken: TakenMessage) -> bool
+        ensures { result ≡ is_of_last self.now taken }
+    {
+        self.sent && taken.era == self.era && taken.number == self.number
+    }
+
+    /// What it sent last was taken.
+    pub fn acked(&mut self)
+        ensures { self.new ≡ record self.old { acknowledged = true } }
+    {
+        self.acknowledged = true;
+    }
+
+    /// Goes on after its mark.
+    pub fn pass(&mut self)
+        requires { point self.old.core.state ≡ Mark }
+        ensures { self.new ≡ copy_passing self.old }
+    {
+        self.core.pass();
+        self.sent = false;
+        self.acknowledged = false;
+    }
+
+    /// Takes over from the other copy, whose processor is marked: it acts from the last checkpoint on that it has applied. Want of memory
+    /// is answered where there is no era left, and then nothing changes.
+    pub fn take_over(&mut self) -> Result<(), NoMemory>
+        requires { self.old.role ≡ Watching }
+        ensures room { self.old.era < 4294967295 ↔ IsOk result }
+        ensures ok { OnOk result (self.new ≡ copy_taking_over self.old) }
+        ensures err { OnErr result (self.new ≡ self.old) }
+    {
+        match self.era.checked_add(1) {
+            None => Err(NoMemory),
+            Some(era) => {
+                self.role = Role::Acting;
+                self.era = era;
+                self.number = 0;
+                Ok(())
+            }
+        }
+    }
+
+    /// Its processor stops.
+    pub fn stop(&mut self)
+        ensures { self.new ≡ record self.old { role = Gone } }
+    {
+        self.role = Role::Gone;
+    }
+}

@@ -1,0 +1,94 @@
+ghost use Rattle.std.specs.Prelude.{◌≡◌, length, IfOk, OnOk};
+ghost use Rattle.processes.specs.Seen.{IsLoadableKind};
+
+use crate::copies::{answer, checkpoint, is_answer, pair_of, pass, standing, started, take, told_again};
+use process_control::CopyControl;
+use processes::Process;
+use std::alloc::Global;
+use std::test::Fail;
+use tal_tree::{Kind, OpenerSpec, Who};
+use world_semantics::Role;
+
+/// A program with 64 globals of 512 words in all, and 8 files. Its CHECKPOINT names all of them but `$RECEIVE`.
+const LARGE: &[u8] = b"
+INT rcv, got, f1, f2, f3, f4, f5, f6, f7;
+INT a1[0:8], a2[0:8], a3[0:8], a4[0:8], a5[0:8], a6[0:8], a7[0:8], a8[0:8], a9[0:8], a10[0:8], a11[0:8], a12[0:8],
+  a13[0:8], a14[0:8], a15[0:8], a16[0:8], a17[0:8], a18[0:8], a19[0:8], a20[0:8], a21[0:8], a22[0:8], a23[0:8],
+  a24[0:8], a25[0:8], a26[0:8], a27[0:8], a28[0:8], a29[0:8], a30[0:8], a31[0:8], a32[0:8], a33[0:8], a34[0:8],
+  a35[0:8], a36[0:8], a37[0:8], a38[0:8], a39[0:8], a40[0:8], a41[0:8], a42[0:8], a43[0:8], a44[0:8], a45[0:8],
+  a46[0:8], a47[0:8], a48[0:8], a49[0:8], a50[0:8], a51[0:8], a52[0:8], a53[0:8], a54[0:8], a55[0:16];
+PROC serve MAIN;
+BEGIN
+  CALL CHECKMONITOR;
+  CALL OPEN(\"$RECEIVE\", rcv, 1);
+  CALL OPEN(\"$S1\", f1, 1);
+  CALL OPEN(\"$S2\", f2, 1);
+  CALL OPEN(\"$S3\", f3, 1);
+  CALL OPEN(\"$S4\", f4, 1);
+  CALL OPEN(\"$S5\", f5, 1);
+  CALL OPEN(\"$S6\", f6, 1);
+  CALL OPEN(\"$S7\", f7, 1);
+  WHILE 1 DO
+  BEGIN
+    CALL READUPDATE(rcv, a1, 1, got);
+    CALL CHECKPOINT(got, a1, a2, a3, a4, a5, a6, a7, a8, a9, a10, a11, a12, a13, a14, a15, a16, a17, a18, a19,
+      a20, a21, a22, a23, a24, a25, a26, a27, a28, a29, a30, a31, a32, a33, a34, a35, a36, a37, a38, a39, a40,
+      a41, a42, a43, a44, a45, a46, a47, a48, a49, a50, a51, a52, a53, a54, a55, f1, f2, f3, f4, f5, f6, f7);
+    CALL REPLY(a1, 1);
+  END;
+END;";
+
+/// A copy of a process that 64 openers ask, of each of which four replies are kept.
+fn asked_by_many(alloc: Global, kind: &Kind, role: Role) -> Result<CopyControl<Process>, Fail>
+    requires { IsLoadableKind kind.now }
+    ensures { IfOk result (λ copy. length copy.depths ≡ 64) }
+{
+    let openers = [OpenerSpec {
+        who: Who::Terminal(0),
+        depth: 4,
+    }; 64];
+    started(alloc, kind, role, &openers)
+}
+
+/// A copy serves each of its openers once.
+fn serve_all(copy: &mut CopyControl<Process>, number: u32) -> Result<(), Fail>
+    requires { length copy.old.depths ≡ 64 }
+    ensures { OnOk result (copy.new.depths ≡ copy.old.depths) }
+{
+    for opener in 0..64 {
+        take(copy, opener, number, number as i16)?;
+        pass(copy)?;
+        if !is_answer(&answer(copy)?, opener, number, number as i16) {
+            return Err(Fail::from("another answer"));
+        }
+    }
+    Ok(())
+}
+
+#[test]
+fn the_largest_process_is_carried_whole(rt: HostRuntime) -> Result<(), Fail> {
+    let kind = pair_of(rt.alloc(), LARGE)?;
+    let mut first = asked_by_many(rt.alloc(), &kind, Role::Acting)?;
+    let mut second = asked_by_many(rt.alloc(), &kind, Role::Watching)?;
+    serve_all(&mut first, 1)?;
+    serve_all(&mut first, 2)?;
+    serve_all(&mut first, 3)?;
+    serve_all(&mut first, 4)?;
+    take(&mut first, 63, 5, 50)?;
+    let message = checkpoint(rt.alloc(), &mut first, &mut second)?;
+    // a frame of three words, and 56 globals with their numbers
+    assert_eq!(rt; message.image.body.len(), 3 + 1 + 56 + 504);
+    assert_eq!(rt; message.image.files.len(), 7);
+    let openers = message.image.receive.openers.as_slice();
+    assert_eq!(rt; openers.len(), 64);
+    assert!(rt; openers.iter().all(|opener| opener.kept.len() == 4));
+    assert_eq!(rt; second.in_hand(), Some(63));
+    for opener in 0..64 {
+        assert_eq!(rt; told_again(&second, opener, 1), Some(1));
+        assert_eq!(rt; told_again(&second, opener, 4), Some(4));
+        assert_eq!(rt; standing(&first, opener, 5), standing(&second, opener, 5));
+    }
+    assert!(rt; is_answer(&answer(&mut second)?, 63, 5, 50));
+    assert_eq!(rt; standing(&second, 63, 1), b'O');
+    Ok(())
+}
