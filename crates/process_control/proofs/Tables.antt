@@ -33,7 +33,7 @@ module _ (core : Core) (depths : List ℕ) (place : ℕ) (words : List ℤ) (new
     (block : OpenerBlock) (depth : ℕ) (at : slice_get core.receive.openers place ≡ Some block) (of : slice_get depths place ≡ Some depth)
     (told : words ≡ process.answer_of core.state) (is : new ≡ process.after_answered core.state)
     (kept : (block : OpenerBlock) (depth : ℕ) → slice_get core.receive.openers place ≡ Some block → slice_get depths place ≡ Some depth
-        → after ≡ after_answering depth place block words core.receive) where
+    → after ≡ after_answering depth place block words core.receive) where
   pub answers : (number : ℕ) → number ≡ last_taken after place → answering_of core ≡ Some (record { opener = place; number = number; words = words })
   answers number last =
       ap (answering_at core) held

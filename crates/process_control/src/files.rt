@@ -23,7 +23,10 @@ pub fn next_on(asker: &Asker, file: u8) -> u32
 pub fn have_next(asker: &Asker) -> bool
     ensures { result ≡ have_next asker.now }
 {
-    asker.as_slice().iter().all(|number| *number < 4_294_967_295)
+    asker
+        .as_slice()
+        .iter()
+        .all(|number| *number < 4_294_967_295)
 }
 
 /// The next numbers of these files.

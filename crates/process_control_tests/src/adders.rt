@@ -1,4 +1,6 @@
-use crate::copies::{answer, asked_by_two, checkpoint, is_answer, pair_of, pass, run, standing, take, told_again};
+use crate::copies::{
+    answer, asked_by_two, checkpoint, is_answer, pair_of, pass, run, standing, take, told_again,
+};
 use checkpoint_image::TakenMessage;
 use process_semantics::Point;
 use std::test::Fail;

@@ -56,11 +56,7 @@ pub fn started(
 }
 
 /// A copy of a process that two terminals ask.
-pub fn asked_by_two(
-    alloc: Global,
-    kind: &Kind,
-    role: Role,
-) -> Result<CopyControl<Process>, Fail>
+pub fn asked_by_two(alloc: Global, kind: &Kind, role: Role) -> Result<CopyControl<Process>, Fail>
     requires { IsLoadableKind kind.now }
     ensures { IfOk result (λ copy. length copy.depths ≡ 2) }
 {
@@ -135,7 +131,12 @@ pub fn run(copy: &mut CopyControl<Process>) -> Result<Point, Fail>
 }
 
 /// A copy takes a request that stands next, and stands at its mark then.
-pub fn take(copy: &mut CopyControl<Process>, opener: u16, number: u32, word: i16) -> Result<(), Fail>
+pub fn take(
+    copy: &mut CopyControl<Process>,
+    opener: u16,
+    number: u32,
+    word: i16,
+) -> Result<(), Fail>
     requires { opener < length copy.old.depths }
     ensures { OnOk result (copy.new.depths ≡ copy.old.depths) }
 {
@@ -196,5 +197,7 @@ pub fn answer(copy: &mut CopyControl<Process>) -> Result<Answering, Fail>
 
 /// Whether these are the opener, the number and the only word of an answer.
 pub fn is_answer(answering: &Answering, opener: u16, number: u32, word: i16) -> bool {
-    answering.opener == opener && answering.number == number && answering.words.as_slice() == [word].as_slice()
+    answering.opener == opener
+        && answering.number == number
+        && answering.words.as_slice() == [word].as_slice()
 }

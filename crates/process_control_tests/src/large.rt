@@ -1,7 +1,9 @@
 ghost use Rattle.std.specs.Prelude.{◌≡◌, length, IfOk, OnOk};
 ghost use Rattle.processes.specs.Seen.{IsLoadableKind};
 
-use crate::copies::{answer, checkpoint, is_answer, pair_of, pass, standing, started, take, told_again};
+use crate::copies::{
+    answer, checkpoint, is_answer, pair_of, pass, standing, started, take, told_again,
+};
 use process_control::CopyControl;
 use processes::Process;
 use std::alloc::Global;

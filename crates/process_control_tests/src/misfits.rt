@@ -75,8 +75,14 @@ fn what_does_not_fit_is_ignored(rt: HostRuntime) -> Result<(), Fail> {
     let kind = pair_of(rt.alloc(), ADDER)?;
     let mut copy = asked_by_two(rt.alloc(), &kind, Role::Watching)?;
     let mut other_file = message(rt.alloc())?;
-    other_file.image.files.push(FileNumber { file: 0, next: 7 })?;
-    other_file.image.files.push(FileNumber { file: 1, next: 7 })?;
+    other_file
+        .image
+        .files
+        .push(FileNumber { file: 0, next: 7 })?;
+    other_file
+        .image
+        .files
+        .push(FileNumber { file: 1, next: 7 })?;
     assert!(rt; !copy.checkpoint_in(&other_file));
     assert!(rt; is_fresh(&copy));
     let mut too_many_kept = message(rt.alloc())?;
@@ -90,7 +96,10 @@ fn what_does_not_fit_is_ignored(rt: HostRuntime) -> Result<(), Fail> {
     assert!(rt; is_fresh(&copy));
     // a file that is there comes before words that are no image: it isn't changed
     let mut other_words = message(rt.alloc())?;
-    other_words.image.files.push(FileNumber { file: 0, next: 7 })?;
+    other_words
+        .image
+        .files
+        .push(FileNumber { file: 0, next: 7 })?;
     other_words.image.body.set(0, 2);
     assert!(rt; !copy.checkpoint_in(&other_words));
     assert!(rt; is_fresh(&copy));

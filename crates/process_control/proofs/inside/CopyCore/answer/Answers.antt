@@ -16,7 +16,7 @@ pub returns-clause-answering : goal.returns-clause-answering
 returns-clause-answering g c =
     let opener = c.reply-opener.result in
     let block = found c.self.inside.receive.table.openers opener
-        (subst (λ (n : ℕ). opener < n) (sym (as-many c.self.inside.receive c.self.invariant.table)) c.reply-opener.ensures.there) in
+    (subst (λ (n : ℕ). opener < n) (sym (as-many c.self.inside.receive c.self.invariant.table)) c.reply-opener.ensures.there) in
     let depth = found c.self.inside.receive.depths opener c.reply-opener.ensures.there in
     subst (λ (one : CoreAndDepths). answering_of one.core ≡ Some (record { opener = opener; number = c.taken-number.result; words = c.answered-words.result }))
     c.self.view_is
@@ -29,7 +29,7 @@ pub returns-clause-core : goal.returns-clause-core
 returns-clause-core g c =
     let opener = c.reply-opener.result in
     let block = found c.self.inside.receive.table.openers opener
-        (subst (λ (n : ℕ). opener < n) (sym (as-many c.self.inside.receive c.self.invariant.table)) c.reply-opener.ensures.there) in
+    (subst (λ (n : ℕ). opener < n) (sym (as-many c.self.inside.receive c.self.invariant.table)) c.reply-opener.ensures.there) in
     let depth = found c.self.inside.receive.depths opener c.reply-opener.ensures.there in
     subst (λ (one : CoreAndDepths). core_answering one.depths one.core ≡ Some (record {
       state = g.B.Behaviour.state c.answered-words.new.self;
