@@ -23,7 +23,24 @@ impl Interpreter {
         requires listed { (files : Items ℕ) × AreListed self.now.program items.now files }
         ensures { IfOk result (λ words. words ≡ image_of items.now (Runs self.now.program self.now.state)) }
     {
-        let mut all = List::new(alloc);
+        // all memory at once: two counts, two words and the locals of each frame, and each item with its number
+        let mut room = 2_usize;
+        for caller in &self.callers {
+            room = room
+                .saturating_add(2)
+                .saturating_add(caller.locals.as_slice().len());
+        }
+        if let Some(running) = &self.running {
+            room = room
+                .saturating_add(2)
+                .saturating_add(running.locals.as_slice().len());
+        }
+        for item in items {
+            room = room
+                .saturating_add(1)
+                .saturating_add(self.words(*item).len());
+        }
+        let mut all = List::from_vec(Vec::with_capacity(alloc, room)?);
         self.put_frames(&mut all)?;
         self.put_items(items, &mut all)?;
         Ok(all)
