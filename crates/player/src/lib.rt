@@ -1,0 +1,13 @@
+//! Which event comes next on a line of a schedule.
+//!
+//! Below stands `schedule` with events, lines and counts. The layer above uses that `Player::next` gives exactly the events of the
+//! definition (`next_event`), and where it need not know whether the machine is idle.
+#![tactic(auto)]
+
+pub mod player;
+mod round;
+mod rule;
+pub mod standing;
+
+pub use player::Player;
+pub use standing::{Place, Rule, Sizes, Standing};

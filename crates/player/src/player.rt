@@ -1,0 +1,206 @@
+ghost use Rattle.std.specs.Prelude.{◌≡◌, ◌-◌, nat_lt, Bool, false, Some, None, if◌then◌else◌};
+ghost use Rattle.schedule.specs.declared.event.Counts.{Counts as AnyCounts};
+ghost use Rattle.player.specs.declared.standing.Standing.TheVariants as standing;
+ghost use Rattle.player.specs.declared.standing.Place.TheVariants as place;
+ghost use Rattle.player.specs.Lines.{begun, is_before, proposed, has_reached, asks_idle, decided, next_event, stands_after, event_of, packet_of, on_bus, aimed};
+
+use crate::round::next_turn;
+use crate::rule::muted;
+use crate::standing::{Move, Place, Rule, Sizes, Standing};
+use schedule::{Counts, Event, Line};
+
+/// Gives the events of a line one by one.
+#[derive(Clone, Copy, PartialEq, Eq)]
+pub struct Player {
+    sizes: Sizes,
+    standing: Standing,
+}
+
+impl Player {
+    /// A player for so many processors, processes and terminals, with no line.
+    pub fn new(processors: u8, processes: u8, terminals: u8) -> Player
+        ensures sizes { result.sizes ≡ record { processors = processors; processes = processes; terminals = terminals } }
+        ensures standing { result.standing ≡ standing.Ended }
+    {
+        Player {
+            sizes: Sizes {
+                processors,
+                processes,
+                terminals,
+            },
+            standing: Standing::Ended,
+        }
+    }
+
+    /// Begins a line.
+    pub fn start(&mut self, line: Line)
+        ensures { self.new ≡ record self.old { standing = begun line } }
+    {
+        self.standing = begun(line);
+    }
+
+    /// The packet that the next event concerns where the buses hold `x` and `y` packets and the line goes on: whether it is on bus
+    /// Y, and its position.
+    pub fn aim(&self, x: u32, y: u32) -> Option<(bool, u32)>
+        ensures { result ≡ aimed self.now.sizes x y self.now.standing }
+    {
+        let next = proposed(self.sizes, x, y, self.standing)?;
+        packet_of(x, y, next.event)
+    }
+
+    /// The next event of the line. After none the line has ended.
+    pub fn next(&mut self, counts: &Counts) -> Option<Event>
+        ensures event { result ≡ event_of (next_event self.old.sizes self.old.standing counts.now) }
+        ensures standing { self.new ≡ record self.old { standing = stands_after (next_event self.old.sizes self.old.standing counts.now) } }
+    {
+        let Some(next) = next_event(self.sizes, self.standing, counts) else {
+            self.standing = Standing::Ended;
+            return None;
+        };
+        self.standing = next.standing;
+        Some(next.event)
+    }
+
+    /// Whether the next event may depend on whether the machine is idle.
+    pub fn asks_idle(&self) -> bool
+        ensures asks { result ≡ asks_idle self.now.standing }
+        ensures same { result ≡ false → (counts : AnyCounts) (idle : Bool) → next_event self.now.sizes self.now.standing (record counts { idle = idle }) ≡ next_event self.now.sizes self.now.standing counts }
+    {
+        asks_idle(self.standing)
+    }
+}
+
+fn begun(line: Line) -> Standing
+    ensures { result ≡ begun line }
+{
+    match line {
+        Line::One(event) => Standing::Event { event, left: 1 },
+        Line::Many { event, times } => Standing::Event { event, left: times },
+        Line::Drain(rounds) => before_rounds(Rule::Drain, rounds),
+        Line::Mute { node, rounds } => before_rounds(Rule::Mute(node), rounds),
+        Line::Until {
+            writes,
+            count,
+            rounds,
+        } => before_rounds(Rule::Until { writes, count }, rounds),
+        Line::Mix { .. } => Standing::Ended,
+    }
+}
+
+fn before_rounds(rule: Rule, left: u32) -> Standing
+    ensures { result ≡ standing.Rounds rule left place.Before }
+{
+    Standing::Rounds {
+        rule,
+        left,
+        place: Place::Before,
+    }
+}
+
+fn is_before(place: Place) -> bool
+    ensures { result ≡ is_before place }
+{
+    matches!(place, Place::Before)
+}
+
+fn next_event(sizes: Sizes, standing: Standing, counts: &Counts) -> Option<Move>
+    ensures { result ≡ next_event sizes standing counts.now }
+{
+    if has_reached(standing, counts) || (asks_idle(standing) && counts.idle) {
+        return None;
+    }
+    let next = proposed(sizes, counts.x, counts.y, standing)?;
+    Some(Move {
+        event: decided(standing, counts, next.event),
+        standing: next.standing,
+    })
+}
+
+fn proposed(sizes: Sizes, x: u32, y: u32, standing: Standing) -> Option<Move>
+    ensures { result ≡ proposed sizes x y standing }
+{
+    match standing {
+        Standing::Ended => None,
+        Standing::Event { event, left } => event_again(event, left),
+        Standing::Rounds { rule, left, place } => {
+            let left = if is_before(place) {
+                left.checked_sub(1)?
+            } else {
+                left
+            };
+            let turn = next_turn(sizes, x, y, place);
+            Some(Move {
+                event: turn.event,
+                standing: Standing::Rounds {
+                    rule,
+                    left,
+                    place: turn.place,
+                },
+            })
+        }
+    }
+}
+
+fn event_again(event: Event, left: u32) -> Option<Move>
+    ensures { result ≡ (if nat_lt 0 left then Some (record { event = event; standing = standing.Event event (left - 1) }) else None) }
+{
+    if 0 < left {
+        Some(Move {
+            event,
+            standing: Standing::Event {
+                event,
+                left: left - 1,
+            },
+        })
+    } else {
+        None
+    }
+}
+
+fn has_reached(standing: Standing, counts: &Counts) -> bool
+    ensures { result ≡ has_reached standing counts.now }
+{
+    match standing {
+        Standing::Rounds { rule, .. } => rule.is_reached(counts),
+        Standing::Ended | Standing::Event { .. } => false,
+    }
+}
+
+fn asks_idle(standing: Standing) -> bool
+    ensures { result ≡ asks_idle standing }
+{
+    match standing {
+        Standing::Rounds { rule, place, .. } => rule.minds_idle() && is_before(place),
+        Standing::Ended | Standing::Event { .. } => false,
+    }
+}
+
+fn decided(standing: Standing, counts: &Counts, event: Event) -> Event
+    ensures { result ≡ decided standing counts.now event }
+{
+    match standing {
+        Standing::Rounds {
+            rule: Rule::Mute(node),
+            ..
+        } => muted(node, counts, event),
+        _ => event,
+    }
+}
+
+fn packet_of(x: u32, y: u32, event: Event) -> Option<(bool, u32)>
+    ensures { result ≡ packet_of x y event }
+{
+    match event {
+        Event::Deliver { y: bus, k } | Event::Lose { y: bus, k } | Event::Repeat { y: bus, k } => {
+            on_bus(x, y, bus, k)
+        }
+        _ => None,
+    }
+}
+
+fn on_bus(x: u32, y: u32, bus: bool, k: u32) -> Option<(bool, u32)>
+    ensures { result ≡ on_bus x y bus k }
+{
+    let held = if bus { y } else { x };
+    if k < held { Some((bus, k)) } else { None }
+}

@@ -1,0 +1,44 @@
+ghost use Rattle.std.specs.Prelude.{◌≡◌};
+ghost use Rattle.player.specs.Lines.{minds_idle, is_reached, muted};
+
+use crate::standing::Rule;
+use schedule::{Counts, Event};
+
+impl Rule {
+    /// Whether a line of this rule ends where the machine is idle before a round.
+    pub fn minds_idle(self) -> bool
+        ensures { result ≡ minds_idle self }
+    {
+        match self {
+            Rule::Mute(_) => false,
+            Rule::Drain | Rule::Until { .. } => true,
+        }
+    }
+
+    /// Whether the count of writes or replies is reached.
+    pub fn is_reached(self, counts: &Counts) -> bool
+        ensures { result ≡ is_reached self counts.now }
+    {
+        match self {
+            Rule::Until {
+                writes: true,
+                count,
+            } => count <= counts.writes,
+            Rule::Until {
+                writes: false,
+                count,
+            } => count <= counts.replies,
+            Rule::Drain | Rule::Mute(_) => false,
+        }
+    }
+}
+
+/// The event in a line that mutes a node: an alive packet of it is lost.
+pub fn muted(node: u8, counts: &Counts, event: Event) -> Event
+    ensures { result ≡ muted node counts.now event }
+{
+    match event {
+        Event::Deliver { y, k } if counts.alive && counts.sender == node => Event::Lose { y, k },
+        other => other,
+    }
+}

@@ -1,0 +1,59 @@
+use schedule::Event;
+
+/// How many processors, processes and terminals there are.
+#[derive(Clone, Copy, PartialEq, Eq)]
+pub struct Sizes {
+    pub processors: u8,
+    pub processes: u8,
+    pub terminals: u8,
+}
+
+/// Where a round stands. A part that has had all its turns is left at the next event.
+#[derive(Clone, Copy, PartialEq, Eq)]
+pub enum Place {
+    /// Between two rounds.
+    Before,
+    /// The turn comes to this terminal.
+    Enters(u8),
+    /// The turn comes to this process.
+    Runs(u8),
+    /// So many packets are left of those that were on the bus when its part began.
+    Delivers { y: bool, left: u32 },
+    /// The turn comes to this node.
+    Ticks(u8),
+}
+
+/// What ends a line of rounds early, and which packets are lost in it.
+#[derive(Clone, Copy, PartialEq, Eq)]
+pub enum Rule {
+    /// The machine is idle before a round.
+    Drain,
+    /// Nothing; the alive packets of this node are lost.
+    Mute(u8),
+    /// The machine is idle before a round, or so many writes or, where `writes` is false, replies are shown.
+    Until { writes: bool, count: u32 },
+}
+
+/// Where a line stands.
+#[derive(Clone, Copy, PartialEq, Eq)]
+pub enum Standing {
+    Ended,
+    /// So many times the event is left.
+    Event { event: Event, left: u32 },
+    /// So many rounds are left behind the one that is being made.
+    Rounds { rule: Rule, left: u32, place: Place },
+}
+
+/// The next event of a round, and where the round stands then.
+#[derive(Clone, Copy, PartialEq, Eq)]
+pub struct Turn {
+    pub event: Event,
+    pub place: Place,
+}
+
+/// The next event of a line, and where the line stands then.
+#[derive(Clone, Copy, PartialEq, Eq)]
+pub struct Move {
+    pub event: Event,
+    pub standing: Standing,
+}
