@@ -1,2 +1,4 @@
 pub mod Lines
+pub mod Mixes
+pub mod Played
 pub mod Rounds

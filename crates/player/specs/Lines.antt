@@ -1,5 +1,5 @@
 -- Which event comes next on a line of a schedule. The lines are our own.
-use Rattle.std.specs.Prelude.{ℕ, ◌-◌, ◌==◌, ◌&&◌, ◌||◌, not, nat_lt, nat_le, Bool, true, false, Option, Some, None, if◌then◌else◌}
+use Rattle.std.specs.Prelude.{ℕ, ◌-◌, ◌==◌, ◌&&◌, ◌||◌, nat_lt, nat_le, Bool, true, false, Option, Some, None, if◌then◌else◌}
 use Rattle.std.specs.Option.{option_map}
 use Rattle.schedule.specs.declared.event.Event.{Event}
 use Rattle.schedule.specs.declared.event.Event.TheVariants as event
@@ -10,12 +10,16 @@ use Rattle.player.specs.declared.standing.Sizes.{Sizes}
 use Rattle.player.specs.declared.standing.Place.{Place}
 use Rattle.player.specs.declared.standing.Place.TheVariants as place
 use Rattle.player.specs.declared.standing.Turn.{Turn}
+use Rattle.player.specs.declared.standing.MixedPlace.{MixedPlace}
+use Rattle.player.specs.declared.standing.MixedPlace.TheVariants as mixed
+use Rattle.player.specs.declared.standing.MixedTurn.{MixedTurn}
 use Rattle.player.specs.declared.standing.Rule.{Rule}
 use Rattle.player.specs.declared.standing.Rule.TheVariants as rule
 use Rattle.player.specs.declared.standing.Standing.{Standing}
 use Rattle.player.specs.declared.standing.Standing.TheVariants as standing
 use Rattle.player.specs.declared.standing.Move.{Move}
 use Rattle.player.specs.Rounds.{next_turn}
+use Rattle.player.specs.Mixes.{first_draws, next_mixed}
 
 -- where a line stands at first
 abbrev pub begun : Line → Standing
@@ -24,7 +28,7 @@ begun (Many event times) = standing.Event event times
 begun (Drain rounds) = standing.Rounds rule.Drain rounds place.Before
 begun (Mute node rounds) = standing.Rounds (rule.Mute node) rounds place.Before
 begun (Until writes count rounds) = standing.Rounds (rule.Until writes count) rounds place.Before
-begun (Mix start rounds) = standing.Ended
+begun (Mix start rounds) = standing.Mixed rounds mixed.Before (first_draws start)
 
 abbrev pub is_before : Place → Bool
 is_before place.Before = true
@@ -32,6 +36,13 @@ is_before _ = false
 
 abbrev pub moved : Rule → ℕ → Turn → Move
 moved rule left turn = record { event = turn.event; standing = standing.Rounds rule left turn.place }
+
+abbrev pub is_before_mixed : MixedPlace → Bool
+is_before_mixed mixed.Before = true
+is_before_mixed _ = false
+
+abbrev pub moved_mixed : ℕ → MixedTurn → Move
+moved_mixed left turn = record { event = turn.event; standing = standing.Mixed left turn.place turn.draws }
 
 -- the next event where nothing ends the line early and no packet is an alive one, with so many packets on buses X and Y; none where nothing is left of the line
 abbrev pub proposed : Sizes → ℕ → ℕ → Standing → Option Move
@@ -42,6 +53,10 @@ proposed sizes x y (standing.Rounds rule left place) =
     if is_before place
       then (if nat_lt 0 left then Some (moved rule (left - 1) (next_turn sizes x y place)) else None)
       else Some (moved rule left (next_turn sizes x y place))
+proposed sizes x y (standing.Mixed left place draws) =
+    if is_before_mixed place
+      then (if nat_lt 0 left then Some (moved_mixed (left - 1) (next_mixed sizes x y place draws)) else None)
+      else Some (moved_mixed left (next_mixed sizes x y place draws))
 
 -- whether a line of this rule ends where the machine is idle before a round
 abbrev pub minds_idle : Rule → Bool
@@ -73,9 +88,15 @@ abbrev pub muted : ℕ → Counts → Event → Event
 muted node counts (event.Deliver y k) = if counts.alive && (counts.sender == node) then event.Lose y k else event.Deliver y k
 muted node counts event = event
 
+-- an alive packet in a mixed round is delivered in place of being lost
+abbrev pub spared : Counts → Event → Event
+spared counts (event.Lose y k) = if counts.alive then event.Deliver y k else event.Lose y k
+spared counts event = event
+
 -- what comes of an event where the packet that it concerns is an alive one, or isn't
 abbrev pub decided : Standing → Counts → Event → Event
 decided (standing.Rounds (rule.Mute node) left place) counts event = muted node counts event
+decided (standing.Mixed left place draws) counts event = spared counts event
 decided _ counts event = event
 
 abbrev pub decided_move : Standing → Counts → Move → Move

@@ -4,10 +4,12 @@
 //! definition (`next_event`), and where it need not know whether the machine is idle.
 #![tactic(auto)]
 
+pub mod guards;
+mod mixed;
 pub mod player;
 mod round;
 mod rule;
 pub mod standing;
 
 pub use player::Player;
-pub use standing::{Place, Rule, Sizes, Standing};
+pub use standing::{MixedPlace, Place, Rule, Sizes, Standing};

@@ -2,11 +2,12 @@ ghost use Rattle.std.specs.Prelude.{◌≡◌, ◌-◌, nat_lt, Bool, false, Som
 ghost use Rattle.schedule.specs.declared.event.Counts.{Counts as AnyCounts};
 ghost use Rattle.player.specs.declared.standing.Standing.TheVariants as standing;
 ghost use Rattle.player.specs.declared.standing.Place.TheVariants as place;
-ghost use Rattle.player.specs.Lines.{begun, is_before, proposed, has_reached, asks_idle, decided, next_event, stands_after, event_of, packet_of, on_bus, aimed};
+ghost use Rattle.player.specs.Lines.{begun, is_before, is_before_mixed, proposed, has_reached, asks_idle, decided, next_event, stands_after, event_of, packet_of, on_bus, aimed};
 
+use crate::mixed::{first_draws, next_mixed};
 use crate::round::next_turn;
-use crate::rule::muted;
-use crate::standing::{Move, Place, Rule, Sizes, Standing};
+use crate::rule::{muted, spared};
+use crate::standing::{MixedPlace, Move, Place, Rule, Sizes, Standing};
 use schedule::{Counts, Event, Line};
 
 /// Gives the events of a line one by one.
@@ -83,7 +84,11 @@ fn begun(line: Line) -> Standing
             count,
             rounds,
         } => before_rounds(Rule::Until { writes, count }, rounds),
-        Line::Mix { .. } => Standing::Ended,
+        Line::Mix { start, rounds } => Standing::Mixed {
+            left: rounds,
+            place: MixedPlace::Before,
+            draws: first_draws(start),
+        },
     }
 }
 
@@ -101,6 +106,12 @@ fn is_before(place: Place) -> bool
     ensures { result ≡ is_before place }
 {
     matches!(place, Place::Before)
+}
+
+fn is_before_mixed(place: MixedPlace) -> bool
+    ensures { result ≡ is_before_mixed place }
+{
+    matches!(place, MixedPlace::Before)
 }
 
 fn next_event(sizes: Sizes, standing: Standing, counts: &Counts) -> Option<Move>
@@ -138,6 +149,22 @@ fn proposed(sizes: Sizes, x: u32, y: u32, standing: Standing) -> Option<Move>
                 },
             })
         }
+        Standing::Mixed { left, place, draws } => {
+            let left = if is_before_mixed(place) {
+                left.checked_sub(1)?
+            } else {
+                left
+            };
+            let turn = next_mixed(sizes, x, y, place, draws);
+            Some(Move {
+                event: turn.event,
+                standing: Standing::Mixed {
+                    left,
+                    place: turn.place,
+                    draws: turn.draws,
+                },
+            })
+        }
     }
 }
 
@@ -162,7 +189,7 @@ fn has_reached(standing: Standing, counts: &Counts) -> bool
 {
     match standing {
         Standing::Rounds { rule, .. } => rule.is_reached(counts),
-        Standing::Ended | Standing::Event { .. } => false,
+        Standing::Ended | Standing::Event { .. } | Standing::Mixed { .. } => false,
     }
 }
 
@@ -171,7 +198,7 @@ fn asks_idle(standing: Standing) -> bool
 {
     match standing {
         Standing::Rounds { rule, place, .. } => rule.minds_idle() && is_before(place),
-        Standing::Ended | Standing::Event { .. } => false,
+        Standing::Ended | Standing::Event { .. } | Standing::Mixed { .. } => false,
     }
 }
 
@@ -183,6 +210,7 @@ fn decided(standing: Standing, counts: &Counts, event: Event) -> Event
             rule: Rule::Mute(node),
             ..
         } => muted(node, counts, event),
+        Standing::Mixed { .. } => spared(counts, event),
         _ => event,
     }
 }

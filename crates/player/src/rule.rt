@@ -1,5 +1,5 @@
 ghost use Rattle.std.specs.Prelude.{◌≡◌};
-ghost use Rattle.player.specs.Lines.{minds_idle, is_reached, muted};
+ghost use Rattle.player.specs.Lines.{minds_idle, is_reached, muted, spared};
 
 use crate::standing::Rule;
 use schedule::{Counts, Event};
@@ -39,6 +39,16 @@ pub fn muted(node: u8, counts: &Counts, event: Event) -> Event
 {
     match event {
         Event::Deliver { y, k } if counts.alive && counts.sender == node => Event::Lose { y, k },
+        other => other,
+    }
+}
+
+/// The event in a mixed line: an alive packet isn't lost.
+pub fn spared(counts: &Counts, event: Event) -> Event
+    ensures { result ≡ spared counts.now event }
+{
+    match event {
+        Event::Lose { y, k } if counts.alive => Event::Deliver { y, k },
         other => other,
     }
 }

@@ -23,6 +23,23 @@ pub enum Place {
     Ticks(u8),
 }
 
+/// Where a mixed round stands.
+#[derive(Clone, Copy, PartialEq, Eq)]
+pub enum MixedPlace {
+    /// Between two rounds.
+    Before,
+    /// The turn comes to this terminal.
+    Enters(u8),
+    /// The turn comes to process `next` after so many more runs of the one before it.
+    Runs { next: u8, left: u8 },
+    /// So many packets are left of those that were on the bus when its part began.
+    Delivers { y: bool, left: u32 },
+    /// The packet at `k` was put on the bus once more, and is delivered next.
+    Repeated { y: bool, k: u32, left: u32 },
+    /// The turn comes to this node.
+    Ticks(u8),
+}
+
 /// What ends a line of rounds early, and which packets are lost in it.
 #[derive(Clone, Copy, PartialEq, Eq)]
 pub enum Rule {
@@ -42,6 +59,12 @@ pub enum Standing {
     Event { event: Event, left: u32 },
     /// So many rounds are left behind the one that is being made.
     Rounds { rule: Rule, left: u32, place: Place },
+    /// The same of mixed rounds, with the state of their generator.
+    Mixed {
+        left: u32,
+        place: MixedPlace,
+        draws: u64,
+    },
 }
 
 /// The next event of a round, and where the round stands then.
@@ -49,6 +72,14 @@ pub enum Standing {
 pub struct Turn {
     pub event: Event,
     pub place: Place,
+}
+
+/// The next event of a mixed round, and where the round and its generator stand then.
+#[derive(Clone, Copy, PartialEq, Eq)]
+pub struct MixedTurn {
+    pub event: Event,
+    pub place: MixedPlace,
+    pub draws: u64,
 }
 
 /// The next event of a line, and where the line stands then.
