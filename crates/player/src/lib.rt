@@ -5,6 +5,7 @@
 #![tactic(auto)]
 
 pub mod guards;
+pub mod laws;
 mod mixed;
 pub mod player;
 mod round;
