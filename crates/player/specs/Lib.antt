@@ -1,3 +1,4 @@
+pub mod Ended
 pub mod Lines
 pub mod Mixes
 pub mod Played
