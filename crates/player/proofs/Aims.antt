@@ -49,7 +49,7 @@ pub aimed-concerned : (sizes : Sizes) (standing : Standing) (counts : Counts) (m
 aimed-concerned sizes standing counts move is = by (is_over standing counts) (proposed sizes counts.x counts.y standing) is
   where
     by : (over : Bool) (next : Option Move) → (if over then None else option_map (decided_move standing counts) next) ≡ Some move
-      → packet_of_move counts.x counts.y next ≡ packet_of counts.x counts.y move.event
+        → packet_of_move counts.x counts.y next ≡ packet_of counts.x counts.y move.event
     by true next given = cc
     by false None given = cc
     by false (Some next) given = sym (decided-concerns counts.x counts.y standing counts next.event) ∙ ap (packet_of_move counts.x counts.y) given

@@ -1,5 +1,5 @@
 -- A line ends at most as many rounds as it has.
-use Rattle.std.proofs.Common.{◌≡◌, ℕ, ◌+◌, ◌-◌, ◌<◌, ◌≤◌, ◌==◌, ◌&&◌, Bool, true, false, nat_lt, List, [], ◌∷◌, ◌++◌, Option, Some, None, option_map, if◌then◌else◌, refl, sym, arith}
+use Rattle.std.proofs.Common.{◌≡◌, ℕ, ◌+◌, ◌-◌, ◌≤◌, ◌==◌, ◌&&◌, Bool, true, false, nat_lt, List, [], ◌∷◌, ◌++◌, Option, Some, None, option_map, if◌then◌else◌, refl, arith}
 use Rattle.std.proofs.lemmas.Bool.{ltb-true}
 use Rattle.schedule.specs.declared.event.Event.{Event}
 use Rattle.schedule.specs.declared.event.Event.TheVariants.{Run, Enter, Deliver, Lose, Repeat, Tick, Fail}
@@ -93,7 +93,7 @@ proposed-kept sizes x y (standing.Event event left) few =
 proposed-kept sizes x y (standing.Rounds rule left stand) few = by stand (turn-one sizes x y stand few)
   where
     by : (stand : Place) → IsOfOneRound (next_turn sizes x y stand)
-      → ended_and_left (proposed sizes x y (standing.Rounds rule left stand)) ≤ left + under_way stand
+        → ended_and_left (proposed sizes x y (standing.Rounds rule left stand)) ≤ left + under_way stand
     by place.Before one = before _ left (begun-kept left (moved rule (left - 1) (next_turn sizes x y place.Before)) (within _ _ (left - 1) one))
     by (place.Enters terminal) one = within _ _ left one
     by (place.Runs process) one = within _ _ left one
@@ -102,7 +102,7 @@ proposed-kept sizes x y (standing.Rounds rule left stand) few = by stand (turn-o
 proposed-kept sizes x y (standing.Mixed left stand draws) few = by stand (mixed-one sizes x y stand draws few)
   where
     by : (stand : MixedPlace) → IsOfOneMixed (next_mixed sizes x y stand draws)
-      → ended_and_left (proposed sizes x y (standing.Mixed left stand draws)) ≤ left + under_way_mixed stand
+        → ended_and_left (proposed sizes x y (standing.Mixed left stand draws)) ≤ left + under_way_mixed stand
     by mixed.Before one = before _ left (begun-kept left (moved_mixed (left - 1) (next_mixed sizes x y mixed.Before draws)) (within _ _ (left - 1) one))
     by (mixed.Enters terminal) one = within _ _ left one
     by (mixed.Runs next again) one = within _ _ left one
@@ -115,7 +115,7 @@ next-kept sizes standing counts few =
     by (is_over standing counts) (proposed sizes counts.x counts.y standing) (proposed-kept sizes counts.x counts.y standing few)
   where
     by : (over : Bool) (next : Option Move) → ended_and_left next ≤ rounds_left standing
-      → ended_and_left (if over then None else option_map (decided_move standing counts) next) ≤ rounds_left standing
+        → ended_and_left (if over then None else option_map (decided_move standing counts) next) ≤ rounds_left standing
     by true next low = none (rounds_left standing)
     by false None low = none (rounds_left standing)
     by false (Some next) low =

@@ -24,7 +24,7 @@ ticks-one : (sizes : Sizes) (node draws : ℕ) → sizes.processors ≤ 16 → I
 ticks-one sizes node draws few = by (nat_lt node sizes.processors) refl
   where
     by : (b : Bool) → nat_lt node sizes.processors ≡ b
-      → IsOfOneMixed (if b then turn (event.Tick node) (place.Ticks (node + 1)) draws else turn (event.Tick 16) place.Before draws)
+        → IsOfOneMixed (if b then turn (event.Tick node) (place.Ticks (node + 1)) draws else turn (event.Tick 16) place.Before draws)
     by true is = not-last node (let low = ltb-true node sizes.processors is in omega (arith, low, few))
     by false is = one
 

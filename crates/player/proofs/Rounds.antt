@@ -1,5 +1,5 @@
 -- A turn ends its round or leaves it under way.
-use Rattle.std.proofs.Common.{◌≡◌, ℕ, zero, suc, ◌+◌, ◌-◌, ◌/◌, ◌%◌, ◌<◌, ◌≤◌, ◌==◌, Bool, true, false, nat_lt, if◌then◌else◌, refl, arith}
+use Rattle.std.proofs.Common.{◌≡◌, ℕ, ◌+◌, ◌<◌, ◌≤◌, ◌==◌, Bool, true, false, nat_lt, if◌then◌else◌, refl, arith}
 use Rattle.std.proofs.lemmas.Bool.{ltb-true, eqb-true}
 use Rattle.schedule.specs.declared.event.Event.TheVariants as event
 use Rattle.player.specs.declared.standing.Sizes.{Sizes}
@@ -31,7 +31,7 @@ ticks-one : (sizes : Sizes) (node : ℕ) → sizes.processors ≤ 16 → IsOfOne
 ticks-one sizes node few = by (nat_lt node sizes.processors) refl
   where
     by : (b : Bool) → nat_lt node sizes.processors ≡ b
-      → IsOfOneRound (if b then turn (event.Tick node) (place.Ticks (node + 1)) else turn (event.Tick 16) place.Before)
+        → IsOfOneRound (if b then turn (event.Tick node) (place.Ticks (node + 1)) else turn (event.Tick 16) place.Before)
     by true is = not-last node (let low = ltb-true node sizes.processors is in omega (arith, low, few))
     by false is = one
 

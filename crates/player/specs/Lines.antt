@@ -51,12 +51,12 @@ proposed sizes x y (standing.Event event left) =
     if nat_lt 0 left then Some (record { event = event; standing = standing.Event event (left - 1) }) else None
 proposed sizes x y (standing.Rounds rule left place) =
     if is_before place
-      then (if nat_lt 0 left then Some (moved rule (left - 1) (next_turn sizes x y place)) else None)
-      else Some (moved rule left (next_turn sizes x y place))
+    then (if nat_lt 0 left then Some (moved rule (left - 1) (next_turn sizes x y place)) else None)
+    else Some (moved rule left (next_turn sizes x y place))
 proposed sizes x y (standing.Mixed left place draws) =
     if is_before_mixed place
-      then (if nat_lt 0 left then Some (moved_mixed (left - 1) (next_mixed sizes x y place draws)) else None)
-      else Some (moved_mixed left (next_mixed sizes x y place draws))
+    then (if nat_lt 0 left then Some (moved_mixed (left - 1) (next_mixed sizes x y place draws)) else None)
+    else Some (moved_mixed left (next_mixed sizes x y place draws))
 
 -- whether a line of this rule ends where the machine is idle before a round
 abbrev pub minds_idle : Rule → Bool
@@ -106,8 +106,8 @@ decided_move standing counts move = record move { event = decided standing count
 abbrev pub next_event : Sizes → Standing → Counts → Option Move
 next_event sizes standing counts =
     if is_over standing counts
-      then None
-      else option_map (decided_move standing counts) (proposed sizes counts.x counts.y standing)
+    then None
+    else option_map (decided_move standing counts) (proposed sizes counts.x counts.y standing)
 
 -- where a line stands after its next event
 abbrev pub stands_after : Option Move → Standing

@@ -56,8 +56,8 @@ abbrev pub drawn_runs : Sizes → ℕ → ℕ → ℕ → ℕ → ℕ → MixedT
 drawn_runs sizes x y zero process draws = delivers_x sizes y x draws
 drawn_runs sizes x y (suc more) process draws =
     if nat_lt 0 (word draws % 4)
-      then turn (event.Run process) (place.Runs (process + 1) (word draws % 4 - 1)) (drawn draws)
-      else drawn_runs sizes x y more (process + 1) (drawn draws)
+    then turn (event.Run process) (place.Runs (process + 1) (word draws % 4 - 1)) (drawn draws)
+    else drawn_runs sizes x y more (process + 1) (drawn draws)
 
 -- the turn comes to a process
 abbrev pub runs_from : Sizes → ℕ → ℕ → ℕ → ℕ → MixedTurn

@@ -56,9 +56,16 @@ pub enum Rule {
 pub enum Standing {
     Ended,
     /// So many times the event is left.
-    Event { event: Event, left: u32 },
+    Event {
+        event: Event,
+        left: u32,
+    },
     /// So many rounds are left behind the one that is being made.
-    Rounds { rule: Rule, left: u32, place: Place },
+    Rounds {
+        rule: Rule,
+        left: u32,
+        place: Place,
+    },
     /// The same of mixed rounds, with the state of their generator.
     Mixed {
         left: u32,
