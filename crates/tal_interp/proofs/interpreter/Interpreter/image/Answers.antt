@@ -23,4 +23,4 @@ put_items-requires-clause-numbers c =
 pub returns : goal.returns
 returns c =
     image-parts c.args.self.now.program c.args.self.now.state c.args.items.now c.put_frames.new.out c.put_items.new.out c.requires.sound.whole.ended
-    (rw c.new-all.ensures at c.in_ok-put_frames.ensures) c.in_ok-put_items.ensures
+    (rw (c.from_vec-all.ensures, c.in_ok-with_capacity.ensures.items) at c.in_ok-put_frames.ensures) c.in_ok-put_items.ensures
