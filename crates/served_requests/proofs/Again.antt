@@ -49,7 +49,8 @@ numbered-in number place first last n (one ∷ kept) words size most e =
           (let count = here.0 in let turned = length-reverse kept in let same : n ≡ first = omega (arith, size, most, count, turned) in inl (rw (same, here.1) refl))
     ]
 
-kept-in : (number place n : ℕ) (words : List ℤ) (table : ReceiveBlock) (is : IsKept table place n words) → length is.block.kept ≤ answered (holds table place) is.block
+kept-in : (number place n : ℕ) (words : List ℤ) (table : ReceiveBlock) (is : IsKept table place n words)
+    → length is.block.kept ≤ answered (holds table place) is.block
     → IsAmong (record { process = number; opener = place; number = n; words = words }) (kept_for number table place)
 kept-in number place n words table is few =
     let last : ℕ = answered (holds table place) is.block in
@@ -99,13 +100,15 @@ terminals-in f from (first ∷ terminals) (suc at) terminal message there among 
     among-right message (f from first) (of_terminals f (from + 1) terminals)
     (terminals-in f (from + 1) terminals at terminal message there (subst (λ n. IsAmong message (f n terminal)) same among))
 
-rerouted-in : (w : World) (node processor : ℕ) (request : Request) → is_rerouted w node processor request.process ≡ true → IsAmong (Asking request) (rerouted w node processor (request ∷ []))
+rerouted-in : (w : World) (node processor : ℕ) (request : Request) → is_rerouted w node processor request.process ≡ true
+    → IsAmong (Asking request) (rerouted w node processor (request ∷ []))
 rerouted-in w node processor request is =
     map-in Asking request _ (filter-in (λ r. is_rerouted w node processor r.process) request (request ∷ []) is (inl refl))
 
 module _ (site : Site) (w next : World) (node processor : ℕ) where
   -- a kept reply to an opener that is found elsewhere
-  pub reply-again : (opener : Opener) (n : ℕ) (words : List ℤ) (pair : Pair) (k : Which) (spec : OpenerSpec) → slice_get next.processes opener.server ≡ Some pair
+  pub reply-again : (opener : Opener) (n : ℕ) (words : List ℤ) (pair : Pair) (k : Which) (spec : OpenerSpec)
+      → slice_get next.processes opener.server ≡ Some pair
       → (copy_of k pair).role ≡ Acting → (copy_of k pair).processor ≡ node → slice_get (openers_of site opener.server) opener.place ≡ Some spec
       → is_moved w node processor spec.who ≡ true → (is : IsKept (copy_of k pair).core.receive opener.place n words)
       → length is.block.kept ≤ answered (holds (copy_of k pair).core.receive opener.place) is.block
@@ -118,14 +121,16 @@ module _ (site : Site) (w next : World) (node processor : ℕ) where
       let kept = from-in w node processor opener.server table 0 (openers_of site opener.server) opener.place spec reply placed moved
       (subst (λ p. IsAmong reply (kept_for opener.server table p)) (sym place) (kept-in opener.server opener.place n words table is few)) in
       let told : IsAmong (Replying reply) (tells_again site w node processor opener.server (copy_of k pair)) =
-      rw (role, eq-eqb (copy_of k pair).processor node here) (map-in Replying reply (kept_from w node processor opener.server table 0 (openers_of site opener.server)) kept) in
+      rw (role, eq-eqb (copy_of k pair).processor node here)
+      (map-in Replying reply (kept_from w node processor opener.server table 0 (openers_of site opener.server)) kept) in
       sent-in node (Replying reply) _
       (among-right (Replying reply) _ (of_copies (tells_again site w node processor) 0 next.processes)
       (copies-in (tells_again site w node processor) 0 next.processes opener.server pair k (Replying reply) there
       (subst (λ n. IsAmong (Replying reply) (tells_again site w node processor n (copy_of k pair))) (sym at) told)))
 
   -- the request that a copy awaits
-  pub copy-again : (number file n : ℕ) (opener : Opener) (pair : Pair) (k : Which) → slice_get next.processes number ≡ Some pair → (copy_of k pair).role ≡ Acting
+  pub copy-again : (number file n : ℕ) (opener : Opener) (pair : Pair) (k : Which) → slice_get next.processes number ≡ Some pair
+      → (copy_of k pair).role ≡ Acting
       → (copy_of k pair).processor ≡ node → process.point (copy_of k pair).core.state ≡ point.Await → process.asked_file (copy_of k pair).core.state ≡ file
       → next_on (copy_of k pair).core file ≡ n + 1 → opener_of site (who.File number file) ≡ Some opener → is_rerouted w node processor opener.server ≡ true
       → IsAmong (record { node = node; message = Asking (request_of opener n (process.asked_words (copy_of k pair).core.state)) }) (sent_again site w next node processor)
@@ -142,7 +147,8 @@ module _ (site : Site) (w next : World) (node processor : ℕ) where
       (subst (λ n. IsAmong (Asking request) (asks_again site w node processor n (copy_of k pair))) (sym at) asked))))
 
   -- the request that a terminal awaits
-  pub terminal-again : (number : ℕ) (opener : Opener) (terminal : Terminal) (words : List ℤ) → slice_get next.terminals number ≡ Some terminal → node ≡ terminal_node
+  pub terminal-again : (number : ℕ) (opener : Opener) (terminal : Terminal) (words : List ℤ) → slice_get next.terminals number ≡ Some terminal
+      → node ≡ terminal_node
       → terminal.entered ≡ terminal.printed + 1 → next_request site number (terminal.entered - 1) ≡ Some words
       → opener_of site (who.Terminal number) ≡ Some opener → is_rerouted w node processor opener.server ≡ true
       → IsAmong (record { node = node; message = Asking (request_of opener terminal.entered words) }) (sent_again site w next node processor)
@@ -152,7 +158,8 @@ module _ (site : Site) (w next : World) (node processor : ℕ) where
       let asked : IsAmong (Asking request) (rerouted w node processor (awaited_from site number terminal)) =
       rw (eq-eqb terminal.entered (terminal.printed + 1) odd, opens, entered) (rerouted-in w node processor request moves) in
       let all : IsAmong (Asking request) (terminals_ask site w node processor next.terminals) =
-      rw (eq-eqb node terminal_node here) (terminals-in (λ number terminal. rerouted w node processor (awaited_from site number terminal)) 0 next.terminals number terminal
+      rw (eq-eqb node terminal_node here)
+      (terminals-in (λ number terminal. rerouted w node processor (awaited_from site number terminal)) 0 next.terminals number terminal
       (Asking request) there (subst (λ n. IsAmong (Asking request) (rerouted w node processor (awaited_from site n terminal))) (sym at) asked)) in
       sent-in node (Asking request) _
       (among-left (Asking request) _ (of_copies (tells_again site w node processor) 0 next.processes)

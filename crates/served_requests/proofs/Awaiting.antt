@@ -29,12 +29,14 @@ use Rattle.awaited_requests.specs.Awaited.{IsAwaited, by_copy, by_terminal}
 use Rattle.awaited_requests.specs.Served.{request_of}
 use Rattle.sent_letters.specs.Known.{WatchersAreCalm}
 use Rattle.sent_letters.proofs.Calm.{not-both}
-use Rattle.served_requests.proofs.Turns.{steady, Turns, is_quiet, has_asked, has_taken, has_answered, has_heard, has_heard_early, has_taken_over, change-turned}
+use Rattle.served_requests.proofs.Turned.{change-turned}
+use Rattle.served_requests.proofs.Turns.{steady, Turns, is_quiet, has_asked, has_taken, has_answered, has_heard, has_heard_early, has_taken_over}
 
 -- what is awaited after a change was before, or is asked now
 pub data WasAwaited (site : Site) (w : World) (sendings : List Sending) (asker : ℕ) (one : Who) (n : ℕ) : Type 0 where
   was_awaited : IsAwaited site w asker one n → WasAwaited site w sendings asker one n
-  is_asked : (words : List ℤ) → ((opener : Opener) → opener_of site one ≡ Some opener → IsAmong (record { node = asker; message = Asking (request_of opener n words) }) sendings)
+  is_asked : (words : List ℤ)
+      → ((opener : Opener) → opener_of site one ≡ Some opener → IsAmong (record { node = asker; message = Asking (request_of opener n words) }) sendings)
       → WasAwaited site w sendings asker one n
 
 same-reply : {node at : ℕ} {one other : Reply} → Handing node (Replying one) ≡ Handing at (Replying other) → one ≡ other
@@ -71,24 +73,29 @@ module _ (site : Site) (fit : IsFit site) (events : ℕ) (w : World) (good : IsG
   terminal-before (by_print at before reply there was_odd among opens last) number terminal is odd =
       of (changed w.terminals at (record before { printed = before.printed + 1 }) number terminal is)
     where
-      of : Changed w.terminals at (record before { printed = before.printed + 1 }) number terminal → WasAwaited site w [] terminal_node (who.Terminal number) terminal.entered
+      of : Changed w.terminals at (record before { printed = before.printed + 1 }) number terminal
+          → WasAwaited site w [] terminal_node (who.Terminal number) terminal.entered
       of (is_new here new) =
           let entered : terminal.entered ≡ before.entered = ap (λ t. t.entered) new in
           let printed : terminal.printed ≡ before.printed + 1 = ap (λ t. t.printed) new in
           absurd (omega (arith, odd, was_odd, entered, printed))
       of (is_same apart old) = was_awaited (by_terminal terminal old odd)
 
-  copy-before : {cause : Cause} {sendings : List Sending} (number file n : ℕ) (before : Pair) (k : Which) (after : Copy) → slice_get w.processes number ≡ Some before
+  copy-before : {cause : Cause} {sendings : List Sending} (number file n : ℕ) (before : Pair) (k : Which) (after : Copy)
+      → slice_get w.processes number ≡ Some before
       → after.processor ≡ (copy_of k before).processor → Turns site number cause sendings (copy_of k before) after → after.role ≡ Acting
       → process.point after.core.state ≡ point.Await → process.asked_file after.core.state ≡ file → next_on after.core file ≡ n + 1
       → WasAwaited site w sendings after.processor (who.File number file) n
-  copy-before {sendings = sendings} number file n before k after there seat turns role at on last = subst (λ p. WasAwaited site w sendings p (who.File number file) n) (sym seat) (of turns)
+  copy-before {sendings = sendings} number file n before k after there seat turns role at on last =
+      subst (λ p. WasAwaited site w sendings p (who.File number file) n) (sym seat) (of turns)
     where
-      same : (copy_of k before).role ≡ Acting → after.core ≡ (copy_of k before).core → WasAwaited site w sendings (copy_of k before).processor (who.File number file) n
+      same : (copy_of k before).role ≡ Acting → after.core ≡ (copy_of k before).core
+          → WasAwaited site w sendings (copy_of k before).processor (who.File number file) n
       same acted core = was_awaited (by_copy before k there acted (subst (λ c. process.point c.state ≡ point.Await) core at)
           (subst (λ c. process.asked_file c.state ≡ file) core on) (subst (λ c. next_on c file ≡ n + 1) core last))
 
-      of : {cause : Cause} → Turns site number cause sendings (copy_of k before) after → WasAwaited site w sendings (copy_of k before).processor (who.File number file) n
+      of : {cause : Cause} → Turns site number cause sendings (copy_of k before) after
+          → WasAwaited site w sendings (copy_of k before).processor (who.File number file) n
       of (is_quiet quiet) = same (quiet.acts role) (quiet.awaits role at)
       of (has_asked words acted acts table waits sent) = is_asked words (λ opener opens. sent file n opener on last opens)
       of (has_taken found block acted acts away free is known table rest) = absurd (away at)
@@ -125,7 +132,8 @@ module _ (site : Site) (fit : IsFit site) (events : ℕ) (w : World) (good : IsG
         calm-away _ (got-calm (copy_of k pair).core.state words (steady site fit events w good calm number pair k there role) stands),
       )
 
-  got-none : (number : ℕ) (pair : Pair) (k : Which) (new : Copy) (sectors : _) (next : World) → slice_get w.processes number ≡ Some pair → (copy_of k pair).role ≡ Acting
+  got-none : (number : ℕ) (pair : Pair) (k : Which) (new : Copy) (sectors : _) (next : World) → slice_get w.processes number ≡ Some pair
+      → (copy_of k pair).role ≡ Acting
       → next.processes ≡ slice_set w.processes number (with_copy k new (record pair { sectors = sectors })) → process.point new.core.state ≢ point.Await
       → {asker : ℕ} {one : Who} {n file : ℕ} → one ≡ who.File number file → IsAwaited site next asker one n → ⊥
   got-none number pair k new sectors next there role changes away is (by_terminal terminal at odd) = cc
@@ -143,7 +151,8 @@ module _ (site : Site) (fit : IsFit site) (events : ℕ) (w : World) (good : IsG
       by Second First role acts awaits = one-acts w.stopped pair (good.roles number pair there) acts role
 
       of : Changed w.processes number (with_copy k new (record pair { sectors = sectors })) other now → ⊥
-      of (is_new here new_is) = by k j role (subst (λ p. (copy_of j p).role ≡ Acting) new_is acts) (subst (λ p. process.point (copy_of j p).core.state ≡ point.Await) new_is awaits)
+      of (is_new here new_is) =
+          by k j role (subst (λ p. (copy_of j p).role ≡ Acting) new_is acts) (subst (λ p. process.point (copy_of j p).core.state ≡ point.Await) new_is awaits)
       of (is_same apart old) = apart (sym (same-file is))
 
   print-none : (number : ℕ) (terminal : Terminal) (next : World) → terminal.entered ≡ terminal.printed + 1
@@ -164,8 +173,10 @@ module _ (site : Site) (fit : IsFit site) (events : ℕ) (w : World) (good : IsG
       of (is_same apart old) = apart (sym (same-terminal is))
 
   -- a reply that comes isn't awaited afterwards
-  pub come-none : {next : World} {cause : Cause} {sendings : List Sending} → Change site w cause sendings next → (at : ℕ) (reply : Reply) → cause ≡ Handing at (Replying reply)
-      → (asker : ℕ) (one : Who) (n : ℕ) → opener_of site one ≡ Some (record { server = reply.process; place = reply.opener }) → IsAwaited site next asker one n → ⊥
+  pub come-none : {next : World} {cause : Cause} {sendings : List Sending} → Change site w cause sendings next → (at : ℕ) (reply : Reply)
+      → cause ≡ Handing at (Replying reply)
+      → (asker : ℕ) (one : Who) (n : ℕ) → opener_of site one ≡ Some (record { server = reply.process; place = reply.opener })
+      → IsAwaited site next asker one n → ⊥
   come-none (by_own {after = after} {core = core} {entered = entered} number k pair there role causes advances enters) at reply same asker one n opens awaited =
       let got = got-away number pair k there role causes advances at reply same in
       got-none number pair k (record entered { core = core; waiting = after.waiting }) after.sectors _ there role refl got.2

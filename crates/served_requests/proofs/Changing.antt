@@ -30,7 +30,7 @@ use Rattle.served_requests.proofs.Numbers.{asked-low, awaited-low, early-low}
 use Rattle.served_requests.proofs.Routes.{route-same, route-where, seat-within, stopped-is, rests-stopped, marks-stay, home-before}
 use Rattle.served_requests.proofs.Seeing.{LeavesTold, turn-seen}
 use Rattle.served_requests.proofs.Sending.{letter-in, IsTold, told-now}
-use Rattle.served_requests.proofs.Turns.{Turned, change-turned}
+use Rattle.served_requests.proofs.Turned.{Turned, change-turned}
 
 -- of the letters that were owed these are, but for what is handed over
 abbrev pub AreLeft : Post → Cause → List Letter → Type 0
@@ -53,7 +53,9 @@ module _ (site : Site) (fit : IsFit site) (events : ℕ) (post : Post) (good : I
         ap (λ marks. route_of marks node now) (marks-stay change unmarked) ∙ route-same post.world.marks node was.before now (λ k. (was.goes k).0)
 
     home-was : (node asker : ℕ) (one : Who) → home_of next node one ≡ Some asker → home_of post.world node one ≡ Some asker
-    home-was node asker one = home-before post.world next node asker one (λ number file is now there. let was = turned number now there in (was.before, was.there, route node number now there))
+    home-was node asker one =
+        home-before post.world next node asker one
+        (λ number file is now there. let was = turned number now there in (was.before, was.there, route node number now there))
 
     asked : (node : ℕ) (request : Request) → cause ≡ Handing node (Asking request) → IsAsked site good.invariant.ledger request
     asked node request is =
@@ -61,7 +63,8 @@ module _ (site : Site) (fit : IsFit site) (events : ℕ) (post : Post) (good : I
         good.invariant.requests request (subst (IsSent post.world) letter.3 (known.honest.letters letter.0 letter.1))
 
     module _ (asker : ℕ) (one : Who) (n : ℕ) (opener : Opener) (opens : opener_of site one ≡ Some opener) (awaited : IsAwaited site next asker one n) where
-      told : (node : ℕ) (words : List ℤ) → IsAmong (record { node = node; message = Replying (reply_of opener n words) }) sendings → IsTold After asker one opener n node words
+      told : (node : ℕ) (words : List ℤ) → IsAmong (record { node = node; message = Replying (reply_of opener n words) }) sendings
+          → IsTold After asker one opener n node words
       told node words among = elim (told-now site next node asker one opener n words sendings opens among) [
         | inl letter ↦ inl (among-right _ rest (letters_of site next sendings) letter)
         | inr away ↦ inr away
@@ -79,7 +82,9 @@ module _ (site : Site) (fit : IsFit site) (events : ℕ) (post : Post) (good : I
         ];
         told = λ words among. told (copy_of k pair).processor words among;
         low = λ block role at. awaited-low site fit events post.world good asker one n opener pair k opens there old role block at;
-        heard = λ request block role is process at. asked-low site fit events post.world good opener.server pair k there role request process (asked (copy_of k pair).processor request is) block at;
+        heard =
+            λ request block role is process at. asked-low site fit events post.world good opener.server pair k there role request process
+            (asked (copy_of k pair).processor request is) block at;
         early = λ request role is process place.
             let letter = sent (copy_of k pair).processor request is in
             let early = known.early.sent letter.0 request pair k letter.1 letter.3 (rw process there) letter.2 role in
@@ -108,15 +113,18 @@ module _ (site : Site) (fit : IsFit site) (events : ℕ) (post : Post) (good : I
       still-served now there old (is_seen k at has) =
           let was = turned opener.server now there in
           is_seen k ((was.goes k).0 ∙ at ∙ sym (route asker opener.server now there))
-          (turn-seen site post After asker one opener n cause sendings (copy_of k was.before) (copy_of k now) (was.goes k).0 (leaves old was.before k (copy_of k now) was.there) (was.goes k).1 has)
+          (turn-seen site post After asker one opener n cause sendings (copy_of k was.before) (copy_of k now) (was.goes k).0
+          (leaves old was.before k (copy_of k now) was.there) (was.goes k).1 has)
 
   -- a change but a mark leaves what is awaited served
   pub change-served : (next : World) (cause : Cause) (sendings : List Sending) (rest : List Letter) → Change site post.world cause sendings next
       → ((node processor : ℕ) → cause ≡ Marking node processor → ⊥) → WasSentTo post cause → AreLeft post cause rest
       → AreServed site (after_change site sendings next (record post { owed = rest }))
-  change-served next cause sendings rest change unmarked sent left asker one n opener now opens there awaited = by (awaited-before site fit events post.world good known.honest.calm change awaited)
+  change-served next cause sendings rest change unmarked sent left asker one n opener now opens there awaited =
+      by (awaited-before site fit events post.world good known.honest.calm change awaited)
     where
-      by : WasAwaited site post.world sendings asker one n → IsServed site (after_change site sendings next (record post { owed = rest })) asker one n opener now
+      by : WasAwaited site post.world sendings asker one n
+          → IsServed site (after_change site sendings next (record post { owed = rest })) asker one n opener now
       by (was_awaited old) =
           let was = turned next cause sendings rest change unmarked sent left opener.server now there in
           still-served next cause sendings rest change unmarked sent left asker one n opener opens awaited now there old

@@ -131,7 +131,8 @@ module _ (site : Site) (fit : IsFit site) (events : ℕ) (w : World) (good : IsG
     }
 
   -- a request that comes is seen to where it comes
-  pub come-seen : {next : World} {cause : Cause} {sendings : List Sending} → Change site w cause sendings next → (owed sent : List Letter) (at : ℕ) (words : List ℤ)
+  pub come-seen : {next : World} {cause : Cause} {sendings : List Sending} → Change site w cause sendings next
+      → (owed sent : List Letter) (at : ℕ) (words : List ℤ)
       → cause ≡ Handing at (Asking (request_of opener n words)) → IsAwaited site w asker one n
       → ((node : ℕ) (words : List ℤ) → IsAmong (record { node = node; message = Replying (reply_of opener n words) }) sendings
       → IsTold (record { world = next; owed = owed; sent = sent }) asker one opener n node words)
@@ -143,7 +144,8 @@ module _ (site : Site) (fit : IsFit site) (events : ℕ) (w : World) (good : IsG
       let is = (same-asking same).1 in
       subst (IsSeenAt post asker one opener n) (same-asking same).0
       (placed post k pair request words is there (λ r. record (copy_of k pair) { waiting = came (copy_of k pair).core.receive (copy_of k pair).waiting r }) refl
-      (heard-seen post k pair request words is there role (λ kept is_kept. told (copy_of k pair).processor kept (told-again post k pair request words is there refl kept is_kept))))
+      (heard-seen post k pair request words is there role
+      (λ kept is_kept. told (copy_of k pair).processor kept (told-again post k pair request words is there refl kept is_kept))))
   come-seen {next = next} (by_early_request request k pair among there role) owed sent at words same awaited told early =
       let post : Post = record { world = next; owed = owed; sent = sent } in
       let is = (same-asking same).1 in

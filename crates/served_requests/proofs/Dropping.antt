@@ -28,7 +28,8 @@ use Rattle.sent_letters.specs.Known.{IsHonest}
 use Rattle.served_requests.proofs.Routes.{route-where, rests-stopped}
 
 -- a letter of a list is the one that is taken from it, or one of the rest
-pub taken-or : {letter : Letter} {letters rest : List Letter} (other : Letter) → IsTaken letter letters rest → IsAmong other letters → (other ≡ letter) ⊎ IsAmong other rest
+pub taken-or : {letter : Letter} {letters rest : List Letter} (other : Letter) → IsTaken letter letters rest → IsAmong other letters
+    → (other ≡ letter) ⊎ IsAmong other rest
 taken-or other takes_first among = among
 taken-or other (takes_later taken) (inl same) = inr (inl same)
 taken-or other (takes_later taken) (inr later) = elim (taken-or other taken later) [ inl same ↦ inl same | inr among ↦ inr (inr among) ]
@@ -38,7 +39,8 @@ module _ (site : Site) (events : ℕ) (w : World) (good : IsGood site events w) 
   request-taken : (asker n : ℕ) (opener : Opener) (pair : Pair) (words : List ℤ) → slice_get w.processes opener.server ≡ Some pair
       → is_running w.stopped (route_of w.marks asker pair) ≡ true → IsAmong (request_of opener n words) w.requests
       → IsIdleFor site w (Handing (route_of w.marks asker pair) (Asking (request_of opener n words))) → ⊥
-  request-taken asker n opener pair words there runs sent idle = by (copy_of to.0 pair).role refl (subst (λ p. IsIdleFor site w (Handing p (Asking (request_of opener n words)))) (sym to.1) idle)
+  request-taken asker n opener pair words there runs sent idle =
+      by (copy_of to.0 pair).role refl (subst (λ p. IsIdleFor site w (Handing p (Asking (request_of opener n words)))) (sym to.1) idle)
     where
       to : (k : Which) × ((copy_of k pair).processor ≡ route_of w.marks asker pair)
       to = route-where w.marks asker pair
@@ -65,12 +67,14 @@ module _ (site : Site) (events : ℕ) (w : World) (good : IsGood site events w) 
       → AreServed site (record { world = w; owed = owed; sent = sent }) → IsTaken letter owed rest
       → is_running w.stopped letter.receiver ≡ true → IsIdleFor site w (Handing letter.receiver letter.message)
       → AreServed site (record { world = w; owed = rest; sent = sent })
-  drop-served owed sent rest letter honest served taken runs idle asker one n opener pair opens there awaited = by (served asker one n opener pair opens there awaited)
+  drop-served owed sent rest letter honest served taken runs idle asker one n opener pair opens there awaited =
+      by (served asker one n opener pair opens there awaited)
     where
       was_sent : IsSent w letter.message
       was_sent = honest.letters letter (honest.owed letter (taken-there taken))
 
-      by : IsServed site (record { world = w; owed = owed; sent = sent }) asker one n opener pair → IsServed site (record { world = w; owed = rest; sent = sent }) asker one n opener pair
+      by : IsServed site (record { world = w; owed = owed; sent = sent }) asker one n opener pair
+          → IsServed site (record { world = w; owed = rest; sent = sent }) asker one n opener pair
       by (route_stopped rests) = route_stopped rests
       by (is_owed words among) = elim (taken-or _ taken among) [
         | inr left ↦ is_owed words left

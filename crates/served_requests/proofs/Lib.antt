@@ -12,4 +12,5 @@ pub mod Running
 pub mod Seeing
 pub mod Sending
 pub mod Standings
+pub mod Turned
 pub mod Turns

@@ -37,7 +37,7 @@ use Rattle.served_requests.proofs.Running.{asker-runs, acting-runs}
 use Rattle.served_requests.proofs.Seeing.{LeavesTold, turn-seen}
 use Rattle.served_requests.proofs.Sending.{letter-in, IsTold, told-now}
 use Rattle.served_requests.proofs.Standings.{kept-is}
-use Rattle.served_requests.proofs.Turns.{Turned, change-turned}
+use Rattle.served_requests.proofs.Turned.{Turned, change-turned}
 
 -- what a mark is of, and what it leaves
 record IsMark (w next : World) (node processor : ℕ) : Type 0 where
@@ -50,7 +50,8 @@ record IsMark (w next : World) (node processor : ℕ) : Type 0 where
 same-mark : {node at processor other : ℕ} → Marking node processor ≡ Marking at other → (node ≡ at) × (processor ≡ other)
 same-mark same = (cc, cc)
 
-mark-is : {site : Site} {w next : World} {cause : Cause} {sendings : List Sending} → Change site w cause sendings next → (node processor : ℕ) → cause ≡ Marking node processor
+mark-is : {site : Site} {w next : World} {cause : Cause} {sendings : List Sending} → Change site w cause sendings next → (node processor : ℕ)
+    → cause ≡ Marking node processor
     → IsMark w next node processor
 mark-is {w = w} (by_mark at other stopped runs new) node processor same =
     let is = same-mark same in
@@ -88,20 +89,24 @@ module _ (site : Site) (fit : IsFit site) (out : IsLaidOut site) (events later :
 
   -- a letter neither from nor to the processor that is marked stays owed
   stays : (letter : Letter) → letter.sender ≢ processor → letter.receiver ≢ processor → IsAmong letter post.owed → IsAmong letter After.owed
-  stays letter from to among = among-left letter (without_those_between node processor post.owed) (letters_of site next (sendings ++ sent_again site post.world next node processor))
-      (filter-in (λ l. not (is_between node processor l)) letter post.owed (passes (letter.sender == processor) (apart letter.sender from) (letter.receiver == processor) (apart letter.receiver to)) among)
+  stays letter from to among =
+      among-left letter (without_those_between node processor post.owed) (letters_of site next (sendings ++ sent_again site post.world next node processor))
+      (filter-in (λ l. not (is_between node processor l)) letter post.owed
+      (passes (letter.sender == processor) (apart letter.sender from) (letter.receiver == processor) (apart letter.receiver to)) among)
     where
       apart : (place : ℕ) → place ≢ processor → (place == processor) ≡ false
       apart place other = elim (eqb_tells place processor) [ inl same ↦ absurd (other same.1) | inr tells ↦ tells.0 ]
 
-      passes : (from : Bool) → (letter.sender == processor) ≡ false → (to : Bool) → (letter.receiver == processor) ≡ false → not (is_between node processor letter) ≡ true
+      passes : (from : Bool) → (letter.sender == processor) ≡ false → (to : Bool) → (letter.receiver == processor) ≡ false
+          → not (is_between node processor letter) ≡ true
       passes from one to other = rw (one, other) (by (letter.sender == node))
         where
           by : (here : Bool) → not (here && false || false) ≡ true
           by true = refl
           by false = refl
 
-  sent-owed : (from receiver : ℕ) (message : Message) → IsAmong (record { node = from; message = message }) Sent → receiver_of site next from message ≡ Some receiver
+  sent-owed : (from receiver : ℕ) (message : Message) → IsAmong (record { node = from; message = message }) Sent
+      → receiver_of site next from message ≡ Some receiver
       → IsAmong (record { sender = from; receiver = receiver; message = message }) After.owed
   sent-owed from receiver message among to =
       among-right _ (without_those_between node processor post.owed) (letters_of site next Sent) (letter-in site next from receiver message Sent among to)
@@ -111,7 +116,8 @@ module _ (site : Site) (fit : IsFit site) (out : IsLaidOut site) (events later :
   route-stays : (asker : ℕ) (before now : Pair) → SameSeats before now → (node == asker && processor == before.first.processor) ≡ false
       → route_of next.marks asker now ≡ route_of post.world.marks asker before
   route-stays asker before now seats other =
-      ap (λ marks. route_of marks asker now) is.marks ∙ route-same (record { node = node; down = processor } ∷ post.world.marks) asker before now seats ∙ rw other refl
+      ap (λ marks. route_of marks asker now) is.marks ∙ route-same
+      (record { node = node; down = processor } ∷ post.world.marks) asker before now seats ∙ rw other refl
 
   rerouted : (number : ℕ) (before : Pair) → slice_get post.world.processes number ≡ Some before → processor ≡ before.first.processor
       → is_rerouted post.world node processor number ≡ true
@@ -120,7 +126,8 @@ module _ (site : Site) (fit : IsFit site) (out : IsLaidOut site) (events later :
       rw (there, new, eq-eqb before.first.processor processor (sym same)) refl
 
   -- another node finds an opener where it did, and so does this one, unless the opener is found elsewhere
-  home-was : (from asker : ℕ) (one : Who) → (from ≢ node) ⊎ (is_moved post.world node processor one ≡ false) → home_of next from one ≡ Some asker → home_of post.world from one ≡ Some asker
+  home-was : (from asker : ℕ) (one : Who) → (from ≢ node) ⊎ (is_moved post.world node processor one ≡ false) → home_of next from one ≡ Some asker
+      → home_of post.world from one ≡ Some asker
   home-was from asker one still = home-before post.world next from asker one (λ number file one_is now there.
       let was = turned number now there in
       (was.before, was.there, route-stays from was.before now (λ k. (was.goes k).0) (other number file one_is was.before was.there)))
@@ -145,14 +152,16 @@ module _ (site : Site) (fit : IsFit site) (out : IsLaidOut site) (events later :
       ]
 
   module _ (asker : ℕ) (one : Who) (n : ℕ) (opener : Opener) (opens : opener_of site one ≡ Some opener) (old : IsAwaited site post.world asker one n) where
-    told : (from : ℕ) (words : List ℤ) → IsAmong (record { node = from; message = Replying (reply_of opener n words) }) Sent → IsTold After asker one opener n from words
+    told : (from : ℕ) (words : List ℤ) → IsAmong (record { node = from; message = Replying (reply_of opener n words) }) Sent
+        → IsTold After asker one opener n from words
     told from words among = elim (told-now site next from asker one opener n words Sent opens among) [
       | inl letter ↦ inl (among-right _ (without_those_between node processor post.owed) (letters_of site next Sent) letter)
       | inr away ↦ inr away
     ]
 
     -- a kept reply that was told stays so: the letter stays, or it is told again where the opener is found now
-    carried : (pair now : Pair) (k : Which) (words : List ℤ) → slice_get post.world.processes opener.server ≡ Some pair → slice_get next.processes opener.server ≡ Some now
+    carried : (pair now : Pair) (k : Which) (words : List ℤ) → slice_get post.world.processes opener.server ≡ Some pair
+        → slice_get next.processes opener.server ≡ Some now
         → (copy_of k now).processor ≡ (copy_of k pair).processor → (copy_of k pair).role ≡ Acting → (copy_of k now).role ≡ Acting
         → standing_at (copy_of k now).core.receive opener.place n ≡ Kept words
         → IsTold post asker one opener n (copy_of k pair).processor words → IsTold After asker one opener n (copy_of k pair).processor words
@@ -164,14 +173,16 @@ module _ (site : Site) (fit : IsFit site) (out : IsLaidOut site) (events later :
       | inl here ↦ by here.1 (is_moved post.world node processor one) refl
     ]
       where
-        by : (copy_of k pair).processor ≡ node → (moved : Bool) → is_moved post.world node processor one ≡ moved → IsTold After asker one opener n (copy_of k pair).processor words
+        by : (copy_of k pair).processor ≡ node → (moved : Bool) → is_moved post.world node processor one ≡ moved
+            → IsTold After asker one opener n (copy_of k pair).processor words
         by here false calm = inr (λ home. away (home-was (copy_of k pair).processor asker one (inr calm) home))
         by here true moved =
             let opened = opener-is site one opener opens in
             let stands = kept-is (copy_of k now).core.receive opener.place n words kept in
             told (copy_of k pair).processor words (subst (λ p. IsAmong (record { node = p; message = Replying (reply_of opener n words) }) Sent) (sym here)
             (among-right _ sendings (sent_again site post.world next node processor)
-            (reply-again site post.world next node processor opener n words now k opened.spec there_now acts (seat ∙ here) opened.placed (rw opened.same moved) stands
+            (reply-again site post.world next node processor opener n words now k opened.spec there_now acts (seat ∙ here) opened.placed
+            (rw opened.same moved) stands
             (few-kept site fit later next after opener.server now k there_now acts opener.place opened.spec stands.block opened.placed stands.there))))
 
     leaves : (pair now : Pair) (k : Which) → slice_get post.world.processes opener.server ≡ Some pair → slice_get next.processes opener.server ≡ Some now
@@ -186,23 +197,29 @@ module _ (site : Site) (fit : IsFit site) (out : IsLaidOut site) (events later :
     }
 
     -- at the node that marks the request is sent again, where its route changes
-    asked-again : IsAwaited site next asker one n → (before now : Pair) → slice_get post.world.processes opener.server ≡ Some before → slice_get next.processes opener.server ≡ Some now
+    asked-again : IsAwaited site next asker one n → (before now : Pair) → slice_get post.world.processes opener.server ≡ Some before
+        → slice_get next.processes opener.server ≡ Some now
         → node ≡ asker → processor ≡ before.first.processor → IsServed site After asker one n opener now
     asked-again awaited before now there there_now mine first = again awaited opens mine
       where
         owed : {asker : ℕ} {one : Who} {n : ℕ} (words : List ℤ) → node ≡ asker
-            → IsAmong (record { node = node; message = Asking (request_of opener n words) }) (sent_again site post.world next node processor) → IsServed site After asker one n opener now
+            → IsAmong (record { node = node; message = Asking (request_of opener n words) }) (sent_again site post.world next node processor)
+            → IsServed site After asker one n opener now
         owed {asker = asker} {n = n} words mine among =
             is_owed words (sent-owed asker (route_of next.marks asker now) (Asking (request_of opener n words))
-            (subst (λ p. IsAmong (record { node = p; message = Asking (request_of opener n words) }) Sent) mine (among-right _ sendings (sent_again site post.world next node processor) among))
+            (subst (λ p. IsAmong (record { node = p; message = Asking (request_of opener n words) }) Sent) mine
+            (among-right _ sendings (sent_again site post.world next node processor) among))
             (rw there_now refl))
 
-        again : {asker : ℕ} {one : Who} {n : ℕ} → IsAwaited site next asker one n → opener_of site one ≡ Some opener → node ≡ asker → IsServed site After asker one n opener now
+        again : {asker : ℕ} {one : Who} {n : ℕ} → IsAwaited site next asker one n → opener_of site one ≡ Some opener → node ≡ asker
+            → IsServed site After asker one n opener now
         again (by_copy {number = number} {file = file} {n = n} pair k stood role at on last) opens mine =
-            owed _ mine (copy-again site post.world next node processor number file n opener pair k stood role (sym mine) at on last opens (rerouted opener.server before there first))
+            owed _ mine (copy-again site post.world next node processor number file n opener pair k stood role (sym mine) at on last opens
+            (rerouted opener.server before there first))
         again (by_terminal {number = number} terminal stood odd) opens mine =
             let words = known.honest.entered number terminal (subst (λ ts. slice_get ts number ≡ Some terminal) is.terminals stood) (omega (arith, odd)) in
-            owed words.0 mine (terminal-again site post.world next node processor number opener terminal words.0 stood mine odd words.1 opens (rerouted opener.server before there first))
+            owed words.0 mine (terminal-again site post.world next node processor number opener terminal words.0 stood mine odd words.1 opens
+            (rerouted opener.server before there first))
 
   -- a mark leaves what is awaited served
   pub mark-served : AreServed site After
@@ -211,7 +228,8 @@ module _ (site : Site) (fit : IsFit site) (out : IsLaidOut site) (events later :
       was : Turned site post.world (Marking node processor) sendings opener.server now
       was = turned opener.server now there
 
-      still : IsAwaited site post.world asker one n → (node == asker && processor == was.before.first.processor) ≡ false → IsServed site post asker one n opener was.before
+      still : IsAwaited site post.world asker one n → (node == asker && processor == was.before.first.processor) ≡ false
+          → IsServed site post asker one n opener was.before
           → IsServed site After asker one n opener now
       still old other (route_stopped rests) = route_stopped (rw (is.stopped, route-stays asker was.before now (λ k. (was.goes k).0) other) rests)
       still old other (is_owed words letter) = elim (eqb_tells (route_of post.world.marks asker was.before) processor) [
@@ -224,9 +242,11 @@ module _ (site : Site) (fit : IsFit site) (out : IsLaidOut site) (events later :
           (turn-seen site post After asker one opener n (Marking node processor) sendings (copy_of k was.before) (copy_of k now) (was.goes k).0
           (leaves asker one n opener opens old was.before now k was.there there (was.goes k).0) (was.goes k).1 has)
 
-      either : IsAwaited site post.world asker one n → (test : Bool) → (node == asker && processor == was.before.first.processor) ≡ test → IsServed site After asker one n opener now
+      either : IsAwaited site post.world asker one n → (test : Bool) → (node == asker && processor == was.before.first.processor) ≡ test
+          → IsServed site After asker one n opener now
       either old true is = let both = both-true (node == asker) (processor == was.before.first.processor) is in
-          asked-again asker one n opener opens old awaited was.before now was.there there (eqb-true node asker both.0) (eqb-true processor was.before.first.processor both.1)
+          asked-again asker one n opener opens old awaited was.before now was.there there (eqb-true node asker both.0)
+          (eqb-true processor was.before.first.processor both.1)
       either old false is = still old is (served asker one n opener was.before opens was.there old)
 
       by : WasAwaited site post.world sendings asker one n → IsServed site After asker one n opener now

@@ -36,7 +36,8 @@ use Rattle.awaited_requests.proofs.Leads.{copy-takes}
 
 module _ (site : Site) (fit : IsFit site) (events : ℕ) (w : World) (good : IsGood site events w) where
   -- of the copies of a process one acts at most
-  pub same-acting : (number : ℕ) (pair : Pair) (j k : Which) → slice_get w.processes number ≡ Some pair → (copy_of j pair).role ≡ Acting → (copy_of k pair).role ≡ Acting → j ≡ k
+  pub same-acting : (number : ℕ) (pair : Pair) (j k : Which) → slice_get w.processes number ≡ Some pair → (copy_of j pair).role ≡ Acting
+      → (copy_of k pair).role ≡ Acting → j ≡ k
   same-acting number pair First First there one other = refl
   same-acting number pair Second Second there one other = refl
   same-acting number pair First Second there one other = absurd (one-acts w.stopped pair (good.roles number pair there) one other)
@@ -86,7 +87,8 @@ module _ (site : Site) (fit : IsFit site) (events : ℕ) (w : World) (good : IsG
           omega (arith, most, count, entered)
 
   -- no more replies are kept for an opener than were answered
-  pub few-kept : (number : ℕ) (pair : Pair) (k : Which) → slice_get w.processes number ≡ Some pair → (copy_of k pair).role ≡ Acting → (place : ℕ) (spec : OpenerSpec)
+  pub few-kept : (number : ℕ) (pair : Pair) (k : Which) → slice_get w.processes number ≡ Some pair → (copy_of k pair).role ≡ Acting
+      → (place : ℕ) (spec : OpenerSpec)
       (block : OpenerBlock) → slice_get (openers_of site number) place ≡ Some spec → slice_get (copy_of k pair).core.receive.openers place ≡ Some block
       → length block.kept ≤ answered (holds (copy_of k pair).core.receive place) block
   few-kept number pair k there role place spec block placed at =

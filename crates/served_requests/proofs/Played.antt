@@ -36,19 +36,22 @@ module _ (site : Site) (fit : IsFit site) (out : IsLaidOut site) where
   -- Changes and marks
 
   -- a change by which all that was owed stays so
-  added-served : (events : ℕ) (post : Post) (next : World) (cause : Cause) (sendings : List Sending) → IsGood site events post.world → AreSeated site post.world → IsKnown site post
+  added-served : (events : ℕ) (post : Post) (next : World) (cause : Cause) (sendings : List Sending) → IsGood site events post.world
+      → AreSeated site post.world → IsKnown site post
       → AreServed site post → Change site post.world cause sendings next → ((node processor : ℕ) → cause ≡ Marking node processor → ⊥) → WasSentTo post cause
       → AreServed site (after_change site sendings next post)
   added-served events post next cause sendings good seated known served change unmarked sent =
       change-served site fit events post good seated known served next cause sendings post.owed change unmarked sent (λ letter among. inl among)
 
-  stop-served : (events : ℕ) (post : Post) (next : World) (processor : ℕ) → IsGood site events post.world → AreSeated site post.world → IsKnown site post → AreServed site post
+  stop-served : (events : ℕ) (post : Post) (next : World) (processor : ℕ) → IsGood site events post.world → AreSeated site post.world
+      → IsKnown site post → AreServed site post
       → Change site post.world (Stopping processor) [] next → AreServed site (record post { world = next })
   stop-served events post next processor good seated known served change =
       subst (λ owed. AreServed site (record { world = next; owed = owed; sent = post.sent })) (append-nil post.owed)
       (added-served events post next (Stopping processor) [] good seated known served change (λ node other same. cc) (λ node request same. absurd (cc)))
 
-  marks-served : (node events : ℕ) (post next : Post) → events < 4294967295 → IsGood site events post.world → AreSeated site post.world → OneStops next.world → IsKnown site post
+  marks-served : (node events : ℕ) (post next : Post) → events < 4294967295 → IsGood site events post.world → AreSeated site post.world
+      → OneStops next.world → IsKnown site post
       → AreServed site post → MakesMarks site node post next → AreServed site next
   marks-served node events post next few good seated one known served no_mark = served
   marks-served node events post next few good seated one known served (one_mark {sendings = sendings} {next = w} processor change more) =
@@ -59,7 +62,8 @@ module _ (site : Site) (fit : IsFit site) (out : IsLaidOut site) where
       (mark-served site fit out events (events + 0) post good seated known served node processor sendings w change after) more
 
   -- what is played leaves what is awaited served
-  pub plays-served : (events : ℕ) (post next : Post) (event : Event) → events < 4294967295 → IsGood site events post.world → AreSeated site post.world → OneStops next.world
+  pub plays-served : (events : ℕ) (post next : Post) (event : Event) → events < 4294967295 → IsGood site events post.world → AreSeated site post.world
+      → OneStops next.world
       → IsKnown site post → AreServed site post → Plays site post event next → AreServed site next
   plays-served events post next event few good seated one known served plays = of plays one
     where
@@ -75,7 +79,8 @@ module _ (site : Site) (fit : IsFit site) (out : IsLaidOut site) where
           change-served site fit events post good seated known served w _ sendings rest change (λ node other same. cc)
           (λ node request same. (letter, known.honest.owed letter (taken-there taken), (same-letter same).0, (same-letter same).1))
           (λ other among. elim (taken-or other taken among) [ inl same ↦ inr (ap (λ l. Handing l.receiver l.message) (sym same)) | inr left ↦ inl left ])
-      of (plays_drop {rest = rest} letter taken runs idle) one = drop-served site events post.world good post.owed post.sent rest letter known.honest served taken runs idle
+      of (plays_drop {rest = rest} letter taken runs idle) one =
+          drop-served site events post.world good post.owed post.sent rest letter known.honest served taken runs idle
       of (plays_again {sendings = sendings} {next = w} letter among change) one =
           added-served events post w _ sendings good seated known served change (λ node other same. cc)
           (λ node request same. (letter, among, (same-letter same).0, (same-letter same).1))

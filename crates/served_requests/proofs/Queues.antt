@@ -17,7 +17,8 @@ pub filter-in : {A : Type 0} (test : A → Bool) (x : A) (xs : List A) → test 
 filter-in test x [] passes among = among
 filter-in test x (y ∷ xs) passes among = by (filter-in test x xs passes) (test y) refl among
   where
-    by : (IsAmong x xs → IsAmong x (filter test xs)) → (b : Bool) → test y ≡ b → (x ≡ y) ⊎ IsAmong x xs → IsAmong x (cond b (y ∷ filter test xs) (filter test xs))
+    by : (IsAmong x xs → IsAmong x (filter test xs)) → (b : Bool) → test y ≡ b → (x ≡ y) ⊎ IsAmong x xs
+        → IsAmong x (cond b (y ∷ filter test xs) (filter test xs))
     by rest true e (inl same) = inl same
     by rest true e (inr later) = inr (rest later)
     by rest false e (inl same) = absurd (let z : test y ≡ true = subst (λ v. test v ≡ true) same passes in cc)
@@ -39,7 +40,8 @@ outdone-by request other (first ∷ rest) (inr later) same most =
 outdone-is : (request : Request) (waiting : List Request) → is_outdone request waiting ≡ true
     → (other : Request) × IsAmong other waiting × (request.opener ≡ other.opener) × (request.number ≤ other.number)
 outdone-is request [] e = absurd (cc)
-outdone-is request (first ∷ rest) e = by (either (is_same_opener request first && nat_le request.number first.number) (is_outdone request rest) e) (outdone-is request rest)
+outdone-is request (first ∷ rest) e =
+    by (either (is_same_opener request first && nat_le request.number first.number) (is_outdone request rest) e) (outdone-is request rest)
   where
     by : ((is_same_opener request first && nat_le request.number first.number) ≡ true) ⊎ (is_outdone request rest ≡ true)
         → (is_outdone request rest ≡ true → (other : Request) × IsAmong other rest × (request.opener ≡ other.opener) × (request.number ≤ other.number))
@@ -57,7 +59,8 @@ waits-still request other waiting among most = elim (eqb_tells request.opener ot
   | inr apart ↦ by (is_outdone request waiting) apart.0
 ]
   where
-    by : (out : Bool) → (request.opener == other.opener) ≡ false → IsAmong other (if out then waiting else filter (λ other. not (is_same_opener request other)) waiting ++ request ∷ [])
+    by : (out : Bool) → (request.opener == other.opener) ≡ false
+        → IsAmong other (if out then waiting else filter (λ other. not (is_same_opener request other)) waiting ++ request ∷ [])
     by true apart = among
     by false apart = among-left other (filter (λ other. not (is_same_opener request other)) waiting) (request ∷ [])
         (filter-in (λ other. not (is_same_opener request other)) other waiting (rw apart refl) among)
@@ -76,7 +79,8 @@ waits-now request waiting most = by (is_outdone request waiting) refl
         (is.0, is.1, known.0, sym is.2, omega (arith, less, more))
     by false e = (request, among-right request (filter (λ other. not (is_same_opener request other)) waiting) (request ∷ []) (inl refl), refl, refl, refl)
 
-pub came-still : (table : ReceiveBlock) (request other : Request) (waiting : List Request) → IsAmong other waiting → (other.opener ≡ request.opener → request.number ≤ other.number)
+pub came-still : (table : ReceiveBlock) (request other : Request) (waiting : List Request) → IsAmong other waiting
+    → (other.opener ≡ request.opener → request.number ≤ other.number)
     → IsAmong other (came table waiting request)
 came-still table request other waiting among most = by (is_waiting (standing table request))
   where
@@ -87,10 +91,12 @@ came-still table request other waiting among most = by (is_waiting (standing tab
 -- Taking
 
 -- what isn't of the opener whose request is taken waits on
-pub chosen-leaves : (table : ReceiveBlock) (waiting : List Request) (found : Chosen) (other : Request) → chosen table waiting ≡ Some found → IsAmong other waiting
+pub chosen-leaves : (table : ReceiveBlock) (waiting : List Request) (found : Chosen) (other : Request) → chosen table waiting ≡ Some found
+    → IsAmong other waiting
     → other.opener ≢ found.request.opener → IsAmong other found.rest
 chosen-leaves table [] found other e among apart = absurd among
-chosen-leaves table (first ∷ rest) found other e among apart = by (is_next (standing table first)) (chosen table rest) refl e among (λ later. chosen-leaves table rest later other)
+chosen-leaves table (first ∷ rest) found other e among apart =
+    by (is_next (standing table first)) (chosen table rest) refl e among (λ later. chosen-leaves table rest later other)
   where
     up : (later : Chosen) → chosen_after first later ≡ found → (other ≡ first) ⊎ IsAmong other rest
         → (IsAmong other rest → other.opener ≢ later.request.opener → IsAmong other later.rest) → IsAmong other found.rest

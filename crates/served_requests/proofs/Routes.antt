@@ -27,12 +27,14 @@ route-where marks node pair = by (has_marked marks node pair.first.processor)
     by true = (Second, refl)
     by false = (First, refl)
 
-pub seat-within : {stopped : List Bool} {marks : List Mark} {pair : Pair} (k : Which) → IsSeated stopped marks pair → (copy_of k pair).processor < length stopped
+pub seat-within : {stopped : List Bool} {marks : List Mark} {pair : Pair} (k : Which) → IsSeated stopped marks pair
+    → (copy_of k pair).processor < length stopped
 seat-within First seated = seated.first
 seat-within Second seated = seated.second
 
 -- a processor that doesn't run has stopped
-pub stopped-is : (stopped : List Bool) (processor : ℕ) → processor < length stopped → is_running stopped processor ≡ false → slice_get stopped processor ≡ Some true
+pub stopped-is : (stopped : List Bool) (processor : ℕ) → processor < length stopped → is_running stopped processor ≡ false
+    → slice_get stopped processor ≡ Some true
 stopped-is stopped processor within rests = by (get_or stopped processor false) (slice_get-get_or stopped processor false within)
   where
     by : (has : Bool) → slice_get stopped processor ≡ Some has → slice_get stopped processor ≡ Some true
@@ -62,6 +64,7 @@ pub home-before : (w next : World) (node asker : ℕ) (one : Who)
 home-before w next node asker (who.Terminal terminal) routes home = home
 home-before w next node asker (who.File number file) routes home = by (slice_get next.processes number) refl home
   where
-    by : (now : Option Pair) → slice_get next.processes number ≡ now → option_map (λ pair. route_of next.marks node pair) now ≡ Some asker → route_to w node number ≡ Some asker
+    by : (now : Option Pair) → slice_get next.processes number ≡ now → option_map (λ pair. route_of next.marks node pair) now ≡ Some asker
+        → route_to w node number ≡ Some asker
     by None there home = absurd (cc)
     by (Some now) there home = let was = routes number file refl now there in rw (was.1, ← was.2) home

@@ -18,7 +18,8 @@ module _ (site : Site) (events : ℕ) (w : World) (good : IsGood site events w) 
   acting-runs number pair k there role stopped = let gone = (gone-is w.stopped pair (good.roles number pair there) k).1 stopped in cc
 
   -- nor has the node of one that awaits a reply
-  pub asker-runs : (out : IsLaidOut site) → AreSeated site w → {asker : ℕ} {one : Who} {n : ℕ} → IsAwaited site w asker one n → slice_get w.stopped asker ≢ Some true
+  pub asker-runs : (out : IsLaidOut site) → AreSeated site w → {asker : ℕ} {one : Who} {n : ℕ} → IsAwaited site w asker one n
+      → slice_get w.stopped asker ≢ Some true
   asker-runs out seated (by_copy {number = number} pair k there role at on last) stopped = acting-runs number pair k there role stopped
   asker-runs out seated (by_terminal terminal there odd) stopped =
       let within = slice_get_within w.stopped _ true stopped in let few = out.few in let all = seated.processors in omega (arith, within, few, all)

@@ -29,7 +29,8 @@ pub record LeavesTold (post next : Post) (asker : ℕ) (one : Who) (opener : Ope
   pub told : (words : List ℤ) → IsAmong (record { node = before.processor; message = Replying (reply_of opener n words) }) sendings
       → IsTold next asker one opener n before.processor words
   pub low : (block : OpenerBlock) → before.role ≡ Acting → slice_get before.core.receive.openers opener.place ≡ Some block → n ≤ block.taken + 1
-  pub heard : (request : Request) (block : OpenerBlock) → before.role ≡ Acting → cause ≡ Handing before.processor (Asking request) → request.process ≡ opener.server
+  pub heard : (request : Request) (block : OpenerBlock) → before.role ≡ Acting → cause ≡ Handing before.processor (Asking request)
+      → request.process ≡ opener.server
       → slice_get before.core.receive.openers request.opener ≡ Some block → request.number ≤ block.taken + 1
   pub early : (request : Request) → before.role ≡ Watching → cause ≡ Handing before.processor (Asking request) → request.process ≡ opener.server
       → request.opener ≡ opener.place → request.number ≤ n
@@ -90,7 +91,8 @@ module _ (site : Site) (post next : Post) (asker : ℕ) (one : Who) (opener : Op
       ))
       (λ words kept. inr (took-kept before.core.receive found.request.opener block known opener.place n words free (subst (λ t. IsKeptIn t words) table kept))) has
     where
-      took : standing_at after.core.receive opener.place n ≡ Next → (found.request.opener ≢ opener.place) × (standing_at before.core.receive opener.place n ≡ Next)
+      took : standing_at after.core.receive opener.place n ≡ Next
+          → (found.request.opener ≢ opener.place) × (standing_at before.core.receive opener.place n ≡ Next)
       took next = took-next before.core.receive found.request.opener block known opener.place n (λ old there. leaves.low old acted there)
           (subst (λ t. standing_at t opener.place n ≡ Next) table next)
   turn-seen (has_answered place depth said block acted acts away hand known table waits sent) has = acting-seen acted acts
@@ -127,8 +129,14 @@ module _ (site : Site) (post next : Post) (asker : ℕ) (one : Who) (opener : Op
   turn-seen (has_taken_over watched acts away table waits told) has = record {
     watching = λ r. absurd (not-both acts r);
     next = λ r is.
-        let next : standing before.core.receive wait.0 ≡ Next = rw (wait.3, wait.4) (subst (λ t. standing_at t opener.place n ≡ Next) table is) in
-        (wait.0, subst (λ ws. IsAmong wait.0 ws) (sym waits) (filter-in (λ request. is_waiting (standing before.core.receive request)) wait.0 before.waiting (rw next refl) wait.1), wait.2, wait.3, wait.4);
+        let next : standing before.core.receive wait.0 ≡ Next = rw (wait.3, wait.4) (subst (λ t. standing_at t opener.place n ≡ Next) table is) in (
+          wait.0,
+          subst (λ ws. IsAmong wait.0 ws) (sym waits)
+              (filter-in (λ request. is_waiting (standing before.core.receive request)) wait.0 before.waiting (rw next refl) wait.1),
+          wait.2,
+          wait.3,
+          wait.4,
+        );
     kept = λ r words is.
         let kept : standing before.core.receive wait.0 ≡ Kept words = rw (wait.3, wait.4) (subst (λ t. IsKeptIn t words) table is) in
         moved words (leaves.told words (told (reply_of opener n words)

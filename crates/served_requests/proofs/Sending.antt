@@ -29,15 +29,18 @@ filter_map-in {B = B} f x y (z ∷ zs) is (inr later) = by (f z) (filter_map-in 
     by None rest = rest
     by (Some item) rest = inr rest
 
-pub sent-in : (node : ℕ) (message : Message) (messages : List Message) → IsAmong message messages → IsAmong (record { node = node; message = message }) (sent_at node messages)
+pub sent-in : (node : ℕ) (message : Message) (messages : List Message) → IsAmong message messages
+    → IsAmong (record { node = node; message = message }) (sent_at node messages)
 sent-in node message messages among = map-in (λ m. record { node = node; message = m }) message messages among
 
 -- what a node sends is a letter to its receiver
-pub letter-in : (site : Site) (w : World) (node receiver : ℕ) (message : Message) (sendings : List Sending) → IsAmong (record { node = node; message = message }) sendings
+pub letter-in : (site : Site) (w : World) (node receiver : ℕ) (message : Message) (sendings : List Sending)
+    → IsAmong (record { node = node; message = message }) sendings
     → receiver_of site w node message ≡ Some receiver
     → IsAmong (record { sender = node; receiver = receiver; message = message }) (letters_of site w sendings)
 letter-in site w node receiver message sendings among to =
-    filter_map-in (letter_of site w) (record { node = node; message = message }) (record { sender = node; receiver = receiver; message = message }) sendings (rw to refl) among
+    filter_map-in (letter_of site w) (record { node = node; message = message })
+    (record { sender = node; receiver = receiver; message = message }) sendings (rw to refl) among
 
 -- a reply goes to where its opener is found
 reply-home : (site : Site) (w : World) (node : ℕ) (one : Who) (opener : Opener) (n : ℕ) (words : List ℤ) → opener_of site one ≡ Some opener
@@ -54,7 +57,8 @@ IsTold post asker one opener n node words =
     IsAmong (record { sender = node; receiver = asker; message = Replying (reply_of opener n words) }) post.owed ⊎ (home_of post.world node one ≢ Some asker)
 
 -- a reply that is sent is owed, unless the node finds the opener elsewhere
-pub told-now : (site : Site) (w : World) (node asker : ℕ) (one : Who) (opener : Opener) (n : ℕ) (words : List ℤ) (sendings : List Sending) → opener_of site one ≡ Some opener
+pub told-now : (site : Site) (w : World) (node asker : ℕ) (one : Who) (opener : Opener) (n : ℕ) (words : List ℤ) (sendings : List Sending)
+    → opener_of site one ≡ Some opener
     → IsAmong (record { node = node; message = Replying (reply_of opener n words) }) sendings
     → IsAmong (record { sender = node; receiver = asker; message = Replying (reply_of opener n words) }) (letters_of site w sendings) ⊎ (home_of w node one ≢ Some asker)
 told-now site w node asker one opener n words sendings opens among = elim (home-or-not asker (home_of w node one)) [

@@ -21,7 +21,8 @@ data Stands (held : Bool) (block : OpenerBlock) (n : ℕ) : Standing → Type 0 
   as_old : reply_kept (answered held block) block.kept n ≡ None → Stands held block n Old
 
 stands : (held : Bool) (block : OpenerBlock) (n : ℕ) → Stands held block n (standing_in held block n)
-stands held block n = by (n == block.taken + 1) refl (nat_lt (block.taken + 1) n) refl (held && n == block.taken) refl (reply_kept (answered held block) block.kept n) refl
+stands held block n =
+    by (n == block.taken + 1) refl (nat_lt (block.taken + 1) n) refl (held && n == block.taken) refl (reply_kept (answered held block) block.kept n) refl
   where
     below : (n == block.taken + 1) ≡ false → nat_lt (block.taken + 1) n ≡ false → n ≤ block.taken
     below other less = let apart = eqb-false n (block.taken + 1) other in let most = ltb-false (block.taken + 1) n less in omega (arith, apart, most)
@@ -63,7 +64,8 @@ next-at table place n is = rw (is.there, eq-eqb n (is.block.taken + 1) is.next) 
 
 -- a number that stands next, in hand or kept isn't past the next one
 pub stands-low : (table : ReceiveBlock) (place n : ℕ) (block : OpenerBlock) → slice_get table.openers place ≡ Some block
-    → (standing_at table place n ≡ Next) ⊎ (standing_at table place n ≡ InHand) ⊎ ((words : List ℤ) × (standing_at table place n ≡ Kept words)) → n ≤ block.taken + 1
+    → (standing_at table place n ≡ Next) ⊎ (standing_at table place n ≡ InHand) ⊎ ((words : List ℤ) × (standing_at table place n ≡ Kept words))
+    → n ≤ block.taken + 1
 stands-low table place n block there is = of (standing_in (holds table place) block n) (stands (holds table place) block n) (rw there at is)
   where
     of : (standing : Standing) → Stands (holds table place) block n standing
@@ -92,7 +94,8 @@ kept-is table place n words e = of (slice_get table.openers place) refl e
     in-block : (block : OpenerBlock) → slice_get table.openers place ≡ Some block → Stands (holds table place) block n (Kept words) → IsKept table place n words
     in-block block there (as_kept most hand kept) = record { block = block; there = there; most = most; hand = hand; kept = kept }
 
-    of : (block : Option OpenerBlock) → slice_get table.openers place ≡ block → standing_by (holds table place) block n ≡ Kept words → IsKept table place n words
+    of : (block : Option OpenerBlock) → slice_get table.openers place ≡ block → standing_by (holds table place) block n ≡ Kept words
+        → IsKept table place n words
     of None there e = absurd (cc)
     of (Some block) there e = in-block block there (subst (Stands (holds table place) block n) e (stands (holds table place) block n))
 
@@ -108,10 +111,12 @@ kept-at table place n words is = rw is.there (in-block (stands (holds table plac
 
 -- Kept replies
 
-pub kept-test : (last n : ℕ) (kept : List (List ℤ)) (words : List ℤ) → reply_kept last kept n ≡ Some words → (n ≤ last) × (slice_get (reverse kept) (last - n) ≡ Some words)
+pub kept-test : (last n : ℕ) (kept : List (List ℤ)) (words : List ℤ) → reply_kept last kept n ≡ Some words
+    → (n ≤ last) × (slice_get (reverse kept) (last - n) ≡ Some words)
 kept-test last n kept words e = by (nat_le n last) refl e
   where
-    by : (test : Bool) → nat_le n last ≡ test → (if test then slice_get (reverse kept) (last - n) else None) ≡ Some words → (n ≤ last) × (slice_get (reverse kept) (last - n) ≡ Some words)
+    by : (test : Bool) → nat_le n last ≡ test → (if test then slice_get (reverse kept) (last - n) else None) ≡ Some words
+        → (n ≤ last) × (slice_get (reverse kept) (last - n) ≡ Some words)
     by true t e = (leb-true n last t, e)
     by false t e = absurd (cc)
 
@@ -189,9 +194,17 @@ module _ (table : ReceiveBlock) (place : ℕ) (block : OpenerBlock) (there : sli
       of is (is_same apart old) =
           let held = other-place place other apart in
           let kept = is.kept in
-          kept-at table other n words (record { block = is.block; there = old; most = is.most; hand = λ (h : holds table other ≡ true). absurd (cc); kept = rw empty (rw held at kept) })
+          kept-at table other n words (record {
+            block = is.block;
+            there = old;
+            most = is.most;
+            hand = λ (h : holds table other ≡ true). absurd
+                (cc);
+            kept = rw empty (rw held at kept);
+          })
 
-  pub answered-next : (other n depth : ℕ) (said : List ℤ) → standing_at (after_answering depth place block said table) other n ≡ Next → standing_at table other n ≡ Next
+  pub answered-next : (other n depth : ℕ) (said : List ℤ) → standing_at (after_answering depth place block said table) other n ≡ Next
+      → standing_at table other n ≡ Next
   answered-next other n depth said e = let is = next-is (after_answering depth place block said table) other n e in
       of is (changed table.openers place (record block { kept = last_ones depth (block.kept ++ said ∷ []) }) other is.block is.there)
     where
@@ -205,7 +218,8 @@ module _ (table : ReceiveBlock) (place : ℕ) (block : OpenerBlock) (there : sli
           })
       of is (is_same apart old) = next-at table other n (record { block = is.block; there = old; next = is.next })
 
-  pub answered-kept : (other n depth : ℕ) (said words : List ℤ) → table.in_hand ≡ Some place → standing_at (after_answering depth place block said table) other n ≡ Kept words
+  pub answered-kept : (other n depth : ℕ) (said words : List ℤ) → table.in_hand ≡ Some place
+      → standing_at (after_answering depth place block said table) other n ≡ Kept words
       → ((place ≡ other) × (n ≡ block.taken) × (words ≡ said)) ⊎ (standing_at table other n ≡ Kept words)
   answered-kept other n depth said words held e = let is = kept-is (after_answering depth place block said table) other n words e in
       of is (changed table.openers place (record block { kept = last_ones depth (block.kept ++ said ∷ []) }) other is.block is.there)
@@ -230,4 +244,5 @@ module _ (table : ReceiveBlock) (place : ℕ) (block : OpenerBlock) (there : sli
           ]
       of is (is_same apart old) =
           let empty : holds table other ≡ false = rw held (other-place place other apart) in
-          inr (kept-at table other n words (record { block = is.block; there = old; most = is.most; hand = λ (h : holds table other ≡ true). absurd (cc); kept = rw empty is.kept }))
+          inr (kept-at table other n words
+          (record { block = is.block; there = old; most = is.most; hand = λ (h : holds table other ≡ true). absurd (cc); kept = rw empty is.kept }))

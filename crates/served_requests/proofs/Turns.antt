@@ -1,11 +1,9 @@
 -- What a change makes of a copy of a process, so far as requests and replies go: said once for each rule.
-use Rattle.std.proofs.Common.{◌≡◌, ◌≢◌, inl, ℕ, ◌+◌, ◌==◌, true, ℤ, List, [], ◌∷◌, ◌++◌, map, Option, Some, None, slice_get, slice_set, refl, ap, sym, ◌∙◌, subst, arith}
-use Rattle.std.specs.List.{flat_map}
+use Rattle.std.proofs.Common.{◌≡◌, ◌≢◌, inl, ℕ, ◌+◌, true, ℤ, List, [], ◌∷◌, ◌++◌, map, Some, None, slice_get, slice_set, refl, ap, sym, ◌∙◌, subst, arith}
 use Rattle.std.specs.Option.{unwrap_or}
 use Rattle.gd_words.specs.Members.{IsAmong}
 use Rattle.gd_words.specs.declared.message.Request.{Request}
 use Rattle.gd_words.specs.declared.message.Reply.{Reply}
-use Rattle.gd_words.proofs.Among.{among-at, among-given}
 use Rattle.tal_tree.specs.declared.act.Act.{Act}
 use Rattle.tal_tree.specs.declared.site.Site.{Site}
 use Rattle.tal_tree.specs.declared.site.Who.TheVariants as who
@@ -21,13 +19,10 @@ use Rattle.world_semantics.specs.declared.which.Which.TheVariants.{First, Second
 use Rattle.world_semantics.specs.Core.{Core, Deed, Advances, goes, takes, asks, gets, answers, acts, next_on}
 use Rattle.world_semantics.specs.World.{Copy, Pair, World, copy_of, other_of, with_copy}
 use Rattle.world_semantics.specs.Kept.{Enters, holds_on, repeats, begins, keeps, own_acts}
-use Rattle.world_semantics.specs.Messages.{Message, Asking, Replying, Sending, sent_at, Cause, Handing, Marking}
+use Rattle.world_semantics.specs.Messages.{Message, Asking, Replying, Sending, sent_at, Cause, Handing}
 use Rattle.world_semantics.specs.Own.{Around, around, Causes, by_inner, by_take, by_ask, by_answer, by_device, by_write, by_reply, asked_on}
 use Rattle.world_semantics.specs.Passes.{Passes, by_send, by_pass_again, by_pass, by_apply, by_acknowledge, checkpoint_of, taken_of, after_sending, after_mark, kept_at_mark}
-use Rattle.world_semantics.specs.Rules.{Change, by_own, by_checkpoint, by_request, by_early_request, by_enter, by_print, by_stop, by_mark, stopped_copy, stopped_pair, taken_over, taker, told_at_mark, marked_pair, after_marking}
-use Rattle.world_semantics.proofs.Becoming.{entered-same, was-role}
-use Rattle.world_semantics.proofs.Lists.{some-same, Changed, is_new, is_same, changed, mapped}
-use Rattle.world_semantics.proofs.Roles.{taker-is}
+use Rattle.world_semantics.proofs.Lists.{some-same}
 use Rattle.process_histories.proofs.Counts.{take-free}
 use Rattle.process_histories.proofs.Steady.{IsSteady, IsCalm, done-steady, calm-away, inner-calm, took-calm, asked-same, got-calm, answered-calm, marked-calm, device-calm}
 use Rattle.headline.specs.Fit.{IsFit}
@@ -36,7 +31,6 @@ use Rattle.awaited_requests.specs.Served.{request_of}
 use Rattle.sent_letters.specs.Known.{WatchersAreCalm}
 use Rattle.sent_letters.proofs.Awaited.{acting-done, asked-next}
 use Rattle.sent_letters.proofs.Calm.{not-both}
-use Rattle.served_requests.proofs.Sending.{map-in, sent-in}
 
 -- a change bears on no request at a copy: if that watches afterwards, it did before; if it acts it did, with the same table, and as the same core if it awaits;
 -- and the same requests wait
@@ -60,7 +54,8 @@ pub data Turns (site : Site) (number : ℕ) (cause : Cause) (sendings : List Sen
       → slice_get before.core.receive.openers found.request.opener ≡ Some block
       → after.core.receive ≡ after_taking found.request.opener block before.core.receive → after.waiting ≡ found.rest
       → Turns site number cause sendings before after
-  has_answered : (place depth : ℕ) (words : List ℤ) (block : OpenerBlock) → before.role ≡ Acting → after.role ≡ Acting → process.point after.core.state ≢ point.Await
+  has_answered : (place depth : ℕ) (words : List ℤ) (block : OpenerBlock) → before.role ≡ Acting → after.role ≡ Acting
+      → process.point after.core.state ≢ point.Await
       → before.core.receive.in_hand ≡ Some place → slice_get before.core.receive.openers place ≡ Some block
       → after.core.receive ≡ after_answering depth place block words before.core.receive → after.waiting ≡ before.waiting
       → IsAmong (record { node = before.processor; message = Replying (record { process = number; opener = place; number = block.taken; words = words }) }) sendings
@@ -69,7 +64,8 @@ pub data Turns (site : Site) (number : ℕ) (cause : Cause) (sendings : List Sen
       → after.waiting ≡ came before.core.receive before.waiting request
       → ((reply : Reply) → IsAmong reply (repeated before.core.receive request) → IsAmong (record { node = before.processor; message = Replying reply }) sendings)
       → cause ≡ Handing before.processor (Asking request) → Turns site number cause sendings before after
-  has_heard_early : (request : Request) → before.role ≡ Watching → after.role ≡ Watching → request.process ≡ number → after.waiting ≡ waits before.waiting request
+  has_heard_early : (request : Request) → before.role ≡ Watching → after.role ≡ Watching → request.process ≡ number
+      → after.waiting ≡ waits before.waiting request
       → cause ≡ Handing before.processor (Asking request) → Turns site number cause sendings before after
   has_taken_over : before.role ≡ Watching → after.role ≡ Acting → process.point after.core.state ≢ point.Await → after.core.receive ≡ before.core.receive
       → after.waiting ≡ still_waiting before.core.receive before.waiting
@@ -81,15 +77,9 @@ pub data Turns (site : Site) (number : ℕ) (cause : Cause) (sendings : List Sen
 abbrev pub Goes : Site → ℕ → Cause → List Sending → Pair → Which → Copy → Type 0
 Goes site number cause sendings pair k after = (after.processor ≡ (copy_of k pair).processor) × Turns site number cause sendings (copy_of k pair) after
 
--- what a process was before a change, and what that makes of both copies
-pub record Turned (site : Site) (w : World) (cause : Cause) (sendings : List Sending) (number : ℕ) (now : Pair) : Type 0 where
-  pub before : Pair
-  pub there : slice_get w.processes number ≡ Some before
-  pub goes : (k : Which) → Goes site number cause sendings before k (copy_of k now)
-
 -- One copy changes
 
-like : (before after : Copy) → after.role ≡ before.role → after.core ≡ before.core → after.waiting ≡ before.waiting → IsQuiet before after
+pub like : (before after : Copy) → after.role ≡ before.role → after.core ≡ before.core → after.waiting ≡ before.waiting → IsQuiet before after
 like before after role core waiting = record {
   watches = λ r. sym role ∙ r;
   acts = λ r. sym role ∙ r;
@@ -98,29 +88,23 @@ like before after role core waiting = record {
   waits = waiting;
 }
 
-each : (P : Which → Copy → Type 0) (k : Which) (copy : Copy) (pair : Pair) → P k copy → P First pair.first → P Second pair.second → (j : Which) → P j (copy_of j (with_copy k copy pair))
+pub each : (P : Which → Copy → Type 0) (k : Which) (copy : Copy) (pair : Pair) → P k copy → P First pair.first → P Second pair.second → (j : Which)
+    → P j (copy_of j (with_copy k copy pair))
 each P First copy pair new first second First = new
 each P First copy pair new first second Second = second
 each P Second copy pair new first second First = first
 each P Second copy pair new first second Second = new
 
-stop-quiet : (processor : ℕ) (copy : Copy) → IsQuiet copy (stopped_copy processor copy)
-stop-quiet processor copy = record {
-  watches = was-role (copy.processor == processor) copy.role Watching (λ same. cc);
-  acts = was-role (copy.processor == processor) copy.role Acting (λ same. cc);
-  table = λ r. refl;
-  awaits = λ r at. refl;
-  waits = refl;
-}
-
-enters-seat : {number : ℕ} {act : Act} {kept after : List Act} {copy entered : Copy} → Enters number act kept copy entered after → entered.processor ≡ copy.processor
+pub enters-seat : {number : ℕ} {act : Act} {kept after : List Act} {copy entered : Copy} → Enters number act kept copy entered after
+    → entered.processor ≡ copy.processor
 enters-seat (holds_on held) = refl
 enters-seat (repeats empty less) = refl
 enters-seat (begins empty most take) = refl
 enters-seat (keeps empty most step) = refl
 
 module _ (site : Site) (fit : IsFit site) (events : ℕ) (w : World) (good : IsGood site events w) (calm : WatchersAreCalm w) where
-  pub steady : (number : ℕ) (pair : Pair) (k : Which) → slice_get w.processes number ≡ Some pair → (copy_of k pair).role ≡ Acting → IsSteady (copy_of k pair).core.state
+  pub steady : (number : ℕ) (pair : Pair) (k : Which) → slice_get w.processes number ≡ Some pair → (copy_of k pair).role ≡ Acting
+      → IsSteady (copy_of k pair).core.state
   steady number pair k there role = let is = acting-done site events w good number pair k there role in done-steady (fit.regular number is.spec is.there) is.done
 
   -- A deed
@@ -137,27 +121,30 @@ module _ (site : Site) (fit : IsFit site) (events : ℕ) (w : World) (good : IsG
       waits = refl;
     })
 
-    own-turns : {cause : Cause} {deed : Deed} {done : Act} {messages : List Message} {after : Around} {core : Core}
+    pub own-turns : {cause : Cause} {deed : Deed} {done : Act} {messages : List Message} {after : Around} {core : Core}
         → Causes site number (copy_of k pair).processor (copy_of k pair).core (around (copy_of k pair) pair w) cause deed done messages after
         → Advances (openers_of site number) (copy_of k pair).core deed core
         → Turns site number cause (sent_at (copy_of k pair).processor messages) (copy_of k pair) (record entered { core = core; waiting = after.waiting })
     own-turns by_inner (goes at) = rests _ refl (inner-calm (copy_of k pair).core.state (steady number pair k there role))
     own-turns (by_device old) (acts {found = found} at call) = rests _ refl (device-calm (copy_of k pair).core.state found (steady number pair k there role) at)
     own-turns (by_write new) (acts {found = found} at call) = rests _ refl (device-calm (copy_of k pair).core.state found (steady number pair k there role) at)
-    own-turns (by_reply {words = words} among is last said) (gets at file) = rests _ refl (got-calm (copy_of k pair).core.state words (steady number pair k there role) at)
+    own-turns (by_reply {words = words} among is last said) (gets at file) =
+        rests _ refl (got-calm (copy_of k pair).core.state words (steady number pair k there role) at)
     own-turns (by_take {found = found} is) (takes block at known) =
         has_taken found block role acting (calm-away _ (took-calm (copy_of k pair).core.state found.request.words (steady number pair k there role) at))
         (take-free (acting-done site events w good number pair k there role).done at) is known refl refl
     own-turns (by_answer {place = place} {words = words} {block = block} known) (answers opener old at hand is stood said) =
         let same : old ≡ block = some-same (sym stood ∙ known) in
-        has_answered place opener.depth words block role acting (calm-away _ (answered-calm (copy_of k pair).core.state (steady number pair k there role) at)) hand known
+        has_answered place opener.depth words block role acting
+        (calm-away _ (answered-calm (copy_of k pair).core.state (steady number pair k there role) at)) hand known
         (ap (λ b. after_answering opener.depth place b words (copy_of k pair).core.receive) same) refl (inl refl)
     own-turns (by_ask {file = asked} {words = words}) (asks at named said) = has_asked words role acting refl refl sent
       where
         core : Core
         core = (copy_of k pair).core
 
-        sent : (file n : ℕ) (opener : Opener) → process.asked_file (process.after_asked core.state) ≡ file → unwrap_or (slice_get (slice_set core.next asked (next_on core asked + 1)) file) 1 ≡ n + 1
+        sent : (file n : ℕ) (opener : Opener) → process.asked_file (process.after_asked core.state) ≡ file
+            → unwrap_or (slice_get (slice_set core.next asked (next_on core asked + 1)) file) 1 ≡ n + 1
             → opener_of site (who.File number file) ≡ Some opener
             → IsAmong (record { node = (copy_of k pair).processor; message = Asking (request_of opener n words) })
             (sent_at (copy_of k pair).processor (map Asking (asked_on site number (copy_of k pair).core asked words)))
@@ -172,14 +159,16 @@ module _ (site : Site) (fit : IsFit site) (events : ℕ) (w : World) (good : IsG
 
   -- A checkpoint
 
-  passes-turn : (number : ℕ) (pair : Pair) → slice_get w.processes number ≡ Some pair → {next : Pair} {kept : List Act} {cause : Cause} {sendings : List Sending}
+  pub passes-turn : (number : ℕ) (pair : Pair) → slice_get w.processes number ≡ Some pair
+      → {next : Pair} {kept : List Act} {cause : Cause} {sendings : List Sending}
       → Passes number w.marks w.kept pair cause sendings next kept → (k : Which) → Goes site number cause sendings pair k (copy_of k next)
   passes-turn number pair there = go
     where
       still : {cause : Cause} {sendings : List Sending} (j : Which) → Goes site number cause sendings pair j (copy_of j pair)
       still j = (refl, is_quiet (like (copy_of j pair) (copy_of j pair) refl refl refl))
 
-      marked : {cause : Cause} {sendings : List Sending} (k : Which) (position : ℕ) (held : List Act) → (copy_of k pair).role ≡ Acting → process.point (copy_of k pair).core.state ≡ point.Mark
+      marked : {cause : Cause} {sendings : List Sending} (k : Which) (position : ℕ) (held : List Act) → (copy_of k pair).role ≡ Acting
+          → process.point (copy_of k pair).core.state ≡ point.Mark
           → Goes site number cause sendings pair k (record (after_mark (copy_of k pair)) { position = position; held = held })
       marked k position held role at = (
         refl,
@@ -195,7 +184,8 @@ module _ (site : Site) (fit : IsFit site) (events : ℕ) (w : World) (good : IsG
       go : {next : Pair} {kept : List Act} {cause : Cause} {sendings : List Sending} → Passes number w.marks w.kept pair cause sendings next kept
           → (k : Which) → Goes site number cause sendings pair k (copy_of k next)
       go {cause = cause} {sendings = sendings} (by_send k role at unsent unmarked) =
-          each (Goes site number cause sendings pair) k (after_sending (copy_of k pair)) (record pair { checkpoints = checkpoint_of number (copy_of k pair) ∷ pair.checkpoints })
+          each (Goes site number cause sendings pair) k (after_sending (copy_of k pair))
+          (record pair { checkpoints = checkpoint_of number (copy_of k pair) ∷ pair.checkpoints })
           (refl, is_quiet (like (copy_of k pair) (after_sending (copy_of k pair)) refl refl refl)) (still First) (still Second)
       go {cause = cause} {sendings = sendings} (by_pass_again k role at may less) =
           each (Goes site number cause sendings pair) k (record (after_mark (copy_of k pair)) { position = (copy_of k pair).position + 1 }) pair
@@ -222,90 +212,3 @@ module _ (site : Site) (fit : IsFit site) (events : ℕ) (w : World) (good : IsG
       go {cause = cause} {sendings = sendings} (by_acknowledge k taken role sent among era is) =
           each (Goes site number cause sendings pair) k (record (copy_of k pair) { acknowledged = true }) pair
           (refl, is_quiet (like (copy_of k pair) (record (copy_of k pair) { acknowledged = true }) refl refl refl)) (still First) (still Second)
-
-  -- All changes
-
-  same-turned : {cause : Cause} {sendings : List Sending} (number : ℕ) (now : Pair) → slice_get w.processes number ≡ Some now → Turned site w cause sendings number now
-  same-turned number now there = record { before = now; there = there; goes = λ k. (refl, is_quiet (like (copy_of k now) (copy_of k now) refl refl refl)) }
-
-  set-turned : {cause : Cause} {sendings : List Sending} (at : ℕ) (pair next : Pair) → slice_get w.processes at ≡ Some pair
-      → ((k : Which) → Goes site at cause sendings pair k (copy_of k next)) → (number : ℕ) (now : Pair) → slice_get (slice_set w.processes at next) number ≡ Some now
-      → Turned site w cause sendings number now
-  set-turned {cause = cause} {sendings = sendings} at pair next there turn number now is = of (changed w.processes at next number now is)
-    where
-      of : Changed w.processes at next number now → Turned site w cause sendings number now
-      of (is_new here new) =
-          subst (λ n. Turned site w cause sendings n now) here
-          (record { before = pair; there = there; goes = subst (λ p. (k : Which) → Goes site at cause sendings pair k (copy_of k p)) (sym new) turn })
-      of (is_same apart old) = same-turned number now old
-
-  map-turned : {cause : Cause} {sendings : List Sending} (f : Pair → Pair)
-      → ((number : ℕ) (pair : Pair) → slice_get w.processes number ≡ Some pair → (k : Which) → Goes site number cause sendings pair k (copy_of k (f pair)))
-      → (number : ℕ) (now : Pair) → slice_get (map f w.processes) number ≡ Some now → Turned site w cause sendings number now
-  map-turned {cause = cause} {sendings = sendings} f turn number now is =
-      let was = mapped f w.processes number now is in
-      record {
-        before = was.0;
-        there = was.1;
-        goes = subst (λ p. (k : Which) → Goes site number cause sendings was.0 k (copy_of k p)) (sym was.2) (turn number was.0 was.1);
-      }
-
-  stop-goes : {cause : Cause} {sendings : List Sending} (processor number : ℕ) (pair : Pair) (k : Which) → Goes site number cause sendings pair k (copy_of k (stopped_pair processor pair))
-  stop-goes processor number pair First = (refl, is_quiet (stop-quiet processor pair.first))
-  stop-goes processor number pair Second = (refl, is_quiet (stop-quiet processor pair.second))
-
-  mark-goes : (node processor number : ℕ) (pair : Pair) → slice_get w.processes number ≡ Some pair → (k : Which)
-      → Goes site number (Marking node processor) (flat_map (told_at_mark node processor) w.processes) pair k (copy_of k (marked_pair node processor pair))
-  mark-goes node processor number pair there = by (taker node processor pair) refl
-    where
-      Here : Which → Copy → Type 0
-      Here = Goes site number (Marking node processor) (flat_map (told_at_mark node processor) w.processes) pair
-
-      still : (j : Which) → Here j (copy_of j pair)
-      still j = (refl, is_quiet (like (copy_of j pair) (copy_of j pair) refl refl refl))
-
-      by : (who : Option Which) → taker node processor pair ≡ who → (k : Which) → Here k (copy_of k (after_marking who pair))
-      by None is = still
-      by (Some k) is =
-          let freed : Copy = record (copy_of (other_of k) pair) { held = [] } in
-          let others = each Here (other_of k) freed pair (refl, is_quiet (like (copy_of (other_of k) pair) freed refl refl refl)) (still First) (still Second) in
-          let role = (taker-is node processor pair k is).watching in
-          each Here k (taken_over pair.base (copy_of k pair)) (with_copy (other_of k) freed pair)
-          (refl, has_taken_over role refl (calm number pair k there role) refl refl told) (others First) (others Second)
-        where
-          told : (reply : Reply) → IsAmong reply (all_repeated (copy_of k pair).core.receive (copy_of k pair).waiting)
-              → IsAmong (record { node = (copy_of k pair).processor; message = Replying reply }) (flat_map (told_at_mark node processor) w.processes)
-          told reply among =
-              among-given (told_at_mark node processor) pair (record { node = (copy_of k pair).processor; message = Replying reply }) w.processes
-              (among-at w.processes number pair there)
-              (rw is (sent-in (copy_of k pair).processor (Replying reply) (map Replying (all_repeated (copy_of k pair).core.receive (copy_of k pair).waiting))
-              (map-in Replying reply (all_repeated (copy_of k pair).core.receive (copy_of k pair).waiting) among)))
-
-  -- what a change makes of each process
-  pub change-turned : {next : World} {cause : Cause} {sendings : List Sending} → Change site w cause sendings next → (number : ℕ) (now : Pair)
-      → slice_get next.processes number ≡ Some now → Turned site w cause sendings number now
-  change-turned {cause = cause} (by_own {messages = messages} {after = after} {core = core} {entered = entered} number k pair there role causes advances enters) =
-      set-turned number pair (with_copy k (record entered { core = core; waiting = after.waiting }) (record pair { sectors = after.sectors })) there
-      (each (Goes site number cause (sent_at (copy_of k pair).processor messages) pair) k (record entered { core = core; waiting = after.waiting }) (record pair { sectors = after.sectors })
-      (enters-seat enters, own-turns number pair k there role entered ((entered-same enters).role ∙ role) causes advances)
-      (refl, is_quiet (like pair.first pair.first refl refl refl)) (refl, is_quiet (like pair.second pair.second refl refl refl)))
-  change-turned (by_checkpoint {next = next} number pair there passes) = set-turned number pair next there (passes-turn number pair there passes)
-  change-turned (by_request request k pair among there role) =
-      let heard : Copy = record (copy_of k pair) { waiting = came (copy_of k pair).core.receive (copy_of k pair).waiting request } in
-      set-turned request.process pair (with_copy k heard pair) there
-      (each (Goes site request.process _ _ pair) k heard pair (
-        refl,
-        has_heard request role role refl refl refl
-            (λ reply among. sent-in (copy_of k pair).processor (Replying reply) (map Replying (repeated (copy_of k pair).core.receive request))
-            (map-in Replying reply (repeated (copy_of k pair).core.receive request) among)) refl,
-      )
-      (refl, is_quiet (like pair.first pair.first refl refl refl)) (refl, is_quiet (like pair.second pair.second refl refl refl)))
-  change-turned (by_early_request request k pair among there role) =
-      let heard : Copy = record (copy_of k pair) { waiting = waits (copy_of k pair).waiting request } in
-      set-turned request.process pair (with_copy k heard pair) there
-      (each (Goes site request.process _ _ pair) k heard pair (refl, has_heard_early request role role refl refl refl)
-      (refl, is_quiet (like pair.first pair.first refl refl refl)) (refl, is_quiet (like pair.second pair.second refl refl refl)))
-  change-turned (by_enter number terminal opener there even next opens) = same-turned
-  change-turned (by_print number terminal reply there odd among opens is) = same-turned
-  change-turned (by_stop processor runs) = map-turned (stopped_pair processor) (λ number pair there. stop-goes processor number pair)
-  change-turned (by_mark node processor stopped runs unmarked) = map-turned (marked_pair node processor) (mark-goes node processor)
