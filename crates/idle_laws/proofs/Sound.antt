@@ -1,5 +1,5 @@
 -- What is so of each post to which events lead.
-use Rattle.std.proofs.Common.{◌≡◌, ◌<◌, ℕ, ◌+◌, List, [], ◌∷◌, ◌++◌, length, Some, arith, length-append}
+use Rattle.std.proofs.Common.{◌≡◌, ◌<◌, ℕ, ◌+◌, List, [], ◌∷◌, ◌++◌, length, arith, length-append}
 use Rattle.tal_tree.specs.declared.site.Site.{Site}
 use Rattle.schedule.specs.declared.event.Event.{Event}
 use Rattle.world_semantics.specs.World.{World}
@@ -7,7 +7,7 @@ use Rattle.world_semantics.proofs.Growing.{Grows, growth}
 use Rattle.world_semantics.proofs.Reached.{run-marks, run-roles}
 use Rattle.world_semantics.proofs.Runs.{follows-keeps}
 use Rattle.letters.specs.Idle.{OneStops}
-use Rattle.letters.specs.Posts.{Post, Plays, HasPlayed, played_none, played_more}
+use Rattle.letters.specs.Posts.{Post, HasPlayed, played_none, played_more}
 use Rattle.letters.proofs.Worlds.{plays-permits, played-run}
 use Rattle.headline.specs.Fit.{IsFit}
 use Rattle.headline.proofs.Kept.{IsGood, run-keeps}

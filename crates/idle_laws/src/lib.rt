@@ -6,6 +6,7 @@
 //! premises on sites it shares. Each machine shows that it plays so, and uses `an_idle_end_leaves_none`. No code runs here.
 #![tactic(auto)]
 
+pub mod guards;
 pub mod laws;
 
 pub use laws::{an_idle_end_leaves_none, every_awaited_request_is_served};
