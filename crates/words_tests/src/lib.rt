@@ -7,6 +7,6 @@
 #[cfg(test)]
 mod ends;
 #[cfg(test)]
-mod logs;
+mod happenings;
 #[cfg(test)]
 mod words;
