@@ -7,7 +7,7 @@ use Rattle.tal_tree.specs.declared.statement.What.TheBlock.{shown-the_row-Statem
 use Rattle.schedule.specs.declared.event.Event.TheVariants as event
 use Rattle.tal_tree.specs.declared.act.Act.TheVariants as act
 use Rattle.world_semantics.specs.Examples.{delivery, reply, run}
-use Rattle.message_wires.specs.Examples.{adder_at_boot, after_checkpoint, answers, asks, buses_from, buses_of_takeover, buses_to_checkpoint, checkpoint, end_of, told, up_to_checkpoint}
+use Rattle.message_wires.specs.Examples.{adder_at_boot, after_checkpoint, answers, asks, buses_from, buses_of_takeover, buses_to_checkpoint, checkpoint, end_of, told, until_dropped, up_to_checkpoint}
 
 pub before : buses_from adder_at_boot up_to_checkpoint ≡ buses_to_checkpoint
 unfolding out-What shown-the_row-Statement-0 shown out int_wrap
@@ -16,6 +16,10 @@ before = refl
 pub after : buses_from (end_of adder_at_boot up_to_checkpoint) after_checkpoint ≡ buses_of_takeover
 unfolding out-What shown-the_row-Statement-0 shown out int_wrap
 after = refl
+
+pub dropped : (end_of (end_of adder_at_boot up_to_checkpoint) until_dropped).world.shown ≡ []
+unfolding out-What shown-the_row-Statement-0 shown out int_wrap
+dropped = refl
 
 pub said : (end_of (end_of adder_at_boot up_to_checkpoint) after_checkpoint).world.shown ≡ reply 0 (pos 5) ∷ []
 unfolding out-What shown-the_row-Statement-0 shown out int_wrap

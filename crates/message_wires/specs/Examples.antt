@@ -1,5 +1,5 @@
 -- Worked runs of the adder over whole messages: what is on the bus after each event, and what is owed at the end.
-use Rattle.std.specs.Prelude.{ℕ, pos, List, [], ◌∷◌, map}
+use Rattle.std.specs.Prelude.{ℕ, pos, List, [], ◌∷◌, ◌++◌, map}
 use Rattle.schedule.specs.declared.event.Event.{Event}
 use Rattle.schedule.specs.declared.event.Event.TheVariants as event
 use Rattle.world_semantics.specs.Examples.{adder_for, delivery, run}
@@ -71,9 +71,11 @@ buses_to_checkpoint =
 -- The takeover: the checkpoint is taken, the first copy passes its mark and answers, and its processor stops. Both nodes that run mark it: the second copy takes
 -- over, and the node of the terminals sends the request to it, and drops the reply of the node that it marked. The second copy answers anew; the request comes,
 -- whose kept reply is sent again; one reply is printed, and the other one isn't awaited
+abbrev pub until_dropped : List Event
+until_dropped = delivery ∷ delivery ∷ run ∷ run ∷ event.Fail 0 ∷ event.Tick 1 ∷ event.Tick 16 ∷ delivery ∷ []
+
 abbrev pub after_checkpoint : List Event
-after_checkpoint =
-    delivery ∷ delivery ∷ run ∷ run ∷ event.Fail 0 ∷ event.Tick 1 ∷ event.Tick 16 ∷ delivery ∷ run ∷ delivery ∷ delivery ∷ delivery ∷ []
+after_checkpoint = until_dropped ++ run ∷ delivery ∷ delivery ∷ delivery ∷ []
 
 abbrev pub buses_of_takeover : List (List Sight)
 buses_of_takeover =

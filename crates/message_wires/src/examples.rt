@@ -1,17 +1,20 @@
 //! Worked runs over whole messages, packet by packet.
-ghost use Rattle.std.specs.Prelude.{◌≡◌, true, false, pos, [], ◌∷◌};
+ghost use Rattle.std.specs.Prelude.{◌≡◌, true, false, pos, [], ◌∷◌, map};
 ghost use Rattle.schedule.specs.declared.event.Event.TheVariants as event;
 ghost use Rattle.tal_tree.specs.declared.act.Act.TheVariants as act;
-ghost use Rattle.world_semantics.specs.Examples.{delivery, reply, run};
 ghost use Rattle.tal_tree.specs.declared.act.Shown.TheVariants.{Reply};
+ghost use Rattle.world_semantics.specs.Examples.{delivery, reply, run};
+ghost use Rattle.machine_states.specs.States.{Skips, WouldStop};
 ghost use Rattle.message_wires.specs.Idle.{is_idle};
+ghost use Rattle.message_wires.specs.Play.{play};
 ghost use Rattle.message_wires.specs.Tiers.{after_rounds, before_stop, in_hand, stopped_after};
-ghost use Rattle.message_wires.specs.Examples.{adder_at_boot, after_checkpoint, answers, asks, buses_from, buses_of_takeover, buses_to_checkpoint, checkpoint, end_of, told, up_to_checkpoint};
+ghost use Rattle.message_wires.specs.Examples.{adder_at_boot, after_checkpoint, answers, asks, buses_from, buses_of_takeover, buses_to_checkpoint, checkpoint, end_of, sight, told, until_dropped, up_to_checkpoint};
 
-/// A takeover of the adder, event for event with the packets on the bus: the reply is printed once.
+/// A takeover of the adder, event for event with the packets on the bus: the reply that the marked node sent is dropped, and the reply is printed once.
 pub fn an_adder_is_taken_over()
     ensures before { buses_from adder_at_boot up_to_checkpoint ≡ buses_to_checkpoint }
     ensures after { buses_from (end_of adder_at_boot up_to_checkpoint) after_checkpoint ≡ buses_of_takeover }
+    ensures dropped { (end_of (end_of adder_at_boot up_to_checkpoint) until_dropped).world.shown ≡ [] }
     ensures shown { (end_of (end_of adder_at_boot up_to_checkpoint) after_checkpoint).world.shown ≡ reply 0 (pos 5) ∷ [] }
     ensures owed { (end_of (end_of adder_at_boot up_to_checkpoint) after_checkpoint).wires.owed ≡ [] }
 {}
@@ -48,4 +51,14 @@ pub fn two_tiers_come_to_an_idle_end()
     ensures idle { is_idle (after_rounds 24 (stopped_after 12)) ≡ true }
     ensures shown { (after_rounds 24 (stopped_after 12)).world.shown ≡ Reply 0 2 (pos 12 ∷ []) ∷ Reply 0 1 (pos 5 ∷ []) ∷ [] }
     ensures owed { (after_rounds 24 (stopped_after 12)).wires.owed ≡ [] }
+{}
+
+/// What comes to a processor that has stopped stays owed, until its sender marks that one and asks the other. A stopped processor doesn't tick, and no second
+/// one stops.
+pub fn a_stopped_processor_does_nothing()
+    ensures owed { map sight (end_of adder_at_boot (event.Enter 0 ∷ event.Fail 0 ∷ delivery ∷ [])).wires.owed ≡ asks 0 ∷ [] }
+    ensures again { buses_from adder_at_boot (event.Enter 0 ∷ event.Fail 0 ∷ delivery ∷ event.Tick 0 ∷ event.Tick 16 ∷ [])
+        ≡ (asks 0 ∷ []) ∷ (asks 0 ∷ []) ∷ [] ∷ [] ∷ (asks 1 ∷ []) ∷ [] }
+    ensures ticks { play (end_of adder_at_boot (event.Fail 0 ∷ [])) (event.Tick 0) ≡ Skips }
+    ensures stops { play (end_of adder_at_boot (event.Fail 0 ∷ [])) (event.Fail 1) ≡ WouldStop 1 }
 {}
