@@ -52,7 +52,7 @@ fail-goes processor s = by (slice_get s.world.stopped processor)
     by (Some true) = skips
     by (Some false) = first (has_stopped s.world.stopped) refl
 
-marks-none : (node processor more : ℕ) (s : Whole)
+pub marks-none : (node processor more : ℕ) (s : Whole)
     → ((marks_from node processor more s).site ≡ s.site) × ((marks_from node processor more s).world.stopped ≡ s.world.stopped)
 marks-none node processor zero s = (refl, refl)
 marks-none node processor (suc more) s = by (marked_done node processor s.world) (mark-none s.site s.world node processor) (marks-none node (processor + 1) more)
@@ -136,5 +136,6 @@ played-one (played_more {s = s} {next = next} event before e) = subst IsOne e (b
     by Skips skips was = tt
     by (WouldStop _) (would_stop processor) was = tt
     by (Makes made) (stops_none same none) was = rw none was
-    by (Makes made) (stops_one processor same first one) was = rw one (λ a b at there. sym (first-stopped s.world.stopped processor a first at) ∙ first-stopped s.world.stopped processor b first there)
+    by (Makes made) (stops_one processor same first one) was =
+        rw one (λ a b at there. sym (first-stopped s.world.stopped processor a first at) ∙ first-stopped s.world.stopped processor b first there)
 played-one (skipped event before e) = played-one before

@@ -1,5 +1,6 @@
 pub mod Going
 pub mod Idle
+pub mod Marks
 pub mod Playing
 pub mod Posting
 pub mod Runs

@@ -18,9 +18,9 @@ use Rattle.message_wires.specs.Play.{Whole, whole_at_boot, play}
 use Rattle.message_wires.specs.Runs.{IsPlayed, played_none, played_more, skipped, post_of}
 use Rattle.message_wires.specs.Wires.{Sent}
 use Rattle.wires_laws.specs.Carried.{IsOn, IsCarried}
+use Rattle.wires_laws.proofs.Going.{played-site}
 use Rattle.wires_laws.proofs.Playing.{GoesOn, plays-on}
 use Rattle.wires_laws.proofs.Posting.{Carries}
-use Rattle.wires_laws.proofs.Going.{played-site}
 
 module _ (events : List Event) (few : length events < 4294967296) (s : Whole) (sent : List Letter) (fit : IsFit s.site) (carried : IsCarried events s sent) where
   -- each letter that was sent carries a message that was

@@ -1,11 +1,11 @@
 //! Laws of what is played.
-ghost use Rattle.std.specs.Prelude.{◌≡◌, ◌⊎◌, ◌↔◌, ℕ, ◌<◌, true, false, List, length};
+ghost use Rattle.std.specs.Prelude.{◌≡◌, ◌⊎◌, ◌↔◌, ℕ, ◌<◌, true, false, List, length, slice_get, Some};
 ghost use Rattle.gd_words.specs.Members.{IsAmong};
 ghost use Rattle.tal_tree.specs.declared.site.Site.{Site};
 ghost use Rattle.schedule.specs.declared.event.Event.{Event};
 ghost use Rattle.schedule.specs.declared.event.Event.TheVariants.{Tick};
 ghost use Rattle.world_semantics.specs.Follows.{IsRun};
-ghost use Rattle.world_semantics.specs.World.{is_running};
+ghost use Rattle.world_semantics.specs.World.{is_running, has_marked};
 ghost use Rattle.computed_changes.specs.Laws.{HasCopiesApart, IsSent};
 ghost use Rattle.headline.specs.Fit.{IsFit};
 ghost use Rattle.letters.specs.Idle.{IsIdle, OneStops};
@@ -38,6 +38,12 @@ pub fn a_second_processor_never_stops()
 pub fn what_is_owed_is_put_again()
     ensures { (s next : Whole) (node : ℕ) (one : Sent) → play s (Tick node) ≡ Makes next → IsAmong one next.wires.owed → one.letter.sender ≡ node
         → is_running next.world.stopped one.letter.receiver ≡ true → (is_on next.wires.bus one.number ≡ true) ⊎ (has_room next.wires.bus ≡ false) }
+{}
+
+/// After the tick of a node it has marked each processor that has stopped.
+pub fn what_has_stopped_is_marked()
+    ensures { (s next : Whole) (node processor : ℕ) → play s (Tick node) ≡ Makes next → slice_get next.world.stopped processor ≡ Some true
+        → has_marked next.world.marks node processor ≡ true }
 {}
 
 /// Whether a state is idle is computed: it is where nothing is left to do for its post.

@@ -9,6 +9,6 @@
 pub mod laws;
 
 pub use laws::{
-    a_second_processor_never_stops, an_idle_state_is_idle, what_is_owed_is_put_again,
-    what_is_played_follows,
+    a_second_processor_never_stops, an_idle_state_is_idle, what_has_stopped_is_marked,
+    what_is_owed_is_put_again, what_is_played_follows,
 };
