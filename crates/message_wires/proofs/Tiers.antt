@@ -1,16 +1,12 @@
 -- The worked run of two tiers, played.
-use Rattle.std.proofs.Common.{◌≡◌, ℕ, zero, suc, pos, Bool, true, List, [], ◌∷◌, map, Some, None, refl}
+use Rattle.std.proofs.Common.{◌≡◌, pos, true, [], ◌∷◌, refl}
 use Rattle.std.specs.Int.{int_wrap}
 use denote.Hole.Carrier.{shown, out}
 use Rattle.tal_tree.specs.declared.statement.What.{out-What}
 use Rattle.tal_tree.specs.declared.statement.What.TheBlock.{shown-the_row-Statement-0}
-use Rattle.tal_tree.specs.declared.act.Act.{Act}
-use Rattle.tal_tree.specs.declared.act.Act.TheVariants.{Step, Take, Enter, Print}
 use Rattle.tal_tree.specs.declared.act.Shown.TheVariants.{Reply}
-use Rattle.plain_semantics.specs.Machine.{IsNoneLeft, IsStill, Plain, made, made_all, plain_start}
-use Rattle.world_semantics.specs.Kept.{closed}
 use Rattle.message_wires.specs.Idle.{is_idle}
-use Rattle.message_wires.specs.Tiers.{tiers, in_hand, before_stop, stopped_after, after_rounds}
+use Rattle.message_wires.specs.Tiers.{in_hand, before_stop, stopped_after, after_rounds}
 
 pub both_serve : in_hand (before_stop 12) ≡ true ∷ true ∷ []
 unfolding out-What shown-the_row-Statement-0 shown out int_wrap
