@@ -85,6 +85,25 @@ fn a_request_is_asked_again_under_its_number(rt: HostRuntime) -> Result<(), Fail
     Ok(())
 }
 
+/// A copy of a disc acts on its device, where the word 1 asks for nothing, and answers so.
+fn act(copy: &mut CopyControl<Process>) -> Result<(), Fail> {
+    if copy.point() != Point::Device {
+        return Err(Fail::from("it doesn't stand at its device"));
+    }
+    let behaviour = copy.behaviour();
+    if !behaviour.in_hand() || behaviour.last_write() != 0 {
+        return Err(Fail::from("it has nothing in hand, or has written"));
+    }
+    if copy.device() != DeviceCall::Nothing {
+        return Err(Fail::from("it acts on the disc"));
+    }
+    copy.device_done(&[0; 8]);
+    if !is_answer(&answer(copy)?, 1, 1, 1) {
+        return Err(Fail::from("another answer"));
+    }
+    Ok(())
+}
+
 #[test]
 fn a_disc_that_takes_over_writes_again_under_its_number(rt: HostRuntime) -> Result<(), Fail> {
     let kind = Kind::Disc { sectors: 2 };
@@ -94,14 +113,7 @@ fn a_disc_that_takes_over_writes_again_under_its_number(rt: HostRuntime) -> Resu
     let message = checkpoint(rt.alloc(), &mut first, &mut second)?;
     assert!(rt; message.image.body.as_slice() == [1, 1, 0, 0, 0].as_slice());
     assert!(rt; message.image.files.is_empty());
-    for copy in [&mut first, &mut second] {
-        assert!(rt; copy.point() == Point::Device);
-        assert!(rt; copy.behaviour().in_hand());
-        assert_eq!(rt; copy.behaviour().last_write(), 0);
-        // one word asks for nothing
-        assert!(rt; copy.device() == DeviceCall::Nothing);
-        copy.device_done(&[0; 8]);
-        assert!(rt; is_answer(&answer(copy)?, 1, 1, 1));
-    }
+    act(&mut first)?;
+    act(&mut second)?;
     Ok(())
 }
