@@ -1,5 +1,6 @@
 -- A small world that the guards name: a bank that awaits a disc's reply, a user of the bank, and a terminal of each of both.
 use Rattle.std.specs.Prelude.{ℕ, pos, true, false, List, [], ◌∷◌, codes, None}
+use Rattle.gd_words.specs.declared.message.Request.{Request}
 use Rattle.tal_tree.specs.declared.expression.Expr.{Number}
 use Rattle.tal_tree.specs.declared.expression.Variable.TheVariants as variable
 use Rattle.tal_tree.specs.declared.program.Program.{Program}
@@ -136,4 +137,15 @@ post = record {
       letter 0 2 bank_asks ∷ letter terminal_node 2 terminal_asks ∷ letter 2 0 terminal_is_told ∷ letter 0 terminal_node terminal_is_told
       ∷ letter 0 1 user_is_told ∷ [];
   sent = [];
+}
+
+-- the next request of the user to the bank, and the post in which no processor has stopped, and this one letter is owed to the bank's node
+abbrev pub next_request : Request
+next_request = record { process = 1; opener = 0; number = 2; words = pos 6 ∷ [] }
+
+abbrev pub owing : Post
+owing = record {
+  world = record world { stopped = false ∷ false ∷ false ∷ false ∷ []; requests = next_request ∷ [] };
+  owed = letter 3 0 (Asking next_request) ∷ [];
+  sent = letter 3 0 (Asking next_request) ∷ [];
 }

@@ -1,8 +1,9 @@
-//! Guards of letters: where routes lead before and after a mark, what a mark sends again and in which order, and what is owed after
-//! it, each at telling points. A wrong definition is refused here.
+//! Guards of letters: where routes lead before and after a mark, what a mark sends again and in which order, what is owed after it,
+//! and what isn't dropped, each at telling points. A wrong definition is refused here.
 //!
 //! Below stands `letters`, whose definitions are guarded; nothing stands above.
 #![tactic(auto)]
 
 pub mod again;
+pub mod posts;
 pub mod routes;
