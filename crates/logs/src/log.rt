@@ -1,4 +1,4 @@
-ghost use Rattle.std.specs.Prelude.{◌≡◌, ◌↔◌, [], ◌∷◌, length, reverse, IsTrue, OnOk, OnErr};
+ghost use Rattle.std.specs.Prelude.{◌≡◌, ◌↔◌, [], ◌∷◌, ◌++◌, length, reverse, IsTrue, OnOk, OnErr};
 
 use gd_words::NoMemory;
 use std::alloc::Global;
@@ -68,5 +68,30 @@ impl<T: Drop> Log<T> {
         ensures { self.new ≡ [] }
     {
         self.items.clear();
+    }
+}
+
+impl<T: Copy> Log<T> {
+    /// All items of another log, in their order, before those that were there.
+    pub fn add_all(&mut self, items: &Log<T>) -> Result<(), NoMemory>
+        ensures ok { OnOk result (self.new ≡ items.now ++ self.old) }
+        ensures err { OnErr result (self.new ≡ self.old) }
+    {
+        self.items.extend_from_slice(items.as_slice())?;
+        Ok(())
+    }
+
+    /// All items of another log, and then one more. Where memory is wanting none of them is there.
+    pub fn add_all_and(&mut self, items: &Log<T>, last: T) -> Result<(), NoMemory>
+        ensures ok { OnOk result (self.new ≡ last ∷ (items.now ++ self.old)) }
+        ensures err { OnErr result (self.new ≡ self.old) }
+    {
+        let before = self.items.len();
+        self.items.extend_from_slice(items.as_slice())?;
+        if self.items.push(last).is_err() {
+            self.items.truncate(before);
+            return Err(NoMemory);
+        }
+        Ok(())
     }
 }
