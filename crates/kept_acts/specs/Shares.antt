@@ -1,0 +1,89 @@
+-- What the kept acts ask of a copy, by itself: its position in them and the acts that it holds back. How they change is our own rule, as in the world of
+-- copies: a copy that does anew what its process did already adds nothing, and a take and the acts after it are held back until the next checkpoint.
+use Rattle.std.specs.Prelude.{ℕ, ◌+◌, Bool, true, false, nat_lt, List, [], ◌∷◌, ◌++◌}
+use Rattle.tal_tree.specs.declared.act.Act.{Act}
+use Rattle.tal_tree.specs.declared.act.Act.TheVariants.{Step}
+use Rattle.world_semantics.specs.World.{Copy, Pair}
+use Rattle.world_semantics.specs.Kept.{own_acts, is_take}
+
+-- a copy's share: how many of its process's kept acts it has done, and the acts that it did beyond them, the newest first
+pub record Share : Type 0 where
+  pub position : ℕ
+  pub held : List Act
+
+-- a copy's share after a change, and the kept acts after it
+pub record Sharing : Type 0 where
+  pub share : Share
+  pub kept : List Act
+
+abbrev pub share_of : Copy → Share
+share_of copy = record { position = copy.position; held = copy.held }
+
+-- a copy with this share
+abbrev pub with_share : Share → Copy → Copy
+with_share share copy = record copy { position = share.position; held = share.held }
+
+-- the share of a copy that has done so many acts and holds none
+abbrev pub share_from : ℕ → Share
+share_from position = record { position = position; held = [] }
+
+-- Entering the kept acts
+
+abbrev pub one_further : Share → Share
+one_further share = record share { position = share.position + 1 }
+
+abbrev pub entering_free : Act → List Act → Share → Bool → Bool → Sharing
+entering_free done kept share true taking = record { share = one_further share; kept = kept }
+entering_free done kept share false true = record { share = record share { held = done ∷ [] }; kept = kept }
+entering_free done kept share false false = record { share = one_further share; kept = done ∷ kept }
+
+abbrev pub entering_behind : ℕ → Act → List Act → Share → List Act → Sharing
+entering_behind number done kept share [] = entering_free done kept share (nat_lt share.position (own_acts number kept)) (is_take done)
+entering_behind number done kept share (first ∷ rest) = record { share = record share { held = done ∷ share.held }; kept = kept }
+
+-- how an act of a copy enters the kept acts: behind held acts it is held too; else a copy that is behind the kept acts only comes one further; else a take is
+-- held; else the act is kept
+abbrev pub entering : ℕ → Act → List Act → Share → Sharing
+entering number done kept share = entering_behind number done kept share share.held
+
+-- Marks
+
+-- the kept acts after the held acts and the step at the mark were added
+abbrev pub kept_with_mark : ℕ → List Act → Share → List Act
+kept_with_mark number kept share = Step number ∷ (share.held ++ kept)
+
+abbrev pub passing_where : ℕ → List Act → Share → Bool → Sharing
+passing_where number kept share true = record { share = one_further share; kept = kept }
+passing_where number kept share false =
+    record { share = share_from (own_acts number (kept_with_mark number kept share)); kept = kept_with_mark number kept share }
+
+-- a copy passes its mark: which it did already, or which is kept now, with its held acts before it
+abbrev pub passing : ℕ → List Act → Share → Sharing
+passing number kept share = passing_where number kept share (nat_lt share.position (own_acts number kept))
+
+-- the other copy applied the checkpoint of this copy's mark: the held acts and the mark are kept, and this copy stands before the mark
+abbrev pub covering : ℕ → List Act → Share → Sharing
+covering number kept share =
+    record { share = share_from (own_acts number (share.held ++ kept)); kept = kept_with_mark number kept share }
+
+-- how many kept acts of the process that checkpoint covers: the mark is the last of them
+abbrev pub covered : ℕ → List Act → Share → ℕ
+covered number kept share = own_acts number (kept_with_mark number kept share)
+
+-- Stops and the end
+
+-- the share of a copy whose held acts are dropped
+abbrev pub letting_go : Share → Share
+letting_go share = record share { held = [] }
+
+-- the run is closed: what a copy still holds is kept
+abbrev pub closing : List Act → Share → Sharing
+closing kept share = record { share = letting_go share; kept = share.held ++ kept }
+
+-- the kept acts after both copies of a process closed, and of all processes in the order of the deck
+abbrev pub closed_by : List Act → Pair → List Act
+closed_by kept pair = (closing (closing kept (share_of pair.first)).kept (share_of pair.second)).kept
+
+abbrev pub closed_by_all : List Act → List Pair → List Act
+closed_by_all kept [] = kept
+closed_by_all kept (pair ∷ pairs) = closed_by_all (closed_by kept pair) pairs
