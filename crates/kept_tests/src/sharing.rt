@@ -1,0 +1,58 @@
+use kept_acts::{CopyShare, KeptActs};
+use std::test::Fail;
+use tal_tree::Act;
+
+const STEP: Act = Act::Step(1);
+
+const TAKE: Act = Act::Take {
+    process: 1,
+    opener: 0,
+};
+
+#[test]
+fn what_is_held_is_kept_with_the_mark(rt: HostRuntime) -> Result<(), Fail> {
+    let mut kept = KeptActs::new(rt.alloc())?;
+    let mut share = CopyShare::new(rt.alloc());
+    share.enter(1, STEP, &mut kept)?;
+    share.enter(1, TAKE, &mut kept)?;
+    share.enter(1, STEP, &mut kept)?;
+    kept.keep(Act::Enter(0))?;
+    assert!(rt; kept.as_slice() == [STEP, Act::Enter(0)].as_slice());
+    assert!(rt; share.held() == [TAKE, STEP].as_slice());
+    assert_eq!(rt; share.position(), 1);
+    assert_eq!(rt; kept.length_of(1), 1);
+    share.pass(1, &mut kept)?;
+    assert!(rt; kept.as_slice() == [STEP, Act::Enter(0), TAKE, STEP, STEP].as_slice());
+    assert!(rt; share.held().is_empty());
+    assert_eq!(rt; share.position(), 4);
+    assert_eq!(rt; kept.length_of(1), 4);
+    assert_eq!(rt; kept.length_of(0), 0);
+    assert_eq!(rt; kept.length_of(255), 0);
+    Ok(())
+}
+
+#[test]
+fn what_was_kept_is_done_anew(rt: HostRuntime) -> Result<(), Fail> {
+    let mut kept = KeptActs::new(rt.alloc())?;
+    let mut first = CopyShare::new(rt.alloc());
+    let mut second = CopyShare::new(rt.alloc());
+    first.enter(1, TAKE, &mut kept)?;
+    let base = first.cover(1, &mut kept)?;
+    assert_eq!(rt; base, 2);
+    assert_eq!(rt; first.position(), 1);
+    first.pass(1, &mut kept)?;
+    first.enter(1, STEP, &mut kept)?;
+    first.enter(1, TAKE, &mut kept)?;
+    first.let_go();
+    second.take_over(base);
+    assert_eq!(rt; second.position(), 2);
+    second.enter(1, STEP, &mut kept)?;
+    assert!(rt; kept.as_slice() == [TAKE, STEP, STEP].as_slice());
+    second.enter(1, TAKE, &mut kept)?;
+    assert!(rt; second.held() == [TAKE].as_slice());
+    first.close(&mut kept)?;
+    second.close(&mut kept)?;
+    assert!(rt; kept.as_slice() == [TAKE, STEP, STEP, TAKE].as_slice());
+    assert!(rt; second.held().is_empty());
+    Ok(())
+}
