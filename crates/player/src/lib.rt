@@ -11,6 +11,8 @@ pub mod player;
 mod round;
 mod rule;
 pub mod standing;
+pub mod stop;
 
 pub use player::Player;
 pub use standing::{MixedPlace, Place, Rule, Sizes, Standing};
+pub use stop::Stop;
