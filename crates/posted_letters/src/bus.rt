@@ -1,0 +1,108 @@
+ghost use Rattle.std.specs.Prelude.{◌≡◌, ◌≤◌, if◌then◌else◌, [], length, slice_get, OnOk};
+ghost use Rattle.std.specs.List.{remove};
+ghost use Rattle.std.specs.Option.{option_copied};
+ghost use Rattle.message_wires.specs.Wires.{is_due, is_on, put_again, put_on};
+
+use crate::running::is_running;
+use crate::sent::Sent;
+use gd_words::NoMemory;
+use std::alloc::Global;
+use std::collections::VecDeque;
+use std::marker::Model;
+
+/// Most packets on a bus.
+const ROOM: usize = 4_096;
+
+/// The packets on the bus, in order.
+#[derive(Drop)]
+pub(crate) struct Bus {
+    packets: VecDeque<Sent>,
+}
+
+impl Model for Bus {
+    ghost use Rattle.std.specs.Coded.{codes};
+    ghost use Rattle.std.specs.Prelude.{List, ◌≤◌, length};
+    ghost use Rattle.message_wires.specs.Wires as wires;
+
+    ghost Value = { List wires.Sent };
+
+    ghost coded = { Prim.hlevel codes };
+
+    ghost view = { λ bus. bus.packets.items };
+
+    ghost invariant = { λ bus. length bus.packets.items ≤ 4096 };
+}
+
+impl Bus {
+    pub(crate) fn new(alloc: Global) -> Bus
+        ensures { result ≡ [] }
+    {
+        Bus {
+            packets: VecDeque::new(alloc),
+        }
+    }
+
+    pub(crate) fn len(&self) -> usize
+        ensures value { result ≡ length self.now }
+        ensures few { result ≤ 4096 }
+    {
+        self.packets.len()
+    }
+
+    pub(crate) fn get(&self, k: usize) -> Option<&Sent>
+        ensures { option_copied result ≡ slice_get self.now k }
+    {
+        self.packets.get(k)
+    }
+
+    /// Whether a packet of this sending is there.
+    pub(crate) fn has(&self, number: u64) -> bool
+        ensures { result ≡ is_on self.now number }
+    {
+        self.packets.iter().any(|packet| packet.is_of(number))
+    }
+
+    /// Puts a packet at the end. Where there is no room it is lost.
+    pub(crate) fn put(&mut self, packet: Sent) -> Result<(), NoMemory>
+        ensures { OnOk result (self.new ≡ put_on packet self.old) }
+    {
+        if self.packets.len() < ROOM {
+            self.packets.push_back(packet)?;
+        }
+        Ok(())
+    }
+
+    /// Puts a letter that is owed at the end once more, if it is due.
+    fn put_due(&mut self, stopped: &[bool], node: u8, one: &Sent) -> Result<(), NoMemory>
+        ensures { OnOk result (self.new ≡ (if is_due stopped.now node self.old one.now then put_on one.now self.old else self.old)) }
+    {
+        if one.sender() == node && is_running(stopped, one.receiver()) && !self.has(one.number()) {
+            let packet = one.copy()?;
+            self.put(packet)?;
+        }
+        Ok(())
+    }
+
+    /// Puts those of the letters that are due on the bus again, the oldest first.
+    pub(crate) fn put_again(
+        &mut self,
+        stopped: &[bool],
+        node: u8,
+        owed: &[Sent],
+    ) -> Result<(), NoMemory>
+        ensures { OnOk result (self.new ≡ put_again stopped.now node owed.now self.old) }
+    {
+        for one in owed {
+            self.put_due(stopped, node, one)?;
+        }
+        Ok(())
+    }
+
+    /// Takes the packet at a position off the bus.
+    pub(crate) fn take(&mut self, k: usize) -> Option<Sent>
+        ensures packet { result ≡ slice_get self.old k }
+        ensures rest { self.new ≡ remove self.old k }
+    {
+        self.packets.remove(k)
+    }
+}
