@@ -1,6 +1,6 @@
 ghost use Rattle.std.specs.Prelude.{◌≡◌, IfOk};
 ghost use Rattle.checkpoint_image.specs.Behaving.{last_write_of};
-ghost use Rattle.process_semantics.specs.Process.{asked_file, start_of};
+ghost use Rattle.process_semantics.specs.Process.{asked_file, asked_words, start_of};
 ghost use Rattle.processes.specs.Seen.{IsLoadableKind, state_of};
 
 use checkpoint_image::{Behaviour, Listed};
@@ -40,6 +40,16 @@ impl Process {
         match self {
             Process::Program(program) => program.asked_file(),
             Process::Disc(_) => 0,
+        }
+    }
+
+    /// The words that it asks, or asked where it awaits the reply; none elsewhere.
+    pub fn asked_words(&self) -> Words
+        ensures { result ≡ asked_words (state_of self.now) }
+    {
+        match self {
+            Process::Program(program) => program.asked_words(),
+            Process::Disc(_) => Words::new(),
         }
     }
 

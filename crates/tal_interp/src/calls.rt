@@ -109,7 +109,8 @@ impl Interpreter {
         Asked { file, words }
     }
 
-    fn asked_words(&self) -> Words
+    /// The words that WRITEREAD asks.
+    pub(crate) fn asked_words(&self) -> Words
         ensures { result ≡ asked_words self.now.program self.now.state }
     {
         match self.node() {

@@ -1,6 +1,6 @@
 ghost use Rattle.std.specs.Prelude.{◌≡◌, IfOk};
 ghost use Rattle.tal_tree.specs.declared.site.Kind.TheVariants.{Pair};
-ghost use Rattle.process_semantics.specs.Calls.{asked_file};
+ghost use Rattle.process_semantics.specs.Calls.{asked_file, asked_words};
 ghost use Rattle.process_semantics.specs.Process.{start_of};
 ghost use Rattle.tal_interp.specs.Sound.{IsLoadable};
 
@@ -48,6 +48,13 @@ impl TalProcess {
         ensures { result ≡ asked_file self.now.state }
     {
         self.interpreter.asked_file()
+    }
+
+    /// The words that it asks, or asked where it awaits the reply; none elsewhere.
+    pub fn asked_words(&self) -> Words
+        ensures { result ≡ asked_words self.now.program self.now.state }
+    {
+        self.interpreter.asked_words()
     }
 }
 

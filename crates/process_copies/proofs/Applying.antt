@@ -1,0 +1,80 @@
+-- A checkpoint that comes to a copy is the step that is defined.
+use Rattle.std.proofs.Common.{◌≡◌, Bool, true, false, [], ◌∷◌, Option, Some, None, is_some, refl, ap, subst, sym, ℕ}
+use Rattle.std.specs.Option.{option_map}
+use Rattle.checkpoint_image.specs.declared.message.ImageMessage.{ImageMessage}
+use Rattle.tal_tree.specs.declared.site.Site.{Site}
+use Rattle.world_semantics.specs.declared.role.Role.{Role}
+use Rattle.world_semantics.specs.declared.role.Role.TheVariants.{Acting, Watching, Gone}
+use Rattle.world_semantics.specs.declared.which.Which.{Which}
+use Rattle.world_semantics.specs.declared.which.Which.TheVariants.{First, Second}
+use Rattle.world_semantics.specs.Core.{Core}
+use Rattle.world_semantics.specs.World.{Pair, copy_of}
+use Rattle.world_semantics.specs.Messages.{Taking, sent_at}
+use Rattle.world_semantics.specs.Passes.{taken_of}
+use Rattle.computed_changes.specs.Fitting.{depths_of}
+use Rattle.computed_changes.specs.Handed.{is_next_for}
+use Rattle.process_copies.specs.declared.step.Step.{Step}
+use Rattle.process_copies.specs.Handing.{applied_step, checkpoint_step, checkpoint_step_where}
+use Rattle.process_copies.specs.Receiving.{Settles, copy_applying, core_as, core_by, core_where, other_covering, pair_covering, placed_with}
+use Rattle.process_copies.specs.Seen.{Placed, told_by}
+use Rattle.process_copies.specs.Steps.{Records, Stepped}
+
+module _ (site : Site) (number : ℕ) (k : Which) (pair : Pair) (records : Records) (message : ImageMessage) where
+  where-is : (next : Bool) (core : Option Core) → core_where (depths_of site number) (copy_of k pair) message next ≡ core
+      → checkpoint_step_where site number k pair records message next ≡ option_map (applied_step number k pair records message) core
+  where-is true core is = ap (λ (o : Option Core). option_map (applied_step number k pair records message) o) is
+  where-is false core is = ap (λ (o : Option Core). option_map (applied_step number k pair records message) o) is
+
+  step-is : (role : Role) (core : Option Core) → core_as (depths_of site number) (copy_of k pair) message role ≡ core
+      → checkpoint_step site number k pair records message role ≡ option_map (applied_step number k pair records message) core
+  step-is Watching core is = where-is (is_next_for (copy_of k pair) message) core is
+  step-is Acting core is = ap (λ (o : Option Core). option_map (applied_step number k pair records message) o) is
+  step-is Gone core is = ap (λ (o : Option Core). option_map (applied_step number k pair records message) o) is
+
+-- the process after a copy of it put the core in
+abbrev put : Which → ImageMessage → Core → Placed → Placed
+put k message core old = placed_with k (copy_applying (copy_of k old.pair) message (Some core)) old
+
+-- what it is after the other copy was covered too, and the records
+abbrev covered_after : Which → ImageMessage → Records → Placed → Placed
+covered_after k message before mid = record mid { pair = pair_covering mid.number k message before.kept mid.pair }
+
+abbrev kept_after : Which → Records → Placed → Records
+kept_after k before mid = record before { kept = (other_covering k mid before.kept).kept }
+
+settles-put : (k : Which) (old : Placed) (message : ImageMessage) (before : Records) (core : Core) (step : Step)
+    → told_by step ≡ Some (sent_at (copy_of k (put k message core old).pair).processor (Taking (taken_of message) ∷ []))
+    → Settles (Some (applied_step old.number k old.pair before message core)) old before step (covered_after k message before (put k message core old))
+    (kept_after k before (put k message core old))
+settles-put First old message before core step told = (told, refl, refl)
+settles-put Second old message before core step told = (told, refl, refl)
+
+settles-mid : (old mid : Placed) (k : Which) (message : ImageMessage) (before : Records) (step : Step) (core : Option Core)
+    → core_by k old message ≡ core → is_some core ≡ true
+    → mid ≡ placed_with k (copy_applying (copy_of k old.pair) message core) old
+    → told_by step ≡ Some (sent_at (copy_of k mid.pair).processor (Taking (taken_of message) ∷ []))
+    → Settles (checkpoint_step old.site old.number k old.pair before message (copy_of k old.pair).role) old before step (covered_after k message before mid)
+    (kept_after k before mid)
+settles-mid old mid k message before step None core some put told = absurd (cc)
+settles-mid old mid k message before step (Some one) core some put told =
+    subst (λ (made : Option Stepped). Settles made old before step (covered_after k message before mid) (kept_after k before mid))
+    (sym (step-is old.site old.number k old.pair before message (copy_of k old.pair).role (Some one) core))
+    (subst (λ (mid : Placed). told_by step ≡ Some (sent_at (copy_of k mid.pair).processor (Taking (taken_of message) ∷ []))
+    → Settles (Some (applied_step old.number k old.pair before message one)) old before step (covered_after k message before mid) (kept_after k before mid))
+    (sym put) (settles-put k old message before one step) told)
+
+-- the checkpoint was applied by one copy, and the other one was covered
+pub settles-applied : (old mid new : Placed) (k : Which) (message : ImageMessage) (before after : Records) (step : Step)
+    → is_some (core_by k old message) ≡ true → mid ≡ placed_with k (copy_applying (copy_of k old.pair) message (core_by k old message)) old
+    → told_by step ≡ Some (sent_at (copy_of k mid.pair).processor (Taking (taken_of message) ∷ []))
+    → new ≡ covered_after k message before mid → after ≡ kept_after k before mid
+    → Settles (checkpoint_step old.site old.number k old.pair before message (copy_of k old.pair).role) old before step new after
+settles-applied old mid new k message before after step some put told process records =
+    subst (λ (n : Placed).
+    Settles (checkpoint_step old.site old.number k old.pair before message (copy_of k old.pair).role) old before step n after)
+    (sym process)
+    (subst (λ (a : Records).
+    Settles (checkpoint_step old.site old.number k old.pair before message (copy_of k old.pair).role) old before step
+    (covered_after k message before mid) a)
+    (sym records)
+    (settles-mid old mid k message before step (core_by k old message) refl some put told))

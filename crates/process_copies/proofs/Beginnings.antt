@@ -1,0 +1,52 @@
+-- A process at its beginning is that of the world at the beginning.
+use Rattle.std.proofs.Common.{◌≡◌, ◌∙◌, ℕ, List, [], length, map, refl, ap, ap₂, sym}
+use Rattle.tal_tree.specs.declared.site.OpenerSpec.{OpenerSpec}
+use Rattle.tal_tree.specs.declared.site.ProcessSpec.{ProcessSpec}
+use Rattle.tal_tree.specs.declared.site.Site.{Site}
+use Rattle.process_semantics.specs.Process.{start_of}
+use Rattle.plain_semantics.specs.Openers.{files_of, openers_of}
+use Rattle.checkpoint_image.specs.declared.message.ImageMessage.{ImageMessage}
+use Rattle.checkpoint_image.specs.declared.message.TakenMessage.{TakenMessage}
+use Rattle.disc_device.specs.declared.stored.Stored.{Stored}
+use Rattle.world_semantics.specs.declared.role.Role.{Role}
+use Rattle.world_semantics.specs.declared.role.Role.TheVariants.{Acting, Watching}
+use Rattle.world_semantics.specs.Core.{Core, core_at_boot}
+use Rattle.world_semantics.specs.World.{Copy, copy_at_boot, device_at_boot, pair_at_boot}
+use Rattle.process_control.specs.Cores.{core_at_start}
+use Rattle.process_control.proofs.Starting.{starts}
+use Rattle.process_copies.specs.Seen.{CopyAndDepths, Placed}
+
+-- a copy at the start, with these openers
+abbrev pub Started : ProcessSpec → List OpenerSpec → Role → ℕ → CopyAndDepths
+Started spec openers role processor = record {
+  copy = copy_at_boot role processor (core_at_start (start_of spec.what) (length (files_of spec.what)) openers).core;
+  depths = map (λ (opener : OpenerSpec). opener.depth) openers;
+}
+
+copy-starts : (site : Site) (number : ℕ) (spec : ProcessSpec) (openers : List OpenerSpec) (role : Role) (processor : ℕ) (one : CopyAndDepths)
+    → openers ≡ openers_of site number → one ≡ Started spec openers role processor → one.copy ≡ copy_at_boot role processor (core_at_boot site number spec)
+copy-starts site number spec openers role processor one all is =
+    ap (λ (x : CopyAndDepths). x.copy) is
+    ∙ ap (λ (o : List OpenerSpec). copy_at_boot role processor (core_at_start (start_of spec.what) (length (files_of spec.what)) o).core) all
+    ∙ ap (copy_at_boot role processor) (starts (start_of spec.what) (files_of spec.what) (openers_of site number))
+
+abbrev Put : Site → ℕ → Copy → Copy → List ImageMessage → List TakenMessage → List Stored → Placed
+Put site number first second checkpoints takens sectors = record {
+  site = site;
+  number = number;
+  pair = record { first = first; second = second; base = 0; checkpoints = checkpoints; takens = takens; sectors = sectors };
+}
+
+pub process-starts : (site own : Site) (number : ℕ) (spec : ProcessSpec) (openers : List OpenerSpec) (first second : CopyAndDepths)
+    (checkpoints : List ImageMessage) (takens : List TakenMessage) (sectors : List Stored)
+    → own ≡ site → openers ≡ openers_of site number → first ≡ Started spec openers Acting spec.primary → second ≡ Started spec openers Watching spec.backup
+    → checkpoints ≡ [] → takens ≡ [] → sectors ≡ device_at_boot spec.what
+    → Put own number first.copy second.copy checkpoints takens sectors ≡ record { site = site; number = number; pair = pair_at_boot site number spec }
+process-starts site own number spec openers first second checkpoints takens sectors here all one other unsent untaken device =
+    ap (λ (s : Site). Put s number first.copy second.copy checkpoints takens sectors) here
+    ∙ ap₂ (λ (a b : Copy). Put site number a b checkpoints takens sectors) (copy-starts site number spec openers Acting spec.primary first all one)
+    (copy-starts site number spec openers Watching spec.backup second all other)
+    ∙ ap₂ (λ (sent : List ImageMessage) (taken : List TakenMessage). Put site number (copy_at_boot Acting spec.primary (core_at_boot site number spec))
+    (copy_at_boot Watching spec.backup (core_at_boot site number spec)) sent taken sectors) unsent untaken
+    ∙ ap (λ (d : List Stored). Put site number (copy_at_boot Acting spec.primary (core_at_boot site number spec))
+    (copy_at_boot Watching spec.backup (core_at_boot site number spec)) [] [] d) device

@@ -1,0 +1,99 @@
+-- The steps of a process, by what its copies do.
+use Rattle.std.proofs.Common.{◌≡◌, ◌≢◌, ℕ, Bool, true, false, List, Option, Some, None, nat_lt, refl, ap, ap₂, sym, subst, ◌∙◌}
+use Rattle.std.specs.Option.{option_map}
+use Rattle.tal_tree.specs.declared.site.Site.{Site}
+use Rattle.process_semantics.specs.declared.point.Point.{Point}
+use Rattle.process_semantics.specs.declared.point.Point.TheVariants as point
+use Rattle.disc_device.specs.declared.stored.Stored.{Stored}
+use Rattle.world_semantics.specs.declared.which.Which.{Which}
+use Rattle.world_semantics.specs.declared.which.Which.TheVariants.{First, Second}
+use Rattle.world_semantics.specs.Kept.{own_acts}
+use Rattle.world_semantics.specs.Messages.{Sending}
+use Rattle.world_semantics.specs.Running.{Own}
+use Rattle.world_semantics.specs.World.{Mark, Pair, copy_of}
+use Rattle.process_copies.specs.Acting.{HasActed, HasStepped, Scene, own_of, passed_step, step_by_act}
+use Rattle.process_copies.specs.Seen.{CopyAndDepths, Placed, sent_by, told_by}
+use Rattle.process_copies.specs.Steps.{Records, Stepped, first_step, mark_step, passing_step, step_at}
+use Rattle.process_copies.specs.declared.step.Step.{Step}
+use Rattle.process_copies.specs.declared.step.Step.TheVariants.{Impossible, Quiet, Sends}
+
+-- One copy, else the other one
+
+none-made : (made : Option Stepped) → None ≡ sent_by made → made ≡ None
+none-made None e = refl
+none-made (Some step) e = absurd (cc)
+
+pub neither-first : (one : Option Stepped) (before between : Placed) (records mid : Records) → HasStepped one Impossible before between records mid
+    → (one ≡ None) × ((between ≡ before) × (mid ≡ records))
+neither-first None before between records mid h = (refl, h.1)
+neither-first (Some step) before between records mid h = let told = h.0 in absurd (cc)
+
+pub second-steps : (one : Option Stepped) (other : Placed → Records → Option Stepped) (step : Step) (before between after : Placed) (records mid now : Records)
+    → HasStepped one Impossible before between records mid → HasStepped (other between mid) step between after mid now
+    → HasStepped (first_step one (other before records)) step before after records now
+second-steps one other step before between after records mid now first second =
+    let same = neither-first one before between records mid first in
+    let rest = same.1 in
+    subst (λ (made : Option Stepped). HasStepped (first_step made (other before records)) step before after records now) (sym same.0)
+    (subst (λ (p : Placed). HasStepped (other p records) step p after records now) rest.0
+    (subst (λ (r : Records). HasStepped (other between r) step between after r now) rest.1 second))
+
+pub first-steps : (one other : Option Stepped) (step : Step) (sent : List Sending) (before after : Placed) (records now : Records) → told_by step ≡ Some sent
+    → HasStepped one step before after records now → HasStepped (first_step one other) step before after records now
+first-steps None other step sent before after records now told h = let none = h.0 in absurd (cc)
+first-steps (Some made) other step sent before after records now told h = h
+
+-- Points
+
+pub at-other : (site : Site) (number : ℕ) (k : Which) (pair : Pair) (marks : List Mark) (records : Records) (stands : Point) → stands ≢ point.Mark
+    → step_at site number k pair marks records stands ≡ step_by_act number k pair records (own_of site number k pair records stands)
+at-other site number k pair marks records point.Mark other = absurd (other refl)
+at-other site number k pair marks records point.Inner other = refl
+at-other site number k pair marks records point.Take other = refl
+at-other site number k pair marks records point.Ask other = refl
+at-other site number k pair marks records point.Await other = refl
+at-other site number k pair marks records point.Answer other = refl
+at-other site number k pair marks records point.Device other = refl
+at-other site number k pair marks records point.Ended other = refl
+
+-- Marks
+
+passing : (number : ℕ) (k : Which) (pair : Pair) (records : Records) (already : Bool) → nat_lt (copy_of k pair).position (own_acts number records.kept) ≡ already
+    → passing_step number k pair records already ≡ passed_step number k pair records
+passing number First pair records true e = rw e refl
+passing number First pair records false e = rw e refl
+passing number Second pair records true e = rw e refl
+passing number Second pair records false e = rw e refl
+
+pub passes : (number : ℕ) (k : Which) (pair : Pair) (records : Records) (sent : Bool)
+    → mark_step number k pair records true sent ≡ Some (passed_step number k pair records)
+passes number k pair records sent =
+    ap (λ (step : Stepped). Some step) (passing number k pair records (nat_lt (copy_of k pair).position (own_acts number records.kept)) refl)
+
+-- Acts
+
+abbrev pub with-first : Placed → Scene → Placed
+with-first before after = record before { pair = record before.pair { first = after.one.copy; sectors = after.sectors } }
+
+abbrev pub with-second : Placed → Scene → Placed
+with-second before after = record before { pair = record before.pair { second = after.one.copy; sectors = after.sectors } }
+
+pub first-acts : (before : Placed) (depths : List ℕ) (records : Records) (own : Option Own) (step : Step) (after : Scene)
+    → HasActed before.number own step (record { one = record { copy = before.pair.first; depths = depths }; sectors = before.pair.sectors; records = records }) after
+    → HasStepped (step_by_act before.number First before.pair records own) step before (with-first before after) records after.records
+first-acts before depths records None step after h =
+    (h.0, (ap (λ (s : Scene). with-first before s) h.1, ap (λ (s : Scene). s.records) h.1))
+first-acts before depths records (Some own) step after h =
+    let rest = h.1 in
+    let more = rest.1 in
+    (h.0, (ap₂ (λ (one : CopyAndDepths) (sectors : List Stored). with-first before (record { one = one; sectors = sectors; records = records })) rest.0 more.0, more.1))
+
+pub second-acts : (before : Placed) (depths : List ℕ) (records : Records) (own : Option Own) (step : Step) (after : Scene)
+    → HasActed before.number own step (record { one = record { copy = before.pair.second; depths = depths }; sectors = before.pair.sectors; records = records }) after
+    → HasStepped (step_by_act before.number Second before.pair records own) step before (with-second before after) records after.records
+second-acts before depths records None step after h =
+    (h.0, (ap (λ (s : Scene). with-second before s) h.1, ap (λ (s : Scene). s.records) h.1))
+second-acts before depths records (Some own) step after h =
+    let rest = h.1 in
+    let more = rest.1 in
+    (h.0, (ap₂ (λ (one : CopyAndDepths) (sectors : List Stored). with-second before (record { one = one; sectors = sectors; records = records })) rest.0 more.0, more.1))

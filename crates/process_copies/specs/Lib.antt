@@ -1,0 +1,8 @@
+pub mod Acting
+pub mod Handing
+pub mod Receiving
+pub mod Seen
+pub mod ShownCounts
+pub mod Starting
+pub mod Steps
+pub mod Takeover

@@ -1,0 +1,27 @@
+-- The sites on which the machines of copies start.
+use Rattle.std.specs.Prelude.{◌≤◌}
+use Rattle.std.specs.List.{All}
+use Rattle.tal_tree.specs.declared.program.FileUse.{FileUse}
+use Rattle.tal_tree.specs.declared.site.Kind.{Kind}
+use Rattle.tal_tree.specs.declared.site.Kind.TheVariants as kind
+use Rattle.tal_tree.specs.declared.site.Site.{Site}
+use Rattle.plain_semantics.specs.Openers.{files_of}
+use Rattle.plain_semantics.specs.SiteLimits.{KeepsSiteLimits}
+use Rattle.processes.specs.Seen.{IsLoadableKind}
+use Rattle.sync_ids.specs.Tables.{IsDepth}
+
+-- a disc has 1 to 64 sectors
+abbrev pub HasSectors : Kind → Type 0
+HasSectors (kind.Disc sectors) = (1 ≤ sectors) × (sectors ≤ 64)
+HasSectors (kind.Pair program) = Unit {0}
+
+-- the files of a process are of depths from 1 to 4
+abbrev pub HasDepths : Kind → Type 0
+HasDepths what = All (λ (file : FileUse). IsDepth file.depth) (files_of what)
+
+-- the site keeps the limits, each of its processes can be loaded, discs have their sectors, and files their depths
+pub record IsStartable (site : Site) : Type 0 where
+  pub limits : KeepsSiteLimits site
+  pub loadable : All (λ spec. IsLoadableKind spec.what) site.processes
+  pub sectors : All (λ spec. HasSectors spec.what) site.processes
+  pub depths : All (λ spec. HasDepths spec.what) site.processes

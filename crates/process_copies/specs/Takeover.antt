@@ -1,0 +1,10 @@
+-- What becomes of a process where a run is closed.
+use Rattle.std.specs.Prelude.{[]}
+use Rattle.world_semantics.specs.World.{Copy, Pair}
+
+abbrev pub without_held : Copy → Copy
+without_held copy = record copy { held = [] }
+
+-- no copy of the process holds an act any more
+abbrev pub let_go : Pair → Pair
+let_go pair = record pair { first = without_held pair.first; second = without_held pair.second }

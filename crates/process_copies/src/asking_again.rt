@@ -1,0 +1,129 @@
+ghost use Rattle.std.specs.Prelude.{◌≡◌, ◌||◌, option_to_list, IfOk};
+ghost use Rattle.tal_tree.specs.declared.site.Who.TheVariants as who;
+ghost use Rattle.process_semantics.specs.declared.point.Point.TheVariants.{Await};
+ghost use Rattle.process_semantics.specs.Process as process;
+ghost use Rattle.plain_semantics.specs.Openers.{opener_of};
+ghost use Rattle.computed_changes.specs.Handed.{is_to};
+ghost use Rattle.letters.specs.Again.{awaited_at, awaited_by};
+ghost use Rattle.message_wires.specs.Idle.{waits_as, waits_at_mark};
+ghost use Rattle.world_semantics.specs.Core.{next_on};
+ghost use Rattle.world_semantics.specs.World.{copy_of};
+ghost use Rattle.process_copies.specs.Receiving.{acts_at};
+
+use crate::address::Address;
+use crate::copies::ProcessCopies;
+use crate::sending::{address_in, request_to};
+use checkpoint_image::ReceiveBlock;
+use gd_words::{NoMemory, Reply, Request, Words};
+use process_control::Asking;
+use process_semantics::Point;
+use std::alloc::Global;
+use world_semantics::{Role, Which};
+
+impl ProcessCopies {
+    /// Whether a copy acts, and is in this processor.
+    pub fn acts_on(&self, which: Which, node: u8) -> bool
+        ensures { result ≡ acts_at node (copy_of which self.now.pair).role (copy_of which self.now.pair).processor }
+    {
+        match self.role(which) {
+            Role::Acting => self.processor(which) == node,
+            Role::Watching | Role::Gone => false,
+        }
+    }
+
+    /// The request whose reply a copy awaits: the one that its process asked last.
+    pub fn awaited(&self, which: Which) -> Option<Request>
+        ensures { option_to_list result ≡ awaited_by self.now.site self.now.number (copy_of which self.now.pair).core }
+    {
+        match self.point(which) {
+            Point::Await => self.asked_last(which),
+            _ => None,
+        }
+    }
+
+    /// A copy's receive table, with the replies that it keeps.
+    pub fn kept_table(&self, alloc: Global, which: Which) -> Result<ReceiveBlock, NoMemory>
+        ensures { IfOk result (λ block. block ≡ (copy_of which self.now.pair).core.receive) }
+    {
+        match which {
+            Which::First => self.first.kept_table(alloc),
+            Which::Second => self.second.kept_table(alloc),
+        }
+    }
+
+    /// Whether a copy acts and waits at a mark, its checkpoint sent.
+    pub fn waits_at_mark(&self) -> bool
+        ensures { result ≡ (waits_at_mark self.now.pair.first || waits_at_mark self.now.pair.second) }
+    {
+        waits_as(self.first.role(), self.first.sent())
+            || waits_as(self.second.role(), self.second.sent())
+    }
+
+    /// The request that the process of a copy asked last.
+    fn asked_last(&self, which: Which) -> Option<Request>
+        ensures { option_to_list result ≡ awaited_at self.now.site self.now.number (copy_of which self.now.pair).core Await }
+    {
+        let file = self.asked_file(which);
+        let asking = Asking {
+            file,
+            number: self.next_on(which, file).saturating_sub(1),
+            words: self.asked_words(which),
+        };
+        request_to(self.opener_of_file(file), asking)
+    }
+
+    /// The file on which the process of a copy asked.
+    pub(crate) fn asked_file(&self, which: Which) -> u8
+        ensures { result ≡ process.asked_file (copy_of which self.now.pair).core.state }
+    {
+        match which {
+            Which::First => self.first.asked_file(),
+            Which::Second => self.second.asked_file(),
+        }
+    }
+
+    fn asked_words(&self, which: Which) -> Words
+        ensures { result ≡ process.asked_words (copy_of which self.now.pair).core.state }
+    {
+        match which {
+            Which::First => self.first.asked_words(),
+            Which::Second => self.second.asked_words(),
+        }
+    }
+
+    /// The number of the next request on a file, at a copy.
+    pub(crate) fn next_on(&self, which: Which, file: u8) -> u32
+        ensures { result ≡ next_on (copy_of which self.now.pair).core file }
+    {
+        match which {
+            Which::First => self.first.next_on(file),
+            Which::Second => self.second.next_on(file),
+        }
+    }
+
+    /// Where a file of the process stands.
+    pub(crate) fn opener_of_file(&self, file: u8) -> Option<Address>
+        ensures { result ≡ opener_of self.now.site (who.File self.now.number file) }
+    {
+        address_in(self.files.as_slice(), file)
+    }
+
+    /// Whether a reply goes to a file of the process.
+    pub(crate) fn is_from(&self, file: u8, reply: &Reply) -> bool
+        ensures { result ≡ is_to (opener_of self.now.site (who.File self.now.number file)) reply.now }
+    {
+        match self.opener_of_file(file) {
+            None => false,
+            Some(opener) => opener.process() == reply.process && opener.opener() == reply.opener,
+        }
+    }
+}
+
+fn waits_as(role: Role, sent: bool) -> bool
+    ensures { result ≡ waits_as role sent }
+{
+    match role {
+        Role::Acting => sent,
+        Role::Watching | Role::Gone => false,
+    }
+}

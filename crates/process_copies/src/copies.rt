@@ -1,0 +1,132 @@
+ghost use Rattle.std.specs.Prelude.{◌≡◌};
+ghost use Rattle.process_semantics.specs.Process.{point};
+ghost use Rattle.plain_semantics.specs.Openers.{openers_of};
+ghost use Rattle.world_semantics.specs.World.{copy_of};
+ghost use Rattle.letters.specs.Routes.{other_end};
+ghost use Rattle.computed_changes.specs.Handed.{copy_in};
+
+use crate::address::Address;
+use crate::one::NodeCopy;
+use checkpoint_image::{ImageMessage, TakenMessage};
+use disc_device::Disc;
+use gd_words::List;
+use logs::{Log, Shared};
+use process_semantics::Point;
+use std::marker::Model;
+use std::snapshot::Snapshot;
+use tal_tree::{OpenerSpec, Site};
+use world_semantics::{Role, Which};
+
+/// A process in its place in a site: its two copies in their processors, the checkpoints that they ever sent and which of them were
+/// taken, how many kept acts the last one covers, and its device, if it is a disc.
+#[derive(Drop)]
+pub struct ProcessCopies {
+    pub(crate) site: Snapshot<Site>,
+    pub(crate) number: u8,
+    pub(crate) openers: List<OpenerSpec>,
+    pub(crate) files: List<Option<Address>>,
+    pub(crate) first: NodeCopy,
+    pub(crate) second: NodeCopy,
+    pub(crate) base: u64,
+    pub(crate) checkpoints: Log<Shared<ImageMessage>>,
+    pub(crate) takens: Log<TakenMessage>,
+    pub(crate) device: Option<Disc>,
+}
+
+impl Model for ProcessCopies {
+    ghost use Rattle.std.specs.Prelude.{◌≡◌};
+    ghost use Rattle.std.specs.Coded.{codes};
+    ghost use Rattle.tal_tree.specs.contracts.statement.Statement as statement;
+    ghost use Rattle.plain_semantics.specs.Openers.{openers_of};
+    ghost use Rattle.computed_changes.specs.Fitting.{depths_of};
+    ghost use Rattle.process_copies.specs.Seen.{Placed, openers_on, sectors_on};
+
+    ghost Value = { Placed };
+
+    ghost coded = { Prim.hlevel (codes, statement.the_row.coded) };
+
+    ghost view = { λ process. record {
+      site = process.site.value;
+      number = process.number;
+      pair = record {
+        first = process.first.copy;
+        second = process.second.copy;
+        base = process.base;
+        checkpoints = process.checkpoints;
+        takens = process.takens;
+        sectors = sectors_on process.device;
+      };
+    } };
+
+    ghost invariant = { λ process. (process.openers ≡ openers_of process.site.value process.number)
+        × (process.files ≡ openers_on process.site.value process.number)
+        × (process.first.depths ≡ depths_of process.site.value process.number)
+        × (process.second.depths ≡ depths_of process.site.value process.number) };
+}
+
+impl ProcessCopies {
+    pub fn number(&self) -> u8
+        ensures { result ≡ self.now.number }
+    {
+        self.number
+    }
+
+    /// Its openers, in order.
+    pub fn openers(&self) -> &[OpenerSpec]
+        ensures { result.now ≡ openers_of self.now.site self.now.number }
+    {
+        self.openers.as_slice()
+    }
+
+    pub fn processor(&self, which: Which) -> u8
+        ensures { result ≡ (copy_of which self.now.pair).processor }
+    {
+        match which {
+            Which::First => self.first.processor(),
+            Which::Second => self.second.processor(),
+        }
+    }
+
+    pub fn role(&self, which: Which) -> Role
+        ensures { result ≡ (copy_of which self.now.pair).role }
+    {
+        match which {
+            Which::First => self.first.role(),
+            Which::Second => self.second.role(),
+        }
+    }
+
+    /// Where a copy stands.
+    pub fn point(&self, which: Which) -> Point
+        ensures { result ≡ point (copy_of which self.now.pair).core.state }
+    {
+        match which {
+            Which::First => self.first.point(),
+            Which::Second => self.second.point(),
+        }
+    }
+
+    /// Which copy is in a processor.
+    pub fn copy_in(&self, node: u8) -> Option<Which>
+        ensures { result ≡ copy_in node self.now.pair }
+    {
+        if self.first.processor() == node {
+            return Some(Which::First);
+        }
+        if self.second.processor() == node {
+            return Some(Which::Second);
+        }
+        None
+    }
+
+    /// The processor of the other copy, seen from the node of one of them.
+    pub fn other_end(&self, node: u8) -> u8
+        ensures { result ≡ other_end node self.now.pair }
+    {
+        if self.first.processor() == node {
+            self.second.processor()
+        } else {
+            self.first.processor()
+        }
+    }
+}

@@ -1,0 +1,356 @@
+ghost use Rattle.std.specs.Prelude.{◌≡◌, ◌<◌, ◌∷◌, [], true, is_some, length, map, IfOk, IsTrue, OnOk, Some};
+ghost use Rattle.process_semantics.specs.declared.point.Point.TheVariants.{Await};
+ghost use Rattle.process_semantics.specs.Process as process;
+ghost use Rattle.file_calls.specs.Queue.{sent_again};
+ghost use Rattle.plain_semantics.specs.Openers.{openers_of};
+ghost use Rattle.checkpoint_image.specs.Receive.{repeated};
+ghost use Rattle.kept_acts.specs.Shares.{covered, share_of, with_share};
+ghost use Rattle.posted_letters.specs.Seen.{message_of};
+ghost use Rattle.world_semantics.specs.World.{copy_of, other_of};
+ghost use Rattle.world_semantics.specs.Messages.{Replying, Taking, sent_at};
+ghost use Rattle.world_semantics.specs.Passes.{taken_of};
+ghost use Rattle.computed_changes.specs.Handed.{awaits, is_of_last};
+ghost use Rattle.process_copies.specs.Handing.{checkpoint_step, reply_step, reply_step_where, request_step, step_by, step_on};
+ghost use Rattle.process_copies.specs.Handing.{taken_step, taken_step_where};
+ghost use Rattle.process_copies.specs.Receiving.{Settles, after_early_request, after_request, copy_applying, core_by, got_step};
+ghost use Rattle.process_copies.specs.Receiving.{is_awaiting, other_covering, pair_covering, placed_with, repeated_at};
+ghost use Rattle.process_copies.specs.Seen.{names_its, placed_after, records_after, sent_by, told_by};
+ghost use Rattle.process_copies.specs.Steps as steps;
+
+use crate::copies::ProcessCopies;
+use crate::records::Records;
+use crate::step::Step;
+use checkpoint_image::{ImageMessage, TakenMessage};
+use file_calls::Arrival;
+use gd_words::{NoMemory, Reply, Request};
+use posted_letters::{Message, Sending};
+use process_semantics::Point;
+use world_semantics::{Role, Which};
+
+impl ProcessCopies {
+    /// A message comes to the process at a node. A request comes to the process that it names, a checkpoint and that one was taken too;
+    /// a reply comes to the process that it is for. Want of memory is answered too to a request whose opener isn't there, which no
+    /// machine of the site sends.
+    pub fn come_in(
+        &mut self,
+        node: u8,
+        message: Message,
+        records: &mut Records,
+    ) -> Result<Step, NoMemory>
+        requires { names_its self.old.number (message_of message) }
+        ensures told { IfOk result (λ step. told_by step
+            ≡ sent_by (step_on self.old.site self.old.number node self.old.pair records.old (message_of message))) }
+        ensures process { OnOk result (self.new
+            ≡ placed_after self.old (step_on self.old.site self.old.number node self.old.pair records.old (message_of message))) }
+        ensures records { OnOk result (records.new
+            ≡ records_after records.old (step_on self.old.site self.old.number node self.old.pair records.old (message_of message))) }
+        ensures site { self.new.site ≡ self.old.site }
+        ensures number { self.new.number ≡ self.old.number }
+    {
+        match self.copy_in(node) {
+            None => Ok(Step::Impossible),
+            Some(which) => {
+                let step = self.come_to(which, message, records)?;
+                Ok(step)
+            }
+        }
+    }
+
+    /// A message comes to a copy.
+    fn come_to(
+        &mut self,
+        which: Which,
+        message: Message,
+        records: &mut Records,
+    ) -> Result<Step, NoMemory>
+        ensures step { IfOk result (λ step. Settles
+            (step_by self.old.site self.old.number self.old.pair records.old (message_of message) which)
+            self.old records.old step self.new records.new) }
+        ensures site { self.new.site ≡ self.old.site }
+        ensures number { self.new.number ≡ self.old.number }
+    {
+        match message {
+            Message::Asking(request) => {
+                let step = self.request_to(which, request)?;
+                Ok(step)
+            }
+            Message::Replying(reply) => {
+                let step = self.reply_to(which, &reply, records)?;
+                Ok(step)
+            }
+            Message::Checkpointing(message) => {
+                let step = self.checkpoint_to(which, message.get(), records)?;
+                Ok(step)
+            }
+            Message::Taking(taken) => Ok(self.taken_to(which, taken)),
+        }
+    }
+
+    fn request_to(&mut self, which: Which, request: Request) -> Result<Step, NoMemory>
+        ensures step { (records : steps.Records) → IfOk result (λ step. Settles
+            (request_step which self.old.pair records request (copy_of which self.old.pair).role)
+            self.old records step self.new records) }
+        ensures site { self.new.site ≡ self.old.site }
+        ensures number { self.new.number ≡ self.old.number }
+    {
+        if usize::from(request.opener) >= self.openers.len() {
+            return Err(NoMemory);
+        }
+        match self.role(which) {
+            Role::Acting => Ok(self.request_acting(which, request)),
+            Role::Watching => {
+                self.arrive_watching(which, request);
+                Ok(Step::Quiet)
+            }
+            Role::Gone => Ok(Step::Impossible),
+        }
+    }
+
+    fn request_acting(&mut self, which: Which, request: Request) -> Step
+        requires { request.opener < length (openers_of self.old.site self.old.number) }
+        ensures told { told_by result ≡ Some (repeated_at (copy_of which self.old.pair) request) }
+        ensures process { self.new ≡ placed_with which (after_request (copy_of which self.old.pair) request) self.old }
+    {
+        let node = self.processor(which);
+        let arrival = self.arrive(which, request);
+        repeating(node, arrival)
+    }
+
+    fn arrive(&mut self, which: Which, request: Request) -> Arrival
+        requires { request.opener < length (openers_of self.old.site self.old.number) }
+        ensures again { sent_again result ≡ repeated (copy_of which self.old.pair).core.receive request }
+        ensures process { self.new ≡ placed_with which (after_request (copy_of which self.old.pair) request) self.old }
+    {
+        match which {
+            Which::First => self.first.arrive(request),
+            Which::Second => self.second.arrive(request),
+        }
+    }
+
+    fn arrive_watching(&mut self, which: Which, request: Request)
+        requires { request.opener < length (openers_of self.old.site self.old.number) }
+        ensures { self.new ≡ placed_with which (after_early_request (copy_of which self.old.pair) request) self.old }
+    {
+        match which {
+            Which::First => self.first.arrive_watching(request),
+            Which::Second => self.second.arrive_watching(request),
+        }
+    }
+
+    fn reply_to(
+        &mut self,
+        which: Which,
+        reply: &Reply,
+        records: &mut Records,
+    ) -> Result<Step, NoMemory>
+        ensures step { IfOk result (λ step. Settles
+            (reply_step self.old.site self.old.number which self.old.pair records.old reply.now (copy_of which self.old.pair).role)
+            self.old records.old step self.new records.new) }
+        ensures site { self.new.site ≡ self.old.site }
+        ensures number { self.new.number ≡ self.old.number }
+    {
+        match self.role(which) {
+            Role::Acting => {
+                let step = self.reply_acting(which, reply, records)?;
+                Ok(step)
+            }
+            Role::Watching | Role::Gone => Ok(Step::Impossible),
+        }
+    }
+
+    fn reply_acting(
+        &mut self,
+        which: Which,
+        reply: &Reply,
+        records: &mut Records,
+    ) -> Result<Step, NoMemory>
+        ensures step { IfOk result (λ step. Settles
+            (reply_step_where self.old.number which self.old.pair records.old reply.now
+            (is_awaiting self.old.site self.old.number (copy_of which self.old.pair) reply.now))
+            self.old records.old step self.new records.new) }
+        ensures site { self.new.site ≡ self.old.site }
+        ensures number { self.new.number ≡ self.old.number }
+    {
+        if !self.awaits(which, reply) {
+            return Ok(Step::Impossible);
+        }
+        self.get_reply(which, reply, records)?;
+        Ok(Step::Quiet)
+    }
+
+    /// Whether a copy awaits a reply.
+    fn awaits(&self, which: Which, reply: &Reply) -> bool
+        ensures told { result ≡ is_awaiting self.now.site self.now.number (copy_of which self.now.pair) reply.now }
+        ensures at { IsTrue result → process.point (copy_of which self.now.pair).core.state ≡ Await }
+    {
+        match self.point(which) {
+            Point::Await => self.is_awaited(which, reply),
+            _ => false,
+        }
+    }
+
+    /// Whether a reply is to the request that a copy asked last.
+    fn is_awaited(&self, which: Which, reply: &Reply) -> bool
+        ensures { result ≡ awaits self.now.site self.now.number (copy_of which self.now.pair).core reply.now Await }
+    {
+        let file = self.asked_file(which);
+        if !self.is_from(file, reply) {
+            return false;
+        }
+        u64::from(reply.number) + 1 == u64::from(self.next_on(which, file))
+    }
+
+    fn get_reply(
+        &mut self,
+        which: Which,
+        reply: &Reply,
+        records: &mut Records,
+    ) -> Result<(), NoMemory>
+        requires { process.point (copy_of which self.old.pair).core.state ≡ Await }
+        ensures process { OnOk result (self.new ≡ record self.old { pair = (got_step which self.old records.old reply.now).pair }) }
+        ensures records { OnOk result (records.new ≡ (got_step which self.old records.old reply.now).records) }
+        ensures site { self.new.site ≡ self.old.site }
+        ensures number { self.new.number ≡ self.old.number }
+    {
+        let number = self.number;
+        match which {
+            Which::First => self.first.get_reply(number, &reply.words, records)?,
+            Which::Second => self.second.get_reply(number, &reply.words, records)?,
+        }
+        Ok(())
+    }
+
+    fn checkpoint_to(
+        &mut self,
+        which: Which,
+        message: &ImageMessage,
+        records: &mut Records,
+    ) -> Result<Step, NoMemory>
+        ensures step { IfOk result (λ step. Settles
+            (checkpoint_step self.old.site self.old.number which self.old.pair records.old message.now (copy_of which self.old.pair).role)
+            self.old records.old step self.new records.new) }
+        ensures site { self.new.site ≡ self.old.site }
+        ensures number { self.new.number ≡ self.old.number }
+    {
+        if !self.apply(which, message) {
+            return Ok(Step::Impossible);
+        }
+        let step = self.applied(which, message, records)?;
+        Ok(step)
+    }
+
+    /// A copy applies a checkpoint, or ignores it.
+    fn apply(&mut self, which: Which, message: &ImageMessage) -> bool
+        ensures told { result ≡ is_some (core_by which self.old message.now) }
+        ensures process { self.new
+            ≡ placed_with which (copy_applying (copy_of which self.old.pair) message.now (core_by which self.old message.now)) self.old }
+    {
+        match which {
+            Which::First => self.first.apply(message),
+            Which::Second => self.second.apply(message),
+        }
+    }
+
+    /// A copy applied a checkpoint, and says that it was taken.
+    fn applied(
+        &mut self,
+        which: Which,
+        message: &ImageMessage,
+        records: &mut Records,
+    ) -> Result<Step, NoMemory>
+        ensures told { IfOk result (λ step. told_by step ≡ Some (sent_at (copy_of which self.old.pair).processor (Taking (taken_of message.now) ∷ []))) }
+        ensures process { OnOk result (self.new ≡ record self.old { pair = pair_covering self.old.number which message.now records.old.kept self.old.pair }) }
+        ensures records { OnOk result (records.new ≡ record records.old { kept = (other_covering which self.old records.old.kept).kept }) }
+        ensures site { self.new.site ≡ self.old.site }
+        ensures number { self.new.number ≡ self.old.number }
+    {
+        let node = self.processor(which);
+        let base = self.cover_other(which, records)?;
+        let taken = taken_of(message);
+        self.takens.add(taken)?;
+        self.base = base;
+        Ok(Step::Sends(Sending::new(node, Message::Taking(taken))))
+    }
+
+    /// The mark of the other copy is kept, with what that copy held. Answers the base.
+    fn cover_other(&mut self, which: Which, records: &mut Records) -> Result<u64, NoMemory>
+        ensures base { IfOk result (λ base. base ≡ covered self.old.number records.old.kept (share_of (copy_of (other_of which) self.old.pair))) }
+        ensures process { OnOk result (self.new ≡ placed_with (other_of which)
+            (with_share (other_covering which self.old records.old.kept).share (copy_of (other_of which) self.old.pair)) self.old) }
+        ensures records { OnOk result (records.new ≡ record records.old { kept = (other_covering which self.old records.old.kept).kept }) }
+        ensures site { self.new.site ≡ self.old.site }
+        ensures number { self.new.number ≡ self.old.number }
+    {
+        let number = self.number;
+        let base = match which {
+            Which::First => self.second.cover(number, records)?,
+            Which::Second => self.first.cover(number, records)?,
+        };
+        Ok(base)
+    }
+
+    fn taken_to(&mut self, which: Which, taken: TakenMessage) -> Step
+        ensures step { (records : steps.Records) → Settles
+            (taken_step which self.old.pair records taken (copy_of which self.old.pair).role) self.old records result self.new records }
+        ensures site { self.new.site ≡ self.old.site }
+        ensures number { self.new.number ≡ self.old.number }
+    {
+        match self.role(which) {
+            Role::Acting => self.taken_acting(which, taken),
+            Role::Watching | Role::Gone => Step::Impossible,
+        }
+    }
+
+    fn taken_acting(&mut self, which: Which, taken: TakenMessage) -> Step
+        ensures step { (records : steps.Records) → Settles
+            (taken_step_where which self.old.pair records (is_of_last (copy_of which self.old.pair) taken))
+            self.old records result self.new records }
+        ensures site { self.new.site ≡ self.old.site }
+        ensures number { self.new.number ≡ self.old.number }
+    {
+        if !self.is_of_last(which, taken) {
+            return Step::Impossible;
+        }
+        self.acked(which);
+        Step::Quiet
+    }
+
+    fn is_of_last(&self, which: Which, taken: TakenMessage) -> bool
+        ensures { result ≡ is_of_last (copy_of which self.now.pair) taken }
+    {
+        match which {
+            Which::First => self.first.is_of_last(taken),
+            Which::Second => self.second.is_of_last(taken),
+        }
+    }
+
+    fn acked(&mut self, which: Which)
+        ensures { self.new ≡ placed_with which (record (copy_of which self.old.pair) { acknowledged = true }) self.old }
+    {
+        match which {
+            Which::First => self.first.acked(),
+            Which::Second => self.second.acked(),
+        }
+    }
+}
+
+/// What a node sends that a request came to.
+fn repeating(node: u8, arrival: Arrival) -> Step
+    ensures { told_by result ≡ Some (sent_at node (map Replying (sent_again arrival))) }
+{
+    match arrival {
+        Arrival::Waits | Arrival::Dropped => Step::Quiet,
+        Arrival::Again(reply) => Step::Sends(Sending::new(node, Message::Replying(reply))),
+    }
+}
+
+/// The message that a checkpoint was taken.
+fn taken_of(message: &ImageMessage) -> TakenMessage
+    ensures { result ≡ taken_of message.now }
+{
+    TakenMessage {
+        process: message.process,
+        era: message.era,
+        number: message.number,
+    }
+}

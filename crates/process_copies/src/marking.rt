@@ -1,0 +1,117 @@
+ghost use Rattle.std.specs.Prelude.{◌≡◌, ◌++◌, OnOk};
+ghost use Rattle.world_semantics.specs.declared.role.Role.TheVariants.{Watching};
+ghost use Rattle.world_semantics.specs.World.{copy_of, other_of};
+ghost use Rattle.world_semantics.specs.Rules.{after_takeover, is_watching, marked_pair, stopped_pair, taken_over, taker, takes_over, told_again, told_at_mark};
+ghost use Rattle.kept_acts.specs.Shares.{closed_by};
+ghost use Rattle.process_copies.specs.Receiving.{placed_with};
+ghost use Rattle.process_copies.specs.Takeover.{let_go, without_held};
+
+use crate::copies::ProcessCopies;
+use crate::records::Records;
+use gd_words::{List, NoMemory};
+use posted_letters::Sending;
+use world_semantics::{Role, Which};
+
+impl ProcessCopies {
+    /// A node marks a processor: a copy there that watches the one in that processor takes over. What it sends again is added to `told`.
+    pub fn mark(
+        &mut self,
+        node: u8,
+        processor: u8,
+        told: &mut List<Sending>,
+    ) -> Result<(), NoMemory>
+        ensures process { OnOk result (self.new ≡ record self.old { pair = marked_pair node processor self.old.pair }) }
+        ensures told { OnOk result (told.new ≡ told.old ++ told_at_mark node processor self.old.pair) }
+        ensures site { self.new.site ≡ self.old.site }
+        ensures number { self.new.number ≡ self.old.number }
+    {
+        match self.taker(node, processor) {
+            None => Ok(()),
+            Some(which) => {
+                self.take_over(which, told)?;
+                Ok(())
+            }
+        }
+    }
+
+    /// Which copy takes over where a node marks a processor.
+    fn taker(&self, node: u8, processor: u8) -> Option<Which>
+        ensures { result ≡ taker node processor self.now.pair }
+    {
+        if self.takes_over(node, processor, Which::First) {
+            return Some(Which::First);
+        }
+        if self.takes_over(node, processor, Which::Second) {
+            return Some(Which::Second);
+        }
+        None
+    }
+
+    fn takes_over(&self, node: u8, processor: u8, which: Which) -> bool
+        ensures { result ≡ takes_over node processor which self.now.pair }
+    {
+        match which {
+            Which::First => {
+                is_watching(self.first.role())
+                    && self.first.processor() == node
+                    && self.second.processor() == processor
+            }
+            Which::Second => {
+                is_watching(self.second.role())
+                    && self.second.processor() == node
+                    && self.first.processor() == processor
+            }
+        }
+    }
+
+    /// A copy that watches takes over.
+    fn take_over(&mut self, which: Which, told: &mut List<Sending>) -> Result<(), NoMemory>
+        requires { (copy_of which self.old.pair).role ≡ Watching }
+        ensures process { OnOk result (self.new ≡ record self.old { pair = after_takeover which self.old.pair }) }
+        ensures told { OnOk result (told.new ≡ told.old ++ told_again (copy_of which self.old.pair)) }
+        ensures site { self.new.site ≡ self.old.site }
+        ensures number { self.new.number ≡ self.old.number }
+    {
+        let base = self.base;
+        match which {
+            Which::First => {
+                self.first.take_over(base, told)?;
+                self.second.let_go();
+            }
+            Which::Second => {
+                self.second.take_over(base, told)?;
+                self.first.let_go();
+            }
+        }
+        Ok(())
+    }
+
+    /// A processor stops: the copy there is gone.
+    pub fn stop(&mut self, processor: u8)
+        ensures { self.new ≡ record self.old { pair = stopped_pair processor self.old.pair } }
+    {
+        self.first.stop(processor);
+        self.second.stop(processor);
+    }
+
+    /// The run is closed: what its copies still hold is kept.
+    pub fn close(&mut self, records: &mut Records) -> Result<(), NoMemory>
+        ensures process { OnOk result (self.new ≡ record self.old { pair = let_go self.old.pair }) }
+        ensures records { OnOk result (records.new ≡ record records.old { kept = closed_by records.old.kept self.old.pair }) }
+        ensures site { self.new.site ≡ self.old.site }
+        ensures number { self.new.number ≡ self.old.number }
+    {
+        self.first.close(records)?;
+        self.second.close(records)?;
+        Ok(())
+    }
+}
+
+fn is_watching(role: Role) -> bool
+    ensures { result ≡ is_watching role }
+{
+    match role {
+        Role::Watching => true,
+        Role::Acting | Role::Gone => false,
+    }
+}

@@ -1,0 +1,238 @@
+ghost use Rattle.std.specs.Prelude.{◌≡◌, Some, IfOk, OnOk};
+ghost use Rattle.process_semantics.specs.Process.{point};
+ghost use Rattle.world_semantics.specs.World.{copy_of, may_pass};
+ghost use Rattle.process_copies.specs.Acting.{HasStepped, own_of, passed_step, step_by_act};
+ghost use Rattle.process_copies.specs.Seen.{placed_after, records_after, sent_by, told_by};
+ghost use Rattle.process_copies.specs.Steps as steps;
+ghost use Rattle.process_copies.specs.Steps.{mark_step, sending_step, step_as, step_at, step_of, step_of_copy};
+
+use crate::copies::ProcessCopies;
+use crate::marks::Marks;
+use crate::records::Records;
+use crate::step::Step;
+use gd_words::NoMemory;
+use logs::Shared;
+use posted_letters::{Message, Sending};
+use process_semantics::Point;
+use std::alloc::Global;
+use world_semantics::{Role, Which};
+
+impl ProcessCopies {
+    /// The process runs: its copy that acts makes a step, if it can go on.
+    pub fn run(
+        &mut self,
+        alloc: Global,
+        marks: &Marks,
+        records: &mut Records,
+    ) -> Result<Step, NoMemory>
+        ensures told { IfOk result (λ step. told_by step ≡ sent_by (step_of self.old.site self.old.number self.old.pair marks.now records.old)) }
+        ensures process { OnOk result (self.new ≡ placed_after self.old (step_of self.old.site self.old.number self.old.pair marks.now records.old)) }
+        ensures records { OnOk result (records.new ≡ records_after records.old (step_of self.old.site self.old.number self.old.pair marks.now records.old)) }
+        ensures site { self.new.site ≡ self.old.site }
+        ensures number { self.new.number ≡ self.old.number }
+    {
+        let step = self.run_either(alloc, marks, records)?;
+        Ok(step)
+    }
+
+    fn run_either(
+        &mut self,
+        alloc: Global,
+        marks: &Marks,
+        records: &mut Records,
+    ) -> Result<Step, NoMemory>
+        ensures stepped { IfOk result (λ step. HasStepped (step_of self.old.site self.old.number self.old.pair marks.now records.old)
+            step self.old self.new records.old records.new) }
+        ensures site { self.new.site ≡ self.old.site }
+        ensures number { self.new.number ≡ self.old.number }
+    {
+        match self.run_copy(alloc, Which::First, marks, records)? {
+            Step::Impossible => {
+                let step = self.run_copy(alloc, Which::Second, marks, records)?;
+                Ok(step)
+            }
+            Step::Quiet => Ok(Step::Quiet),
+            Step::Sends(sending) => Ok(Step::Sends(sending)),
+        }
+    }
+
+    fn run_copy(
+        &mut self,
+        alloc: Global,
+        which: Which,
+        marks: &Marks,
+        records: &mut Records,
+    ) -> Result<Step, NoMemory>
+        ensures stepped { IfOk result (λ step. HasStepped (step_of_copy self.old.site self.old.number self.old.pair marks.now records.old which)
+            step self.old self.new records.old records.new) }
+        ensures site { self.new.site ≡ self.old.site }
+        ensures number { self.new.number ≡ self.old.number }
+    {
+        let role = self.role(which);
+        let step = self.run_as(alloc, which, marks, records, role)?;
+        Ok(step)
+    }
+
+    fn run_as(
+        &mut self,
+        alloc: Global,
+        which: Which,
+        marks: &Marks,
+        records: &mut Records,
+        role: Role,
+    ) -> Result<Step, NoMemory>
+        ensures stepped { IfOk result (λ step. HasStepped (step_as self.old.site self.old.number which self.old.pair marks.now records.old role)
+            step self.old self.new records.old records.new) }
+        ensures site { self.new.site ≡ self.old.site }
+        ensures number { self.new.number ≡ self.old.number }
+    {
+        match role {
+            Role::Acting => {
+                let stands = self.point(which);
+                let step = self.run_at(alloc, which, marks, records, stands)?;
+                Ok(step)
+            }
+            Role::Watching | Role::Gone => Ok(Step::Impossible),
+        }
+    }
+
+    fn run_at(
+        &mut self,
+        alloc: Global,
+        which: Which,
+        marks: &Marks,
+        records: &mut Records,
+        stands: Point,
+    ) -> Result<Step, NoMemory>
+        requires { point (copy_of which self.old.pair).core.state ≡ stands }
+        ensures stepped { IfOk result (λ step. HasStepped (step_at self.old.site self.old.number which self.old.pair marks.now records.old stands)
+            step self.old self.new records.old records.new) }
+        ensures site { self.new.site ≡ self.old.site }
+        ensures number { self.new.number ≡ self.old.number }
+    {
+        match stands {
+            Point::Mark => {
+                let free = self.may_pass(which, marks);
+                let sent = self.sent(which);
+                let step = self.run_mark(alloc, which, records, free, sent)?;
+                Ok(step)
+            }
+            _ => {
+                let step = self.act(which, records, stands)?;
+                Ok(step)
+            }
+        }
+    }
+
+    /// An act of a copy at a point where it stands.
+    fn act(&mut self, which: Which, records: &mut Records, stands: Point) -> Result<Step, NoMemory>
+        requires { point (copy_of which self.old.pair).core.state ≡ stands }
+        ensures stepped { IfOk result (λ step. HasStepped (step_by_act self.old.number which self.old.pair records.old
+            (own_of self.old.site self.old.number which self.old.pair records.old stands)) step self.old self.new records.old records.new) }
+        ensures site { self.new.site ≡ self.old.site }
+        ensures number { self.new.number ≡ self.old.number }
+    {
+        match which {
+            Which::First => {
+                let step = self.act_first(records, stands)?;
+                Ok(step)
+            }
+            Which::Second => {
+                let step = self.act_second(records, stands)?;
+                Ok(step)
+            }
+        }
+    }
+
+    fn act_first(&mut self, records: &mut Records, stands: Point) -> Result<Step, NoMemory>
+        requires { point self.old.pair.first.core.state ≡ stands }
+        ensures stepped { IfOk result (λ step. HasStepped (step_by_act self.old.number Which.First self.old.pair records.old
+            (own_of self.old.site self.old.number Which.First self.old.pair records.old stands)) step self.old self.new records.old records.new) }
+        ensures site { self.new.site ≡ self.old.site }
+        ensures number { self.new.number ≡ self.old.number }
+    {
+        let number = self.number;
+        let files = self.files.as_slice();
+        let step = self
+            .first
+            .act(number, files, &mut self.device, records, stands)?;
+        Ok(step)
+    }
+
+    fn act_second(&mut self, records: &mut Records, stands: Point) -> Result<Step, NoMemory>
+        requires { point self.old.pair.second.core.state ≡ stands }
+        ensures stepped { IfOk result (λ step. HasStepped (step_by_act self.old.number Which.Second self.old.pair records.old
+            (own_of self.old.site self.old.number Which.Second self.old.pair records.old stands)) step self.old self.new records.old records.new) }
+        ensures site { self.new.site ≡ self.old.site }
+        ensures number { self.new.number ≡ self.old.number }
+    {
+        let number = self.number;
+        let files = self.files.as_slice();
+        let step = self
+            .second
+            .act(number, files, &mut self.device, records, stands)?;
+        Ok(step)
+    }
+
+    /// At a mark, which a copy may pass or not, and whose checkpoint it has sent or not.
+    fn run_mark(
+        &mut self,
+        alloc: Global,
+        which: Which,
+        records: &mut Records,
+        free: bool,
+        sent: bool,
+    ) -> Result<Step, NoMemory>
+        requires { point (copy_of which self.old.pair).core.state ≡ Point.Mark }
+        ensures stepped { IfOk result (λ step. HasStepped (mark_step self.old.number which self.old.pair records.old free sent)
+            step self.old self.new records.old records.new) }
+        ensures site { self.new.site ≡ self.old.site }
+        ensures number { self.new.number ≡ self.old.number }
+    {
+        if free {
+            let step = self.pass(which, records)?;
+            return Ok(step);
+        }
+        if sent {
+            return Ok(Step::Impossible);
+        }
+        let step = self.send(alloc, which)?;
+        Ok(step)
+    }
+
+    /// A copy passes its mark.
+    fn pass(&mut self, which: Which, records: &mut Records) -> Result<Step, NoMemory>
+        requires { point (copy_of which self.old.pair).core.state ≡ Point.Mark }
+        ensures stepped { IfOk result (λ step. HasStepped (Some (passed_step self.old.number which self.old.pair records.old))
+            step self.old self.new records.old records.new) }
+        ensures site { self.new.site ≡ self.old.site }
+        ensures number { self.new.number ≡ self.old.number }
+    {
+        let number = self.number;
+        match which {
+            Which::First => self.first.pass(number, records)?,
+            Which::Second => self.second.pass(number, records)?,
+        }
+        Ok(Step::Quiet)
+    }
+
+    /// A copy sends the checkpoint of its mark.
+    fn send(&mut self, alloc: Global, which: Which) -> Result<Step, NoMemory>
+        requires { point (copy_of which self.old.pair).core.state ≡ Point.Mark }
+        ensures stepped { (records : steps.Records) → IfOk result (λ step. HasStepped (Some (sending_step self.old.number which self.old.pair records))
+            step self.old self.new records records) }
+        ensures site { self.new.site ≡ self.old.site }
+        ensures number { self.new.number ≡ self.old.number }
+    {
+        let number = self.number;
+        let node = self.processor(which);
+        let message = match which {
+            Which::First => self.first.send(alloc, number)?,
+            Which::Second => self.second.send(alloc, number)?,
+        };
+        let message = Shared::new(alloc, message)?;
+        let kept = message.share()?;
+        self.checkpoints.add(kept)?;
+        Ok(Step::Sends(Sending::new(node, Message::Checkpointing(message))))
+    }
+}

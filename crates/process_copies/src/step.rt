@@ -1,0 +1,9 @@
+use posted_letters::Sending;
+
+/// What became of a step that a process was to make: none was possible, or it was made and sends nothing, or one message.
+#[derive(Drop)]
+pub enum Step {
+    Impossible,
+    Quiet,
+    Sends(Sending),
+}

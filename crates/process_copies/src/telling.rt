@@ -1,0 +1,146 @@
+ghost use Rattle.std.specs.Prelude.{◌≡◌, ◌||◌, ℕ, List, is_some};
+ghost use Rattle.tal_tree.specs.declared.site.Site.{Site};
+ghost use Rattle.disc_device.specs.declared.stored.Stored.{Stored};
+ghost use Rattle.computed_changes.specs.Fitting.{depths_of};
+ghost use Rattle.world_semantics.specs.World.{Pair, copy_of, may_pass};
+ghost use Rattle.process_copies.specs.Acting.{own_in, own_of};
+ghost use Rattle.process_copies.specs.Steps as steps;
+ghost use Rattle.process_copies.specs.Steps.{mark_step, step_as, step_at, step_of, step_of_copy};
+
+use crate::copies::ProcessCopies;
+use crate::marks::Marks;
+use crate::one::NodeCopy;
+use process_semantics::Point;
+use world_semantics::{Role, Which};
+
+impl ProcessCopies {
+    /// Whether a copy has sent the checkpoint of its mark.
+    pub(crate) fn sent(&self, which: Which) -> bool
+        ensures { result ≡ (copy_of which self.now.pair).sent }
+    {
+        match which {
+            Which::First => self.first.sent(),
+            Which::Second => self.second.sent(),
+        }
+    }
+
+    /// Whether a copy may go on after its mark.
+    pub(crate) fn may_pass(&self, which: Which, marks: &Marks) -> bool
+        ensures { result ≡ may_pass marks.now which self.now.pair }
+    {
+        match which {
+            Which::First => {
+                self.first.acknowledged()
+                    || marks.has(self.first.processor(), self.second.processor())
+            }
+            Which::Second => {
+                self.second.acknowledged()
+                    || marks.has(self.second.processor(), self.first.processor())
+            }
+        }
+    }
+}
+
+impl ProcessCopies {
+    /// Whether the process can make a step.
+    pub fn can_run(&self, marks: &Marks) -> bool
+        ensures { (records : steps.Records) → result ≡ is_some (step_of self.now.site self.now.number self.now.pair marks.now records) }
+    {
+        let first = self.can_run_copy(Which::First, marks);
+        let second = self.can_run_copy(Which::Second, marks);
+        is_any(first, second)
+    }
+
+    fn can_run_copy(&self, which: Which, marks: &Marks) -> bool
+        ensures { (records : steps.Records) → result ≡ is_some (step_of_copy self.now.site self.now.number self.now.pair marks.now records which) }
+    {
+        let role = self.role(which);
+        self.can_run_as(which, marks, role)
+    }
+
+    fn can_run_as(&self, which: Which, marks: &Marks, role: Role) -> bool
+        ensures { (records : steps.Records) → result ≡ is_some (step_as self.now.site self.now.number which self.now.pair marks.now records role) }
+    {
+        match role {
+            Role::Acting => {
+                let stands = self.point(which);
+                self.can_run_at(which, marks, stands)
+            }
+            Role::Watching | Role::Gone => false,
+        }
+    }
+
+    fn can_run_at(&self, which: Which, marks: &Marks, stands: Point) -> bool
+        ensures { (records : steps.Records) → result ≡ is_some (step_at self.now.site self.now.number which self.now.pair marks.now records stands) }
+    {
+        match stands {
+            Point::Mark => {
+                let free = self.may_pass(which, marks);
+                let sent = self.sent(which);
+                can_go_on(free, sent)
+            }
+            _ => self.can_act(which, stands),
+        }
+    }
+
+    fn can_act(&self, which: Which, stands: Point) -> bool
+        ensures { (records : steps.Records) → result ≡ is_some (own_of self.now.site self.now.number which self.now.pair records stands) }
+    {
+        match which {
+            Which::First => self.first.can_act(stands),
+            Which::Second => self.second.can_act(stands),
+        }
+    }
+}
+
+fn is_any(first: bool, second: bool) -> bool
+    ensures { result ≡ (first || second) }
+{
+    first || second
+}
+
+fn is_there(hand: Option<u16>) -> bool
+    ensures { result ≡ is_some hand }
+{
+    hand.is_some()
+}
+
+/// Whether a copy at its mark can go on, which may pass or not, and has sent its checkpoint or not.
+fn can_go_on(free: bool, sent: bool) -> bool
+    ensures { (number : ℕ) (k : Which) (pair : Pair) (records : steps.Records) → result ≡ is_some (mark_step number k pair records free sent) }
+{
+    if free {
+        return true;
+    }
+    !sent
+}
+
+impl NodeCopy {
+    /// Whether there is an act of its own that it can do at this point.
+    pub(crate) fn can_act(&self, stands: Point) -> bool
+        ensures { (site : Site) (number : ℕ) (sectors : List Stored) (records : steps.Records) → self.now.depths ≡ depths_of site number
+            → result ≡ is_some (own_in site number (record { one = self.now; sectors = sectors; records = records }) stands) }
+    {
+        match stands {
+            Point::Inner | Point::Ask | Point::Device => true,
+            Point::Take => self.can_take(),
+            Point::Answer => self.can_answer(),
+            Point::Await | Point::Mark | Point::Ended => false,
+        }
+    }
+
+    fn can_take(&self) -> bool
+        ensures { (site : Site) (number : ℕ) (sectors : List Stored) (records : steps.Records)
+            → result ≡ is_some (own_in site number (record { one = self.now; sectors = sectors; records = records }) Point.Take) }
+    {
+        self.waiting.wakes(self.control.receive())
+    }
+
+    fn can_answer(&self) -> bool
+        ensures { (site : Site) (number : ℕ) (sectors : List Stored) (records : steps.Records) → self.now.depths ≡ depths_of site number
+            → result ≡ is_some (own_in site number (record { one = self.now; sectors = sectors; records = records }) Point.Answer) }
+    {
+        let hand = self.control.receive().in_hand();
+        is_there(hand)
+    }
+}
