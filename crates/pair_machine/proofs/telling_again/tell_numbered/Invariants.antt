@@ -1,0 +1,10 @@
+use Rattle.std.proofs.Common.{◌≡◌, ◌++◌, map, drop}
+use Rattle.world_semantics.specs.Messages.{Replying, sent_at}
+use Rattle.letters.specs.Again.{numbered}
+use Rattle.pair_machine.proofs.telling_again.tell_numbered.Given as goal
+
+-- what is told so far and what is left
+abbrev pub invariant-loop-words : goal.invariant-loop-words
+invariant-loop-words l =
+    l.again ++ sent_at l.node (map Replying (numbered l.process l.place l.number (drop l.words-index l.kept)))
+    ≡ l.initial.again ++ sent_at l.node (map Replying (numbered l.process l.place l.first l.kept))

@@ -1,0 +1,45 @@
+use Rattle.std.proofs.Common.{◌≡◌, ℕ, Option, Some, slice_get, refl, arith}
+use Rattle.std.proofs.lemmas.Option.{slice_get_read}
+use Rattle.message_wires.specs.Play.{Whole}
+use Rattle.posted_letters.specs.Seen.{message_of}
+use Rattle.pair_machine.specs.Told.{brought}
+use Rattle.world_semantics.specs.Running.{Done}
+use Rattle.pair_machine.proofs.Places.{standing-set}
+use Rattle.pair_machine.proofs.Steps.{IsFound, stands, told-found, tells}
+use Rattle.pair_machine.specs.contracts.whole.Whole.{the_view}
+use Rattle.pair_machine.proofs.whole.Whole.bring_to.Goals as goal
+
+there : (c : goal.In_ok-step) → slice_get c.self.inside.processes.items c.from-place.result ≡ Some c.index_mut.result.now
+there c = slice_get_read c.self.inside.processes.items _ _ _ refl (omega (arith, c.self.inside.processes.ok.0)) c.index_mut.ensures.value
+
+found : (c : goal.In_ok-step) → IsFound (the_view c.self.inside) c.self.inside.processes.items c.from-place.result c.index_mut.result.now
+found c = record {
+  pairs = refl;
+  there = there c;
+  site = (c.self.invariant.0 _ _ (there c)).0;
+  number = (c.self.invariant.0 _ _ (there c)).1;
+}
+
+abbrev does : goal.In_ok-step → Whole → ℕ → Option Done
+does c s number = brought s.site number c.args.node (message_of c.args.message) s.world
+
+pub invariant_of-self : goal.invariant_of-self
+invariant_of-self c =
+    standing-set c.self.inside.site c.self.inside.processes.items c.from-place.result c.index_mut.result.now c.come_in.new.self
+    (slice_get_read c.self.inside.processes.items _ _ _ refl (omega (arith, c.self.inside.processes.ok.0)) c.index_mut.ensures.value)
+    c.come_in.ensures.site c.come_in.ensures.number c.self.invariant
+
+pub invariant_of-self-2 : goal.invariant_of-self-2
+invariant_of-self-2 c =
+    standing-set c.self.inside.site c.self.inside.processes.items c.from-place.result c.index_mut.result.now c.come_in.new.self (there c)
+    c.come_in.ensures.site c.come_in.ensures.number c.self.invariant
+
+pub returns-clause-told : goal.returns-clause-told
+returns-clause-told c =
+    tells (does c) _ c.self.view_is c.from-place.ensures (told-found c.args.node (message_of c.args.message) (found c))
+    c.in_ok-step.ensures.told
+
+pub returns-clause-state : goal.returns-clause-state
+returns-clause-state c =
+    stands (does c) _ c.self.view_is c.from-place.ensures (found c) (told-found c.args.node (message_of c.args.message) (found c))
+    c.in_ok-step.ensures.process c.in_ok-step.ensures.records

@@ -1,0 +1,19 @@
+use Rattle.std.proofs.Common.{ap, sym, ◌∙◌}
+use Rattle.checkpoint_image.specs.declared.message.ImageMessage.{ImageMessage}
+use Rattle.world_semantics.specs.Messages.{Checkpointing}
+use Rattle.computed_changes.specs.Handed.{handed_done}
+use Rattle.message_wires.specs.Play.{after_any}
+use Rattle.posted_letters.specs.Seen.{message_of}
+use Rattle.pair_machine.specs.Told.{brought}
+use Rattle.pair_machine.proofs.Handing.{checkpoint-handed}
+use Rattle.pair_machine.proofs.whole.Whole.hand.Goals as goal
+
+pub returns-in_ok-bring-in-Checkpointing : goal.returns-in_ok-bring-in-Checkpointing
+returns-in_ok-bring-in-Checkpointing c =
+    let s = c.args.self.now in
+    let checkpoint = c.in-Checkpointing.checkpoint in
+    c.in_ok-bring-in-Checkpointing.ensures
+    ∙ ap (after_any s)
+    (ap (λ (one : ImageMessage). brought s.site one.process c.args.node (Checkpointing checkpoint) s.world) c.get.ensures
+    ∙ checkpoint-handed s.site c.args.node checkpoint s.world
+    ∙ ap (λ one. handed_done s.site c.args.node (message_of one) s.world) (sym c.in-Checkpointing.is))

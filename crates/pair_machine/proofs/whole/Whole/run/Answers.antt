@@ -1,0 +1,5 @@
+use Rattle.pair_machine.proofs.Steps.{answered}
+use Rattle.pair_machine.proofs.whole.Whole.run.Goals as goal
+
+pub returns : goal.returns
+returns c = answered _ _ _ _ _ c.in_ok-step.ensures.state c.in_ok-step.ensures.told c.in_ok-effect.ensures

@@ -1,0 +1,161 @@
+ghost use Rattle.std.specs.Prelude.{◌≡◌, false, true, length, reverse, if◌then◌else◌, IfOk, OnOk, OnErr};
+ghost use Rattle.std.specs.Option.{option_map};
+ghost use Rattle.machine_states.specs.States.{Settles};
+ghost use Rattle.world_semantics.specs.Kept.{acts_of};
+ghost use Rattle.process_copies.specs.ShownCounts.{replies_in, writes_in};
+ghost use Rattle.message_wires.specs.Idle.{is_idle};
+ghost use Rattle.message_wires.specs.Play.{packet_at, play, whole_at_boot};
+ghost use Rattle.process_copies.specs.Starting.{IsStartable};
+ghost use Rattle.pair_machine.specs.Seen.{closed_state};
+
+use crate::whole::Whole;
+use gd_words::NoMemory;
+use logs::Shared;
+use machine_states::Effect;
+use schedule::Event;
+use std::alloc::Global;
+use std::marker::Model;
+use tal_tree::{Act, Shown, Site};
+
+/// The machine over whole messages. Once it wanted memory it answers so for good.
+#[derive(Drop)]
+pub struct Pairs {
+    is_broken: bool,
+    whole: Whole,
+}
+
+impl Model for Pairs {
+    ghost use Rattle.std.specs.Coded.{codes};
+    ghost use Rattle.tal_tree.specs.contracts.statement.Statement as statement;
+    ghost use Rattle.pair_machine.specs.Seen.{Standing};
+
+    ghost Value = { Standing };
+
+    ghost coded = { Prim.hlevel (codes, statement.the_row.coded) };
+
+    ghost view = { λ pairs. record { is_broken = pairs.is_broken; state = pairs.whole } };
+}
+
+impl Pairs {
+    /// The machine at the beginning.
+    pub fn boot(alloc: Global, site: &Shared<Site>) -> Result<Pairs, NoMemory>
+        requires { IsStartable site.now }
+        ensures { IfOk result (λ pairs. pairs ≡ record { is_broken = false; state = whole_at_boot site.now }) }
+    {
+        let whole = Whole::boot(alloc, site)?;
+        Ok(Pairs {
+            is_broken: false,
+            whole,
+        })
+    }
+
+    /// One event.
+    pub fn event(&mut self, event: Event) -> Result<Effect, NoMemory>
+        ensures done { IfOk result (λ effect. Settles (play self.old.state event) self.old.state effect self.new.state) }
+        ensures whole { IfOk result (λ effect. (self.old.is_broken ≡ false) × (self.new.is_broken ≡ false)) }
+        ensures broken { OnErr result (self.new.is_broken ≡ true) }
+    {
+        if self.is_broken {
+            return Err(NoMemory);
+        }
+        match self.whole.event(event) {
+            Ok(effect) => Ok(effect),
+            Err(NoMemory) => {
+                self.is_broken = true;
+                Err(NoMemory)
+            }
+        }
+    }
+
+    /// How many packets are on bus X or, where `y` says so, on bus Y, which stays empty.
+    pub fn count(&self, y: bool) -> u32
+        ensures { result ≡ (if y then 0 else length self.now.state.wires.bus) }
+    {
+        if y { 0 } else { self.whole.packets() }
+    }
+
+    /// The node that sent the packet at a position of a bus.
+    pub fn sender_at(&self, y: bool, k: u32) -> Option<u8>
+        ensures { result ≡ option_map (λ packet. packet.letter.sender) (packet_at self.now.state y k) }
+    {
+        if y {
+            return None;
+        }
+        self.whole.wires.sender_at(k as usize)
+    }
+
+    /// How many writes were shown.
+    pub fn writes(&self) -> u32
+        ensures { result ≡ writes_in self.now.state.world.shown }
+    {
+        self.whole.records.writes()
+    }
+
+    /// How many replies were shown.
+    pub fn replies(&self) -> u32
+        ensures { result ≡ replies_in self.now.state.world.shown }
+    {
+        self.whole.records.replies()
+    }
+
+    /// Whether nothing is left to do.
+    pub fn is_idle(&self) -> bool
+        ensures { result ≡ is_idle self.now.state }
+    {
+        self.whole.is_idle()
+    }
+
+    /// The run is closed: what copies still hold is kept.
+    pub fn close(&mut self) -> Result<(), NoMemory>
+        ensures closed { OnOk result (self.new ≡ record self.old { state = closed_state self.old.state }) }
+        ensures broken { OnErr result (self.new.is_broken ≡ true) }
+    {
+        if self.is_broken {
+            return Err(NoMemory);
+        }
+        match self.whole.close() {
+            Ok(()) => Ok(()),
+            Err(NoMemory) => {
+                self.is_broken = true;
+                Err(NoMemory)
+            }
+        }
+    }
+
+    /// Which processors have stopped.
+    pub fn stopped(&self) -> &[bool]
+        ensures { result.now ≡ self.now.state.world.stopped }
+    {
+        self.whole.stopped.as_slice()
+    }
+
+    /// The acts that are kept, in order.
+    pub fn acts(&self) -> &[Act]
+        ensures { result.now ≡ acts_of self.now.state.world }
+    {
+        self.whole.records.acts()
+    }
+
+    /// What was shown, in order.
+    pub fn shown(&self) -> &[Shown]
+        ensures { result.now ≡ reverse self.now.state.world.shown }
+    {
+        self.whole.records.shown()
+    }
+}
+
+impl Whole {
+    fn event(&mut self, event: Event) -> Result<Effect, NoMemory>
+        ensures { IfOk result (λ effect. Settles (play self.old event) self.old effect self.new) }
+    {
+        match event {
+            Event::Run(number) => self.run(number),
+            Event::Enter(terminal) => self.enter(terminal),
+            Event::Deliver { y, k } => self.deliver(y, k),
+            Event::Lose { y, k } => self.lose(y, k),
+            Event::Repeat { y, k } => self.repeat(y, k),
+            Event::Tick(node) => self.tick(node),
+            Event::Fail(processor) => self.fail(processor),
+        }
+    }
+}

@@ -1,0 +1,57 @@
+ghost use Rattle.std.specs.Prelude.{◌≡◌, slice_get, OnOk};
+ghost use Rattle.computed_changes.specs.Handed.{awaits_at, is_to, printed_done};
+ghost use Rattle.message_wires.specs.Play.{after_any};
+ghost use Rattle.tal_tree.specs.declared.site.Who.TheVariants as who;
+ghost use Rattle.plain_semantics.specs.Openers.{opener_of};
+
+use crate::terminal::Terminal;
+use crate::whole::Whole;
+use gd_words::{NoMemory, Reply};
+use process_copies::Address;
+
+/// Whether a reply goes to the opener that stands here.
+fn is_to(opener: Option<Address>, reply: &Reply) -> bool
+    ensures { result ≡ is_to opener reply.now }
+{
+    match opener {
+        None => false,
+        Some(opener) => opener.process() == reply.process && opener.opener() == reply.opener,
+    }
+}
+
+impl Whole {
+    /// Where a terminal stands.
+    pub(crate) fn place_of(&self, terminal: u8) -> Option<Address>
+        ensures { result ≡ opener_of self.now.site (who.Terminal terminal) }
+    {
+        match self.places.get(usize::from(terminal)) {
+            None => None,
+            Some(place) => *place,
+        }
+    }
+
+    /// Whether a terminal awaits a reply.
+    fn awaits_at(&self, number: u8, terminal: Terminal, reply: &Reply) -> bool
+        ensures { result ≡ awaits_at self.now.site number terminal reply.now }
+    {
+        is_to(self.place_of(number), reply) && terminal.awaits(reply.number)
+    }
+
+    /// A reply that comes to a terminal is printed, if the terminal awaits it.
+    pub(crate) fn print(&mut self, number: u8, reply: Reply) -> Result<(), NoMemory>
+        ensures { OnOk result (self.new ≡ after_any self.old
+            (printed_done self.old.site number reply self.old.world (slice_get self.old.world.terminals number))) }
+    {
+        let place = usize::from(number);
+        if place >= self.terminals.len() {
+            return Ok(());
+        }
+        let terminal = self.terminals[place];
+        if self.awaits_at(number, terminal, &reply) {
+            let printed = terminal.after_printing()?;
+            self.records.print(number, reply)?;
+            self.terminals[place] = printed;
+        }
+        Ok(())
+    }
+}
