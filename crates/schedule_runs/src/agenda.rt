@@ -1,0 +1,152 @@
+ghost use Rattle.std.specs.Prelude.{◌≡◌, None, Some};
+ghost use Rattle.std.specs.Option.{IfSome, option_map};
+ghost use Rattle.player.specs.Lines.{event_of, next_event, stands_after};
+ghost use Rattle.schedule_runs.specs.Runs.{agenda_of, coming, counts_of, planned_by, stopped_by, upcoming};
+ghost use Rattle.schedule_runs.specs.Seen.{IsBegun, event_in};
+
+use pair_machine::Pairs;
+use player::{Player, Sizes, Stop};
+use schedule::{Counts, Event, Line};
+use std::marker::Model;
+
+/// Where a schedule stands that is played: its line, those after it, the stop that is still to come, and the event that was to come
+/// when the stop came before it.
+#[derive(Drop)]
+pub struct Schedule<'a> {
+    player: Player,
+    lines: &'a [Line],
+    stop: Option<Stop>,
+    held_back: Option<Event>,
+}
+
+impl<'a> Model for Schedule<'a> {
+    ghost use Rattle.std.specs.Coded.{codes};
+    ghost use Rattle.tal_tree.specs.contracts.statement.Statement as statement;
+    ghost use Rattle.schedule_runs.specs.Seen.{Scheduled};
+
+    ghost Value = { Scheduled };
+
+    ghost coded = { Prim.hlevel (codes, statement.the_row.coded) };
+
+    ghost view = { λ all. record {
+      sizes = all.player.sizes;
+      agenda = record { standing = all.player.standing; lines = all.lines.now; stop = all.stop; held_back = all.held_back };
+    } };
+}
+
+impl<'a> Schedule<'a> {
+    /// A schedule at its beginning, for a site of these sizes.
+    pub fn new(sizes: Sizes, lines: &'a [Line], stop: Option<Stop>) -> Schedule<'a>
+        ensures { result ≡ record { sizes = sizes; agenda = agenda_of lines.now stop } }
+    {
+        Schedule {
+            player: Player::new(sizes.processors, sizes.processes, sizes.terminals),
+            lines,
+            stop,
+            held_back: None,
+        }
+    }
+
+    /// The next event, that so many precede; none where the schedule is over.
+    pub fn next(&mut self, before: u32, machine: &Pairs) -> Option<Event>
+        ensures event { result ≡ event_in (upcoming self.old.sizes before (counts_of machine.now.state) self.old.agenda) }
+        ensures agenda { IfSome (upcoming self.old.sizes before (counts_of machine.now.state) self.old.agenda) (λ plan. self.new ≡ record self.old { agenda = plan.agenda }) }
+    {
+        match self.held_back {
+            Some(event) => {
+                self.held_back = None;
+                Some(event)
+            }
+            None => self.next_or_stop(before, machine),
+        }
+    }
+
+    /// The next event of the lines, or the stop that comes before it.
+    fn next_or_stop(&mut self, before: u32, machine: &Pairs) -> Option<Event>
+        requires { self.old.agenda.held_back ≡ None }
+        ensures event { result ≡ event_in (option_map (stopped_by (coming self.old.agenda.stop before)) (planned_by self.old.sizes (counts_of machine.now.state) self.old.agenda.stop self.old.agenda.lines (next_event self.old.sizes self.old.agenda.standing (counts_of machine.now.state)))) }
+        ensures agenda { IfSome (option_map (stopped_by (coming self.old.agenda.stop before)) (planned_by self.old.sizes (counts_of machine.now.state) self.old.agenda.stop self.old.agenda.lines (next_event self.old.sizes self.old.agenda.standing (counts_of machine.now.state)))) (λ plan. self.new ≡ record self.old { agenda = plan.agenda }) }
+    {
+        let stop = self.coming(before);
+        let event = self.planned(machine)?;
+        match stop {
+            None => Some(event),
+            Some(processor) => {
+                self.hold_back(event);
+                Some(Event::Fail(processor))
+            }
+        }
+    }
+
+    /// The processor whose stop comes just before the event that so many precede.
+    fn coming(&self, before: u32) -> Option<u8>
+        ensures { result ≡ coming self.now.agenda.stop before }
+    {
+        match self.stop {
+            None => None,
+            Some(stop) => {
+                if stop.after == before {
+                    Some(stop.processor)
+                } else {
+                    None
+                }
+            }
+        }
+    }
+
+    /// The stop comes now, and the event after it.
+    fn hold_back(&mut self, event: Event)
+        ensures { self.new ≡ record self.old { agenda = record self.old.agenda { stop = None; held_back = Some event } } }
+    {
+        self.stop = None;
+        self.held_back = Some(event);
+    }
+
+    /// The next event of the lines.
+    fn planned(&mut self, machine: &Pairs) -> Option<Event>
+        requires { self.old.agenda.held_back ≡ None }
+        ensures event { result ≡ event_in (planned_by self.old.sizes (counts_of machine.now.state) self.old.agenda.stop self.old.agenda.lines (next_event self.old.sizes self.old.agenda.standing (counts_of machine.now.state))) }
+        ensures agenda { IfSome (planned_by self.old.sizes (counts_of machine.now.state) self.old.agenda.stop self.old.agenda.lines (next_event self.old.sizes self.old.agenda.standing (counts_of machine.now.state))) (λ plan. self.new ≡ record self.old { agenda = plan.agenda }) }
+    {
+        loop {
+            if let Some(event) = self.next_of_line(machine) {
+                return Some(event);
+            }
+            if !self.begin_line() {
+                return None;
+            }
+        }
+    }
+
+    /// Begins the next line, if there is one.
+    fn begin_line(&mut self) -> bool
+        ensures { IsBegun self.old.agenda.lines self.old result self.new }
+    {
+        match self.lines.split_first() {
+            None => false,
+            Some((line, rest)) => {
+                self.player.start(*line);
+                self.lines = rest;
+                true
+            }
+        }
+    }
+
+    /// The next event of the line at which the schedule stands.
+    fn next_of_line(&mut self, machine: &Pairs) -> Option<Event>
+        ensures event { result ≡ event_of (next_event self.old.sizes self.old.agenda.standing (counts_of machine.now.state)) }
+        ensures agenda { self.new ≡ record self.old { agenda = record self.old.agenda { standing = stands_after (next_event self.old.sizes self.old.agenda.standing (counts_of machine.now.state)) } } }
+    {
+        let idle = self.player.asks_idle() && machine.is_idle();
+        let counts = Counts {
+            x: machine.count(false),
+            y: 0,
+            alive: false,
+            sender: 0,
+            idle,
+            writes: machine.writes(),
+            replies: machine.replies(),
+        };
+        self.player.next(&counts)
+    }
+}

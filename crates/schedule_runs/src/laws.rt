@@ -1,0 +1,15 @@
+//! What a schedule plays, told by the machine's own definition.
+ghost use Rattle.tal_tree.specs.declared.site.Site.{Site};
+ghost use Rattle.schedule.specs.declared.event.Event.{Event};
+ghost use Rattle.schedule.specs.declared.line.Line.{Line};
+ghost use Rattle.player.specs.declared.stop.Stop.{Stop};
+ghost use Rattle.message_wires.specs.Play.{Whole};
+ghost use Rattle.message_wires.specs.Runs.{IsPlayed};
+ghost use Rattle.schedule_runs.specs.Runs.{Agenda, Plays};
+ghost use Rattle.std.specs.Prelude.{List, Option};
+
+/// The events of a schedule, each played as it came, are events that were played one after the other on the machine.
+pub fn events_of_a_schedule_are_played()
+    ensures { (site : Site) (lines : List Line) (stop : Option Stop) (events : List Event) (agenda : Agenda) (s : Whole)
+        → Plays site lines stop events agenda s → IsPlayed site events s }
+{}

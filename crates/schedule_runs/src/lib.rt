@@ -1,0 +1,14 @@
+//! A schedule played on the machine over whole messages, to its end.
+//!
+//! Below stand `player` with the events of lines and `pair_machine` with the machine. The layer above uses that `run` answers a run of
+//! the schedule, with its end (`IsRunOf` of `specs/Ends.antt`), and the law that the events of a schedule are played.
+#![tactic(auto)]
+
+pub mod agenda;
+pub mod laws;
+pub mod ran;
+mod running;
+
+pub use laws::events_of_a_schedule_are_played;
+pub use ran::{Ending, Ran};
+pub use running::run;
