@@ -1,0 +1,3 @@
+mod NumberRead
+mod Ranges
+mod Refused

@@ -1,0 +1,69 @@
+-- What is asked for is in its range.
+use Rattle.std.proofs.Common.{◌≡◌, ◌≤◌, ℕ, Bool, true, false, ◌&&◌, nat_le, List, Option, Some, None, refl, codes}
+use Rattle.std.specs.Prelude.{IfSome, option_and_then, option_map, ◌==◌, if◌then◌else◌}
+use Rattle.std.specs.List.{after_first, before_first}
+use Rattle.std.specs.Str.{bytes_eq}
+use Rattle.std.proofs.lemmas.Bool.{and_parts, leb-true}
+use Rattle.clap.specs.Words.{Row, Text, first_of}
+use Rattle.command_words.specs.Asked.{IsInRange, acts_in, check_as, command_as, command_in, load_as, load_of, run_as, stop_at, stop_of}
+use Rattle.command_words.specs.Numbers.{number_of}
+use Rattle.command_words.specs.declared.asked.Command.TheVariants.{Run, Load}
+use Rattle.player.specs.declared.stop.Stop.{Stop}
+
+load : (number : Option ℕ) → IfSome (load_of number) IsInRange
+load None = tt
+load (Some n) = go (nat_le 1 n && nat_le n 200) refl
+  where
+    go : (holds : Bool) → (nat_le 1 n && nat_le n 200) ≡ holds → IfSome (if holds then Some (Load n) else None) IsInRange
+    go false e = tt
+    go true e = let parts = and_parts (nat_le 1 n) (nat_le n 200) e in (leb-true 1 n parts.0, leb-true n 200 parts.1)
+
+stop_in : (processor after : Option ℕ) → IfSome (stop_at processor after) (λ stop. stop.processor ≤ 15)
+stop_in None after = tt
+stop_in (Some p) None = tt
+stop_in (Some p) (Some k) = go (nat_le p 15) refl
+  where
+    at : Stop
+    at = record { processor = p; after = k }
+
+    go : (holds : Bool) → nat_le p 15 ≡ holds → IfSome (if holds then Some at else None) (λ stop. stop.processor ≤ 15)
+    go false e = tt
+    go true e = leb-true p 15 e
+
+stopped : (acts : Bool) (found : Option Stop) → IfSome found (λ stop. stop.processor ≤ 15) → IfSome (option_map (λ stop. Run acts (Some stop)) found) IsInRange
+stopped acts None h = tt
+stopped acts (Some found) h = h
+
+run : (number : Option Text) (acts : Bool) (fail : Option Text) → IfSome (run_as number acts fail) IsInRange
+run (Some number) acts fail = tt
+run None acts None = tt
+run None acts (Some fail) = stopped acts (stop_of fail)
+    (stop_in (number_of (before_first (λ c. c == 58) fail)) (number_of (after_first (λ c. c == 58) fail)))
+
+check : (number : Option Text) (acts : Bool) (fail : Option Text) → IfSome (check_as number acts fail) IsInRange
+check (Some number) acts fail = tt
+check None true fail = tt
+check None false (Some fail) = tt
+check None false None = tt
+
+loaded : (number : Option Text) (acts : Bool) (fail : Option Text) → IfSome (load_as number acts fail) IsInRange
+loaded None acts fail = tt
+loaded (Some number) true fail = tt
+loaded (Some number) false (Some fail) = tt
+loaded (Some number) false None = load (number_of number)
+
+by_mode : (runs checks loads : Bool) (number : Option Text) (acts : Bool) (fail : Option Text)
+    → IfSome (if runs then run_as number acts fail else if checks then check_as number acts fail else if loads then load_as number acts fail else None) IsInRange
+by_mode true checks loads number acts fail = run number acts fail
+by_mode false true loads number acts fail = check number acts fail
+by_mode false false true number acts fail = loaded number acts fail
+by_mode false false false number acts fail = tt
+
+moded : (mode number : Option Text) (acts : Bool) (fail : Option Text)
+    → IfSome (option_and_then (λ mode. command_as mode number acts fail) mode) IsInRange
+moded None number acts fail = tt
+moded (Some mode) number acts fail =
+    by_mode (bytes_eq mode (codes "run")) (bytes_eq mode (codes "check")) (bytes_eq mode (codes "load")) number acts fail
+
+pub in_range : (rows : List Row) → IfSome (command_in rows) IsInRange
+in_range rows = moded (first_of (codes "mode") rows) (first_of (codes "number") rows) (acts_in rows) (first_of (codes "fail") rows)

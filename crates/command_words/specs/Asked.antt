@@ -1,0 +1,69 @@
+-- Which command the words of a command line ask for. Our own rule.
+use Rattle.std.specs.Prelude.{ℕ, ◌≤◌, Bool, false, ◌==◌, ◌&&◌, nat_le, List, Option, Some, None, option_map, option_and_then, codes, if◌then◌else◌}
+use Rattle.std.specs.List.{before_first, after_first}
+use Rattle.std.specs.Option.{option_map_or}
+use Rattle.std.specs.Str.{bytes_eq}
+use Rattle.clap.specs.Words.{Row, Text, first_of}
+use Rattle.command_words.specs.Line.{parse_of}
+use Rattle.command_words.specs.Numbers.{number_of}
+use Rattle.command_words.specs.declared.asked.Command.{Command}
+use Rattle.command_words.specs.declared.asked.Command.TheVariants.{Run, Check, Load}
+use Rattle.player.specs.declared.stop.Stop.{Stop}
+
+-- a stop of P, which is at most 15, just before the event that K events precede
+abbrev pub stop_at : Option ℕ → Option ℕ → Option Stop
+stop_at (Some p) (Some k) = if nat_le p 15 then Some (record { processor = p; after = k }) else None
+stop_at _ _ = None
+
+-- `P:K`, numbers before and after the first colon
+abbrev pub stop_of : Text → Option Stop
+stop_of text = stop_at (number_of (before_first (λ c. c == 58) text)) (number_of (after_first (λ c. c == 58) text))
+
+-- `run` takes no number, and any of the flags
+abbrev pub run_as : Option Text → Bool → Option Text → Option Command
+run_as None acts None = Some (Run acts None)
+run_as None acts (Some fail) = option_map (λ stop. Run acts (Some stop)) (stop_of fail)
+run_as (Some number) acts fail = None
+
+-- `check` takes nothing
+abbrev pub check_as : Option Text → Bool → Option Text → Option Command
+check_as None false None = Some Check
+check_as _ _ _ = None
+
+-- `load` of 1 to 200
+abbrev pub load_of : Option ℕ → Option Command
+load_of (Some n) = if nat_le 1 n && nat_le n 200 then Some (Load n) else None
+load_of None = None
+
+-- `load` takes a number, and no flag
+abbrev pub load_as : Option Text → Bool → Option Text → Option Command
+load_as (Some number) false None = load_of (number_of number)
+load_as _ _ _ = None
+
+-- what a mode asks for with this number, with or without `--acts`, and with this value of `--fail`
+abbrev pub command_as : Text → Option Text → Bool → Option Text → Option Command
+command_as mode number acts fail =
+    if bytes_eq mode (codes "run") then run_as number acts fail
+    else if bytes_eq mode (codes "check") then check_as number acts fail
+    else if bytes_eq mode (codes "load") then load_as number acts fail else None
+
+-- whether `--acts` is given, which gives it the value `true`
+abbrev pub acts_in : List Row → Bool
+acts_in rows = option_map_or (λ text. bytes_eq text (codes "true")) (first_of (codes "acts") rows) false
+
+-- what the parts that clap tells apart ask for
+abbrev pub command_in : List Row → Option Command
+command_in rows = option_and_then
+    (λ mode. command_as mode (first_of (codes "number") rows) (acts_in rows) (first_of (codes "fail") rows))
+    (first_of (codes "mode") rows)
+
+-- what the words ask for, the program's name first
+abbrev pub asked_by : List Text → Option Command
+asked_by words = option_and_then command_in (parse_of words)
+
+-- a stop is of a processor up to 15, and a load is of 1 to 200
+abbrev pub IsInRange : Command → Type 0
+IsInRange (Run acts None) = Unit {0}
+IsInRange (Run acts (Some stop)) = stop.processor ≤ 15
+IsInRange Check = Unit {0}
+IsInRange (Load n) = (1 ≤ n) × (n ≤ 200)

@@ -1,0 +1,4 @@
+pub mod Asked
+pub mod Guarded
+pub mod Line
+pub mod Numbers

@@ -1,0 +1,127 @@
+ghost use Rattle.std.specs.Prelude.{◌≡◌, IfOk, IfSome, map, option_map, string_bytes};
+ghost use Rattle.clap.specs.Words.{found_of, rows_of};
+ghost use Rattle.command_words.specs.Asked.{IsInRange, acts_in, asked_by, check_as, command_as, command_in, load_as, load_of, run_as, stop_at, stop_of};
+
+use crate::line::{parsed, text_of};
+use crate::numbers::number_of;
+use clap::ArgMatches;
+use gd_words::NoMemory;
+use player::Stop;
+use std::alloc::Global;
+
+/// What a command is to do.
+#[derive(Clone, Copy, PartialEq, Eq)]
+pub enum Command {
+    /// To judge the programs of a deck, and, where all are accepted, to play it, with this stop, of a processor 0 to 15, beside those of the schedule,
+    /// and to tell the acts that are kept, if they are asked for.
+    Run { acts: bool, stop: Option<Stop> },
+    /// To judge the programs of a deck.
+    Check,
+    /// To play the deck that is made for this number, 1 to 200.
+    Load(u32),
+}
+
+/// The command that the words ask for, the program's name first; none where they ask for none.
+pub fn asked_by(alloc: Global, words: &[String]) -> Result<Option<Command>, NoMemory>
+    ensures value { IfOk result (λ command. command ≡ asked_by (map string_bytes words.entry.now)) }
+    ensures range { IfOk result (λ command. IfSome command IsInRange) }
+{
+    let parse = parsed(alloc, words)?;
+    match parse {
+        Some(matches) => Ok(command_in(&matches)),
+        None => Ok(None),
+    }
+}
+
+fn command_in(matches: &ArgMatches) -> Option<Command>
+    ensures { result ≡ command_in (rows_of (found_of matches.now)) }
+{
+    let mode = text_of(matches, "mode")?;
+    let number = text_of(matches, "number");
+    let acts = acts_in(matches);
+    let fail = text_of(matches, "fail");
+    command_as(mode, number, acts, fail)
+}
+
+// `get_flag` promises nothing of other values than `true` and `false`.
+fn acts_in(matches: &ArgMatches) -> bool
+    ensures { result ≡ acts_in (rows_of (found_of matches.now)) }
+{
+    match text_of(matches, "acts") {
+        Some(text) => text == "true",
+        None => false,
+    }
+}
+
+fn command_as(mode: &str, number: Option<&str>, acts: bool, fail: Option<&str>) -> Option<Command>
+    ensures { result ≡ command_as mode.now (option_map (λ s. s.now) number.entry) acts (option_map (λ s. s.now) fail.entry) }
+{
+    match mode {
+        "run" => run_as(number, acts, fail),
+        "check" => check_as(number, acts, fail),
+        "load" => load_as(number, acts, fail),
+        _ => None,
+    }
+}
+
+fn run_as(number: Option<&str>, acts: bool, fail: Option<&str>) -> Option<Command>
+    ensures { result ≡ run_as (option_map (λ s. s.now) number.entry) acts (option_map (λ s. s.now) fail.entry) }
+{
+    match (number, fail) {
+        (None, None) => Some(Command::Run { acts, stop: None }),
+        (None, Some(fail)) => {
+            let stop = stop_of(fail)?;
+            Some(Command::Run {
+                acts,
+                stop: Some(stop),
+            })
+        }
+        (Some(_), _) => None,
+    }
+}
+
+fn check_as(number: Option<&str>, acts: bool, fail: Option<&str>) -> Option<Command>
+    ensures { result ≡ check_as (option_map (λ s. s.now) number.entry) acts (option_map (λ s. s.now) fail.entry) }
+{
+    match (number, acts, fail) {
+        (None, false, None) => Some(Command::Check),
+        _ => None,
+    }
+}
+
+fn load_as(number: Option<&str>, acts: bool, fail: Option<&str>) -> Option<Command>
+    ensures { result ≡ load_as (option_map (λ s. s.now) number.entry) acts (option_map (λ s. s.now) fail.entry) }
+{
+    match (number, acts, fail) {
+        (Some(number), false, None) => load_of(number_of(number)),
+        _ => None,
+    }
+}
+
+fn load_of(number: Option<u32>) -> Option<Command>
+    ensures { result ≡ load_of number }
+{
+    match number {
+        Some(n) if 1 <= n && n <= 200 => Some(Command::Load(n)),
+        _ => None,
+    }
+}
+
+fn stop_of(text: &str) -> Option<Stop>
+    ensures { result ≡ stop_of text.now }
+{
+    let (processor, after) = text.split_once(':')?;
+    stop_at(number_of(processor), number_of(after))
+}
+
+fn stop_at(processor: Option<u32>, after: Option<u32>) -> Option<Stop>
+    ensures { result ≡ stop_at processor after }
+{
+    match (processor, after) {
+        (Some(processor), Some(after)) if processor <= 15 => Some(Stop {
+            processor: processor as u8,
+            after,
+        }),
+        _ => None,
+    }
+}

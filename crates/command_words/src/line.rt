@@ -1,0 +1,56 @@
+ghost use Rattle.std.specs.Prelude.{◌≡◌, IfOk, map, option_map, string_bytes};
+ghost use Rattle.clap.specs.Words.{FailsBy, HasMatchesOf, app_of, fault_of, first_of, found_of, rows_of};
+ghost use Rattle.command_words.specs.Line.{parse_of, the_line};
+
+use clap::error::ErrorKind;
+use clap::{Arg, ArgAction, ArgMatches, Command, Error};
+use gd_words::NoMemory;
+use std::alloc::{AllocError, Global};
+
+/// The words that a command line may have, as one simple command.
+fn the_line<'a>(alloc: Global) -> Result<Command<'a>, AllocError>
+    ensures { IfOk result (λ line. app_of line ≡ the_line) }
+{
+    let mode = Arg::new(alloc, "mode")
+        .required(true)
+        .action(ArgAction::Set);
+    let number = Arg::new(alloc, "number").action(ArgAction::Set);
+    let acts = Arg::new(alloc, "acts")
+        .long("acts")
+        .action(ArgAction::SetTrue);
+    let fail = Arg::new(alloc, "fail").long("fail").action(ArgAction::Set);
+    Command::new(alloc, "guardian")
+        .arg(mode)?
+        .arg(number)?
+        .arg(acts)?
+        .arg(fail)
+}
+
+fn matches_of<'a>(alloc: Global, words: &'a [String]) -> Result<ArgMatches<'a>, Error>
+    ensures matches { IfOk result (HasMatchesOf the_line (map string_bytes words.entry.now)) }
+    ensures kinds { FailsBy (fault_of the_line (map string_bytes words.entry.now)) result }
+{
+    let line = the_line(alloc)?;
+    line.try_get_matches_from(words)
+}
+
+/// What clap makes of the words, the program's name first; none where it refuses them.
+#[tactic(auto, using(crate::proofs::Refused::refused))]
+pub fn parsed<'a>(alloc: Global, words: &'a [String]) -> Result<Option<ArgMatches<'a>>, NoMemory>
+    ensures { IfOk result (λ parse. option_map (λ matches. rows_of (found_of matches)) parse ≡ parse_of (map string_bytes words.entry.now)) }
+{
+    match matches_of(alloc, words) {
+        Ok(matches) => Ok(Some(matches)),
+        Err(error) => match error.kind() {
+            ErrorKind::OutOfMemory => Err(NoMemory),
+            _ => Ok(None),
+        },
+    }
+}
+
+/// The first text that the words give to an argument.
+pub fn text_of<'a>(matches: &ArgMatches<'a>, id: &str) -> Option<&'a str>
+    ensures { option_map (λ text. text.now) result ≡ first_of id.now (rows_of (found_of matches.now)) }
+{
+    matches.get_str(id)
+}
