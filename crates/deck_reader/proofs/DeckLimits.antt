@@ -1,7 +1,6 @@
 -- A deck keeps the limits, since the lines of its outline do and its programs are what their texts read as.
-use Rattle.std.proofs.Common.{◌≡◌, ℕ, suc, nat_le, List, [], ◌∷◌, length, refl, sym, ap, ◌∙◌, subst, arith, zero}
+use Rattle.std.proofs.Common.{◌≡◌, ℕ, suc, List, [], ◌∷◌, length, refl, sym, ap, ◌∙◌, subst, arith, zero}
 use Rattle.std.specs.List.{All}
-use Rattle.std.proofs.lemmas.Bool.{leb-true}
 use Rattle.std.proofs.lemmas.List.Elements.{All-cons, All-nil}
 use Rattle.schedule.specs.declared.line.Line.{Line}
 use Rattle.tal_laws.proofs.WithinLimits.{read_is_within}
@@ -15,7 +14,8 @@ use Rattle.deck_reader.specs.declared.deck.Deck.{Deck}
 use Rattle.deck_reader.specs.declared.outline.Body.{Body}
 use Rattle.deck_reader.specs.declared.outline.Body.TheVariants as body
 use Rattle.deck_reader.specs.declared.outline.Outline.{Outline}
-use Rattle.deck_reader.proofs.StageLemmas.{BlocksKeep, BodyKeeps, LinesFit, LinesKeep, TerminalKeeps, both, outline_kept, place_there}
+use Rattle.deck_reader.proofs.ScheduleLemmas.{place_there}
+use Rattle.deck_reader.proofs.StageLemmas.{BlocksKeep, BodyKeeps, EventsFit, LinesKeep, TerminalKeeps, outline_kept}
 
 -- as many as belong to them
 pub same_length : {X Y : Type 0} (R : X → Y → Type 0) (xs : List X) (ys : List Y) → EachWith R xs ys → length ys ≡ length xs
@@ -25,7 +25,7 @@ same_length R [] (y ∷ ys) each = absurd each
 same_length R (x ∷ xs) [] each = absurd each
 
 -- what holds of each x gives what holds of its y
-all_with : {X Y : Type 0} (R : X → Y → Type 0) (P : X → Type 0) (Q : Y → Type 0) → ((x : X) (y : Y) → P x → R x y → Q y) → (xs : List X) (ys : List Y) → All P xs → EachWith R xs ys → All Q ys
+pub all_with : {X Y : Type 0} (R : X → Y → Type 0) (P : X → Type 0) (Q : Y → Type 0) → ((x : X) (y : Y) → P x → R x y → Q y) → (xs : List X) (ys : List Y) → All P xs → EachWith R xs ys → All Q ys
 all_with R P Q gives [] [] all each = All-nil Q
 all_with R P Q gives (x ∷ xs) (y ∷ ys) all each =
     All-cons Q y ys (gives x y (all zero x (omega arith)) each.0) (all_with R P Q gives xs ys (λ k d there. all (suc k) d (omega (arith, there))) each.1)
@@ -38,11 +38,10 @@ kind_within (body.Pair lines) (kind.Pair program) keeps reads = read_is_within l
 kind_within (body.Disc told) (kind.Pair program) keeps is = absurd is
 kind_within (body.Pair lines) (kind.Disc sectors) keeps is = absurd is
 
-deck_of_within : (outline : Outline) (deck : Deck) → BlocksKeep outline → LinesFit outline → IsDeckOf outline deck → IsWithinDeckLimits deck
+deck_of_within : (outline : Outline) (deck : Deck) → BlocksKeep outline → EventsFit outline → IsDeckOf outline deck → IsWithinDeckLimits deck
 deck_of_within outline deck keeps fit is =
     let processes = same_length _ outline.processes deck.site.processes is.processes in
-    let terminals = same_length _ outline.terminals deck.site.terminals is.terminals in
-    let limits = both (nat_le (singles_of outline.lines) 1000000) (nat_le (rounds_of outline.lines) 100000) fit.limits in record {
+    let terminals = same_length _ outline.terminals deck.site.terminals is.terminals in record {
       site = record {
         fewest_processors = omega (arith, keeps.processors.0, is.processors);
         most_processors = omega (arith, keeps.processors.1, is.processors);
@@ -66,11 +65,12 @@ deck_of_within outline deck keeps fit is =
             }) outline.terminals deck.site.terminals keeps.each_terminal is.terminals);
       };
       each_line =
-          subst (λ (lines : List Line). All (IsLineOf (length deck.site.processes) (length deck.site.terminals)) lines) (sym is.lines)
-          (subst (λ m. All (IsLineOf m (length deck.site.terminals)) outline.lines) (sym processes)
-          (subst (λ n. All (IsLineOf (length outline.processes) n) outline.lines) (sym terminals) fit.each_line));
-      singles = omega (arith, leb-true _ _ limits.0, ap singles_of is.lines);
-      rounds = omega (arith, leb-true _ _ limits.1, ap rounds_of is.lines);
+          subst (λ (lines : List Line). All (IsLineOf deck.site.processors (length deck.site.processes) (length deck.site.terminals)) lines) (sym is.lines)
+          (subst (λ p. All (IsLineOf p (length deck.site.processes) (length deck.site.terminals)) outline.events.lines) (sym is.processors)
+          (subst (λ m. All (IsLineOf outline.processors m (length deck.site.terminals)) outline.events.lines) (sym processes)
+          (subst (λ n. All (IsLineOf outline.processors (length outline.processes) n) outline.events.lines) (sym terminals) fit.each_line)));
+      singles = omega (arith, fit.singles, fit.few.singles, ap singles_of is.lines);
+      rounds = omega (arith, fit.rounds, fit.few.rounds, ap rounds_of is.lines);
     }
 
 pub deck_within : (bytes : List ℕ) (deck : Deck) → Decks bytes deck → IsWithinDeckLimits deck

@@ -23,13 +23,6 @@ each_next R xs ys k d y within each one =
     let P : List _ → Type 0 = λ front. EachWith R front (ys ++ y ∷ []) in
     subst P (sym (ap (λ n. take n xs) (add-one k) ∙ take-suc xs k d within)) (each_more R (take k xs) ys (get_or xs k d) y each one)
 
--- an x in the middle has its y
-pub each_within : {X Y : Type 0} (R : X → Y → Type 0) (front : List X) (x : X) (back : List X) (ys : List Y) → EachWith R (front ++ x ∷ back) ys → (y : Y) × R x y
-each_within R [] x back [] each = absurd each
-each_within R [] x back (y ∷ ys) each = (y, each.0)
-each_within R (a ∷ front) x back [] each = absurd each
-each_within R (a ∷ front) x back (b ∷ ys) each = each_within R front x back ys each.1
-
 -- of all xs some are done, each with its y, and these are left
 pub record IsDoneTo {X Y : Type 0} (R : X → Y → Type 0) (all rest : List X) (ys : List Y) : Type 0 where
   pub front : List X
@@ -50,9 +43,3 @@ pub all_done : {X Y : Type 0} (R : X → Y → Type 0) (all rest : List X) (ys :
 all_done R all rest ys before e =
     let P : List _ → Type 0 = λ xs. EachWith R xs ys in
     subst P (sym (before.whole ∙ ap (λ xs. before.front ++ xs) e ∙ append-nil before.front)) before.each
-
-pub never_done : {X Y : Type 0} (R : X → Y → Type 0) (all rest later : List X) (x : X) (ys zs : List Y) → IsDoneTo R all rest ys → rest ≡ x ∷ later → ((y : Y) → R x y → ⊥) → EachWith R all zs → ⊥
-never_done R all rest later x ys zs before e refused each =
-    let P : List _ → Type 0 = λ xs. EachWith R xs zs in
-    let found = each_within R before.front x later zs (subst P (before.whole ∙ ap (λ xs. before.front ++ xs) e) each) in
-    refused found.0 found.1

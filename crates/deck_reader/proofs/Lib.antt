@@ -1,11 +1,15 @@
 pub mod CutLemmas
 pub mod DeckLimits
+pub mod DeckPrograms
+pub mod DeckRequests
 pub mod EachLemmas
 pub mod LineLemmas
+pub mod NameLemmas
 pub mod NumberLemmas
 pub mod OneAnswer
 pub mod RefusedLemmas
 pub mod RequestLemmas
 pub mod ScheduleLemmas
-pub mod StageLemmas
+pub mod ShortRequests
 pub mod SizeLemmas
+pub mod StageLemmas

@@ -1,24 +1,31 @@
 -- Why bytes are refused as a deck.
-use Rattle.std.proofs.Common.{◌≡◌, ℕ, ◌<◌, ◌≤◌, zero, suc, true, false, List, [], ◌∷◌, length, take, get_or, Some, None, refl, sym, ap, ap₂, ◌∙◌, subst, arith, inl, inr}
-use Rattle.std.specs.Prelude.{◌≢◌}
+use Rattle.std.proofs.Common.{◌≡◌, ℕ, ◌<◌, ◌≤◌, zero, suc, Bool, true, false, cond, List, [], ◌∷◌, length, take, get_or, Option, Some, None, option_map, refl, sym, ap, ap₂, ◌∙◌, subst, arith, inl, inr}
+use Rattle.std.specs.Prelude.{◌≢◌, Result, Ok, Err, IfErr}
 use Rattle.tal_laws.proofs.WithinLimits.{read_is_within}
 use Rattle.tal_reader.proofs.Reading.{one-program, refused-as-none}
 use Rattle.tal_tree.specs.declared.fault.DeckFault.{DeckFault}
 use Rattle.tal_tree.specs.declared.fault.DeckFault.TheVariants as fault
-use Rattle.tal_tree.specs.declared.fault.TalFault.{TalFault}
+use Rattle.tal_tree.specs.declared.fault.TalFault.TheVariants as tal
 use Rattle.tal_tree.specs.declared.program.Program.{Program}
 use Rattle.tal_tree.specs.declared.site.Kind.{Kind}
 use Rattle.tal_tree.specs.declared.site.Kind.TheVariants as kind
 use Rattle.tal_tree.specs.declared.site.ProcessSpec.{ProcessSpec}
-use Rattle.deck_reader.specs.Decks.{IsDeckOf, IsKindOf, IsProcessOf, AreProcessesOf, IsRefusedAs, IsFirstRefused, IsRefusalOf, all_open_others}
-use Rattle.deck_reader.specs.Faults.{IsProcessFault, IsProgramsFault, IsOutlineFault}
+use Rattle.deck_reader.specs.Decks.{IsKindOf, IsProcessOf, AreProcessesOf}
 use Rattle.deck_reader.specs.Lines.{lines_of}
-use Rattle.deck_reader.specs.Outlined.{outline_of}
+use Rattle.deck_reader.specs.Outlined.{told_by}
+use Rattle.deck_reader.specs.Refusals.{IsBreachFault, IsFaultOf, IsFirstRefused, IsOutlineFault, IsOwnFault, IsRefusedAs, IsRefusalOf, Tells, fault_at, name_fault}
 use Rattle.deck_reader.specs.declared.deck.Deck.{Deck}
+use Rattle.deck_reader.specs.declared.line_fault.LineFault.{LineFault}
+use Rattle.deck_reader.specs.declared.line_fault.LineFault.TheVariants as line
+use Rattle.deck_reader.specs.declared.names.Misnamed.{Misnamed}
 use Rattle.deck_reader.specs.declared.outline.Body.{Body}
 use Rattle.deck_reader.specs.declared.outline.Body.TheVariants as body
 use Rattle.deck_reader.specs.declared.outline.Outline.{Outline}
 use Rattle.deck_reader.specs.declared.outline.ProcessLines.{ProcessLines}
+use Rattle.deck_reader.specs.declared.outline.ProgramLines.{ProgramLines}
+use Rattle.deck_reader.specs.declared.step.Breach.{Breach}
+use Rattle.deck_reader.specs.declared.told.Told.{Told}
+use Rattle.deck_reader.specs.declared.told.Told.TheVariants as told
 
 -- a program that was read has few procedures
 pub few_procedures : (lines : Body) (program : Program) → IsKindOf lines (kind.Pair program) → length program.procedures ≤ 64
@@ -53,18 +60,18 @@ same_processes (one ∷ rest) [] ys h k = absurd h
 same_processes (one ∷ rest) (x ∷ xs) [] h k = absurd k
 
 -- a program that reads isn't refused
-pub not_both : (lines : Body) (what : Kind) (number : ℕ) (why : TalFault) → IsKindOf lines what → IsRefusedAs lines number why → ⊥
-not_both (body.Disc told) what number why h refused = refused
-not_both (body.Pair lines) (kind.Disc x) number why h refused = h
-not_both (body.Pair lines) (kind.Pair p) number why h refused = refused-as-none lines.text why p refused.1 h
+pub not_both : (lines : Body) (what : Kind) (f : DeckFault) → IsKindOf lines what → IsRefusedAs lines f → ⊥
+not_both (body.Disc told) what f h refused = refused
+not_both (body.Pair lines) (kind.Disc x) f h refused = h
+not_both (body.Pair lines) (kind.Pair p) (fault.Program number why) h refused = refused-as-none lines.text why p refused.1 h
+not_both (body.Pair lines) (kind.Pair p) _ h refused = absurd refused
 
 -- where all programs read none is refused
-pub none_refused : (lines : List ProcessLines) (specs : List ProcessSpec) → AreProcessesOf lines specs → (number : ℕ) (why : TalFault) → IsFirstRefused lines number why → ⊥
-none_refused [] [] each number why refused = refused
-none_refused [] (x ∷ xs) each number why refused = absurd each
-none_refused (one ∷ rest) [] each number why refused = absurd each
-none_refused (one ∷ rest) (x ∷ xs) each number why (inl here) = not_both one.body x.what number why each.0.what here
-none_refused (one ∷ rest) (x ∷ xs) each number why (inr later) = none_refused rest xs each.1 number why later.2
+pub none_refused : (lines : List ProcessLines) (specs : List ProcessSpec) (f : DeckFault) → AreProcessesOf lines specs → IsFirstRefused lines f → ⊥
+none_refused [] specs f each refused = refused
+none_refused (one ∷ rest) [] f each refused = absurd each
+none_refused (one ∷ rest) (x ∷ xs) f each (inl here) = not_both one.body x.what f each.0.what here
+none_refused (one ∷ rest) (x ∷ xs) f each (inr later) = none_refused rest xs f each.1 later.2
 
 -- each process that was read is that of some lines
 pub kind_at : (lines : List ProcessLines) (specs : List ProcessSpec) (k : ℕ) (d : ProcessSpec) → AreProcessesOf lines specs → k < length specs
@@ -76,45 +83,104 @@ kind_at (one ∷ rest) (x ∷ xs) zero d each there = (one.body, each.0.what)
 kind_at (one ∷ rest) (x ∷ xs) (suc k) d each there = kind_at rest xs k d each.1 (omega arith)
 
 -- the first that is refused, where those before it read
-first_at : (lines : List ProcessLines) (specs : List ProcessSpec) (k : ℕ) (d : ProcessLines) (number : ℕ) (why : TalFault) → AreProcessesOf (take k lines) specs → k < length lines
-    → IsRefusedAs (get_or lines k d).body number why → IsFirstRefused lines number why
-first_at [] specs k d number why each there refused = absurd (omega arith)
-first_at (one ∷ rest) specs zero d number why each there refused = inl refused
-first_at (one ∷ rest) [] (suc k) d number why each there refused = absurd each
-first_at (one ∷ rest) (x ∷ xs) (suc k) d number why each there refused = inr (x.what, each.0.what, first_at rest xs k d number why each.1 (omega arith) refused)
+pub first_at : (lines : List ProcessLines) (specs : List ProcessSpec) (k : ℕ) (d : ProcessLines) (f : DeckFault) → AreProcessesOf (take k lines) specs → k < length lines
+    → IsRefusedAs (get_or lines k d).body f → IsFirstRefused lines f
+first_at [] specs k d f each there refused = absurd (omega arith)
+first_at (one ∷ rest) specs zero d f each there refused = inl refused
+first_at (one ∷ rest) [] (suc k) d f each there refused = absurd each
+first_at (one ∷ rest) (x ∷ xs) (suc k) d f each there refused = inr (x.what, each.0.what, first_at rest xs k d f each.1 (omega arith) refused)
 
-pub programs_fault : (lines : List ProcessLines) (specs : List ProcessSpec) (k : ℕ) (d : ProcessLines) (f : DeckFault) → AreProcessesOf (take k lines) specs → k < length lines
-    → IsProcessFault (get_or lines k d).body f → IsProgramsFault lines f
-programs_fault lines specs k d (fault.Program number why) each there h = (h.0, first_at lines specs k d number why each there h.1)
-programs_fault lines specs k d fault.NoMemory each there h = tt
-programs_fault lines specs k d _ each there h = absurd h
+-- what is told for one reason is told for another that follows from it
+pub tells_too : (P Q : DeckFault → Type 0) → ((f : DeckFault) → P f → Q f) → (f : DeckFault) → Tells P f → Tells Q f
+tells_too P Q gives fault.NoMemory h = tt
+tells_too P Q gives (fault.Program number why) h = (h.0, gives (fault.Program number why) h.1)
+tells_too P Q gives f h = gives f h
 
-pub outline_fault : (outline : Outline) (f : DeckFault) → IsProgramsFault outline.processes f → IsOutlineFault outline f
-outline_fault outline (fault.Program number why) h = h
-outline_fault outline fault.NoMemory h = tt
-outline_fault outline _ h = absurd h
+-- the bytes of what lines say are refused for its fault
+pub refusal : (bytes : List ℕ) (f : DeckFault) → length bytes ≤ 1048576 → Tells (IsFaultOf (told_by (lines_of bytes))) f → f ≢ fault.TooLong → f ≢ fault.NoMemory → IsRefusalOf bytes f
+refusal bytes fault.TooLong short h long memory = absurd (long refl)
+refusal bytes fault.NoMemory short h long memory = absurd (memory refl)
+refusal bytes (fault.Program number why) short h long memory = (short, h.1)
+refusal bytes f short h long memory = (short, h)
 
--- where all programs read and one opens what it may not, there is no deck of the outline
-pub unopened : (outline : Outline) (specs : List ProcessSpec) → AreProcessesOf outline.processes specs → all_open_others specs ≡ false → (deck : Deck) → IsDeckOf outline deck → ⊥
-unopened outline specs each fails deck is =
-    let same : all_open_others specs ≡ true = ap all_open_others (same_processes outline.processes specs deck.site.processes each is.processes) ∙ is.opens in
-    cc
+-- want of memory is told as no fault of a program
+pub no_memory_told : (P : DeckFault → Type 0) (f : DeckFault) (number : ℕ) → Tells P f → f ≢ fault.Program number tal.NoMemory
+no_memory_told P (fault.Program n why) number h same = let reason : why ≡ tal.NoMemory = cc in h.0 reason
+no_memory_told P f number h same = cc
 
--- the bytes of an outline are refused for its fault
-pub refusal : (bytes : List ℕ) (outline : Outline) (f : DeckFault) → length bytes ≤ 1048576 → outline_of (lines_of bytes) ≡ Some outline → IsOutlineFault outline f → f ≢ fault.NoMemory
-    → IsRefusalOf bytes f
-refusal bytes outline (fault.Program number why) short e h memory = record { short = short; outlined = (outline, e, h.1) }
-refusal bytes outline fault.NoMemory short e h memory = absurd (memory refl)
-refusal bytes outline fault.NotYet short e h memory = (
-  short,
-  λ number why refused. absurd (h.0 number why (subst (λ (o : Outline). IsFirstRefused o.processes number why) (one refused.outlined.0 refused.outlined.1) refused.outlined.2)),
-  λ deck is. h.1 deck (subst (λ (o : Outline). IsDeckOf o deck) (one is.outlined.0 is.outlined.1) is.outlined.2),
-)
+-- what lines say is no fault of length
+body_is_short : (lines : Body) → IsRefusedAs lines fault.TooLong → ⊥
+body_is_short (body.Disc sectors) h = h
+body_is_short (body.Pair program) h = h
+
+first_is_short : (lines : List ProcessLines) → IsFirstRefused lines fault.TooLong → ⊥
+first_is_short [] h = h
+first_is_short (lines ∷ rest) (inl here) = body_is_short lines.body here
+first_is_short (lines ∷ rest) (inr later) = first_is_short rest later.2
+
+line_is_short : (number : ℕ) (why : LineFault) → fault.TooLong ≡ fault_at number why → ⊥
+line_is_short number line.Form e = cc
+line_is_short number line.NameTwice e = cc
+line_is_short number line.SameProcessor e = cc
+line_is_short number line.NoProcessor e = cc
+line_is_short number (line.Limit which) e = cc
+line_is_short number line.NoEnd e = cc
+
+own_is_short : (own : Option ProgramLines) (number : ℕ) (why : LineFault) → IsOwnFault own (fault_at number why) fault.TooLong → ⊥
+own_is_short None number why h = line_is_short number why h
+own_is_short (Some program) number why (inl here) = here
+own_is_short (Some program) number why (inr later) = line_is_short number why later.2
+
+name_is_short : (misnamed : Option Misnamed) → option_map name_fault misnamed ≡ Some fault.TooLong → ⊥
+name_is_short None e = cc
+name_is_short (Some misnamed) e = by misnamed.own (let same : name_fault misnamed ≡ fault.TooLong = cc in same)
   where
-    one : (other : Outline) → outline_of (lines_of bytes) ≡ Some other → other ≡ outline
-    one other same = (let both : Some other ≡ Some outline = sym same ∙ e in cc)
-refusal bytes outline _ short e h memory = absurd h
+    by : (b : Bool) → cond b (fault.OpensItself misnamed.line) (fault.UnknownName misnamed.line) ≡ fault.TooLong → ⊥
+    by true e = cc
+    by false e = cc
 
--- bytes that aren't the lines of a deck
-pub no_outline : (bytes : List ℕ) → length bytes ≤ 1048576 → outline_of (lines_of bytes) ≡ None → IsRefusalOf bytes fault.NotYet
-no_outline bytes short none = (short, λ number why refused. (let e = refused.outlined.1 in cc), λ deck is. (let e = is.outlined.1 in cc))
+fault_is_short : (said : Told) → IsFaultOf said fault.TooLong → ⊥
+fault_is_short (told.Whole outline) (inl first) = first_is_short outline.processes first
+fault_is_short (told.Whole outline) (inr named) = name_is_short _ named.2
+fault_is_short (told.Broken breach) (inl first) = first_is_short breach.processes first
+fault_is_short (told.Broken breach) (inr own) = own_is_short breach.own breach.line breach.why own.2
+
+pub not_too_long : (said : Told) (f : DeckFault) → Tells (IsFaultOf said) f → f ≢ fault.TooLong
+not_too_long said f h same = fault_is_short said (subst (Tells (IsFaultOf said)) same h)
+
+-- where what lines say is told, the bytes are refused for it
+pub errs_refused : (bytes : List ℕ) (answer : Result Deck DeckFault) → length bytes ≤ 1048576 → IfErr answer (λ f. Tells (IsFaultOf (told_by (lines_of bytes))) f)
+    → IfErr answer (λ f. f ≢ fault.NoMemory → IsRefusalOf bytes f)
+errs_refused bytes (Ok deck) short h = tt
+errs_refused bytes (Err f) short h = λ memory. refusal bytes f short h (not_too_long (told_by (lines_of bytes)) f h) memory
+
+pub errs_short : (bytes : List ℕ) (answer : Result Deck DeckFault) → length bytes ≤ 1048576 → IfErr answer (λ f. Tells (IsFaultOf (told_by (lines_of bytes))) f)
+    → (answer ≡ Err fault.TooLong → 1048576 < length bytes) × (1048576 < length bytes → answer ≡ Err fault.TooLong)
+errs_short bytes (Ok deck) short h = (λ e. absurd (cc), λ long. absurd (omega (arith, short, long)))
+errs_short bytes (Err f) short h =
+    (λ e. absurd (not_too_long (told_by (lines_of bytes)) f h (let same : f ≡ fault.TooLong = cc in same)), λ long. absurd (omega (arith, short, long)))
+
+pub of_whole : (outline : Outline) (answer : Result Deck DeckFault) (said : Told) → said ≡ told.Whole outline → IfErr answer (λ f. Tells (IsOutlineFault outline) f) → IfErr answer (λ f. Tells (IsFaultOf said) f)
+of_whole outline answer said e h = subst (λ all. IfErr answer (λ f. Tells (IsFaultOf all) f)) (sym e) (by answer h)
+  where
+    by : (answer : Result Deck DeckFault) → IfErr answer (λ f. Tells (IsOutlineFault outline) f) → IfErr answer (λ f. Tells (IsFaultOf (told.Whole outline)) f)
+    by (Ok deck) h = tt
+    by (Err f) h = tells_too (IsOutlineFault outline) (IsFaultOf (told.Whole outline)) (λ g k. k) f h
+
+pub of_broken : (breach : Breach) (f : DeckFault) (said : Told) → said ≡ told.Broken breach → Tells (IsBreachFault breach) f → Tells (IsFaultOf said) f
+of_broken breach f said e h = subst (λ all. Tells (IsFaultOf all) f) (sym e) (tells_too (IsBreachFault breach) (IsFaultOf (told.Broken breach)) (λ g k. k) f h)
+
+-- the first that is refused, where those before it read, is the fault of programs, of a line that can't stand, and of an outline
+pub programs_tell : (lines : List ProcessLines) (specs : List ProcessSpec) (k : ℕ) (d one : ProcessLines) (f : DeckFault) → AreProcessesOf (take k lines) specs → k < length lines → one ≡ get_or lines k d
+    → Tells (IsRefusedAs one.body) f → Tells (IsFirstRefused lines) f
+programs_tell lines specs k d one f each there is h =
+    tells_too (IsRefusedAs one.body) (IsFirstRefused lines) (λ g refused. first_at lines specs k d g each there (subst (λ (l : ProcessLines). IsRefusedAs l.body g) is refused)) f h
+
+pub outline_tells : (outline : Outline) (f : DeckFault) → Tells (IsFirstRefused outline.processes) f → Tells (IsOutlineFault outline) f
+outline_tells outline f h = tells_too (IsFirstRefused outline.processes) (IsOutlineFault outline) (λ g first. inl first) f h
+
+pub breach_tells : (breach : Breach) (f : DeckFault) → Tells (IsFirstRefused breach.processes) f → Tells (IsBreachFault breach) f
+breach_tells breach f h = tells_too (IsFirstRefused breach.processes) (IsBreachFault breach) (λ g first. inl first) f h
+
+pub own_tells : (breach : Breach) (specs : List ProcessSpec) (f : DeckFault) → AreProcessesOf breach.processes specs → Tells (IsOwnFault breach.own (fault_at breach.line breach.why)) f → Tells (IsBreachFault breach) f
+own_tells breach specs f each h = tells_too (IsOwnFault breach.own (fault_at breach.line breach.why)) (IsBreachFault breach) (λ g own. inr (specs, each, own)) f h

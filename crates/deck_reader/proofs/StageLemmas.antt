@@ -1,40 +1,39 @@
 -- What is told up to a stage keeps the limits of a deck.
-use Rattle.std.proofs.Common.{◌≡◌, ℕ, ◌+◌, ◌<◌, ◌≤◌, Bool, true, false, not, cond, nat_eq, nat_le, nat_lt, ◌&&◌, List, [], ◌∷◌, ◌++◌, length, Option, Some, None, option_map, option_and_then, refl, sym, ap, ◌∙◌, subst, arith, length-append}
-use Rattle.std.specs.Prelude.{◌≢◌, codes, position}
+use Rattle.std.proofs.Common.{◌≡◌, ℕ, ◌+◌, ◌<◌, ◌≤◌, Bool, true, false, not, cond, nat_eq, nat_le, nat_lt, List, [], ◌∷◌, ◌++◌, length, Option, Some, None, Result, Ok, Err, refl, sym, ap, ◌∙◌, subst, arith, length-append}
+use Rattle.std.specs.Prelude.{◌≢◌, codes}
 use Rattle.std.specs.List.{All}
 use Rattle.std.specs.Str.{bytes_eq}
-use Rattle.std.proofs.lemmas.Bool.{leb-true, ltb-true}
 use Rattle.std.proofs.lemmas.Bool.Decides.{nat_tests}
 use Rattle.std.proofs.lemmas.List.Elements.{All-append, All-cons, All-nil}
-use Rattle.schedule.specs.declared.event.Event.TheVariants as event
 use Rattle.schedule.specs.declared.line.Line.{Line}
-use Rattle.schedule.specs.declared.line.Line.TheVariants as told
+use Rattle.deck_reader.specs.EventLineOf.{event_line}
 use Rattle.deck_reader.specs.Few.{AreFew, HasFew}
-use Rattle.deck_reader.specs.Outlined.{outline_of, stage_after, next_stage, after, in_blocks, in_program, in_requests, in_schedule, event_line, with_line, opening, ended, with_process, process_place, terminal_place, whole}
+use Rattle.deck_reader.specs.LineFaults.{is_new, asks, disc_of, heading_of, outline_with, terminal_of, with_sectors}
+use Rattle.deck_reader.specs.Outlined.{asked, at_end, disc_told, ended, in_blocks, in_program, in_requests, in_schedule, led_on, next_stage, opening, program_ended, site_told, terminal_told, told_after, told_by, with_event, with_process}
 use Rattle.deck_reader.specs.SayingOf.{saying_of}
-use Rattle.deck_reader.specs.Schedules.{IsLineOf, keep_limits}
+use Rattle.deck_reader.specs.Schedules.{IsLineOf, singles_of, rounds_of}
+use Rattle.deck_reader.specs.declared.event_saying.EventSaying.{EventSaying}
+use Rattle.deck_reader.specs.declared.line_fault.LineFault.{LineFault}
+use Rattle.deck_reader.specs.declared.line_fault.LineFault.TheVariants as fault
 use Rattle.deck_reader.specs.declared.outline.Body.{Body}
 use Rattle.deck_reader.specs.declared.outline.Body.TheVariants as body
+use Rattle.deck_reader.specs.declared.outline.EventLines.{EventLines}
 use Rattle.deck_reader.specs.declared.outline.Heading.{Heading}
 use Rattle.deck_reader.specs.declared.outline.Outline.{Outline}
 use Rattle.deck_reader.specs.declared.outline.ProcessLines.{ProcessLines}
 use Rattle.deck_reader.specs.declared.outline.ProgramLines.{ProgramLines}
+use Rattle.deck_reader.specs.declared.outline.Sums.{Sums}
 use Rattle.deck_reader.specs.declared.outline.TerminalLines.{TerminalLines}
-use Rattle.deck_reader.specs.declared.outline.Stage.{Stage}
-use Rattle.deck_reader.specs.declared.outline.Stage.TheVariants as at
 use Rattle.deck_reader.specs.declared.saying.Placing.{Placing}
 use Rattle.deck_reader.specs.declared.saying.Saying.{Saying}
 use Rattle.deck_reader.specs.declared.saying.Saying.TheVariants as said
-
--- outside a program the stage after a line is the one after what it says
-pub outside : (stage : Stage) (number : ℕ) (line : List ℕ) (saying : Saying) → ((o : Outline) (h : Heading) (p : ProgramLines) → stage ≡ at.Program o h p → ⊥) → Some saying ≡ saying_of line
-    → after stage number saying ≡ next_stage stage number line
-outside (at.Program outline heading program) number line saying other same = absurd (other outline heading program refl)
-outside at.Opening number line saying other same = ap (option_and_then (after at.Opening number)) same
-outside (at.Blocks outline) number line saying other same = ap (option_and_then (after (at.Blocks outline) number)) same
-outside (at.Requests outline terminal) number line saying other same = ap (option_and_then (after (at.Requests outline terminal) number)) same
-outside (at.Schedule outline) number line saying other same = ap (option_and_then (after (at.Schedule outline) number)) same
-outside (at.Ended outline) number line saying other same = ap (option_and_then (after (at.Ended outline) number)) same
+use Rattle.deck_reader.specs.declared.step.Stage.{Stage}
+use Rattle.deck_reader.specs.declared.step.Stage.TheVariants as at
+use Rattle.deck_reader.specs.declared.step.Step.{Step}
+use Rattle.deck_reader.specs.declared.step.Step.TheVariants as step
+use Rattle.deck_reader.specs.declared.told.Told.{Told}
+use Rattle.deck_reader.specs.declared.told.Told.TheVariants as told
+use Rattle.deck_reader.proofs.ScheduleLemmas.{AreFewAsked, AsksMore, asks_more, line_asked, rounds_asked, rounds_with, singles_asked, singles_with}
 
 -- two different processors of the deck
 pub record HeadingKeeps (processors : ℕ) (heading : Heading) : Type 0 where
@@ -60,19 +59,29 @@ pub record BlocksKeep (outline : Outline) : Type 0 where
   pub each_process : All (LinesKeep outline.processors) outline.processes
   pub each_terminal : All TerminalKeeps outline.terminals
 
--- the event lines are of these processes and terminals, and keep the limits together
-pub record LinesFit (outline : Outline) : Type 0 where
-  pub each_line : All (IsLineOf (length outline.processes) (length outline.terminals)) outline.lines
-  pub limits : keep_limits outline.lines ≡ true
+-- the event lines are of these processes and terminals, and ask for no more than is counted, which keeps the limits
+pub record EventsFit (outline : Outline) : Type 0 where
+  pub each_line : All (IsLineOf outline.processors (length outline.processes) (length outline.terminals)) outline.events.lines
+  pub singles : singles_of outline.events.lines ≤ outline.events.sums.singles
+  pub rounds : rounds_of outline.events.lines ≤ outline.events.sums.rounds
+  pub few : AreFewAsked outline.events.sums
+
+abbrev no_events : EventLines
+no_events = record { lines = []; sums = record { singles = 0; rounds = 0 }; unknown = None }
+
+-- there is room for the pair of a heading, and it keeps the limits
+abbrev pub PairKeeps : Outline → Result Heading LineFault → Type 0
+PairKeeps outline (Err why) = Unit {0}
+PairKeeps outline (Ok heading) = (length outline.processes < 16) × HeadingKeeps outline.processors heading
 
 -- the limits are kept up to a stage, and event lines come last
 abbrev pub StageKeeps : Stage → Type 0
 StageKeeps at.Opening = Unit {0}
-StageKeeps (at.Blocks outline) = BlocksKeep outline × (outline.lines ≡ [])
-StageKeeps (at.Program outline heading program) = BlocksKeep outline × (outline.lines ≡ []) × (length outline.processes < 16) × HeadingKeeps outline.processors heading
-StageKeeps (at.Requests outline terminal) = BlocksKeep outline × (outline.lines ≡ []) × (length outline.terminals < 16) × TerminalKeeps terminal
-StageKeeps (at.Schedule outline) = BlocksKeep outline × LinesFit outline
-StageKeeps (at.Ended outline) = BlocksKeep outline × LinesFit outline
+StageKeeps (at.Blocks outline) = BlocksKeep outline × (outline.events ≡ no_events)
+StageKeeps (at.Program outline heading program) = BlocksKeep outline × (outline.events ≡ no_events) × PairKeeps outline heading
+StageKeeps (at.Requests outline terminal) = BlocksKeep outline × (outline.events ≡ no_events) × (length outline.terminals < 16) × TerminalKeeps terminal
+StageKeeps (at.Schedule outline) = BlocksKeep outline × EventsFit outline
+StageKeeps (at.Ended outline) = BlocksKeep outline × EventsFit outline
 
 pub few_kept : (stage : Stage) → StageKeeps stage → HasFew stage
 few_kept at.Opening keeps = tt
@@ -82,30 +91,10 @@ few_kept (at.Requests outline terminal) keeps = keeps.0.few
 few_kept (at.Schedule outline) keeps = keeps.0.few
 few_kept (at.Ended outline) keeps = keeps.0.few
 
--- so does a stage, if there is one
-abbrev Keeps : Option Stage → Type 0
-Keeps None = Unit {0}
-Keeps (Some stage) = StageKeeps stage
-
-keeps_if : (b : Bool) (o : Option Stage) → (b ≡ true → Keeps o) → Keeps (cond b o None)
-keeps_if true o h = h refl
-keeps_if false o h = tt
-
-keeps_map : {X : Type 0} (f : X → Stage) (b : Bool) (x : X) → (b ≡ true → StageKeeps (f x)) → Keeps (option_map f (cond b (Some x) None))
-keeps_map f true x h = h refl
-keeps_map f false x h = tt
-
-keeps_then : {X : Type 0} (f : X → Option Stage) (o : Option X) → ((x : X) → o ≡ Some x → Keeps (f x)) → Keeps (option_and_then f o)
-keeps_then f None h = tt
-keeps_then f (Some x) h = h x refl
-
-pub both : (a b : Bool) → (a && b) ≡ true → (a ≡ true) × (b ≡ true)
-both true true e = (refl, refl)
-both true false e = absurd (cc)
-both false b e = absurd (cc)
-
-differ : (a b : ℕ) → not (nat_eq a b) ≡ true → a ≢ b
-differ a b e same = absurd (grind (arith, nat_tests))
+-- so does the next stage, if there is one
+abbrev Keeps : Step → Type 0
+Keeps (step.Next stage) = StageKeeps stage
+Keeps (step.Broken breach) = Unit {0}
 
 all_more : {X : Type 0} (P : X → Type 0) (xs : List X) (x : X) → All P xs → P x → All P (xs ++ x ∷ [])
 all_more P xs x all one = All-append P xs (x ∷ []) all (All-cons P x [] one (All-nil P))
@@ -129,184 +118,196 @@ terminal_kept outline terminal keeps room one = record {
   each_terminal = all_more TerminalKeeps outline.terminals terminal keeps.each_terminal one;
 }
 
--- what is tested of a heading
-heading_told : (count primary backup processors : ℕ) (is_new : Bool)
-    → (nat_lt count 16 && is_new && not (nat_eq primary backup) && nat_lt primary processors && nat_lt backup processors) ≡ true
-    → (count < 16) × (primary < processors) × (backup < processors) × (primary ≢ backup)
-heading_told count primary backup processors is_new e =
-    let p = both _ _ e in
-    let q = both _ _ p.0 in
-    let r = both _ _ q.0 in
-    let s = both _ _ r.0 in
-    (ltb-true _ _ s.0, ltb-true _ _ q.1, ltb-true _ _ p.1, differ primary backup r.1)
+heading_kept : (outline : Outline) (placing : Placing) → PairKeeps outline (heading_of outline placing)
+heading_kept outline placing =
+    by (not (is_new outline placing.name)) (nat_eq placing.primary placing.backup) (nat_le outline.processors placing.primary) (nat_le outline.processors placing.backup)
+    (nat_le 16 (length outline.processes)) refl refl refl refl
+  where
+    by : (a b c d e : Bool) → nat_eq placing.primary placing.backup ≡ b → nat_le outline.processors placing.primary ≡ c → nat_le outline.processors placing.backup ≡ d → nat_le 16 (length outline.processes) ≡ e
+        → PairKeeps outline (cond a (Err fault.NameTwice) (cond b (Err fault.SameProcessor) (cond c (Err fault.NoProcessor) (cond d (Err fault.NoProcessor)
+        (cond e (Err (fault.Limit 1)) (Ok (record { name = placing.name; primary = placing.primary; backup = placing.backup })))))))
+    by true b c d e p q r s = tt
+    by false true c d e p q r s = tt
+    by false false true d e p q r s = tt
+    by false false false true e p q r s = tt
+    by false false false false true p q r s = tt
+    by false false false false false p q r s = (
+      grind (arith, nat_tests),
+      record { primary = grind (arith, nat_tests); backup = grind (arith, nat_tests); apart = λ same. absurd (grind (arith, nat_tests)) },
+    )
 
-abbrev heading_with : Placing → Heading
-heading_with placing = record { name = placing.name; primary = placing.primary; backup = placing.backup }
-
-disc_kept : (outline : Outline) (placing : Placing) (sectors : ℕ) → BlocksKeep outline → outline.lines ≡ [] → Keeps (in_blocks outline 0 (said.Disc placing sectors))
-disc_kept outline placing sectors keeps none =
-    keeps_if _ _ (λ low_high.
-    keeps_map (λ heading. at.Blocks (with_process outline (record { heading = heading; body = body.Disc sectors }))) _ (heading_with placing) (λ e.
-    let size = both _ _ low_high in
-    let told = heading_told (length outline.processes) placing.primary placing.backup outline.processors _ e in (
-      process_kept outline (record { heading = heading_with placing; body = body.Disc sectors }) keeps told.0
-          (record { heading = record { primary = told.1; backup = told.2; apart = told.3 }; body = (leb-true _ _ size.0, leb-true _ _ size.1) }),
+disc_kept : (outline : Outline) (number : ℕ) (placing : Placing) (sectors : ℕ) → BlocksKeep outline → outline.events ≡ no_events → Keeps (disc_told outline number (disc_of outline placing sectors))
+disc_kept outline number placing sectors keeps none = by (heading_of outline placing) (heading_kept outline placing)
+  where
+    sized : (heading : Heading) → PairKeeps outline (Ok heading) → (a b : Bool) → nat_lt sectors 1 ≡ a → nat_lt 64 sectors ≡ b
+        → Keeps (disc_told outline number (cond a (Err (fault.Limit 5)) (cond b (Err (fault.Limit 5)) (Ok (record { heading = heading; body = body.Disc sectors })))))
+    sized heading pair true b p q = tt
+    sized heading pair false true p q = tt
+    sized heading pair false false p q = (
+      process_kept outline (record { heading = heading; body = body.Disc sectors }) keeps pair.0 (record { heading = pair.1; body = (grind (arith, nat_tests), grind (arith, nat_tests)) }),
       none,
-    )))
+    )
 
-blocks_kept : (outline : Outline) (number : ℕ) (saying : Saying) → BlocksKeep outline → outline.lines ≡ [] → Keeps (in_blocks outline number saying)
+    by : (o : Result Heading LineFault) → PairKeeps outline o → Keeps (disc_told outline number (with_sectors sectors o))
+    by (Err why) pair = tt
+    by (Ok heading) pair = sized heading pair (nat_lt sectors 1) (nat_lt 64 sectors) refl refl
+
+terminal_begun : (outline : Outline) (number : ℕ) (name target : List ℕ) → BlocksKeep outline → outline.events ≡ no_events → Keeps (terminal_told outline number (terminal_of outline number name target))
+terminal_begun outline number name target keeps none = by (not (is_new outline name)) (nat_le 16 (length outline.terminals)) refl
+  where
+    by : (a b : Bool) → nat_le 16 (length outline.terminals) ≡ b
+        → Keeps (terminal_told outline number (cond a (Err fault.NameTwice) (cond b (Err (fault.Limit 2)) (Ok (record { line = number; name = name; target = target; requests = [] })))))
+    by true b p = tt
+    by false true p = tt
+    by false false p = (keeps, none, grind (arith, nat_tests), omega arith)
+
+blocks_kept : (outline : Outline) (number : ℕ) (saying : Saying) → BlocksKeep outline → outline.events ≡ no_events → Keeps (in_blocks outline number saying)
 blocks_kept outline number said.Nothing keeps none = (keeps, none)
-blocks_kept outline number (said.Disc placing sectors) keeps none = disc_kept outline placing sectors keeps none
-blocks_kept outline number (said.Pair placing) keeps none =
-    keeps_map (λ heading. at.Program outline heading (record { line = number; text = [] })) _ (heading_with placing) (λ e.
-    let told = heading_told (length outline.processes) placing.primary placing.backup outline.processors _ e in
-    (keeps, none, told.0, record { primary = told.1; backup = told.2; apart = told.3 }))
-blocks_kept outline number (said.Terminal name target) keeps none =
-    keeps_if _ (Some (at.Requests outline (record { name = name; target = target; requests = [] }))) (λ e. (keeps, none, ltb-true _ _ (both _ _ e).0, omega arith))
+blocks_kept outline number (said.Disc placing sectors) keeps none = disc_kept outline number placing sectors keeps none
+blocks_kept outline number (said.Pair placing) keeps none = (keeps, none, heading_kept outline placing)
+blocks_kept outline number (said.Terminal name target) keeps none = terminal_begun outline number name target keeps none
 blocks_kept outline number said.Schedule keeps none =
-    let of = IsLineOf (length outline.processes) (length outline.terminals) in (
+    let of = IsLineOf outline.processors (length outline.processes) (length outline.terminals) in (
       keeps,
-      record { each_line = subst (All of) (sym none) (All-nil of); limits = ap keep_limits none },
+      record {
+        each_line = subst (λ (events : EventLines). All of events.lines) (sym none) (All-nil of);
+        singles = omega (arith, ap (λ (events : EventLines). singles_of events.lines) none);
+        rounds = omega (arith, ap (λ (events : EventLines). rounds_of events.lines) none);
+        few = record {
+          singles = omega (arith, ap (λ (events : EventLines). events.sums.singles) none);
+          rounds = omega (arith, ap (λ (events : EventLines). events.sums.rounds) none);
+        };
+      },
     )
 blocks_kept outline number _ keeps none = tt
 
-requests_kept : (outline : Outline) (terminal : TerminalLines) (number : ℕ) (saying : Saying) → BlocksKeep outline → outline.lines ≡ [] → length outline.terminals < 16 → TerminalKeeps terminal
-    → Keeps (in_requests outline terminal number saying)
-requests_kept outline terminal number said.Nothing keeps none room one = (keeps, none, room, one)
-requests_kept outline terminal number (said.Send words) keeps none room one =
-    keeps_if _ (Some (at.Requests outline (record terminal { requests = terminal.requests ++ words ∷ [] })))
-    (λ e. (keeps, none, room, omega (arith, ltb-true _ _ e, length-append terminal.requests (words ∷ []))))
-requests_kept outline terminal number (said.Disc placing sectors) keeps none room one = blocks_kept (with_terminal outline terminal) number (said.Disc placing sectors) (terminal_kept outline terminal keeps room one) none
-requests_kept outline terminal number (said.Pair placing) keeps none room one = blocks_kept (with_terminal outline terminal) number (said.Pair placing) (terminal_kept outline terminal keeps room one) none
-requests_kept outline terminal number (said.Terminal name target) keeps none room one = blocks_kept (with_terminal outline terminal) number (said.Terminal name target) (terminal_kept outline terminal keeps room one) none
-requests_kept outline terminal number said.Schedule keeps none room one = blocks_kept (with_terminal outline terminal) number said.Schedule (terminal_kept outline terminal keeps room one) none
-requests_kept outline terminal number _ keeps none room one = tt
+request_kept : (outline : Outline) (terminal : TerminalLines) (number : ℕ) (saying : Saying) → StageKeeps (at.Requests outline terminal) → Keeps (in_requests outline terminal number saying)
+request_kept outline terminal number said.Nothing keeps = keeps
+request_kept outline terminal number (said.Send words) keeps = by (nat_le 1000 (length terminal.requests)) refl
+  where
+    by : (b : Bool) → nat_le 1000 (length terminal.requests) ≡ b
+        → Keeps (cond b (step.Broken (record { processes = outline.processes; own = None; line = number; why = fault.Limit 3 })) (step.Next (at.Requests outline (record terminal { requests = terminal.requests ++ words ∷ [] }))))
+    by true over = tt
+    by false within = let few : length terminal.requests < 1000 = grind (arith, nat_tests) in (keeps.0, keeps.1, keeps.2, omega (arith, few, length-append terminal.requests (words ∷ [])))
+request_kept outline terminal number said.LongSend keeps = by (nat_le 1000 (length terminal.requests))
+  where
+    by : (b : Bool) → Keeps (cond b (step.Broken (record { processes = outline.processes; own = None; line = number; why = fault.Limit 3 })) (step.Broken (record { processes = outline.processes; own = None; line = number; why = fault.Limit 4 })))
+    by true = tt
+    by false = tt
+request_kept outline terminal number (said.Disc placing sectors) keeps = blocks_kept (with_terminal outline terminal) number (said.Disc placing sectors) (terminal_kept outline terminal keeps.0 keeps.2 keeps.3) keeps.1
+request_kept outline terminal number (said.Pair placing) keeps = blocks_kept (with_terminal outline terminal) number (said.Pair placing) (terminal_kept outline terminal keeps.0 keeps.2 keeps.3) keeps.1
+request_kept outline terminal number (said.Terminal name target) keeps = blocks_kept (with_terminal outline terminal) number (said.Terminal name target) (terminal_kept outline terminal keeps.0 keeps.2 keeps.3) keeps.1
+request_kept outline terminal number said.Schedule keeps = blocks_kept (with_terminal outline terminal) number said.Schedule (terminal_kept outline terminal keeps.0 keeps.2 keeps.3) keeps.1
+request_kept outline terminal number _ keeps = tt
 
-opening_kept : (saying : Saying) → Keeps (opening saying)
-opening_kept said.Nothing = tt
-opening_kept (said.Processors count) =
-    keeps_if _ (Some (at.Blocks (record { processors = count; processes = []; terminals = []; lines = [] })))
-    (λ e.
-    let size = both _ _ e in (
+opening_kept : (number : ℕ) (saying : Saying) → Keeps (opening number saying)
+opening_kept number said.Nothing = tt
+opening_kept number (said.Processors count) = by (nat_lt count 2) (nat_lt 16 count) refl refl
+  where
+    by : (a b : Bool) → nat_lt count 2 ≡ a → nat_lt 16 count ≡ b → Keeps (site_told number (cond a (Err (fault.Limit 8)) (cond b (Err (fault.Limit 8)) (Ok (outline_with count)))))
+    by true b p q = tt
+    by false true p q = tt
+    by false false p q = (
       record {
-        processors = (leb-true _ _ size.0, leb-true _ _ size.1);
+        processors = (grind (arith, nat_tests), grind (arith, nat_tests));
         few = record { processes = omega arith; terminals = omega arith };
         each_process = All-nil (LinesKeep count);
         each_terminal = All-nil TerminalKeeps;
       },
       refl,
-    ))
-opening_kept _ = tt
+    )
+opening_kept number _ = tt
 
--- what a test and a map that give something came from
-given : {X : Type 0} (b : Bool) (x y : X) → cond b (Some x) None ≡ Some y → (b ≡ true) × (x ≡ y)
-given true x y e = (refl, cc)
-given false x y e = absurd (cc)
-
-mapped : {X Y : Type 0} (f : X → Y) (o : Option X) (y : Y) → option_map f o ≡ Some y → (x : X) × (o ≡ Some x) × (f x ≡ y)
-mapped f None y e = absurd (cc)
-mapped f (Some x) y e = (x, refl, cc)
-
--- what has a place is there
-pub place_there : {X : Type 0} (p : X → Bool) (xs : List X) (k : ℕ) → position p xs ≡ Some k → k < length xs
-place_there p xs k e = let found = given _ _ _ e in omega (arith, ltb-true _ _ found.0, found.1)
-
--- a line that is said is one of the processes and terminals that are there
-line_kept : (outline : Outline) (saying : Saying) (line : Line) → event_line outline saying ≡ Some line → IsLineOf (length outline.processes) (length outline.terminals) line
-line_kept outline (said.Run name) line e =
-    let found = mapped (λ place. told.One (event.Run place)) (process_place outline.processes name) line e in
-    subst (IsLineOf (length outline.processes) (length outline.terminals)) found.2 (place_there _ outline.processes found.0 found.1)
-line_kept outline (said.RunTimes name times) line e = by (nat_le 1 times) refl e
+-- one more event line, with what is asked for
+with_line : (outline : Outline) (number : ℕ) (saying : EventSaying) (sums : Sums) → BlocksKeep outline → EventsFit outline → AsksMore outline.events.sums (singles_asked saying) (rounds_asked saying) (Ok sums)
+    → (o : Option Line) → event_line outline saying ≡ o → StageKeeps (at.Schedule (record outline { events = with_event outline.events number sums o }))
+with_line outline number saying sums keeps fit more o e = (
+  record { processors = keeps.processors; few = record { processes = keeps.few.processes; terminals = keeps.few.terminals }; each_process = keeps.each_process; each_terminal = keeps.each_terminal },
+  by o e,
+)
   where
-    by : (b : Bool) → nat_le 1 times ≡ b → cond b (option_map (λ place. told.Many (event.Run place) times) (process_place outline.processes name)) None ≡ Some line
-        → IsLineOf (length outline.processes) (length outline.terminals) line
-    by true some same =
-        let found = mapped (λ place. told.Many (event.Run place) times) (process_place outline.processes name) line same in
-        subst (IsLineOf (length outline.processes) (length outline.terminals)) found.2 (place_there _ outline.processes found.0 found.1, leb-true _ _ some)
-    by false some same = absurd (cc)
-line_kept outline (said.Enter name) line e =
-    let found = mapped (λ place. told.One (event.Enter place)) (terminal_place outline.terminals name) line e in
-    subst (IsLineOf (length outline.processes) (length outline.terminals)) found.2 (place_there _ outline.terminals found.0 found.1)
-line_kept outline (said.Drain rounds) line e =
-    let same : told.Drain rounds ≡ line = cc in
-    subst (IsLineOf (length outline.processes) (length outline.terminals)) same tt
-line_kept outline _ line e = absurd (cc)
+    by : (o : Option Line) → event_line outline saying ≡ o → EventsFit (record outline { events = with_event outline.events number sums o })
+    by None e = record { each_line = fit.each_line; singles = omega (arith, fit.singles, more.singles); rounds = omega (arith, fit.rounds, more.rounds); few = more.few }
+    by (Some line) e =
+        let one = line_asked outline saying line e in record {
+          each_line = all_more (IsLineOf outline.processors (length outline.processes) (length outline.terminals)) outline.events.lines line fit.each_line one.of_site;
+          singles = omega (arith, fit.singles, more.singles, one.singles, singles_with outline.events.lines line);
+          rounds = omega (arith, fit.rounds, more.rounds, one.rounds, rounds_with outline.events.lines line);
+          few = more.few;
+        }
 
--- one more line that is said
-more_kept : (outline : Outline) (saying : Saying) → BlocksKeep outline → LinesFit outline → Keeps (option_and_then (with_line outline) (event_line outline saying))
-more_kept outline saying keeps fit =
-    keeps_then (with_line outline) (event_line outline saying) (λ line e.
-    keeps_if _ (Some (at.Schedule (record outline { lines = outline.lines ++ line ∷ [] })))
-    (λ limits. (
-      record { processors = keeps.processors; few = record { processes = keeps.few.processes; terminals = keeps.few.terminals }; each_process = keeps.each_process; each_terminal = keeps.each_terminal },
-      record { each_line = all_more (IsLineOf (length outline.processes) (length outline.terminals)) outline.lines line fit.each_line (line_kept outline saying line e); limits = limits },
-    )))
+event_kept : (outline : Outline) (number : ℕ) (saying : EventSaying) → BlocksKeep outline → EventsFit outline → Keeps (asked outline number saying (asks outline.processors outline.events.sums saying))
+event_kept outline number saying keeps fit = by (asks outline.processors outline.events.sums saying) (asks_more outline.processors outline.events.sums saying fit.few)
+  where
+    by : (o : Result Sums LineFault) → AsksMore outline.events.sums (singles_asked saying) (rounds_asked saying) o → Keeps (asked outline number saying o)
+    by (Err why) more = tt
+    by (Ok sums) more = with_line outline number saying sums keeps fit more (event_line outline saying) refl
 
-schedule_kept : (outline : Outline) (saying : Saying) → BlocksKeep outline → LinesFit outline → Keeps (in_schedule outline saying)
-schedule_kept outline said.Nothing keeps fit = (keeps, fit)
-schedule_kept outline (said.Run name) keeps fit = more_kept outline (said.Run name) keeps fit
-schedule_kept outline (said.RunTimes name times) keeps fit = more_kept outline (said.RunTimes name times) keeps fit
-schedule_kept outline (said.Enter name) keeps fit = more_kept outline (said.Enter name) keeps fit
-schedule_kept outline (said.Drain rounds) keeps fit = more_kept outline (said.Drain rounds) keeps fit
-schedule_kept outline said.End keeps fit = (keeps, fit)
-schedule_kept outline _ keeps fit = tt
+schedule_kept : (outline : Outline) (number : ℕ) (saying : Saying) → BlocksKeep outline → EventsFit outline → Keeps (in_schedule outline number saying)
+schedule_kept outline number said.Nothing keeps fit = (keeps, fit)
+schedule_kept outline number (said.Event saying) keeps fit = event_kept outline number saying keeps fit
+schedule_kept outline number said.End keeps fit = (keeps, fit)
+schedule_kept outline number _ keeps fit = tt
 
-ended_kept : (outline : Outline) (saying : Saying) → BlocksKeep outline → LinesFit outline → Keeps (ended outline saying)
-ended_kept outline said.Nothing keeps fit = (keeps, fit)
-ended_kept outline _ keeps fit = tt
+ended_kept : (outline : Outline) (number : ℕ) (saying : Saying) → BlocksKeep outline → EventsFit outline → Keeps (ended outline number saying)
+ended_kept outline number said.Nothing keeps fit = (keeps, fit)
+ended_kept outline number _ keeps fit = tt
 
-after_kept : (stage : Stage) (number : ℕ) (saying : Saying) → StageKeeps stage → Keeps (after stage number saying)
-after_kept at.Opening number saying keeps = opening_kept saying
-after_kept (at.Blocks outline) number saying keeps = blocks_kept outline number saying keeps.0 keeps.1
-after_kept (at.Program outline heading program) number saying keeps = tt
-after_kept (at.Requests outline terminal) number saying keeps = requests_kept outline terminal number saying keeps.0 keeps.1 keeps.2 keeps.3
-after_kept (at.Schedule outline) number saying keeps = schedule_kept outline saying keeps.0 keeps.1
-after_kept (at.Ended outline) number saying keeps = ended_kept outline saying keeps.0 keeps.1
-
-program_kept : (outline : Outline) (heading : Heading) (program : ProgramLines) (line : List ℕ) → StageKeeps (at.Program outline heading program) → StageKeeps (in_program outline heading program line)
+program_kept : (outline : Outline) (heading : Result Heading LineFault) (program : ProgramLines) (line : List ℕ) → StageKeeps (at.Program outline heading program) → Keeps (in_program outline heading program line)
 program_kept outline heading program line keeps = by (bytes_eq line (codes "."))
   where
-    by : (b : Bool) → StageKeeps (cond b (at.Blocks (with_process outline (record { heading = heading; body = body.Pair program }))) (at.Program outline heading (record program { text = program.text ++ line ++ 10 ∷ [] })))
-    by true = (process_kept outline (record { heading = heading; body = body.Pair program }) keeps.0 keeps.2 (record { heading = keeps.3; body = tt }), keeps.1)
+    at_point : (o : Result Heading LineFault) → PairKeeps outline o → Keeps (program_ended outline o program)
+    at_point (Err why) pair = tt
+    at_point (Ok told) pair = (process_kept outline (record { heading = told; body = body.Pair program }) keeps.0 pair.0 (record { heading = pair.1; body = tt }), keeps.1)
+
+    by : (b : Bool) → Keeps (cond b (program_ended outline heading program) (step.Next (at.Program outline heading (record program { text = program.text ++ line ++ 10 ∷ [] }))))
+    by true = at_point heading keeps.2
     by false = keeps
 
 -- one more line keeps the limits
-next_kept : (stage : Stage) (number : ℕ) (line : List ℕ) → StageKeeps stage → Keeps (next_stage stage number line)
+pub next_kept : (stage : Stage) (number : ℕ) (line : List ℕ) → StageKeeps stage → Keeps (next_stage stage number line)
+next_kept at.Opening number line keeps = opening_kept number (saying_of line)
+next_kept (at.Blocks outline) number line keeps = blocks_kept outline number (saying_of line) keeps.0 keeps.1
 next_kept (at.Program outline heading program) number line keeps = program_kept outline heading program line keeps
-next_kept at.Opening number line keeps = keeps_then (after at.Opening number) (saying_of line) (λ saying e. opening_kept saying)
-next_kept (at.Blocks outline) number line keeps = keeps_then (after (at.Blocks outline) number) (saying_of line) (λ saying e. after_kept (at.Blocks outline) number saying keeps)
-next_kept (at.Requests outline terminal) number line keeps =
-    keeps_then (after (at.Requests outline terminal) number) (saying_of line) (λ saying e. after_kept (at.Requests outline terminal) number saying keeps)
-next_kept (at.Schedule outline) number line keeps = keeps_then (after (at.Schedule outline) number) (saying_of line) (λ saying e. after_kept (at.Schedule outline) number saying keeps)
-next_kept (at.Ended outline) number line keeps = keeps_then (after (at.Ended outline) number) (saying_of line) (λ saying e. after_kept (at.Ended outline) number saying keeps)
+next_kept (at.Requests outline terminal) number line keeps = request_kept outline terminal number (saying_of line) keeps
+next_kept (at.Schedule outline) number line keeps = schedule_kept outline number (saying_of line) keeps.0 keeps.1
+next_kept (at.Ended outline) number line keeps = ended_kept outline number (saying_of line) keeps.0 keeps.1
 
-pub stage_kept : (stage next : Stage) (number : ℕ) (line : List ℕ) → StageKeeps stage → Some next ≡ next_stage stage number line → StageKeeps next
+pub stage_kept : (stage next : Stage) (number : ℕ) (line : List ℕ) → StageKeeps stage → step.Next next ≡ next_stage stage number line → StageKeeps next
 stage_kept stage next number line keeps e = subst Keeps (sym e) (next_kept stage number line keeps)
 
 -- the lines after one lead from its stage where they lead with it
-pub one_line_on : (stage next : Stage) (number : ℕ) (line : List ℕ) (rest lines : List (List ℕ)) → lines ≡ line ∷ rest → Some next ≡ next_stage stage number line
-    → stage_after next (number + 1) rest ≡ stage_after stage number lines
-one_line_on stage next number line rest lines is e = ap (option_and_then (λ later. stage_after later (number + 1) rest)) e ∙ sym (ap (stage_after stage number) is)
+pub one_line_on : (stage next : Stage) (count : ℕ) (line : List ℕ) (rest lines : List (List ℕ)) → lines ≡ line ∷ rest → step.Next next ≡ next_stage stage (count + 1) line
+    → told_after next (count + 1) rest ≡ told_after stage count lines
+one_line_on stage next count line rest lines is e = ap (led_on (λ later. told_after later (count + 1) rest)) e ∙ sym (ap (told_after stage count) is)
 
-lines_kept : (stage : Stage) (number : ℕ) (lines : List (List ℕ)) → StageKeeps stage → Keeps (stage_after stage number lines)
-lines_kept stage number [] keeps = keeps
-lines_kept stage number (line ∷ lines) keeps =
-    keeps_then (λ next. stage_after next (number + 1) lines) (next_stage stage number line) (λ next e. lines_kept next (number + 1) lines (stage_kept stage next number line keeps (sym e)))
+-- the line that can't stand ends what is told
+pub line_broken : (stage : Stage) (count : ℕ) (line : List ℕ) (rest lines : List (List ℕ)) (breach : _) → lines ≡ line ∷ rest → step.Broken breach ≡ next_stage stage (count + 1) line
+    → told.Broken breach ≡ told_after stage count lines
+line_broken stage count line rest lines breach is e = ap (led_on (λ later. told_after later (count + 1) rest)) e ∙ sym (ap (told_after stage count) is)
+
+-- the limits are kept where all is told
+abbrev TellsKept : Told → Type 0
+TellsKept (told.Whole outline) = BlocksKeep outline × EventsFit outline
+TellsKept (told.Broken breach) = Unit {0}
+
+end_kept : (stage : Stage) (count : ℕ) → StageKeeps stage → TellsKept (at_end stage count)
+end_kept at.Opening count keeps = tt
+end_kept (at.Blocks outline) count keeps = tt
+end_kept (at.Program outline (Err why) program) count keeps = tt
+end_kept (at.Program outline (Ok heading) program) count keeps = tt
+end_kept (at.Requests outline terminal) count keeps = tt
+end_kept (at.Schedule outline) count keeps = tt
+end_kept (at.Ended outline) count keeps = keeps
+
+lines_kept : (stage : Stage) (count : ℕ) (lines : List (List ℕ)) → StageKeeps stage → TellsKept (told_after stage count lines)
+lines_kept stage count [] keeps = end_kept stage count keeps
+lines_kept stage count (line ∷ lines) keeps = by (λ next. lines_kept next (count + 1) lines) (next_stage stage (count + 1) line) (next_kept stage (count + 1) line keeps)
+  where
+    by : ((next : Stage) → StageKeeps next → TellsKept (told_after next (count + 1) lines)) → (one : Step) → Keeps one → TellsKept (led_on (λ next. told_after next (count + 1) lines) one)
+    by later (step.Next next) h = later next h
+    by later (step.Broken breach) h = tt
 
 -- an outline keeps the limits
-pub outline_kept : (lines : List (List ℕ)) (outline : Outline) → outline_of lines ≡ Some outline → BlocksKeep outline × LinesFit outline
-outline_kept lines outline e = by (stage_after at.Opening 1 lines) (lines_kept at.Opening 1 lines tt) e
-  where
-    ended_at : (stage : Stage) → StageKeeps stage → whole stage ≡ Some outline → BlocksKeep outline × LinesFit outline
-    ended_at (at.Ended last) keeps same =
-        let one : last ≡ outline = cc in
-        subst (λ (o : Outline). BlocksKeep o × LinesFit o) one keeps
-    ended_at at.Opening keeps same = absurd (cc)
-    ended_at (at.Blocks last) keeps same = absurd (cc)
-    ended_at (at.Program last heading program) keeps same = absurd (cc)
-    ended_at (at.Requests last terminal) keeps same = absurd (cc)
-    ended_at (at.Schedule last) keeps same = absurd (cc)
-
-    by : (o : Option Stage) → Keeps o → option_and_then whole o ≡ Some outline → BlocksKeep outline × LinesFit outline
-    by None keeps same = absurd (cc)
-    by (Some stage) keeps same = ended_at stage keeps same
+pub outline_kept : (lines : List (List ℕ)) (outline : Outline) → told_by lines ≡ told.Whole outline → BlocksKeep outline × EventsFit outline
+outline_kept lines outline e = subst TellsKept e (lines_kept at.Opening 0 lines tt)

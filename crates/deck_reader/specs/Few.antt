@@ -1,8 +1,8 @@
 -- How many processes and terminals there are at most while the lines of a deck are read.
 use Rattle.std.specs.Prelude.{◌≤◌, length}
 use Rattle.deck_reader.specs.declared.outline.Outline.{Outline}
-use Rattle.deck_reader.specs.declared.outline.Stage.{Stage}
-use Rattle.deck_reader.specs.declared.outline.Stage.TheVariants as at
+use Rattle.deck_reader.specs.declared.step.Stage.{Stage}
+use Rattle.deck_reader.specs.declared.step.Stage.TheVariants as at
 
 -- at most 16 processes and at most 16 terminals
 pub record AreFew (outline : Outline) : Type 0 where

@@ -1,5 +1,5 @@
 -- The limits that decks keep.
-use Rattle.std.specs.Prelude.{◌≢◌, ◌<◌, ◌≤◌, ℕ, length}
+use Rattle.std.specs.Prelude.{◌≢◌, ◌<◌, ◌≤◌, ℕ, ℤ, List, length}
 use Rattle.std.specs.List.{All}
 use Rattle.tal_tree.specs.Limits.{IsWithinLimits}
 use Rattle.tal_tree.specs.declared.site.Kind.{Kind}
@@ -36,9 +36,13 @@ pub record IsSiteWithinLimits (site : Site) : Type 0 where
   pub terminals : length site.terminals ≤ 16
   pub each_terminal : All (IsTerminalWithinLimits (length site.processes)) site.terminals
 
--- a deck has at most 1,000,000 single events and 100,000 rounds, and each line runs processes of the site, enters at a terminal of it or drains
+-- a deck has at most 1,000,000 single events and 100,000 rounds, and each line asks for events of the site or for rounds
 pub record IsWithinDeckLimits (deck : Deck) : Type 0 where
   pub site : IsSiteWithinLimits deck.site
-  pub each_line : All (IsLineOf (length deck.site.processes) (length deck.site.terminals)) deck.lines
+  pub each_line : All (IsLineOf deck.site.processors (length deck.site.processes) (length deck.site.terminals)) deck.lines
   pub singles : singles_of deck.lines ≤ 1000000
   pub rounds : rounds_of deck.lines ≤ 100000
+
+-- the requests of a terminal have at most 16 words each
+abbrev pub HasShortRequests : TerminalSpec → Type 0
+HasShortRequests terminal = All (λ (request : List ℤ). length request ≤ 16) terminal.requests

@@ -1,141 +1,160 @@
--- What the lines of a deck say together, line by line. The numbers are the limits of a deck: 2 to 16 processors, 16 processes,
--- discs of 1 to 64 sectors, 16 terminals with 1,000 requests each.
-use Rattle.std.specs.Prelude.{ℕ, ◌+◌, Bool, not, ◌&&◌, ◌==◌, nat_lt, nat_le, List, [], ◌∷◌, ◌++◌, length, codes, position, Option, Some, None, option_map, option_and_then, if◌then◌else◌}
-use Rattle.std.specs.List.{list_any}
+-- What the lines of a deck say together, line by line, up to the first that can't stand where it does.
+use Rattle.std.specs.Prelude.{ℕ, ◌+◌, nat_le, List, [], ◌∷◌, ◌++◌, length, codes, Option, Some, None, Result, Ok, Err, if◌then◌else◌, ℤ}
 use Rattle.std.specs.Str.{bytes_eq}
-use Rattle.schedule.specs.declared.event.Event.TheVariants as event
 use Rattle.schedule.specs.declared.line.Line.{Line}
-use Rattle.schedule.specs.declared.line.Line.TheVariants as line
+use Rattle.deck_reader.specs.EventLineOf.{event_line}
+use Rattle.deck_reader.specs.LineFaults.{processors_of, heading_of, disc_of, terminal_of, asks}
 use Rattle.deck_reader.specs.SayingOf.{saying_of}
-use Rattle.deck_reader.specs.Schedules.{keep_limits}
+use Rattle.deck_reader.specs.declared.event_saying.EventSaying.{EventSaying}
+use Rattle.deck_reader.specs.declared.line_fault.LineFault.{LineFault}
+use Rattle.deck_reader.specs.declared.line_fault.LineFault.TheVariants as fault
 use Rattle.deck_reader.specs.declared.outline.Body.TheVariants as body
+use Rattle.deck_reader.specs.declared.outline.EventLines.{EventLines}
 use Rattle.deck_reader.specs.declared.outline.Heading.{Heading}
 use Rattle.deck_reader.specs.declared.outline.Outline.{Outline}
 use Rattle.deck_reader.specs.declared.outline.ProcessLines.{ProcessLines}
 use Rattle.deck_reader.specs.declared.outline.ProgramLines.{ProgramLines}
-use Rattle.deck_reader.specs.declared.outline.Stage.{Stage}
-use Rattle.deck_reader.specs.declared.outline.Stage.TheVariants as at
+use Rattle.deck_reader.specs.declared.outline.Sums.{Sums}
 use Rattle.deck_reader.specs.declared.outline.TerminalLines.{TerminalLines}
-use Rattle.deck_reader.specs.declared.saying.Placing.{Placing}
 use Rattle.deck_reader.specs.declared.saying.Saying.{Saying}
 use Rattle.deck_reader.specs.declared.saying.Saying.TheVariants as said
+use Rattle.deck_reader.specs.declared.step.Breach.{Breach}
+use Rattle.deck_reader.specs.declared.step.Stage.{Stage}
+use Rattle.deck_reader.specs.declared.step.Stage.TheVariants as at
+use Rattle.deck_reader.specs.declared.step.Step.{Step}
+use Rattle.deck_reader.specs.declared.step.Step.TheVariants as step
+use Rattle.deck_reader.specs.declared.told.Told.{Told}
+use Rattle.deck_reader.specs.declared.told.Told.TheVariants as told
 
--- where the process of this name stands, counted from 0
-abbrev pub process_place : List ProcessLines → List ℕ → Option ℕ
-process_place processes name = position (λ process. bytes_eq process.heading.name name) processes
+-- the line of this number can't stand here
+abbrev pub broken : Outline → ℕ → LineFault → Breach
+broken outline number why = record { processes = outline.processes; own = None; line = number; why = why }
 
--- where the terminal of this name stands, counted from 0
-abbrev pub terminal_place : List TerminalLines → List ℕ → Option ℕ
-terminal_place terminals name = position (λ terminal. bytes_eq terminal.name name) terminals
+-- nor there, before any process is told
+abbrev pub broken_at_start : ℕ → LineFault → Breach
+broken_at_start number why = record { processes = []; own = None; line = number; why = why }
 
--- no process and no terminal has the name
-abbrev pub is_new : Outline → List ℕ → Bool
-is_new outline name =
-    not (list_any (λ (process : ProcessLines). bytes_eq process.heading.name name) outline.processes)
-    && not (list_any (λ (terminal : TerminalLines). bytes_eq terminal.name name) outline.terminals)
+-- the line of the processors comes first
+abbrev pub site_told : ℕ → Result Outline LineFault → Step
+site_told number (Err why) = step.Broken (broken_at_start number why)
+site_told number (Ok outline) = step.Next (at.Blocks outline)
 
--- the first line: how many processors there are
-abbrev pub opening : Saying → Option Stage
-opening said.Nothing = Some at.Opening
-opening (said.Processors count) =
-    if nat_le 2 count && nat_le count 16 then Some (at.Blocks (record { processors = count; processes = []; terminals = []; lines = [] })) else None
-opening _ = None
-
--- one more process, of a new name and in two different processors of the deck
-abbrev pub heading_of : Outline → Placing → Option Heading
-heading_of outline placing =
-    if nat_lt (length outline.processes) 16 && is_new outline placing.name && not (placing.primary == placing.backup) && nat_lt placing.primary outline.processors
-    && nat_lt placing.backup outline.processors
-    then Some (record { name = placing.name; primary = placing.primary; backup = placing.backup }) else None
+abbrev pub opening : ℕ → Saying → Step
+opening number said.Nothing = step.Next at.Opening
+opening number (said.Processors count) = site_told number (processors_of count)
+opening number _ = step.Broken (broken_at_start number fault.Form)
 
 abbrev pub with_process : Outline → ProcessLines → Outline
 with_process outline process = record outline { processes = outline.processes ++ process ∷ [] }
 
--- a disc with so many sectors
-abbrev pub disc_told : Outline → Placing → ℕ → Option Stage
-disc_told outline placing sectors =
-    if nat_le 1 sectors && nat_le sectors 64
-    then option_map (λ heading. at.Blocks (with_process outline (record { heading = heading; body = body.Disc sectors }))) (heading_of outline placing) else None
-
--- a pair, on the line of this number; its program follows
-abbrev pub pair_begun : Outline → ℕ → Placing → Option Stage
-pair_begun outline number placing = option_map (λ heading. at.Program outline heading (record { line = number; text = [] })) (heading_of outline placing)
+-- a disc
+abbrev pub disc_told : Outline → ℕ → Result ProcessLines LineFault → Step
+disc_told outline number (Err why) = step.Broken (broken outline number why)
+disc_told outline number (Ok process) = step.Next (at.Blocks (with_process outline process))
 
 -- a terminal; its requests follow
-abbrev pub terminal_begun : Outline → List ℕ → List ℕ → Option Stage
-terminal_begun outline name target =
-    if nat_lt (length outline.terminals) 16 && is_new outline name then Some (at.Requests outline (record { name = name; target = target; requests = [] })) else None
+abbrev pub terminal_told : Outline → ℕ → Result TerminalLines LineFault → Step
+terminal_told outline number (Err why) = step.Broken (broken outline number why)
+terminal_told outline number (Ok terminal) = step.Next (at.Requests outline terminal)
 
--- where a process, a terminal or the schedule may begin, on the line of this number
-abbrev pub in_blocks : Outline → ℕ → Saying → Option Stage
-in_blocks outline number said.Nothing = Some (at.Blocks outline)
-in_blocks outline number (said.Disc placing sectors) = disc_told outline placing sectors
-in_blocks outline number (said.Pair placing) = pair_begun outline number placing
-in_blocks outline number (said.Terminal name target) = terminal_begun outline name target
-in_blocks outline number said.Schedule = Some (at.Schedule outline)
-in_blocks outline number _ = None
+-- where a process, a terminal or the schedule may begin. A fault of a pair's line waits for the end of its program, since a
+-- fault of the program goes before it
+abbrev pub in_blocks : Outline → ℕ → Saying → Step
+in_blocks outline number said.Nothing = step.Next (at.Blocks outline)
+in_blocks outline number (said.Disc placing sectors) = disc_told outline number (disc_of outline placing sectors)
+in_blocks outline number (said.Pair placing) = step.Next (at.Program outline (heading_of outline placing) (record { line = number; text = [] }))
+in_blocks outline number (said.Terminal name target) = terminal_told outline number (terminal_of outline number name target)
+in_blocks outline number said.Schedule = step.Next (at.Schedule outline)
+in_blocks outline number _ = step.Broken (broken outline number fault.Form)
+
+-- the end of a program
+abbrev pub program_ended : Outline → Result Heading LineFault → ProgramLines → Step
+program_ended outline (Err why) program = step.Broken (record { processes = outline.processes; own = Some program; line = program.line; why = why })
+program_ended outline (Ok heading) program = step.Next (at.Blocks (with_process outline (record { heading = heading; body = body.Pair program })))
 
 -- a program ends before the first line that is a point alone
-abbrev pub in_program : Outline → Heading → ProgramLines → List ℕ → Stage
+abbrev pub in_program : Outline → Result Heading LineFault → ProgramLines → List ℕ → Step
 in_program outline heading program line =
-    if bytes_eq line (codes ".") then at.Blocks (with_process outline (record { heading = heading; body = body.Pair program }))
-    else at.Program outline heading (record program { text = program.text ++ line ++ 10 ∷ [] })
+    if bytes_eq line (codes ".") then program_ended outline heading program
+    else step.Next (at.Program outline heading (record program { text = program.text ++ line ++ 10 ∷ [] }))
+
+-- one more request: a terminal has at most 1,000
+abbrev pub request_told : Outline → TerminalLines → ℕ → List ℤ → Step
+request_told outline terminal number words =
+    if nat_le 1000 (length terminal.requests) then step.Broken (broken outline number (fault.Limit 3))
+    else step.Next (at.Requests outline (record terminal { requests = terminal.requests ++ words ∷ [] }))
+
+-- a request of more than 16 words
+abbrev pub long_request_told : Outline → TerminalLines → ℕ → Step
+long_request_told outline terminal number =
+    if nat_le 1000 (length terminal.requests) then step.Broken (broken outline number (fault.Limit 3)) else step.Broken (broken outline number (fault.Limit 4))
 
 -- one more request of the terminal, or what begins after it
-abbrev pub in_requests : Outline → TerminalLines → ℕ → Saying → Option Stage
-in_requests outline terminal number said.Nothing = Some (at.Requests outline terminal)
-in_requests outline terminal number (said.Send words) =
-    if nat_lt (length terminal.requests) 1000 then Some (at.Requests outline (record terminal { requests = terminal.requests ++ words ∷ [] })) else None
+abbrev pub in_requests : Outline → TerminalLines → ℕ → Saying → Step
+in_requests outline terminal number said.Nothing = step.Next (at.Requests outline terminal)
+in_requests outline terminal number (said.Send words) = request_told outline terminal number words
+in_requests outline terminal number said.LongSend = long_request_told outline terminal number
 in_requests outline terminal number saying = in_blocks (record outline { terminals = outline.terminals ++ terminal ∷ [] }) number saying
 
--- the event line that is said, where it names a process to run, at least once, or a terminal to enter at
-abbrev pub event_line : Outline → Saying → Option Line
-event_line outline (said.Run name) = option_map (λ place. line.One (event.Run place)) (process_place outline.processes name)
-event_line outline (said.RunTimes name times) =
-    if nat_le 1 times then option_map (λ place. line.Many (event.Run place) times) (process_place outline.processes name) else None
-event_line outline (said.Enter name) = option_map (λ place. line.One (event.Enter place)) (terminal_place outline.terminals name)
-event_line outline (said.Drain rounds) = Some (line.Drain rounds)
-event_line outline _ = None
+-- of the lines that name what isn't there the first one counts
+abbrev pub first_noted : Option ℕ → ℕ → ℕ
+first_noted None number = number
+first_noted (Some first) number = first
 
--- one more event line, where all of them keep the limits
-abbrev pub with_line : Outline → Line → Option Stage
-with_line outline more =
-    if keep_limits (outline.lines ++ more ∷ []) then Some (at.Schedule (record outline { lines = outline.lines ++ more ∷ [] })) else None
+-- one more event line, with what all ask for together; none where what it names isn't there
+abbrev pub with_event : EventLines → ℕ → Sums → Option Line → EventLines
+with_event events number sums (Some line) = record { lines = events.lines ++ line ∷ []; sums = sums; unknown = events.unknown }
+with_event events number sums None = record { lines = events.lines; sums = sums; unknown = Some (first_noted events.unknown number) }
+
+abbrev pub asked : Outline → ℕ → EventSaying → Result Sums LineFault → Step
+asked outline number saying (Err why) = step.Broken (broken outline number why)
+asked outline number saying (Ok sums) = step.Next (at.Schedule (record outline { events = with_event outline.events number sums (event_line outline saying) }))
 
 -- one more event line, or END
-abbrev pub in_schedule : Outline → Saying → Option Stage
-in_schedule outline said.Nothing = Some (at.Schedule outline)
-in_schedule outline said.End = Some (at.Ended outline)
-in_schedule outline saying = option_and_then (with_line outline) (event_line outline saying)
+abbrev pub in_schedule : Outline → ℕ → Saying → Step
+in_schedule outline number said.Nothing = step.Next (at.Schedule outline)
+in_schedule outline number said.End = step.Next (at.Ended outline)
+in_schedule outline number (said.Event saying) = asked outline number saying (asks outline.processors outline.events.sums saying)
+in_schedule outline number _ = step.Broken (broken outline number fault.Form)
 
 -- after END only lines that say nothing
-abbrev pub ended : Outline → Saying → Option Stage
-ended outline said.Nothing = Some (at.Ended outline)
-ended outline _ = None
-
--- outside a program
-abbrev pub after : Stage → ℕ → Saying → Option Stage
-after at.Opening number saying = opening saying
-after (at.Blocks outline) number saying = in_blocks outline number saying
-after (at.Program outline heading program) number saying = None
-after (at.Requests outline terminal) number saying = in_requests outline terminal number saying
-after (at.Schedule outline) number saying = in_schedule outline saying
-after (at.Ended outline) number saying = ended outline saying
+abbrev pub ended : Outline → ℕ → Saying → Step
+ended outline number said.Nothing = step.Next (at.Ended outline)
+ended outline number _ = step.Broken (broken outline number fault.Form)
 
 -- one more line, and its number
-abbrev pub next_stage : Stage → ℕ → List ℕ → Option Stage
-next_stage (at.Program outline heading program) number line = Some (in_program outline heading program line)
-next_stage stage number line = option_and_then (after stage number) (saying_of line)
+abbrev pub next_stage : Stage → ℕ → List ℕ → Step
+next_stage at.Opening number line = opening number (saying_of line)
+next_stage (at.Blocks outline) number line = in_blocks outline number (saying_of line)
+next_stage (at.Program outline heading program) number line = in_program outline heading program line
+next_stage (at.Requests outline terminal) number line = in_requests outline terminal number (saying_of line)
+next_stage (at.Schedule outline) number line = in_schedule outline number (saying_of line)
+next_stage (at.Ended outline) number line = ended outline number (saying_of line)
 
--- all lines, one after another, from the one of this number on
-abbrev pub stage_after : Stage → ℕ → List (List ℕ) → Option Stage
-stage_after stage number [] = Some stage
-stage_after stage number (line ∷ lines) = option_and_then (λ next. stage_after next (number + 1) lines) (next_stage stage number line)
+-- the last program has no end: the fault of its pair's line comes first
+abbrev pub unended : Outline → Result Heading LineFault → ℕ → ℕ → Told
+unended outline (Err why) line count = told.Broken (broken outline line why)
+unended outline (Ok heading) line count = told.Broken (broken outline count fault.NoEnd)
 
-abbrev pub whole : Stage → Option Outline
-whole (at.Ended outline) = Some outline
-whole _ = None
+-- no more lines, where there are so many: END has to have come, and the last program to have ended
+abbrev pub at_end : Stage → ℕ → Told
+at_end at.Opening count = told.Broken (broken_at_start count fault.NoEnd)
+at_end (at.Blocks outline) count = told.Broken (broken outline count fault.NoEnd)
+at_end (at.Program outline heading program) count = unended outline heading program.line count
+at_end (at.Requests outline terminal) count = told.Broken (broken outline count fault.NoEnd)
+at_end (at.Schedule outline) count = told.Broken (broken outline count fault.NoEnd)
+at_end (at.Ended outline) count = told.Whole outline
 
--- what the lines say, where they are those of a deck to its END
-abbrev pub outline_of : List (List ℕ) → Option Outline
-outline_of lines = option_and_then whole (stage_after at.Opening 1 lines)
+-- what follows one more line: it goes on from the next stage, or ends with the line that can't stand there
+abbrev pub led_on : (Stage → Told) → Step → Told
+led_on from (step.Next stage) = from stage
+led_on from (step.Broken breach) = told.Broken breach
+
+-- all lines, one after another, from a stage to which so many lines led
+abbrev pub told_after : Stage → ℕ → List (List ℕ) → Told
+told_after stage count [] = at_end stage count
+told_after stage count (line ∷ lines) = led_on (λ next. told_after next (count + 1) lines) (next_stage stage (count + 1) line)
+
+-- what all lines say
+abbrev pub told_by : List (List ℕ) → Told
+told_by lines = told_after at.Opening 0 lines

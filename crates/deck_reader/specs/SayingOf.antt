@@ -1,14 +1,34 @@
 -- What a line of a deck outside a program says.
-use Rattle.std.specs.Prelude.{ℕ, Bool, false, ◌==◌, nat_le, List, [], ◌∷◌, length, codes, Option, Some, None, option_map, option_and_then, if◌then◌else◌, ℤ}
+use Rattle.std.specs.Prelude.{ℕ, Bool, false, ◌==◌, nat_le, List, [], ◌∷◌, length, codes, Option, Some, None, option_map, option_and_then, is_some, if◌then◌else◌, ℤ}
+use Rattle.std.specs.List.{list_all}
 use Rattle.std.specs.Str.{bytes_eq}
 use Rattle.gd_words.specs.Spelling.{name_of}
 use Rattle.deck_reader.specs.Lines.{words_of, is_blank, is_printable, one_word, two_words, three_words, four_words}
 use Rattle.deck_reader.specs.Numbers.{number_of, word_of}
+use Rattle.deck_reader.specs.EventSayingOf.{event_said}
+use Rattle.deck_reader.specs.declared.event_saying.EventKeyword.{EventKeyword}
+use Rattle.deck_reader.specs.declared.event_saying.EventKeyword.TheVariants as event
 use Rattle.deck_reader.specs.declared.saying.Keyword.{Keyword}
 use Rattle.deck_reader.specs.declared.saying.Keyword.TheVariants as key
 use Rattle.deck_reader.specs.declared.saying.Placing.{Placing}
 use Rattle.deck_reader.specs.declared.saying.Saying.{Saying}
 use Rattle.deck_reader.specs.declared.saying.Saying.TheVariants as said
+
+-- the word with which an event line begins
+abbrev pub event_keyword_of : List ℕ → Option EventKeyword
+event_keyword_of word =
+    if bytes_eq word (codes "run") then Some event.Run
+    else if bytes_eq word (codes "enter") then Some event.Enter
+    else if bytes_eq word (codes "deliver") then Some event.Deliver
+    else if bytes_eq word (codes "lose") then Some event.Lose
+    else if bytes_eq word (codes "repeat") then Some event.Repeat
+    else if bytes_eq word (codes "tick") then Some event.Tick
+    else if bytes_eq word (codes "fail") then Some event.Fail
+    else if bytes_eq word (codes "drain") then Some event.Drain
+    else if bytes_eq word (codes "mix") then Some event.Mix
+    else if bytes_eq word (codes "mute") then Some event.Mute
+    else if bytes_eq word (codes "until") then Some event.Until
+    else None
 
 -- the word with which a line begins
 abbrev pub keyword_of : List ℕ → Option Keyword
@@ -19,11 +39,8 @@ keyword_of word =
     else if bytes_eq word (codes "terminal") then Some key.Terminal
     else if bytes_eq word (codes "send") then Some key.Send
     else if bytes_eq word (codes "schedule") then Some key.Schedule
-    else if bytes_eq word (codes "run") then Some key.Run
-    else if bytes_eq word (codes "enter") then Some key.Enter
-    else if bytes_eq word (codes "drain") then Some key.Drain
     else if bytes_eq word (codes "END") then Some key.End
-    else None
+    else option_map key.Event (event_keyword_of word)
 
 -- `processors N`
 abbrev pub processors_said : List (List ℕ) → Option Saying
@@ -63,31 +80,25 @@ request_words (word ∷ words) = option_and_then (λ value. option_map (λ value
 abbrev pub request_of : List (List ℕ) → Option (List ℤ)
 request_of parts = if nat_le (length parts) 16 then request_words parts else None
 
+-- each of them is a word
+abbrev pub are_words : List (List ℕ) → Bool
+are_words parts = list_all (λ part. is_some (word_of part)) parts
+
+abbrev pub or_long : Option (List ℤ) → Saying
+or_long None = said.LongSend
+or_long (Some words) = said.Send words
+
 -- `send w1 .. wk`
 abbrev pub send_said : List (List ℕ) → Option Saying
-send_said parts = option_map said.Send (request_of parts)
+send_said parts = if are_words parts then Some (or_long (request_of parts)) else None
 
 -- `schedule`
 abbrev pub schedule_said : List (List ℕ) → Option Saying
 schedule_said parts = if is_blank parts then Some said.Schedule else None
 
--- how often a process runs: once, or TIMES times
-abbrev pub run_of : List ℕ → List (List ℕ) → Option Saying
-run_of name parts =
-    if is_blank parts then Some (said.Run name) else option_and_then (λ word. option_map (λ times. said.RunTimes name times) (number_of word)) (one_word parts)
-
--- `run NAME` and `run NAME TIMES`
-abbrev pub run_said : List (List ℕ) → Option Saying
-run_said [] = None
-run_said (word ∷ parts) = option_and_then (λ name. run_of name parts) (name_of word)
-
--- `enter NAME`
-abbrev pub enter_said : List (List ℕ) → Option Saying
-enter_said parts = option_and_then (λ word. option_map said.Enter (name_of word)) (one_word parts)
-
--- `drain R`
-abbrev pub drain_said : List (List ℕ) → Option Saying
-drain_said parts = option_and_then (λ word. option_map said.Drain (number_of word)) (one_word parts)
+-- an event line
+abbrev pub event_line_said : List (List ℕ) → EventKeyword → Option Saying
+event_line_said parts word = option_map said.Event (event_said parts word)
 
 -- `END`
 abbrev pub end_said : List (List ℕ) → Option Saying
@@ -101,9 +112,7 @@ parts_say parts key.Pair = pair_said parts
 parts_say parts key.Terminal = terminal_said parts
 parts_say parts key.Send = send_said parts
 parts_say parts key.Schedule = schedule_said parts
-parts_say parts key.Run = run_said parts
-parts_say parts key.Enter = enter_said parts
-parts_say parts key.Drain = drain_said parts
+parts_say parts (key.Event word) = event_line_said parts word
 parts_say parts key.End = end_said parts
 
 -- a word that begins with `#`
@@ -116,6 +125,10 @@ abbrev pub said_by : List (List ℕ) → Option Saying
 said_by [] = Some said.Nothing
 said_by (word ∷ parts) = if is_remark word then Some said.Nothing else option_and_then (parts_say parts) (keyword_of word)
 
+abbrev pub or_formless : Option Saying → Saying
+or_formless None = said.Formless
+or_formless (Some saying) = saying
+
 -- a line outside a program
-abbrev pub saying_of : List ℕ → Option Saying
-saying_of line = if is_printable line then said_by (words_of line) else None
+abbrev pub saying_of : List ℕ → Saying
+saying_of line = if is_printable line then or_formless (said_by (words_of line)) else said.Formless

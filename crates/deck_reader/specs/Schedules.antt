@@ -1,5 +1,5 @@
 -- What the event lines of a deck ask for together, and the limits of that: 1,000,000 single events and 100,000 rounds.
-use Rattle.std.specs.Prelude.{◌≡◌, ◌<◌, ◌≤◌, ℕ, ◌+◌, Bool, ◌&&◌, nat_le, List, [], ◌∷◌}
+use Rattle.std.specs.Prelude.{◌≡◌, ◌⊎◌, ◌<◌, ◌≤◌, ℕ, ◌+◌, List, [], ◌∷◌}
 use Rattle.schedule.specs.declared.event.Event.{Event}
 use Rattle.schedule.specs.declared.event.Event.TheVariants as event
 use Rattle.schedule.specs.declared.line.Line.{Line}
@@ -29,31 +29,31 @@ abbrev pub rounds_of : List Line → ℕ
 rounds_of [] = 0
 rounds_of (one ∷ lines) = rounds_in one + rounds_of lines
 
--- lines that together ask for no more than the limits allow
-abbrev pub keep_limits : List Line → Bool
-keep_limits lines = nat_le (singles_of lines) 1000000 && nat_le (rounds_of lines) 100000
-
--- the sums of lines that together ask for no more than the limits allow
-pub record IsCounted (lines : List Line) (singles rounds : ℕ) : Type 0 where
-  pub sum_of_singles : singles ≡ singles_of lines
-  pub sum_of_rounds : rounds ≡ rounds_of lines
-  pub few_singles : singles ≤ 1000000
-  pub few_rounds : rounds ≤ 100000
-
 -- a step of one of so many processes
 abbrev pub IsRunOf : ℕ → Event → Type 0
 IsRunOf processes (event.Run place) = place < processes
 IsRunOf processes _ = ⊥
 
--- a step of one of so many processes, or the next request of one of so many terminals
-abbrev pub IsEventOf : ℕ → ℕ → Event → Type 0
-IsEventOf processes terminals (event.Run place) = place < processes
-IsEventOf processes terminals (event.Enter place) = place < terminals
-IsEventOf processes terminals _ = ⊥
+-- a processor of so many, or node 16, which is that of the terminals
+abbrev pub IsNodeOf : ℕ → ℕ → Type 0
+IsNodeOf processors node = (node < processors) ⊎ (node ≡ 16)
 
--- one such event, one or more steps of a process, or rounds until nothing can be done
-abbrev pub IsLineOf : ℕ → ℕ → Line → Type 0
-IsLineOf processes terminals (line.One one) = IsEventOf processes terminals one
-IsLineOf processes terminals (line.Many one times) = IsRunOf processes one × (1 ≤ times)
-IsLineOf processes terminals (line.Drain rounds) = Unit {0}
-IsLineOf processes terminals _ = ⊥
+-- an event of a site with so many processors, processes and terminals: a step of a process, the next request of a terminal,
+-- what becomes of a packet, the tick of a node or the stop of a processor
+abbrev pub IsEventOf : ℕ → ℕ → ℕ → Event → Type 0
+IsEventOf processors processes terminals (event.Run place) = place < processes
+IsEventOf processors processes terminals (event.Enter place) = place < terminals
+IsEventOf processors processes terminals (event.Deliver y k) = Unit {0}
+IsEventOf processors processes terminals (event.Lose y k) = Unit {0}
+IsEventOf processors processes terminals (event.Repeat y k) = Unit {0}
+IsEventOf processors processes terminals (event.Tick node) = IsNodeOf processors node
+IsEventOf processors processes terminals (event.Fail node) = node < processors
+
+-- one such event, one or more steps of a process, or rounds; those that lose alive packets lose those of a processor
+abbrev pub IsLineOf : ℕ → ℕ → ℕ → Line → Type 0
+IsLineOf processors processes terminals (line.One one) = IsEventOf processors processes terminals one
+IsLineOf processors processes terminals (line.Many one times) = IsRunOf processes one × (1 ≤ times)
+IsLineOf processors processes terminals (line.Drain rounds) = Unit {0}
+IsLineOf processors processes terminals (line.Mix start rounds) = Unit {0}
+IsLineOf processors processes terminals (line.Mute node rounds) = node < processors
+IsLineOf processors processes terminals (line.Until writes count rounds) = Unit {0}

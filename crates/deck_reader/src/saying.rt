@@ -1,7 +1,8 @@
 ghost use Rattle.std.specs.Prelude.{◌≡◌, ◌≤◌, length};
 ghost use Rattle.deck_reader.specs.Lines.{words_of};
-ghost use Rattle.deck_reader.specs.SayingOf.{keyword_of, processors_said, placing_of, disc_said, pair_said, terminal_said, send_said, schedule_said, run_said, run_of, enter_said, drain_said, end_said, is_remark, said_by, saying_of, request_of};
+ghost use Rattle.deck_reader.specs.SayingOf.{keyword_of, processors_said, event_keyword_of, placing_of, disc_said, pair_said, terminal_said, are_words, send_said, schedule_said, event_line_said, end_said, is_remark, said_by, or_formless, saying_of, request_of};
 
+use crate::event_saying::{EventKeyword, EventSaying, event_said};
 use crate::lines::{
     four_words, is_blank, is_printable, next_word, one_word, three_words, two_words,
 };
@@ -17,9 +18,7 @@ pub enum Keyword {
     Terminal,
     Send,
     Schedule,
-    Run,
-    Enter,
-    Drain,
+    Event(EventKeyword),
     End,
 }
 
@@ -34,6 +33,8 @@ pub struct Placing {
 /// What a line outside a program says, with its numbers as they are written.
 #[derive(Drop)]
 pub enum Saying {
+    /// A line of no form.
+    Formless,
     /// An empty line or a remark.
     Nothing,
     Processors(u32),
@@ -43,25 +44,30 @@ pub enum Saying {
     Terminal { name: Name, target: Name },
     /// One request of the terminal before.
     Send(Words),
+    /// A request of more than 16 words.
+    LongSend,
     Schedule,
-    /// One step of a process.
-    Run(Name),
-    /// So many steps of a process.
-    RunTimes { name: Name, times: u32 },
-    /// The next request of a terminal.
-    Enter(Name),
-    Drain(u32),
+    Event(EventSaying),
     End,
 }
 
-/// What a line outside a program says; none where it is of no form.
-pub fn saying_of(line: &[u8]) -> Option<Saying>
+/// What a line outside a program says.
+pub fn saying_of(line: &[u8]) -> Saying
     ensures { result ≡ saying_of line.now }
 {
     if is_printable(line) {
-        said_by(line)
+        told_by(said_by(line))
     } else {
-        None
+        Saying::Formless
+    }
+}
+
+fn told_by(saying: Option<Saying>) -> Saying
+    ensures { result ≡ or_formless saying }
+{
+    match saying {
+        None => Saying::Formless,
+        Some(saying) => saying,
     }
 }
 
@@ -81,9 +87,7 @@ fn said_by(line: &[u8]) -> Option<Saying>
         Keyword::Terminal => terminal(parts),
         Keyword::Send => send(parts),
         Keyword::Schedule => schedule(parts),
-        Keyword::Run => run(parts),
-        Keyword::Enter => enter(parts),
-        Keyword::Drain => drain(parts),
+        Keyword::Event(key) => event_line(key, parts),
         Keyword::End => end(parts),
     }
 }
@@ -113,14 +117,39 @@ fn keyword_of(word: &[u8]) -> Option<Keyword>
         Some(Keyword::Send)
     } else if word == b"schedule".as_slice() {
         Some(Keyword::Schedule)
-    } else if word == b"run".as_slice() {
-        Some(Keyword::Run)
-    } else if word == b"enter".as_slice() {
-        Some(Keyword::Enter)
-    } else if word == b"drain".as_slice() {
-        Some(Keyword::Drain)
     } else if word == b"END".as_slice() {
         Some(Keyword::End)
+    } else {
+        let key = event_keyword_of(word)?;
+        Some(Keyword::Event(key))
+    }
+}
+
+fn event_keyword_of(word: &[u8]) -> Option<EventKeyword>
+    ensures { result ≡ event_keyword_of word.now }
+{
+    if word == b"run".as_slice() {
+        Some(EventKeyword::Run)
+    } else if word == b"enter".as_slice() {
+        Some(EventKeyword::Enter)
+    } else if word == b"deliver".as_slice() {
+        Some(EventKeyword::Deliver)
+    } else if word == b"lose".as_slice() {
+        Some(EventKeyword::Lose)
+    } else if word == b"repeat".as_slice() {
+        Some(EventKeyword::Repeat)
+    } else if word == b"tick".as_slice() {
+        Some(EventKeyword::Tick)
+    } else if word == b"fail".as_slice() {
+        Some(EventKeyword::Fail)
+    } else if word == b"drain".as_slice() {
+        Some(EventKeyword::Drain)
+    } else if word == b"mix".as_slice() {
+        Some(EventKeyword::Mix)
+    } else if word == b"mute".as_slice() {
+        Some(EventKeyword::Mute)
+    } else if word == b"until".as_slice() {
+        Some(EventKeyword::Until)
     } else {
         None
     }
@@ -176,8 +205,27 @@ fn terminal(parts: &[u8]) -> Option<Saying>
 fn send(parts: &[u8]) -> Option<Saying>
     ensures { result ≡ send_said (words_of parts.now) }
 {
-    let words = request_of(parts)?;
-    Some(Saying::Send(words))
+    if !are_words(parts) {
+        return None;
+    }
+    match request_of(parts) {
+        None => Some(Saying::LongSend),
+        Some(words) => Some(Saying::Send(words)),
+    }
+}
+
+/// Whether each part is a word of a request.
+fn are_words(parts: &[u8]) -> bool
+    ensures { result ≡ are_words (words_of parts.now) }
+{
+    let mut rest = parts;
+    while let Some((word, more)) = next_word(rest) {
+        if word_of(word).is_none() {
+            return false;
+        }
+        rest = more;
+    }
+    true
 }
 
 /// The words of a request: none where one is malformed or more than 16 are there.
@@ -204,40 +252,11 @@ fn schedule(parts: &[u8]) -> Option<Saying>
     }
 }
 
-fn run(parts: &[u8]) -> Option<Saying>
-    ensures { result ≡ run_said (words_of parts.now) }
+fn event_line(key: EventKeyword, parts: &[u8]) -> Option<Saying>
+    ensures { result ≡ event_line_said (words_of parts.now) key }
 {
-    let (word, rest) = next_word(parts)?;
-    let name = Name::read(word)?;
-    run_of(name, rest)
-}
-
-/// How often a process runs: once, or as often as the one word says.
-fn run_of(name: Name, parts: &[u8]) -> Option<Saying>
-    ensures { result ≡ run_of name (words_of parts.now) }
-{
-    if is_blank(parts) {
-        return Some(Saying::Run(name));
-    }
-    let word = one_word(parts)?;
-    let times = number_of(word)?;
-    Some(Saying::RunTimes { name, times })
-}
-
-fn enter(parts: &[u8]) -> Option<Saying>
-    ensures { result ≡ enter_said (words_of parts.now) }
-{
-    let word = one_word(parts)?;
-    let name = Name::read(word)?;
-    Some(Saying::Enter(name))
-}
-
-fn drain(parts: &[u8]) -> Option<Saying>
-    ensures { result ≡ drain_said (words_of parts.now) }
-{
-    let word = one_word(parts)?;
-    let rounds = number_of(word)?;
-    Some(Saying::Drain(rounds))
+    let event = event_said(key, parts)?;
+    Some(Saying::Event(event))
 }
 
 fn end(parts: &[u8]) -> Option<Saying>

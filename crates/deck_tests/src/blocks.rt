@@ -44,12 +44,18 @@ fn takes_blocks_in_any_order(rt: HostRuntime) -> Result<(), Fail> {
 fn takes_no_seventeenth_of_a_kind(rt: HostRuntime) -> Result<(), Fail> {
     let more = [
         (b"\n# no more\n".as_slice(), None),
-        (b"disc $D16 0 1 1\n".as_slice(), Some(DeckFault::NotYet)),
+        (
+            b"disc $D16 0 1 1\n".as_slice(),
+            Some(DeckFault::Limit(52, 1)),
+        ),
         (
             b"pair $Q 0 1\nPROC m MAIN; BEGIN CALL CHECKMONITOR; END;\n.\n".as_slice(),
-            Some(DeckFault::NotYet),
+            Some(DeckFault::Limit(52, 1)),
         ),
-        (b"terminal $T17 $P\n".as_slice(), Some(DeckFault::NotYet)),
+        (
+            b"terminal $T17 $P\n".as_slice(),
+            Some(DeckFault::Limit(52, 2)),
+        ),
     ];
     for (block, fault) in more {
         let blocks = [DISCS, TERMINALS, PAIR, block];
@@ -64,15 +70,21 @@ fn takes_terminals_that_ask_processes(rt: HostRuntime) -> Result<(), Fail> {
     let terminals = [
         (b"terminal $T $P\n".as_slice(), None),
         (b"terminal $T $d15\nterminal $S $P\n".as_slice(), None),
-        (b"terminal $T $X\n".as_slice(), Some(DeckFault::NotYet)),
+        (
+            b"terminal $T $X\n".as_slice(),
+            Some(DeckFault::UnknownName(2)),
+        ),
         (
             b"terminal $T $P\nterminal $S $T\n".as_slice(),
-            Some(DeckFault::NotYet),
+            Some(DeckFault::UnknownName(3)),
         ),
-        (b"terminal $P $D1\n".as_slice(), Some(DeckFault::NotYet)),
+        (
+            b"terminal $P $D1\n".as_slice(),
+            Some(DeckFault::NameTwice(18)),
+        ),
         (
             b"terminal $T $P\nterminal $T $P\n".as_slice(),
-            Some(DeckFault::NotYet),
+            Some(DeckFault::NameTwice(3)),
         ),
     ];
     for (block, fault) in terminals {
@@ -97,6 +109,6 @@ fn takes_a_thousand_requests_of_each_terminal(rt: HostRuntime) -> Result<(), Fai
     assert!(rt; found == None);
     let blocks = [first, thousand, b"send\n".as_slice(), DISCS, PAIR];
     let found = fault_of(rt.alloc(), blocks.as_slice(), b"enter $S\n")?;
-    assert!(rt; found == Some(DeckFault::NotYet));
+    assert!(rt; found == Some(DeckFault::Limit(1_003, 3)));
     Ok(())
 }

@@ -20,9 +20,9 @@ fn takes_programs_that_open_other_processes(rt: HostRuntime) -> Result<(), Fail>
     let names = [
         (b"$Q".as_slice(), None),
         (b"$D".as_slice(), None),
-        (b"$X".as_slice(), Some(DeckFault::NotYet)),
-        (b"$P".as_slice(), Some(DeckFault::NotYet)),
-        (b"$T".as_slice(), Some(DeckFault::NotYet)),
+        (b"$X".as_slice(), Some(DeckFault::UnknownName(3))),
+        (b"$P".as_slice(), Some(DeckFault::OpensItself(3))),
+        (b"$T".as_slice(), Some(DeckFault::UnknownName(3))),
     ];
     for (name, fault) in names {
         let blocks = [DISC, FRONT, name, BACK, OTHERS];
@@ -36,21 +36,34 @@ fn takes_programs_that_open_other_processes(rt: HostRuntime) -> Result<(), Fail>
 const NO_MAIN: &[u8] = b"pair $R 1 0\nPROC m;\nBEGIN END;\n.\n";
 
 #[test]
-fn tells_a_program_before_an_unknown_name(rt: HostRuntime) -> Result<(), Fail> {
+fn tells_a_program_before_names_and_later_lines(rt: HostRuntime) -> Result<(), Fail> {
     let place = Place { line: 3, column: 1 };
     let program = Some(DeckFault::Program(11, TalFault::NoMain(place)));
     let cases = [
-        (b"".as_slice(), program),
-        (b"terminal $T $X\n".as_slice(), program),
-        (b"terminal $T\n".as_slice(), Some(DeckFault::NotYet)),
+        b"".as_slice(),
+        b"terminal $T $X\n".as_slice(),
+        b"terminal $T\n".as_slice(),
+        b"disc $P 0 1 4\n".as_slice(),
     ];
-    for (more, fault) in cases {
+    for more in cases {
         let blocks = [FRONT, b"$X".as_slice(), BACK, NO_MAIN, more];
         let found = fault_of(rt.alloc(), blocks.as_slice(), b"drain 1\n")?;
-        assert!(rt; found == fault, "{more:?}");
+        assert!(rt; found == program, "{more:?}");
     }
-    let blocks = [NO_MAIN];
-    let found = fault_of(rt.alloc(), blocks.as_slice(), b"run $X\n")?;
-    assert!(rt; found == Some(DeckFault::NotYet));
+    Ok(())
+}
+
+#[test]
+fn tells_the_earliest_line_that_names_amiss(rt: HostRuntime) -> Result<(), Fail> {
+    let unknown = b"terminal $T $X\n".as_slice();
+    let own = b"$P".as_slice();
+    let cases = [
+        ([unknown, FRONT, own, BACK], DeckFault::UnknownName(2)),
+        ([FRONT, own, BACK, unknown], DeckFault::OpensItself(2)),
+    ];
+    for (blocks, fault) in cases {
+        let found = fault_of(rt.alloc(), blocks.as_slice(), b"run $Y\n")?;
+        assert!(rt; found == Some(fault), "{fault:?}");
+    }
     Ok(())
 }

@@ -1,12 +1,11 @@
-//! Reading, writing and the words of a command line through three small traits, so that the work above can be proved over
-//! any source of bytes, any sink and any words: the ends over std's readers, writers and environment, ends in memory whose
-//! calls fail where a test asks for it, and the two calls that read all and write all.
+//! Reading and writing through two small traits, so that the work above can be proved over any source of bytes and any sink: the
+//! ends over std's readers and writers, ends in memory whose calls fail where a test asks for it, and the two calls that read
+//! all and write all.
 //!
 //! Below stands `gd_words`. The crates above use the clauses of `read_all`, and of `put_all` the relation `Puts`, which is
 //! what each call that writes a text says of its sink.
 #![tactic(auto)]
 
-pub mod command_line;
 pub mod memory_sink;
 pub mod memory_source;
 pub mod reading;
@@ -15,7 +14,6 @@ pub mod source;
 pub mod standard;
 pub mod writing;
 
-pub use command_line::{CommandLine, StdCommandLine, Word};
 pub use memory_sink::MemorySink;
 pub use memory_source::MemorySource;
 pub use reading::{ReadRefusal, read_all};

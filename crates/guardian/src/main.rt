@@ -4,13 +4,34 @@
 //! error.
 #![tactic(auto)]
 
-use gd_io::{StdCommandLine, StdSink, StdSource};
+use gd_io::{StdSink, StdSource};
+use gd_words::NoMemory;
 use runner::exit_number;
+use std::alloc::AllocGlobal;
 use std::process::ExitCode;
+use std::rt::Env;
+use std::{env, io};
+
+/// The number with which the program ends where the memory for its words is wanting.
+const NO_MEMORY: u8 = 8;
+
+/// The words that the program is called with, its name first. Where one isn't UTF-8 there are none, which ask for no command.
+fn called_words<R: Env + AllocGlobal>(rt: &R) -> Result<Vec<String>, NoMemory> {
+    match env::args(rt) {
+        Ok(words) => Ok(words.collect(rt.alloc())?),
+        Err(error) => match error.kind() {
+            io::ErrorKind::OutOfMemory => Err(NoMemory),
+            _ => Ok(Vec::new(rt.alloc())),
+        },
+    }
+}
 
 fn main(rt: HostRuntime) -> ExitCode {
-    let line = StdCommandLine::new(&rt);
+    let Ok(words) = called_words(&rt) else {
+        return ExitCode::from(NO_MEMORY);
+    };
     let mut source = StdSource::new(rt.stdin());
     let mut sink = StdSink::new(rt.stdout());
-    ExitCode::from(exit_number(rt.alloc(), &line, &mut source, &mut sink))
+    let number = exit_number(rt.alloc(), words.as_slice(), &mut source, &mut sink);
+    ExitCode::from(number)
 }

@@ -72,11 +72,14 @@ fn lines_tell_what_is_shown(rt: HostRuntime) -> Result<(), Fail> {
         &site,
         &[silent, reply],
         &[sector],
+        &[3, 15],
         &acts,
         End::Idle,
     )?;
     let wanted =
         b"W $DISC 63: 1 -2 0 32767 -32768 6 7 80\nR $T1 4294967295:\nR $T1 1: 0 -7\nD $DISC 63: 1 -2 0 32767 -32768 6 7 80
+S 3
+S 15
 A enter $T1\nA take $DISC $T1\nA step $DISC\nA print $T1\nEND idle\n";
     assert!(rt; sink.bytes() == wanted.as_slice());
     Ok(())
@@ -121,9 +124,7 @@ fn lines_tell_deck_faults(rt: HostRuntime) -> Result<(), Fail> {
     push_fault(&mut sink, DeckFault::Line(1))?;
     push_fault(&mut sink, DeckFault::Limit(65536, 9))?;
     push_fault(&mut sink, DeckFault::TooLong)?;
-    push_fault(&mut sink, DeckFault::NotYet)?;
-    let wanted =
-        b"DECK 3 2 6 12 14\nDECK 3 2 11 12 14 4\nDECK 1 1\nDECK 65536 7 9\nDECK 0 10\nDECK 0 11\n";
+    let wanted = b"DECK 3 2 6 12 14\nDECK 3 2 11 12 14 4\nDECK 1 1\nDECK 65536 7 9\nDECK 0 10\n";
     assert!(rt; sink.bytes() == wanted.as_slice());
     Ok(())
 }

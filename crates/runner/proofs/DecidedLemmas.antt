@@ -1,40 +1,35 @@
 -- What is decided, and what the outcome tells of it.
-use Rattle.std.proofs.Common.{◌≡◌, ℕ, Bool, true, false, List, [], ◌∷◌, Option, Some, None, Result, Ok, Err, sym, ap, ◌∙◌, refl}
-use Rattle.std.specs.Prelude.{◌≢◌, ⊤, IsErr, IfSome, codes, if◌then◌else◌}
-use Rattle.deck_reader.specs.Decks.{IsRefusalOf}
+use Rattle.std.proofs.Common.{◌≡◌, ℕ, true, List, Option, Some, None, Result, Ok, Err, sym, subst, ap, ◌∙◌, refl}
+use Rattle.std.specs.Prelude.{◌≢◌, ⊤, IsErr}
+use Rattle.deck_reader.specs.Decks.{Decks}
+use Rattle.deck_reader.specs.Refusals.{IsRefusalOf}
 use Rattle.deck_reader.specs.declared.deck.Deck.{Deck}
 use Rattle.verdicts.specs.Refused.{AreAccepted}
 use Rattle.gd_io.specs.Reads.{Leaves}
 use Rattle.gd_io.specs.declared.writing.WriteFault.{WriteFault}
+use Rattle.schedule_runs.specs.declared.ran.Ending.{Ending}
+use Rattle.schedule_runs.specs.declared.ran.Ending.TheVariants.{Idle, Cut, Second}
 use Rattle.tal_tree.specs.declared.fault.DeckFault.{DeckFault}
 use Rattle.tal_tree.specs.declared.fault.DeckFault.TheVariants as fault
 use Rattle.tal_tree.specs.declared.fault.TalFault.{TalFault}
 use Rattle.tal_tree.specs.declared.fault.TalFault.TheVariants as tal
 use Rattle.trace_print.specs.FaultLine.{IsOfDeck}
 use Rattle.trace_print.specs.TalNumbers.{IsOfText}
-use Rattle.runner.specs.Decided.{IsTold, IsDueOfAccepted, IsDueOfBytes, IsDueOfDeck, due_of_fault}
-use Rattle.runner.specs.Words.{asked_by}
-use Rattle.runner.specs.declared.words.Command.{Command}
-use Rattle.runner.specs.declared.words.Command.TheVariants as command
+use Rattle.runner.specs.Decided.{IsTold, IsDueOfAccepted, IsDueOfBytes, IsDueOfDeck, IsDueOfPrograms, IsDueOfSource, due_of_fault}
+use Rattle.runner.specs.RunEnds.{status_of_run}
+use Rattle.runner.specs.Tasks.{can_stop}
 use Rattle.runner.specs.Written.{outcome_of, CanBeWritten}
 use Rattle.runner.specs.declared.due.Due.{Due}
 use Rattle.runner.specs.declared.due.Due.TheVariants as due
 use Rattle.runner.specs.declared.outcome.Outcome.{Outcome}
 use Rattle.runner.specs.declared.outcome.Status.TheVariants as status
+use Rattle.runner.specs.declared.task.Task.{Task}
+use Rattle.runner.specs.declared.task.Task.TheVariants as task
 
 -- the bytes that were read are those that were told
 pub told : (left now : Option (List ℕ)) (bytes rest : List ℕ) → Leaves left now bytes rest → IsTold left bytes
 told None now bytes rest h = tt
 told (Some xs) now bytes rest h = h.0
-
--- there are words of which it was answered right what they ask for, and they are the told ones
-pub words_of : (told : Option (List (List ℕ))) (answer : Option Command) → IfSome told (λ words. answer ≡ asked_by words)
-    → (words : List (List ℕ)) × IsTold told words × (asked_by words ≡ answer)
-words_of None None h = ([], tt, refl)
-words_of None (Some (command.Run false)) h = (codes "run" ∷ [], tt, refl)
-words_of None (Some command.Check) h = (codes "check" ∷ [], tt, refl)
-words_of None (Some (command.Run true)) h = (codes "run" ∷ codes "--acts" ∷ [], tt, refl)
-words_of (Some words) answer h = (words, refl, sym h)
 
 -- what a program is refused for is told, where it isn't want of memory
 of_text : (why : TalFault) → why ≢ tal.NoMemory → IsOfText why
@@ -42,20 +37,25 @@ of_text tal.NoMemory memory = absurd (memory refl)
 of_text _ memory = tt
 
 -- why bytes are refused is due
-pub fault_is_due : (command : Command) (bytes : List ℕ) (f : DeckFault) → (f ≢ fault.NoMemory → IsRefusalOf bytes f) → IsDueOfBytes command bytes (due_of_fault f)
-fault_is_due command bytes fault.NoMemory refused = tt
-fault_is_due command bytes f refused = refused (λ e. absurd (cc))
+pub fault_is_due : (task : Task) (bytes : List ℕ) (f : DeckFault) → (f ≢ fault.NoMemory → IsRefusalOf bytes f) → IsDueOfBytes task bytes (due_of_fault f)
+fault_is_due task bytes fault.NoMemory refused = tt
+fault_is_due task bytes f refused = refused (λ e. absurd (cc))
 
 -- why bytes are refused has a line
 has_line : (bytes : List ℕ) (f : DeckFault) → IsRefusalOf bytes f → ((number : ℕ) → f ≢ fault.Program number tal.NoMemory) → IsOfDeck f
 has_line bytes (fault.Program number why) refused memory = of_text why (λ e. memory number (ap (fault.Program number) e))
-has_line bytes fault.TooLong refused memory = tt
-has_line bytes fault.NotYet refused memory = tt
-has_line bytes _ refused memory = absurd refused
+has_line bytes fault.NoMemory refused memory = absurd refused
+has_line bytes _ refused memory = tt
 
 pub fault_is_written : (bytes : List ℕ) (f : DeckFault) → (f ≢ fault.NoMemory → IsRefusalOf bytes f) → ((number : ℕ) → f ≢ fault.Program number tal.NoMemory) → CanBeWritten (due_of_fault f)
 fault_is_written bytes fault.NoMemory refused memory = tt
 fault_is_written bytes f refused memory = has_line bytes f (refused (λ e. absurd (cc))) memory
+
+-- a read fault is the status of no run
+run_read : (ending : Ending) → status_of_run ending ≡ status.ReadFault → ⊥
+run_read Idle e = cc
+run_read Cut e = cc
+run_read (Second processor) e = cc
 
 -- a read fault is the status of no other decision
 read_fault_only : (decided : Due) (result : Result ⊤ WriteFault) → (outcome_of decided result).status ≡ status.ReadFault → decided ≡ due.ReadFault
@@ -65,16 +65,18 @@ read_fault_only due.NoMemory (Ok done) e = absurd (cc)
 read_fault_only (due.DeckRefused fault) (Ok done) e = absurd (cc)
 read_fault_only (due.ProgramRefused refused) (Ok done) e = absurd (cc)
 read_fault_only (due.Accepted site) (Ok done) e = absurd (cc)
-read_fault_only (due.Report report) (Ok done) e = absurd (run_ended report.idle e)
-  where
-    run_ended : (idle : Bool) → (if idle then status.Done else status.Cut) ≡ status.ReadFault → ⊥
-    run_ended true e = cc
-    run_ended false e = cc
+read_fault_only (due.Report report) (Ok done) e = absurd (run_read report.run.ran.ending e)
 read_fault_only decided (Err fault) e = absurd (cc)
 
 pub read_fault_is_due : (decided : Due) (result : Result ⊤ WriteFault) (outcome : Outcome) → outcome ≡ outcome_of decided result
     → outcome.status ≡ status.ReadFault → decided ≡ due.ReadFault
 read_fault_is_due decided result outcome is e = read_fault_only decided result (sym (ap (λ o. o.status) is) ∙ e)
+
+-- nor is a write fault
+run_written : (ending : Ending) → status_of_run ending ≡ status.WriteFault → ⊥
+run_written Idle e = cc
+run_written Cut e = cc
+run_written (Second processor) e = cc
 
 -- a write fault is the status where writing failed, and nowhere else
 write_fault_only : (decided : Due) (result : Result ⊤ WriteFault) → (outcome_of decided result).status ≡ status.WriteFault → IsErr result
@@ -84,11 +86,7 @@ write_fault_only due.NoMemory (Ok done) e = absurd (cc)
 write_fault_only (due.DeckRefused fault) (Ok done) e = absurd (cc)
 write_fault_only (due.ProgramRefused refused) (Ok done) e = absurd (cc)
 write_fault_only (due.Accepted site) (Ok done) e = absurd (cc)
-write_fault_only (due.Report report) (Ok done) e = absurd (run_ended report.idle e)
-  where
-    run_ended : (idle : Bool) → (if idle then status.Done else status.Cut) ≡ status.WriteFault → ⊥
-    run_ended true e = cc
-    run_ended false e = cc
+write_fault_only (due.Report report) (Ok done) e = absurd (run_written report.run.ran.ending e)
 write_fault_only decided (Err fault) e = refl
 
 pub writing_failed : (decided : Due) (result : Result ⊤ WriteFault) (outcome : Outcome) → outcome ≡ outcome_of decided result
@@ -96,13 +94,66 @@ pub writing_failed : (decided : Due) (result : Result ⊤ WriteFault) (outcome :
 writing_failed decided result outcome is e = write_fault_only decided result (sym (ap (λ o. o.status) is) ∙ e)
 
 -- what is due of a deck whose programs are all accepted
-pub accepted_is_due : (command : Command) (deck : Deck) (decided : Due) → AreAccepted deck.site.processes → IsDueOfAccepted command deck decided
-    → IsDueOfDeck command deck decided
-accepted_is_due (command.Run acts) deck (due.ProgramRefused refused) accepted is = absurd is
-accepted_is_due command.Check deck (due.ProgramRefused refused) accepted is = absurd (cc)
-accepted_is_due command deck due.NoMemory accepted is = tt
-accepted_is_due command deck due.Usage accepted is = (accepted, is)
-accepted_is_due command deck due.ReadFault accepted is = (accepted, is)
-accepted_is_due command deck (due.DeckRefused fault) accepted is = (accepted, is)
-accepted_is_due command deck (due.Accepted site) accepted is = (accepted, is)
-accepted_is_due command deck (due.Report report) accepted is = (accepted, is)
+pub accepted_is_due : (task : Task) (deck : Deck) (decided : Due) → AreAccepted deck.site.processes → IsDueOfAccepted task deck decided
+    → IsDueOfPrograms task deck decided
+accepted_is_due (task.Run acts stop) deck (due.ProgramRefused refused) accepted is = absurd is
+accepted_is_due task.Check deck (due.ProgramRefused refused) accepted is = absurd (cc)
+accepted_is_due task deck due.NoMemory accepted is = tt
+accepted_is_due task deck due.Usage accepted is = (accepted, is)
+accepted_is_due task deck due.ReadFault accepted is = (accepted, is)
+accepted_is_due task deck (due.DeckRefused fault) accepted is = (accepted, is)
+accepted_is_due task deck (due.Accepted site) accepted is = (accepted, is)
+accepted_is_due task deck (due.Report report) accepted is = (accepted, is)
+
+-- the usage, a read fault or a fault of the deck is due of no accepted programs
+no_usage : (task : Task) (deck : Deck) → IsDueOfAccepted task deck due.Usage → ⊥
+no_usage (task.Run acts stop) deck is = is
+no_usage task.Check deck is = cc
+
+no_read_fault : (task : Task) (deck : Deck) → IsDueOfAccepted task deck due.ReadFault → ⊥
+no_read_fault (task.Run acts stop) deck is = is
+no_read_fault task.Check deck is = cc
+
+no_deck_fault : (task : Task) (deck : Deck) (f : DeckFault) → IsDueOfAccepted task deck (due.DeckRefused f) → ⊥
+no_deck_fault (task.Run acts stop) deck f is = is
+no_deck_fault task.Check deck f is = cc
+
+-- what is due of the programs of a deck on which the stop can be made
+pub programs_are_due : (task : Task) (deck : Deck) (decided : Due) → can_stop task deck.site ≡ true → IsDueOfPrograms task deck decided
+    → IsDueOfDeck task deck decided
+programs_are_due task deck due.Usage can is = absurd (no_usage task deck is.1)
+programs_are_due task deck due.NoMemory can is = (can, is)
+programs_are_due task deck due.ReadFault can is = (can, is)
+programs_are_due task deck (due.DeckRefused fault) can is = (can, is)
+programs_are_due task deck (due.ProgramRefused refused) can is = (can, is)
+programs_are_due task deck (due.Accepted site) can is = (can, is)
+programs_are_due task deck (due.Report report) can is = (can, is)
+
+-- what is due of the deck that bytes spell
+pub deck_is_due : (task : Task) (bytes : List ℕ) (deck : Deck) (decided : Due) → Decks bytes deck → IsDueOfDeck task deck decided
+    → IsDueOfBytes task bytes decided
+deck_is_due task bytes deck (due.DeckRefused f) decks is = absurd (no_deck_fault task deck f is.1.1)
+deck_is_due task bytes deck due.NoMemory decks is = tt
+deck_is_due task bytes deck due.Usage decks is = (deck, decks, is)
+deck_is_due task bytes deck due.ReadFault decks is = (deck, decks, is)
+deck_is_due task bytes deck (due.ProgramRefused refused) decks is = (deck, decks, is)
+deck_is_due task bytes deck (due.Accepted site) decks is = (deck, decks, is)
+deck_is_due task bytes deck (due.Report report) decks is = (deck, decks, is)
+
+-- no read fault is due of bytes
+bytes_are_read : (task : Task) (bytes : List ℕ) → IsDueOfBytes task bytes due.ReadFault → ⊥
+bytes_are_read task bytes is = no_read_fault task is.0 is.2.1.1
+
+pub not_read_fault : (task : Task) (bytes : List ℕ) (decided : Due) → IsDueOfBytes task bytes decided → decided ≢ due.ReadFault
+not_read_fault task bytes decided is e = bytes_are_read task bytes (subst (IsDueOfBytes task bytes) e is)
+
+-- what is due of the bytes of a source
+pub bytes_are_due : (task : Task) (left : Option (List ℕ)) (before now : ℕ) (bytes : List ℕ) (decided : Due) → IsTold left bytes → IsDueOfBytes task bytes decided
+    → IsDueOfSource task left before now decided
+bytes_are_due task left before now bytes due.ReadFault told is = absurd (bytes_are_read task bytes is)
+bytes_are_due task left before now bytes due.NoMemory told is = tt
+bytes_are_due task left before now bytes due.Usage told is = (bytes, told, is)
+bytes_are_due task left before now bytes (due.DeckRefused f) told is = (bytes, told, is)
+bytes_are_due task left before now bytes (due.ProgramRefused refused) told is = (bytes, told, is)
+bytes_are_due task left before now bytes (due.Accepted site) told is = (bytes, told, is)
+bytes_are_due task left before now bytes (due.Report report) told is = (bytes, told, is)

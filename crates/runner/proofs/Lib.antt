@@ -1,3 +1,2 @@
-pub mod Asked
 pub mod DecidedLemmas
-pub mod Playable
+pub mod Reported

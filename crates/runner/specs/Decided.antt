@@ -1,48 +1,66 @@
 -- What a command decides before it writes anything.
-use Rattle.std.specs.Prelude.{◌≡◌, ◌↔◌, ℕ, IsTrue, Bool, true, false, List, [], ◌∷◌, Option, Some, None}
+use Rattle.std.specs.Prelude.{◌≡◌, ◌⊎◌, ℕ, Bool, true, false, List, Option, Some, None}
 use Rattle.tal_tree.specs.declared.fault.DeckFault.{DeckFault}
 use Rattle.tal_tree.specs.declared.fault.DeckFault.TheVariants.{TooLong, NoMemory}
+use Rattle.command_words.specs.Asked.{asked_by}
+use Rattle.command_words.specs.declared.asked.Command.{Command}
+use Rattle.command_words.specs.declared.asked.Command.TheVariants as command
 use Rattle.gd_io.specs.Faults.{HasRisen}
-use Rattle.deck_reader.specs.Decks.{Decks, IsRefusalOf}
+use Rattle.deck_reader.specs.Decks.{Decks}
+use Rattle.deck_reader.specs.Refusals.{IsRefusalOf}
 use Rattle.deck_reader.specs.declared.deck.Deck.{Deck}
+use Rattle.player.specs.declared.stop.Stop.{Stop}
 use Rattle.plain_semantics.specs.Machine.{IsPossible, IsNoneLeft, shown_by}
-use Rattle.plain_machine.specs.Lines.{run_of}
+use Rattle.schedule_runs.specs.Ends.{IsRunOf}
+use Rattle.schedule_runs.specs.declared.ran.Ending.TheVariants.{Idle}
 use Rattle.shown_sectors.specs.Sectors.{sectors_after}
 use Rattle.verdicts.specs.Refused.{AreAccepted, IsFirstRefused}
-use Rattle.runner.specs.Words.{asked_by}
-use Rattle.runner.specs.declared.words.Command.{Command}
-use Rattle.runner.specs.declared.words.Command.TheVariants as command
+use Rattle.runner.specs.RunEnds.{acts_in, shown_in}
+use Rattle.runner.specs.Stopped.{stopped_from}
+use Rattle.runner.specs.Tasks.{can_stop}
 use Rattle.runner.specs.declared.due.Due.{Due}
 use Rattle.runner.specs.declared.due.Due.TheVariants as due
 use Rattle.runner.specs.declared.due.Report.{Report}
+use Rattle.runner.specs.declared.task.Task.{Task}
+use Rattle.runner.specs.declared.task.Task.TheVariants as task
 
--- the run of a deck: its acts are those that the lines of its schedule give; they are possible on the machine of single
--- unfailing processes, what the run shows is what they show there, and it is idle exactly where no act is possible after
--- them. The sectors are those that what is shown leaves written
-pub record IsRunOf (deck : Deck) (report : Report) : Type 0 where
+-- some bytes spell the deck
+abbrev pub IsSpelt : Deck → Type 0
+IsSpelt deck = (bytes : List ℕ) × Decks bytes deck
+
+-- the run of a deck, after Bartlett's paper: it is a run of the schedule, with the stop of the words, on the machine of copies; the acts that it keeps are
+-- possible on the machine of single unfailing processes; what it shows, in order, is what they show there; where it ended idle no act is possible after
+-- them; the sectors are those that what is shown leaves written; and the processors that have stopped are those of its world at the end
+pub record IsReportOf (deck : Deck) (stop : Option Stop) (report : Report) : Type 0 where
   pub site : report.site ≡ deck.site
-  pub acts : report.run.acts ≡ (run_of deck.site deck.lines).acts
-  pub possible : IsPossible deck.site report.run.acts
-  pub shown : report.run.shown ≡ shown_by deck.site report.run.acts
-  pub idle : IsTrue report.idle ↔ IsNoneLeft deck.site report.run.acts
-  pub sectors : report.sectors ≡ sectors_after deck.site report.run.shown
+  pub run : IsRunOf deck.site deck.lines stop report.run.ran
+  pub possible : IsPossible deck.site (acts_in report.run)
+  pub shown : shown_in report.run ≡ shown_by deck.site (acts_in report.run)
+  pub none : report.run.ran.ending ≡ Idle → IsNoneLeft deck.site (acts_in report.run)
+  pub sectors : report.sectors ≡ sectors_after deck.site (shown_in report.run)
+  pub stopped : report.stopped ≡ stopped_from 0 report.run.ran.machine.state.world.stopped
 
 -- what is due of a deck that is run: the report of its run, with its acts where they are asked for
-abbrev pub IsDueOfRun : Deck → Bool → Due → Type 0
-IsDueOfRun deck acts (due.Report report) = IsRunOf deck report × (report.tells_acts ≡ acts)
-IsDueOfRun deck acts due.NoMemory = Unit {0}
-IsDueOfRun deck acts _ = ⊥
+abbrev pub IsDueOfRun : Deck → Option Stop → Bool → Due → Type 0
+IsDueOfRun deck stop acts (due.Report report) = IsReportOf deck stop report × (report.tells_acts ≡ acts)
+IsDueOfRun deck stop acts due.NoMemory = Unit {0}
+IsDueOfRun deck stop acts _ = ⊥
 
--- what is due of a deck whose programs are all accepted, by the command
-abbrev pub IsDueOfAccepted : Command → Deck → Due → Type 0
-IsDueOfAccepted (command.Run acts) deck decided = IsDueOfRun deck acts decided
-IsDueOfAccepted command.Check deck decided = decided ≡ due.Accepted deck.site
+-- what is due of a deck whose programs are all accepted, by what is to be done with it
+abbrev pub IsDueOfAccepted : Task → Deck → Due → Type 0
+IsDueOfAccepted (task.Run acts stop) deck decided = IsDueOfRun deck stop acts decided
+IsDueOfAccepted task.Check deck decided = decided ≡ due.Accepted deck.site
 
--- what is due of a deck: its first program that is refused, or else what is due by the command, and then all are accepted
-abbrev pub IsDueOfDeck : Command → Deck → Due → Type 0
-IsDueOfDeck command deck (due.ProgramRefused refused) = (refused.site ≡ deck.site) × IsFirstRefused deck.site.processes refused.found
-IsDueOfDeck command deck due.NoMemory = Unit {0}
-IsDueOfDeck command deck decided = AreAccepted deck.site.processes × IsDueOfAccepted command deck decided
+-- what is due of the programs of a deck: the first that is refused, or else what is due by what is to be done, and then all are accepted
+abbrev pub IsDueOfPrograms : Task → Deck → Due → Type 0
+IsDueOfPrograms task deck (due.ProgramRefused refused) = (refused.site ≡ deck.site) × IsFirstRefused deck.site.processes refused.found
+IsDueOfPrograms task deck due.NoMemory = Unit {0}
+IsDueOfPrograms task deck decided = AreAccepted deck.site.processes × IsDueOfAccepted task deck decided
+
+-- what is due of a deck: the usage where a processor is to stop that it hasn't, else what is due of its programs
+abbrev pub IsDueOfDeck : Task → Deck → Due → Type 0
+IsDueOfDeck task deck due.Usage = can_stop task deck.site ≡ false
+IsDueOfDeck task deck decided = (can_stop task deck.site ≡ true) × IsDueOfPrograms task deck decided
 
 -- what is due where a deck is refused for a fault, or memory ran out
 abbrev pub due_of_fault : DeckFault → Due
@@ -50,10 +68,10 @@ due_of_fault NoMemory = due.NoMemory
 due_of_fault fault = due.DeckRefused fault
 
 -- what is due of bytes
-abbrev pub IsDueOfBytes : Command → List ℕ → Due → Type 0
-IsDueOfBytes command bytes (due.DeckRefused fault) = IsRefusalOf bytes fault
-IsDueOfBytes command bytes due.NoMemory = Unit {0}
-IsDueOfBytes command bytes decided = (deck : Deck) × Decks bytes deck × IsDueOfDeck command deck decided
+abbrev pub IsDueOfBytes : Task → List ℕ → Due → Type 0
+IsDueOfBytes task bytes (due.DeckRefused fault) = IsRefusalOf bytes fault
+IsDueOfBytes task bytes due.NoMemory = Unit {0}
+IsDueOfBytes task bytes decided = (deck : Deck) × Decks bytes deck × IsDueOfDeck task deck decided
 
 -- what there is is what was told, where it was told
 abbrev pub IsTold : {X : Type 0} → Option X → X → Type 0
@@ -61,19 +79,32 @@ IsTold None there = Unit {0}
 IsTold (Some told) there = told ≡ there
 
 -- what is due of a source, whose count of faults stood and stands so
-abbrev pub IsDueOfSource : Command → Option (List ℕ) → ℕ → ℕ → Due → Type 0
-IsDueOfSource command left before now due.ReadFault = HasRisen before now
-IsDueOfSource command left before now due.NoMemory = Unit {0}
-IsDueOfSource command left before now due.Usage = ⊥
-IsDueOfSource command left before now decided = (bytes : List ℕ) × IsTold left bytes × IsDueOfBytes command bytes decided
+abbrev pub IsDueOfSource : Task → Option (List ℕ) → ℕ → ℕ → Due → Type 0
+IsDueOfSource task left before now due.ReadFault = HasRisen before now
+IsDueOfSource task left before now due.NoMemory = Unit {0}
+IsDueOfSource task left before now decided = (bytes : List ℕ) × IsTold left bytes × IsDueOfBytes task bytes decided
 
+-- what is due by a command: of the deck that is read; the usage where one is to be made for a number, since none is made yet
+abbrev pub IsDueOfCommand : Command → Option (List ℕ) → ℕ → ℕ → Due → Type 0
+IsDueOfCommand (command.Run acts stop) left before now decided = IsDueOfSource (task.Run acts stop) left before now decided
+IsDueOfCommand command.Check left before now decided = IsDueOfSource task.Check left before now decided
+IsDueOfCommand (command.Load number) left before now decided = decided ≡ due.Usage
+
+-- what is due by what is asked for: the usage where that is nothing
 abbrev pub IsDueOn : Option Command → Option (List ℕ) → ℕ → ℕ → Due → Type 0
 IsDueOn None left before now decided = decided ≡ due.Usage
-IsDueOn (Some command) left before now decided = IsDueOfSource command left before now decided
+IsDueOn (Some asked) left before now decided = IsDueOfCommand asked left before now decided
 
--- what is due: Usage where the words are no command, and else what is due of the source
+-- what is due: want of memory, or what is due by what the words ask for, the program's name first
 abbrev pub IsDue : List (List ℕ) → Option (List ℕ) → ℕ → ℕ → Due → Type 0
-IsDue words left before now decided = IsDueOn (asked_by words) left before now decided
+IsDue words left before now decided = (decided ≡ due.NoMemory) ⊎ IsDueOn (asked_by words) left before now decided
+
+-- no deck is read where nothing is asked for, or a deck that is made for a number
+abbrev pub NeedsNoDeck : Option Command → Type 0
+NeedsNoDeck None = Unit {0}
+NeedsNoDeck (Some (command.Load number)) = Unit {0}
+NeedsNoDeck (Some (command.Run acts stop)) = ⊥
+NeedsNoDeck (Some command.Check) = ⊥
 
 -- what is due only once the deck was read to its end: a report or a verdict, or a refusal for what the deck says
 abbrev pub IsOfWholeDeck : Due → Type 0

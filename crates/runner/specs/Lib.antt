@@ -1,6 +1,7 @@
 pub mod Decided
 pub mod Ends
 pub mod Numbers
-pub mod Places
-pub mod Words
+pub mod RunEnds
+pub mod Stopped
+pub mod Tasks
 pub mod Written

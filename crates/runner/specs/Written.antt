@@ -8,7 +8,7 @@ use Rattle.trace_print.specs.EndLine.{usage_line}
 use Rattle.trace_print.specs.FaultLine.{fault_line, IsOfDeck}
 use Rattle.trace_print.specs.ReportText.{report_text}
 use Rattle.trace_print.specs.VerdictText.{accepted_text, refusal_text}
-use Rattle.trace_print.specs.declared.closing.End.TheVariants as end
+use Rattle.runner.specs.RunEnds.{acts_in, end_of, shown_in, status_of_run}
 use Rattle.runner.specs.declared.due.Due.{Due}
 use Rattle.runner.specs.declared.due.Due.TheVariants as due
 use Rattle.runner.specs.declared.due.Report.{Report}
@@ -19,11 +19,11 @@ use Rattle.runner.specs.declared.outcome.Status.TheVariants as status
 
 -- the acts that a report tells: all that were kept, where they are asked for
 abbrev pub told_acts : Report → List Act
-told_acts report = if report.tells_acts then report.run.acts else []
+told_acts report = if report.tells_acts then acts_in report.run else []
 
 -- the report of a run
 abbrev pub text_of_run : Report → List ℕ
-text_of_run report = report_text report.site report.run.shown report.sectors (told_acts report) (if report.idle then end.Idle else end.Cut)
+text_of_run report = report_text report.site (shown_in report.run) report.sectors report.stopped (told_acts report) (end_of report.run.ran.ending)
 
 -- the text that is due; nothing where reading failed or memory ran out
 abbrev pub text_of : Due → List ℕ
@@ -42,7 +42,7 @@ status_of due.NoMemory = status.NoMemory
 status_of (due.DeckRefused fault) = status.DeckRefused fault
 status_of (due.ProgramRefused refused) = status.Refused refused.found.process refused.found.refusal
 status_of (due.Accepted site) = status.Done
-status_of (due.Report report) = if report.idle then status.Done else status.Cut
+status_of (due.Report report) = status_of_run report.run.ran.ending
 
 abbrev pub run_of : Due → Option RunEnd
 run_of (due.Report report) = Some report.run

@@ -1,17 +1,27 @@
-ghost use Rattle.std.specs.Prelude.{◌≡◌, ◌≢◌, ℕ, List, IfOk};
+ghost use Rattle.std.specs.Prelude.{◌≡◌, ◌≢◌, IfOk, Some, map, string_bytes};
 ghost use Rattle.std.specs.Io.KnownBytes.{IsAtEnd};
+ghost use Rattle.command_words.specs.Asked.{asked_by};
 ghost use Rattle.gd_io.specs.Faults.{HasRisen};
-ghost use Rattle.plain_machine.specs.Standing.{IsPlayable};
+ghost use Rattle.plain_semantics.specs.SiteLimits.{KeepsSiteLimits};
+ghost use Rattle.verdicts.specs.Refused.{AreAccepted};
 ghost use Rattle.runner.specs.Written.{CanBeWritten};
-ghost use Rattle.runner.specs.Decided.{IsTold, IsDue, IsDueOfSource, IsDueOfBytes, IsDueOfDeck, IsDueOfAccepted, IsDueOfRun, IsRunOf, IsOfWholeDeck, due_of_fault};
+ghost use Rattle.runner.specs.Decided.{IsDue, IsDueOfCommand, IsDueOfSource, IsDueOfBytes, IsDueOfDeck, IsDueOfPrograms, IsDueOfAccepted, IsDueOfRun};
+ghost use Rattle.runner.specs.Decided.{IsReportOf, IsSpelt, IsOfWholeDeck, NeedsNoDeck, due_of_fault};
 
 use crate::due::{Due, RefusedSite, Report};
 use crate::outcome::RunEnd;
-use crate::words::{Command, asked_by};
+use crate::stopped::stopped_processors;
+use crate::task::Task;
+use accepted_decks::{
+    a_run_of_an_accepted_site_keeps_possible_acts, an_accepted_deck_meets_the_premises,
+};
+use command_words::{Command, asked_by};
 use deck_reader::{Deck, read_deck};
-use gd_io::{CommandLine, ReadRefusal, Source, read_all};
+use gd_io::{ReadRefusal, Source, read_all};
 use gd_words::NoMemory;
-use plain_machine::{Played, play_lines};
+use logs::Shared;
+use player::Stop;
+use schedule_runs::run;
 use shown_sectors::sectors_after;
 use std::alloc::Global;
 use tal_tree::DeckFault;
@@ -21,43 +31,58 @@ use verdicts::first_refused;
 const MOST_BYTES: usize = 1_048_576;
 
 /// What is due: by the words, then by reading, then by the deck, then by the run. All memory is taken here.
-pub fn decide<L: CommandLine, S: Source>(alloc: Global, line: &L, source: &mut S) -> Due
-    ensures due { (words : List (List ℕ)) × IsTold (L.words line.now) words
-        × IsDue words (S.left source.old) (S.faults source.old) (S.faults source.new) result }
+pub fn decide<S: Source>(alloc: Global, words: &[String], source: &mut S) -> Due
+    ensures due { IsDue (map string_bytes words.entry.now) (S.left source.old) (S.faults source.old) (S.faults source.new) result }
     ensures written { CanBeWritten result }
     ensures cause { result ≡ Due.ReadFault → HasRisen (S.faults source.old) (S.faults source.new) }
     ensures unfailing { S.sure source.old → result ≢ Due.ReadFault }
-    ensures unread { result ≡ Due.Usage → source.new ≡ source.old }
+    ensures unread { NeedsNoDeck (asked_by (map string_bytes words.entry.now)) → source.new ≡ source.old }
     ensures read_whole { IsOfWholeDeck result → IsAtEnd (S.left source.new) }
 {
-    match asked_by(line) {
-        None => Due::Usage,
-        Some(command) => due_of_source(alloc, command, source),
+    match asked_by(alloc, words) {
+        Err(NoMemory) => Due::NoMemory,
+        Ok(None) => Due::Usage,
+        Ok(Some(command)) => due_of_command(alloc, command, source),
     }
 }
 
-fn due_of_source<S: Source>(alloc: Global, command: Command, source: &mut S) -> Due
-    ensures due { IsDueOfSource command (S.left source.old) (S.faults source.old) (S.faults source.new) result }
+fn due_of_command<S: Source>(alloc: Global, command: Command, source: &mut S) -> Due
+    ensures due { IsDueOfCommand command (S.left source.old) (S.faults source.old) (S.faults source.new) result }
     ensures written { CanBeWritten result }
     ensures cause { result ≡ Due.ReadFault → HasRisen (S.faults source.old) (S.faults source.new) }
     ensures unfailing { S.sure source.old → result ≢ Due.ReadFault }
-    ensures read { result ≢ Due.Usage }
+    ensures unread { NeedsNoDeck (Some command) → source.new ≡ source.old }
+    ensures read_whole { IsOfWholeDeck result → IsAtEnd (S.left source.new) }
+{
+    match command {
+        Command::Run { acts, stop } => due_of_source(alloc, Task::Run { acts, stop }, source),
+        Command::Check => due_of_source(alloc, Task::Check, source),
+        // No deck is made yet for a number.
+        Command::Load(_) => Due::Usage,
+    }
+}
+
+fn due_of_source<S: Source>(alloc: Global, task: Task, source: &mut S) -> Due
+    ensures due { IsDueOfSource task (S.left source.old) (S.faults source.old) (S.faults source.new) result }
+    ensures written { CanBeWritten result }
+    ensures cause { result ≡ Due.ReadFault → HasRisen (S.faults source.old) (S.faults source.new) }
+    ensures unfailing { S.sure source.old → result ≢ Due.ReadFault }
     ensures read_whole { IsOfWholeDeck result → IsAtEnd (S.left source.new) }
 {
     match read_all(alloc, source, MOST_BYTES) {
-        Ok(bytes) => due_of_bytes(alloc, command, bytes.as_slice()),
+        Ok(bytes) => due_of_bytes(alloc, task, bytes.as_slice()),
         Err(ReadRefusal::Failed) => Due::ReadFault,
         Err(ReadRefusal::TooLong) => Due::DeckRefused(DeckFault::TooLong),
         Err(ReadRefusal::NoMemory) => Due::NoMemory,
     }
 }
 
-fn due_of_bytes(alloc: Global, command: Command, bytes: &[u8]) -> Due
-    ensures due { IsDueOfBytes command bytes.now result }
+fn due_of_bytes(alloc: Global, task: Task, bytes: &[u8]) -> Due
+    ensures due { IsDueOfBytes task bytes.now result }
     ensures written { CanBeWritten result }
 {
     match read_deck(alloc, bytes) {
-        Ok(deck) => due_of_deck(alloc, command, deck),
+        Ok(deck) => due_of_deck(alloc, task, deck),
         Err(fault) => due_of_fault(fault),
     }
 }
@@ -71,14 +96,26 @@ fn due_of_fault(fault: DeckFault) -> Due
     }
 }
 
-fn due_of_deck(alloc: Global, command: Command, deck: Deck) -> Due
-    requires { IsPlayable deck.site }
-    ensures due { IsDueOfDeck command deck result }
+fn due_of_deck(alloc: Global, task: Task, deck: Deck) -> Due
+    requires { IsSpelt deck }
+    ensures due { IsDueOfDeck task deck result }
     ensures written { CanBeWritten result }
 {
+    if !task.can_stop(&deck.site) {
+        return Due::Usage;
+    }
+    due_of_programs(alloc, task, deck)
+}
+
+fn due_of_programs(alloc: Global, task: Task, deck: Deck) -> Due
+    requires { IsSpelt deck }
+    ensures due { IsDueOfPrograms task deck result }
+    ensures written { CanBeWritten result }
+{
+    an_accepted_deck_meets_the_premises();
     match first_refused(alloc, deck.site.processes.as_slice()) {
         Err(NoMemory) => Due::NoMemory,
-        Ok(None) => due_of_accepted(alloc, command, deck),
+        Ok(None) => due_of_accepted(alloc, task, deck),
         Ok(Some(found)) => {
             let Deck { site, lines: _ } = deck;
             Due::ProgramRefused(RefusedSite { site, found })
@@ -86,46 +123,60 @@ fn due_of_deck(alloc: Global, command: Command, deck: Deck) -> Due
     }
 }
 
-fn due_of_accepted(alloc: Global, command: Command, deck: Deck) -> Due
-    requires { IsPlayable deck.site }
-    ensures due { IsDueOfAccepted command deck result }
+fn due_of_accepted(alloc: Global, task: Task, deck: Deck) -> Due
+    requires spelt { IsSpelt deck }
+    requires accepted { AreAccepted deck.site.processes }
+    ensures due { IsDueOfAccepted task deck result }
     ensures written { CanBeWritten result }
 {
-    match command {
-        Command::Run { acts } => due_of_run(alloc, deck, acts),
-        Command::Check => {
+    match task {
+        Task::Run { acts, stop } => due_of_run(alloc, deck, stop, acts),
+        Task::Check => {
             let Deck { site, lines: _ } = deck;
             Due::Accepted(site)
         }
     }
 }
 
-fn due_of_run(alloc: Global, deck: Deck, tells_acts: bool) -> Due
-    requires { IsPlayable deck.site }
-    ensures due { IsDueOfRun deck tells_acts result }
+fn due_of_run(alloc: Global, deck: Deck, stop: Option<Stop>, tells_acts: bool) -> Due
+    requires spelt { IsSpelt deck }
+    requires accepted { AreAccepted deck.site.processes }
+    ensures due { IsDueOfRun deck stop tells_acts result }
     ensures written { CanBeWritten result }
 {
-    match report_of(alloc, deck, tells_acts) {
+    match report_of(alloc, deck, stop, tells_acts) {
         Err(NoMemory) => Due::NoMemory,
         Ok(report) => Due::Report(report),
     }
 }
 
 /// The report of a deck's run.
-fn report_of(alloc: Global, deck: Deck, tells_acts: bool) -> Result<Report, NoMemory>
-    requires { IsPlayable deck.site }
-    ensures run { IfOk result (λ report. IsRunOf deck report) }
+fn report_of(
+    alloc: Global,
+    deck: Deck,
+    stop: Option<Stop>,
+    tells_acts: bool,
+) -> Result<Report, NoMemory>
+    requires spelt { IsSpelt deck }
+    requires accepted { AreAccepted deck.site.processes }
+    ensures run { IfOk result (λ report. IsReportOf deck stop report) }
     ensures acts { IfOk result (λ report. report.tells_acts ≡ tells_acts) }
+    ensures limits { IfOk result (λ report. KeepsSiteLimits report.site) }
 {
+    an_accepted_deck_meets_the_premises();
+    a_run_of_an_accepted_site_keeps_possible_acts();
     let Deck { site, lines } = deck;
-    let Played { acts, shown, idle } = play_lines(alloc, &site, lines.as_slice())?;
-    let sectors = sectors_after(alloc, &site, shown.as_slice())?;
-    let run = RunEnd { acts, shown };
+    let site = Shared::new(alloc, site)?;
+    let run = RunEnd {
+        ran: run(alloc, &site, lines.as_slice(), stop)?,
+    };
+    let sectors = sectors_after(alloc, site.get(), run.shown())?;
+    let stopped = stopped_processors(alloc, run.ran.machine.stopped())?;
     Ok(Report {
         site,
         run,
         sectors,
+        stopped,
         tells_acts,
-        idle,
     })
 }

@@ -1,5 +1,6 @@
 use crate::outcome::RunEnd;
 use gd_words::List;
+use logs::Shared;
 use shown_sectors::SectorWords;
 use tal_tree::{DeckFault, Site};
 use verdicts::RefusedProgram;
@@ -19,15 +20,15 @@ pub enum Due {
     Report(Report),
 }
 
-/// A run that was made: its site, what it did, what stands on the sectors that were written, whether the acts are to be told,
-/// and whether no act is possible after it.
+/// A run that was made: its site, the run, what stands on the sectors that were written, the processors that have stopped, and
+/// whether the acts are to be told.
 #[derive(Drop)]
 pub struct Report {
-    pub site: Site,
+    pub site: Shared<Site>,
     pub run: RunEnd,
     pub sectors: List<SectorWords>,
+    pub stopped: List<u8>,
     pub tells_acts: bool,
-    pub idle: bool,
 }
 
 /// A site, and its first program that is refused.

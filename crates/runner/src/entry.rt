@@ -1,48 +1,49 @@
-ghost use Rattle.std.specs.Prelude.{◌≡◌, ℕ, List, Ok, if◌then◌else◌};
+ghost use Rattle.std.specs.Prelude.{◌≡◌, Ok, map, string_bytes};
 ghost use Rattle.gd_io.specs.Puts.{Puts};
-ghost use Rattle.runner.specs.Decided.{IsTold};
 ghost use Rattle.runner.specs.Ends.{Ends};
 ghost use Rattle.runner.specs.Numbers.{number_of};
-ghost use Rattle.runner.specs.Written.{text_of, told_acts, run_of, outcome_of, CanBeWritten};
+ghost use Rattle.runner.specs.RunEnds.{end_of};
+ghost use Rattle.runner.specs.Written.{text_of, text_of_run, told_acts, run_of, outcome_of, CanBeWritten};
 ghost use Rattle.runner.specs.declared.outcome.Outcome.{Outcome};
 
 use crate::decide::decide;
 use crate::due::{Due, RefusedSite, Report};
 use crate::outcome::{Outcome, Status};
-use gd_io::{CommandLine, Sink, Source, WriteFault};
+use gd_io::{Sink, Source, WriteFault};
+use schedule_runs::Ending;
 use std::alloc::Global;
 use tal_tree::Act;
 use trace_print::{End, write_checked, write_fault, write_refusal, write_report, write_usage};
 use verdicts::RefusedProgram;
 
 /// Runs one command as `command` does, and answers the number of its status, with which the program ends.
-pub fn exit_number<L: CommandLine, S: Source, K: Sink>(
+pub fn exit_number<S: Source, K: Sink>(
     alloc: Global,
-    line: &L,
+    words: &[String],
     source: &mut S,
     sink: &mut K,
 ) -> u8
-    ensures { (words : List (List ℕ)) × IsTold (L.words line.now) words × (outcome : Outcome)
-        × Ends S.left S.faults S.sure K.held K.faults K.sure words source.old source.new sink.old sink.new outcome
+    ensures { (outcome : Outcome)
+        × Ends S.left S.faults S.sure K.held K.faults K.sure (map string_bytes words.entry.now) source.old source.new sink.old sink.new outcome
         × (result ≡ number_of outcome.status) }
 {
-    command(alloc, line, source, sink).status.number()
+    command(alloc, words, source, sink).status.number()
 }
 
-/// Runs one command. `check` reads a deck from the source to its end, judges its programs in deck order and writes to the sink
-/// that all are accepted, or why the first is refused that isn't. `run` judges them so before any act, and where all are accepted
-/// it plays the deck and writes the report; `run --acts` tells the acts that the run keeps besides. Any other words give the
-/// usage.
-pub fn command<L: CommandLine, S: Source, K: Sink>(
+/// Runs one command; the words have the program's name first. `check` reads a deck from the source to its end, judges its programs in
+/// deck order and writes to the sink that all are accepted, or why the first is refused that isn't. `run` judges them so before any
+/// act, and where all are accepted it runs the deck's schedule on the machine of copies and writes the report; `run --acts` tells
+/// the acts that the run keeps besides, and `run --fail P:K` stops a processor. Any other words give the usage, and so does a
+/// processor that the deck hasn't.
+pub fn command<S: Source, K: Sink>(
     alloc: Global,
-    line: &L,
+    words: &[String],
     source: &mut S,
     sink: &mut K,
 ) -> Outcome
-    ensures { (words : List (List ℕ)) × IsTold (L.words line.now) words
-        × Ends S.left S.faults S.sure K.held K.faults K.sure words source.old source.new sink.old sink.new result }
+    ensures { Ends S.left S.faults S.sure K.held K.faults K.sure (map string_bytes words.entry.now) source.old source.new sink.old sink.new result }
 {
-    let due = decide(alloc, line, source);
+    let due = decide(alloc, words, source);
     let written = write_due(sink, &due);
     outcome_of(due, written)
 }
@@ -56,15 +57,23 @@ fn write_due<K: Sink>(sink: &mut K, due: &Due) -> Result<(), WriteFault>
         Due::DeckRefused(fault) => write_fault(sink, fault),
         Due::ProgramRefused(refused) => write_refused(sink, refused),
         Due::Accepted(site) => write_checked(sink, site),
-        Due::Report(report) => {
-            let shown = report.run.shown.as_slice();
-            let sectors = report.sectors.as_slice();
-            let end = end_of(report.idle);
-            write_report(sink, &report.site, shown, sectors, told_acts(report), end)
-        }
+        Due::Report(report) => write_run(sink, report),
         Due::ReadFault => Ok(()),
         Due::NoMemory => Ok(()),
     }
+}
+
+fn write_run<K: Sink>(sink: &mut K, report: &Report) -> Result<(), WriteFault>
+    requires { CanBeWritten (Due.Report report.now) }
+    ensures { Puts K.held K.faults K.sure sink.old sink.new (text_of_run report.now) result }
+{
+    let site = report.site.get();
+    let shown = report.run.shown();
+    let sectors = report.sectors.as_slice();
+    let stopped = report.stopped.as_slice();
+    let acts = told_acts(report);
+    let end = end_of(report.run.ran.ending);
+    write_report(sink, site, shown, sectors, stopped, acts, end)
 }
 
 fn write_refused<K: Sink>(sink: &mut K, refused: &RefusedSite) -> Result<(), WriteFault>
@@ -80,16 +89,20 @@ fn told_acts(report: &Report) -> &[Act]
     ensures { result.now ≡ told_acts report.now }
 {
     if report.tells_acts {
-        report.run.acts.as_slice()
+        report.run.acts()
     } else {
         &[]
     }
 }
 
-fn end_of(idle: bool) -> End
-    ensures { result ≡ (if idle then End.Idle else End.Cut) }
+fn end_of(ending: Ending) -> End
+    ensures { result ≡ end_of ending }
 {
-    if idle { End::Idle } else { End::Cut }
+    match ending {
+        Ending::Idle => End::Idle,
+        Ending::Cut => End::Cut,
+        Ending::Second(processor) => End::Second(processor),
+    }
 }
 
 /// The outcome, by whether the text that is due went out whole.
@@ -113,17 +126,10 @@ fn done(due: Due) -> Outcome
         Due::DeckRefused(fault) => Outcome::without_run(Status::DeckRefused(fault)),
         Due::ProgramRefused(refused) => Outcome::without_run(status_of_refused(refused)),
         Due::Accepted(_) => Outcome::without_run(Status::Done),
-        Due::Report(report) => {
-            let status = if report.idle {
-                Status::Done
-            } else {
-                Status::Cut
-            };
-            Outcome {
-                status,
-                run: Some(report.run),
-            }
-        }
+        Due::Report(report) => Outcome {
+            status: report.run.status(),
+            run: Some(report.run),
+        },
     }
 }
 

@@ -1,8 +1,9 @@
 ghost use Rattle.runner.specs.Numbers.{number_of};
+ghost use Rattle.runner.specs.RunEnds.{acts_in, shown_in, status_of_run};
 ghost use Rattle.std.specs.Prelude.{◌≡◌};
 
-use gd_words::List;
 use path_semantics::Refusal;
+use schedule_runs::{Ending, Ran};
 use tal_tree::{Act, DeckFault, Shown};
 
 /// How a call ended, and the run, where one was made.
@@ -24,16 +25,18 @@ impl Outcome {
 /// How a call ended.
 #[derive(Drop)]
 pub enum Status {
-    /// The run ended with no act possible, or all programs are accepted and no more was asked.
+    /// The run ended idle, or all programs are accepted and no more was asked.
     Done,
-    /// The words are no command.
+    /// The words are no command, or the processor that is to stop isn't one of the deck.
     Usage,
     /// The bytes aren't a deck.
     DeckRefused(DeckFault),
     /// The program of the process at this place in the deck isn't accepted, and those before it are.
     Refused { process: u8, refusal: Refusal },
-    /// All rounds were made, and an act was possible still.
+    /// The schedule was over, and something was left to do.
     Cut,
+    /// This second processor would have stopped.
+    SecondStop(u8),
     ReadFault,
     WriteFault,
     NoMemory,
@@ -53,6 +56,7 @@ impl Status {
                 refusal: _,
             } => 3,
             Status::Cut => 4,
+            Status::SecondStop(_) => 5,
             Status::ReadFault => 6,
             Status::WriteFault => 7,
             Status::NoMemory => 8,
@@ -60,9 +64,42 @@ impl Status {
     }
 }
 
-/// What a run did: the acts that it keeps, and what they show.
+/// A run that was made.
 #[derive(Drop)]
 pub struct RunEnd {
-    pub acts: List<Act>,
-    pub shown: List<Shown>,
+    pub ran: Ran,
+}
+
+impl RunEnd {
+    /// The acts that the run keeps, in order.
+    pub fn acts(&self) -> &[Act]
+        ensures { result.now ≡ acts_in self.now }
+    {
+        self.ran.machine.acts()
+    }
+
+    /// What was shown in it, in order.
+    pub fn shown(&self) -> &[Shown]
+        ensures { result.now ≡ shown_in self.now }
+    {
+        self.ran.machine.shown()
+    }
+
+    /// How many events it asked for.
+    pub fn events(&self) -> u64
+        ensures { result ≡ self.now.ran.asked }
+    {
+        self.ran.asked
+    }
+
+    /// The status of a command that made it.
+    pub fn status(&self) -> Status
+        ensures { result ≡ status_of_run self.now.ran.ending }
+    {
+        match self.ran.ending {
+            Ending::Idle => Status::Done,
+            Ending::Cut => Status::Cut,
+            Ending::Second(processor) => Status::SecondStop(processor),
+        }
+    }
 }

@@ -1,12 +1,10 @@
-use gd_io::{MemorySink, MemorySource, StdCommandLine};
+use gd_io::{MemorySink, MemorySource};
 use gd_words::List;
 use path_semantics::{Reason, Refusal};
 use runner::{RunEnd, Status, command, exit_number};
 use std::alloc::{AllocError, Global};
-use std::env::FillError;
-use std::rt::Env;
 use std::test::Fail;
-use tal_tree::{Act, DeckFault};
+use tal_tree::Act;
 
 const HEAD: &[u8] =
     b"processors 2\npair $ADD 0 1\nINT total, got, rcv;\nINT buf[0:0];\nPROC add MAIN;\nBEGIN\n  CALL CHECKMONITOR;\n  CALL OPEN(\"$RECEIVE\", rcv, 1);\n  WHILE 1 DO\n  BEGIN\n    CALL READUPDATE(rcv, buf, 1, got);\n    total := total + buf[0]";
@@ -27,30 +25,14 @@ fn deck(alloc: Global, more: usize, rest: &[u8]) -> Result<List<u8>, AllocError>
     Ok(List::from_vec(bytes))
 }
 
-/// What the operating system calls a program with: these words, the program's name first.
-#[derive(Clone, Copy)]
-struct Called<'a> {
-    words: &'a [&'a [u8]],
-}
-
-impl<'a> Env for Called<'a> {
-    fn arg(&self, number: usize, room: &mut [u8]) -> Result<usize, FillError> {
-        let word = self.words.get(number).ok_or(FillError::NotPresent)?;
-        if word.len() > room.len() {
-            return Err(FillError::TooLong);
-        }
-        let (start, _) = room.split_at_mut(word.len());
-        start.copy_from_slice(word);
-        Ok(word.len())
+/// The words of a command line, the program's name first.
+fn called(alloc: Global, words: &[&str]) -> Result<Vec<String>, AllocError> {
+    let mut called = Vec::new(alloc);
+    called.push(String::from_str(alloc, "guardian")?)?;
+    for word in words {
+        called.push(String::from_str(alloc, word)?)?;
     }
-
-    fn var(&self, _name: &str, _room: &mut [u8]) -> Result<usize, FillError> {
-        Err(FillError::NotPresent)
-    }
-
-    fn var_at(&self, _number: usize, _room: &mut [u8]) -> Result<usize, FillError> {
-        Err(FillError::NotPresent)
-    }
+    Ok(called)
 }
 
 /// What a command ended with and wrote.
@@ -64,17 +46,16 @@ struct Ended {
 /// Runs the words over ends in memory, of which the calls with these numbers fail. After want of memory nothing is written.
 fn run_words(
     alloc: Global,
-    words: &[&[u8]],
+    words: &[&str],
     deck: List<u8>,
     reads: &[u64],
     writes: &[u64],
 ) -> Result<Ended, Fail> {
-    let called = Called { words };
-    let line = StdCommandLine::new(&called);
+    let called = called(alloc, words)?;
     let mut source = MemorySource::new(deck, List::from_vec(Vec::from_slice(alloc, reads)?));
     let failing = List::from_vec(Vec::from_slice(alloc, writes)?);
     let mut sink = MemorySink::new(alloc, 100_000, failing)?;
-    let outcome = command(alloc, &line, &mut source, &mut sink);
+    let outcome = command(alloc, called.as_slice(), &mut source, &mut sink);
     let text = Vec::from_slice(alloc, sink.bytes())?;
     if matches!(outcome.status, Status::NoMemory) && text.is_empty() {
         return Err(Fail::from(AllocError));
@@ -99,7 +80,7 @@ fn ends_as_the_ends_allow(rt: HostRuntime) -> Result<(), Fail> {
     ];
     for (reads, writes, number, text) in cases {
         let deck = deck(rt.alloc(), 0, BOTH)?;
-        let end = run_words(rt.alloc(), &[b"guardian", b"run"], deck, reads, writes)?;
+        let end = run_words(rt.alloc(), &["run"], deck, reads, writes)?;
         assert!(rt; end.status.number() == number);
         assert!(rt; end.text.as_slice() == text);
     }
@@ -107,52 +88,43 @@ fn ends_as_the_ends_allow(rt: HostRuntime) -> Result<(), Fail> {
 }
 
 #[test]
-fn refuses_words_and_decks(rt: HostRuntime) -> Result<(), Fail> {
+fn refuses_words_and_processors(rt: HostRuntime) -> Result<(), Fail> {
     let usage = b"USAGE guardian MODE [N] [--acts] [--fail P:K]\n".as_slice();
-    let not_yet = b"DECK 0 11\n".as_slice();
-    let failing = b"send 5\nschedule\nfail 0\ndrain 4000\nEND\n".as_slice();
-    let words: [&[&[u8]]; 14] = [
-        &[b"guardian"],
-        &[b"guardian", b"run", b"3"],
-        &[b"guardian", b"run", b""],
-        &[b"guardian", b"run", b"\xff\xfe"],
-        &[b"guardian", b"\xff\xfe"],
-        &[b"guardian", b"run\xff"],
-        &[b"guardian", b"check", b"--acts"],
-        &[b"guardian", b"chec"],
-        &[b"guardian", b"ru"],
-        &[b"guardian", b"--acts"],
-        &[b"guardian", b"--acts", b"run"],
-        &[b"guardian", b"run", b"--act"],
-        &[b"guardian", b"run", b"--acts", b"--acts"],
+    let words: [&[&str]; 6] = [
         &[],
+        &["run", "3"],
+        &["check", "--acts"],
+        &["load", "3"],
+        &["run", "--fail", "2:0"],
+        &["run", "--fail", "16:0"],
     ];
     for given in words {
         let end = run_words(rt.alloc(), given, deck(rt.alloc(), 0, BOTH)?, &[], &[])?;
         assert!(rt; matches!(end.status, Status::Usage));
         assert!(rt; end.text.as_slice() == usage);
     }
-    let end = run_words(
-        rt.alloc(),
-        &[b"guardian", b"run"],
-        deck(rt.alloc(), 0, failing)?,
-        &[],
-        &[],
-    )?;
-    assert!(rt; matches!(end.status, Status::DeckRefused(DeckFault::NotYet)));
-    assert!(rt; end.text.as_slice() == not_yet);
     Ok(())
 }
 
 #[test]
-fn takes_a_name_of_any_bytes(rt: HostRuntime) -> Result<(), Fail> {
-    let called = Called {
-        words: &[b"/home/\xff/guardian", b"run"],
-    };
+fn tells_stops(rt: HostRuntime) -> Result<(), Fail> {
+    let given: [&str; 3] = ["run", "--fail", "0:0"];
+    let end = run_words(rt.alloc(), &given, deck(rt.alloc(), 0, BOTH)?, &[], &[])?;
+    assert!(rt; matches!(end.status, Status::Done));
+    assert!(rt; end.text.as_slice() == b"R $T1 1: 5\nR $T1 2: 12\nS 0\nEND idle\n".as_slice());
+    let second = b"send 5\nsend 7\nschedule\nfail 1\ndrain 4000\nEND\n".as_slice();
+    let end = run_words(rt.alloc(), &given, deck(rt.alloc(), 0, second)?, &[], &[])?;
+    assert!(rt; matches!(end.status, Status::SecondStop(1)));
+    assert!(rt; end.text.as_slice() == b"S 0\nEND second 1\n".as_slice());
+    Ok(())
+}
+
+#[test]
+fn ends_with_the_number_of_its_status(rt: HostRuntime) -> Result<(), Fail> {
     let mut source = MemorySource::new(deck(rt.alloc(), 0, BOTH)?, List::new(rt.alloc()));
     let mut sink = MemorySink::new(rt.alloc(), 100, List::new(rt.alloc()))?;
-    let line = StdCommandLine::new(&called);
-    let number = exit_number(rt.alloc(), &line, &mut source, &mut sink);
+    let words = called(rt.alloc(), &["run"])?;
+    let number = exit_number(rt.alloc(), words.as_slice(), &mut source, &mut sink);
     assert!(rt; number == 0);
     assert!(rt; sink.bytes() == b"R $T1 1: 5\nR $T1 2: 12\nEND idle\n".as_slice());
     Ok(())
@@ -161,33 +133,12 @@ fn takes_a_name_of_any_bytes(rt: HostRuntime) -> Result<(), Fail> {
 #[test]
 fn keeps_the_acts_of_one_request(rt: HostRuntime) -> Result<(), Fail> {
     let one = b"send 5\nschedule\ndrain 4000\nEND".as_slice();
-    let end = run_words(
-        rt.alloc(),
-        &[b"guardian", b"run"],
-        deck(rt.alloc(), 0, one)?,
-        &[],
-        &[],
-    )?;
-    let take = Act::Take {
-        process: 0,
-        opener: 0,
-    };
-    let step = Act::Step(0);
-    let acts = [
-        Act::Enter(0),
-        step,
-        step,
-        step,
-        take,
-        step,
-        step,
-        step,
-        step,
-        Act::Print(0),
-        step,
-    ];
+    let end = run_words(rt.alloc(), &["run"], deck(rt.alloc(), 0, one)?, &[], &[])?;
     let run = end.run.ok_or("no run")?;
-    assert!(rt; run.acts.as_slice() == acts.as_slice());
+    for (act, times) in [(Act::Enter(0), 1), (Act::Print(0), 1), (Act::Step(0), 8)] {
+        assert!(rt; run.acts().iter().filter(|kept| **kept == act).count() == times);
+    }
+    assert!(rt; run.shown().len() == 1);
     Ok(())
 }
 
@@ -196,18 +147,12 @@ fn keeps_the_acts_of_one_request(rt: HostRuntime) -> Result<(), Fail> {
 fn refuses_what_the_discipline_refuses(rt: HostRuntime) -> Result<(), Fail> {
     let program =
         b"INT total, got, rcv; INT buf[0:0]; PROC p MAIN; BEGIN CALL CHECKMONITOR; CALL OPEN(\"$RECEIVE\", rcv, 1); total := 1;\nCALL CHECKPOINT(got) END;\n".as_slice();
-    for mode in [b"run".as_slice(), b"check".as_slice()] {
+    for mode in ["run", "check"] {
         let mut deck = List::new(rt.alloc());
         deck.extend_from_slice(b"processors 2\npair $P 0 1\n")?;
         deck.extend_from_slice(program)?;
         deck.extend_from_slice(b".\nschedule\ndrain 1\nEND\n")?;
-        let Ended { status, run, text } = run_words(
-            rt.alloc(),
-            &[b"guardian", mode],
-            deck,
-            &[],
-            &[],
-        )?;
+        let Ended { status, run, text } = run_words(rt.alloc(), &[mode], deck, &[], &[])?;
         assert!(rt;
             text.as_slice()
                 == b"REFUSED $P Data TOTAL\nP 1 1\nP 2 1\nP 3 1\nP 4 2\nEND refused\n".as_slice()
@@ -228,12 +173,8 @@ fn refuses_what_the_discipline_refuses(rt: HostRuntime) -> Result<(), Fail> {
 
 #[test]
 fn goes_along_long_chains(rt: HostRuntime) -> Result<(), Fail> {
-    let refused = b"send 5\nschedule\nfail 0\ndrain 4000\nEND\n".as_slice();
     let long = deck(rt.alloc(), 300_000, BOTH)?;
-    let end = run_words(rt.alloc(), &[b"guardian", b"run"], long, &[], &[])?;
+    let end = run_words(rt.alloc(), &["run"], long, &[], &[])?;
     assert!(rt; end.text.as_slice() == b"R $T1 1: -27675\nR $T1 2: 10188\nEND idle\n".as_slice());
-    let long = deck(rt.alloc(), 300_000, refused)?;
-    let end = run_words(rt.alloc(), &[b"guardian", b"run"], long, &[], &[])?;
-    assert!(rt; end.text.as_slice() == b"DECK 0 11\n".as_slice());
     Ok(())
 }

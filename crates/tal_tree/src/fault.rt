@@ -56,9 +56,6 @@ pub enum DeckFault {
     OpensItself(u32),
     #[error("the deck has more than 1,048,576 bytes")]
     TooLong,
-    /// A deck that a later form of this program will take, or that no form takes.
-    #[error("not a deck of the form that is taken today")]
-    NotYet,
     #[error("out of memory")]
     NoMemory,
 }

@@ -1,7 +1,7 @@
 -- The line of a deck's fault.
 use Rattle.std.specs.Prelude.{ℕ, List, [], ◌∷◌, ◌++◌, codes}
 use Rattle.tal_tree.specs.declared.fault.DeckFault.{DeckFault}
-use Rattle.tal_tree.specs.declared.fault.DeckFault.TheVariants.{Line, Program, NameTwice, UnknownName, SameProcessor, NoProcessor, Limit, NoEnd, OpensItself, TooLong, NotYet, NoMemory}
+use Rattle.tal_tree.specs.declared.fault.DeckFault.TheVariants.{Line, Program, NameTwice, UnknownName, SameProcessor, NoProcessor, Limit, NoEnd, OpensItself, TooLong, NoMemory}
 use Rattle.trace_print.specs.NumbersText.{numbers_text}
 use Rattle.trace_print.specs.TalNumbers.{IsOfText, tal_numbers}
 
@@ -23,7 +23,6 @@ fault_numbers (Limit line which) = line ∷ 7 ∷ which ∷ []
 fault_numbers (NoEnd line) = line ∷ 8 ∷ []
 fault_numbers (OpensItself line) = line ∷ 9 ∷ []
 fault_numbers TooLong = 0 ∷ 10 ∷ []
-fault_numbers NotYet = 0 ∷ 11 ∷ []
 fault_numbers NoMemory = []
 
 -- `DECK` and the fault's numbers

@@ -5,5 +5,6 @@ pub mod NumbersText
 pub mod ReportText
 pub mod SectorLine
 pub mod ShownLine
+pub mod StopLine
 pub mod TalNumbers
 pub mod VerdictText

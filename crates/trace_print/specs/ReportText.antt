@@ -8,8 +8,10 @@ use Rattle.trace_print.specs.ActLine.{act_lines}
 use Rattle.trace_print.specs.EndLine.{end_line}
 use Rattle.trace_print.specs.SectorLine.{sector_lines}
 use Rattle.trace_print.specs.ShownLine.{shown_lines}
+use Rattle.trace_print.specs.StopLine.{stop_lines}
 use Rattle.trace_print.specs.declared.closing.End.{End}
 
--- what the run shows, the sectors that were written, the acts that it kept, and its end
-abbrev pub report_text : Site → List Shown → List SectorWords → List Act → End → List ℕ
-report_text site shown sectors acts end = shown_lines site shown ++ sector_lines site sectors ++ act_lines site acts ++ end_line end
+-- what the run shows, the sectors that were written, the processors that have stopped, the acts that it kept, and its end
+abbrev pub report_text : Site → List Shown → List SectorWords → List ℕ → List Act → End → List ℕ
+report_text site shown sectors stopped acts end =
+    shown_lines site shown ++ sector_lines site sectors ++ stop_lines stopped ++ act_lines site acts ++ end_line end

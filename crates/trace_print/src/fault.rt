@@ -40,7 +40,6 @@ fn push_fault(line: &mut Line, fault: &DeckFault)
         DeckFault::NoEnd(at) => line.numbers(&[*at, 8]),
         DeckFault::OpensItself(at) => line.numbers(&[*at, 9]),
         DeckFault::TooLong => line.numbers(&[0, 10]),
-        DeckFault::NotYet => line.numbers(&[0, 11]),
         DeckFault::NoMemory => unreachable!(),
     }
 }

@@ -1,9 +1,11 @@
-//! The lines of a report: what a run shows, the sectors that were written, the acts that it kept and how it ended; which
-//! programs are accepted, and why one is refused; a deck's fault; and the usage. Each is one exact text that goes out by one call of `put_all`. Nothing here takes memory.
+//! The lines of a report: what a run shows, the sectors that were written, the processors that stopped, the acts that it kept and how
+//! it ended; which programs are accepted, and why one is refused; a deck's fault; and the usage. Each is one exact text that goes
+//! out by one call of `put_all`. Nothing here takes memory.
 //!
 //! Below stand `gd_io`, whose relation `Puts` is what each call here says of its sink, `tal_tree` with what the lines tell of,
-//! `plain_semantics` with the openers that acts name, `path_semantics` with the reasons of refusals, and `shown_sectors`. The crates above use the texts, `report_text`,
-//! `accepted_text`, `refusal_text`, `fault_line`, `end_line` and `usage_line`, and join other texts by the lemmas of `gd_io` on `Puts`.
+//! `plain_semantics` with the openers that acts name, `path_semantics` with the reasons of refusals, and `shown_sectors`. The crates
+//! above use the texts, `report_text`, `accepted_text`, `refusal_text`, `fault_line`, `end_line` and `usage_line`, and join other
+//! texts by the lemmas of `gd_io` on `Puts`.
 #![tactic(auto)]
 
 pub mod acts;
@@ -13,6 +15,7 @@ mod line;
 pub mod report;
 pub mod sectors;
 pub mod shown;
+pub mod stops;
 pub mod verdict;
 
 pub use acts::{write_act, write_all_acts};
@@ -21,4 +24,5 @@ pub use fault::write_fault;
 pub use report::write_report;
 pub use sectors::{write_all_sectors, write_sector};
 pub use shown::{write_all_shown, write_shown};
+pub use stops::{write_all_stops, write_stop};
 pub use verdict::{write_accepted, write_checked, write_refusal};

@@ -5,29 +5,32 @@ ghost use Rattle.trace_print.specs.ActLine.{act_lines};
 ghost use Rattle.trace_print.specs.ReportText.{report_text};
 ghost use Rattle.trace_print.specs.SectorLine.{sector_lines};
 ghost use Rattle.trace_print.specs.ShownLine.{shown_lines};
+ghost use Rattle.trace_print.specs.StopLine.{stop_lines};
 
 use crate::acts::write_all_acts;
 use crate::closing::{End, write_end};
 use crate::sectors::write_all_sectors;
 use crate::shown::write_all_shown;
+use crate::stops::write_all_stops;
 use gd_io::{Sink, WriteFault};
 use shown_sectors::SectorWords;
 use tal_tree::{Act, Shown, Site};
 
-/// Writes the lines of all that a run shows, of the sectors that were written, of the acts that are to be told, and of its
-/// end, in this order. It takes no memory.
+/// Writes the lines of all that a run shows, of the sectors that were written, of the processors that have stopped, of the acts
+/// that are to be told, and of its end, in this order. It takes no memory.
 pub fn write_report<K: Sink>(
     sink: &mut K,
     site: &Site,
     shown: &[Shown],
     sectors: &[SectorWords],
+    stopped: &[u8],
     acts: &[Act],
     end: End,
 ) -> Result<(), WriteFault>
     requires { KeepsSiteLimits site.now }
-    ensures { Puts K.held K.faults K.sure sink.old sink.new (report_text site.now shown.now sectors.now acts.now end) result }
+    ensures { Puts K.held K.faults K.sure sink.old sink.new (report_text site.now shown.now sectors.now stopped.now acts.now end) result }
 {
-    write_run(sink, site, shown, sectors, acts)?;
+    write_run(sink, site, shown, sectors, stopped, acts)?;
     write_end(sink, end)
 }
 
@@ -36,13 +39,29 @@ fn write_run<K: Sink>(
     site: &Site,
     shown: &[Shown],
     sectors: &[SectorWords],
+    stopped: &[u8],
     acts: &[Act],
 ) -> Result<(), WriteFault>
     requires { KeepsSiteLimits site.now }
-    ensures { Puts K.held K.faults K.sure sink.old sink.new (shown_lines site.now shown.now ++ sector_lines site.now sectors.now ++ act_lines site.now acts.now) result }
+    ensures { Puts K.held K.faults K.sure sink.old sink.new
+        (shown_lines site.now shown.now ++ sector_lines site.now sectors.now ++ stop_lines stopped.now ++ act_lines site.now acts.now) result }
+{
+    write_end_states(sink, site, shown, sectors, stopped)?;
+    write_all_acts(sink, site, acts)
+}
+
+fn write_end_states<K: Sink>(
+    sink: &mut K,
+    site: &Site,
+    shown: &[Shown],
+    sectors: &[SectorWords],
+    stopped: &[u8],
+) -> Result<(), WriteFault>
+    ensures { Puts K.held K.faults K.sure sink.old sink.new
+        (shown_lines site.now shown.now ++ sector_lines site.now sectors.now ++ stop_lines stopped.now) result }
 {
     write_outside(sink, site, shown, sectors)?;
-    write_all_acts(sink, site, acts)
+    write_all_stops(sink, stopped)
 }
 
 fn write_outside<K: Sink>(

@@ -1,23 +1,40 @@
-use Rattle.std.proofs.Common.{◌≡◌, List, subst, sym, false}
-use Rattle.deck_reader.specs.Decks.{AreProcessesOf, AreTerminalsOf, all_open_others}
+use Rattle.std.proofs.Common.{◌≡◌, List, Some, option_map, subst, sym, ap, ◌∙◌, inr, refl}
+use Rattle.deck_reader.specs.Decks.{AreProcessesOf, AreTerminalsOf}
+use Rattle.deck_reader.specs.Names.{misnamed_in, pairs_misnamed}
+use Rattle.deck_reader.specs.Refusals.{IsOutlineFault, Tells, name_fault}
 use Rattle.deck_reader.specs.declared.outline.ProcessLines.{ProcessLines}
-use Rattle.deck_reader.proofs.RefusedLemmas.{none_refused, unopened}
+use Rattle.deck_reader.proofs.NameLemmas.{found_in, tells_name}
 use Rattle.deck_reader.proofs.deck.deck_of.Goals as goal
 
-pub returns-then-not-all_open_others-clause-err : goal.returns-then-not-all_open_others-clause-err
-returns-then-not-all_open_others-clause-err c =
-    let P : List ProcessLines → Type 0 = λ lines. AreProcessesOf lines c.in_ok-specs.specs in
-    let each : AreProcessesOf c.args.outline.processes c.in_ok-specs.specs = subst P c.as_slice.ensures c.in_ok-specs.ensures.ok in
-    let fails : all_open_others c.in_ok-specs.specs ≡ false = sym (rw c.as_slice-2.ensures at c.if-not-all_open_others.ensures) in
-    (none_refused c.args.outline.processes c.in_ok-specs.specs each, unopened c.args.outline c.in_ok-specs.specs each fails)
+pub returns-in-Some-clause-err : goal.returns-in-Some-clause-err
+returns-in-Some-clause-err c =
+    let outline = c.args.outline in
+    let specs = c.in_ok-specs.field-0.specs in
+    let P : List ProcessLines → Type 0 = λ lines. AreProcessesOf lines specs in
+    let Q : List ProcessLines → Type 0 = λ lines. c.in_ok-specs.field-0.misnamed ≡ pairs_misnamed lines lines specs in
+    let R : List ProcessLines → Type 0 = λ lines. AreTerminalsOf lines outline.terminals c.in-Ok.terminals in
+    let each : AreProcessesOf outline.processes specs = subst P c.as_slice.ensures c.in_ok-specs.ensures.ok in
+    let pair : c.in_ok-specs.field-0.misnamed ≡ pairs_misnamed outline.processes outline.processes specs = subst Q c.as_slice.ensures c.in_ok-specs.ensures.named in
+    let terminals : AreTerminalsOf outline.processes outline.terminals c.in-Ok.terminals = subst R c.as_slice-2.ensures (rw c.in-Ok.is at c.in_ok-target.ensures) in
+    let found : misnamed_in outline specs ≡ Some c.in-Some.misnamed =
+    found_in outline specs c.in-Ok.terminals _ _ _ terminals pair c.event_misnamed-event.ensures c.earlier.ensures ∙ c.in-Some.is in
+    subst (Tells (IsOutlineFault outline)) (sym c.name_fault.ensures)
+    (tells_name (IsOutlineFault outline) c.in-Some.misnamed (inr (specs, each, ap (option_map name_fault) found)))
 
-pub returns-in-None-clause-err : goal.returns-in-None-clause-err
-returns-in-None-clause-err c =
-    let P : List ProcessLines → Type 0 = λ lines. AreProcessesOf lines c.in_ok-specs.specs in
-    let each : AreProcessesOf c.args.outline.processes c.in_ok-specs.specs = subst P c.as_slice.ensures c.in_ok-specs.ensures.ok in (
-      none_refused c.args.outline.processes c.in_ok-specs.specs each,
-      λ deck is.
-          let R : List ProcessLines → Type 0 = λ lines. AreTerminalsOf lines c.args.outline.terminals deck.site.terminals in
-          let none = rw c.in-None.is at c.in_ok-terminals_of.ensures in
-          none deck.site.terminals (subst R (sym c.as_slice-3.ensures) is.terminals),
-    )
+pub returns-clause-ok : goal.returns-clause-ok
+returns-clause-ok c =
+    let outline = c.args.outline in
+    let specs = c.in_ok-specs.field-0.specs in
+    let P : List ProcessLines → Type 0 = λ lines. AreProcessesOf lines specs in
+    let Q : List ProcessLines → Type 0 = λ lines. c.in_ok-specs.field-0.misnamed ≡ pairs_misnamed lines lines specs in
+    let R : List ProcessLines → Type 0 = λ lines. AreTerminalsOf lines outline.terminals c.in-Ok.terminals in
+    let each : AreProcessesOf outline.processes specs = subst P c.as_slice.ensures c.in_ok-specs.ensures.ok in
+    let pair : c.in_ok-specs.field-0.misnamed ≡ pairs_misnamed outline.processes outline.processes specs = subst Q c.as_slice.ensures c.in_ok-specs.ensures.named in
+    let terminals : AreTerminalsOf outline.processes outline.terminals c.in-Ok.terminals = subst R c.as_slice-2.ensures (rw c.in-Ok.is at c.in_ok-target.ensures) in
+    record {
+      processors = refl;
+      processes = each;
+      terminals = terminals;
+      lines = refl;
+      named = found_in outline specs c.in-Ok.terminals _ _ _ terminals pair c.event_misnamed-event.ensures c.earlier.ensures ∙ c.in-None.is;
+    }

@@ -19,19 +19,15 @@ returns g c =
     let decided = c.decide-due.ensures in
     let puts = c.write_due-written.ensures in
     let is = c.outcome_of.ensures in
-    let outcome = c.outcome_of.result in (
-      decided.due.0,
-      decided.due.1,
-      record {
-        decided = due;
-        is_due = decided.due.2;
-        is_written = record { result = written; puts = puts; is = is };
-        unread = decided.unread;
-        read_whole = decided.read_whole;
-        read_fault = λ e. decided.cause (read_fault_is_due due written outcome is e);
-        no_read_fault = λ sure e. decided.unfailing sure (read_fault_is_due due written outcome is e);
-        write_fault = λ e. on_failure written puts.cause (writing_failed due written outcome is e);
-        no_write_fault = λ sure e. not_both written (puts.never 0 (subst (g.K.Sink.sure c.args.sink.now) (omega arith) sure)).0
-            (writing_failed due written outcome is e);
-      },
-    )
+    let outcome = c.outcome_of.result in record {
+      decided = due;
+      is_due = decided.due;
+      is_written = record { result = written; puts = puts; is = is };
+      unread = decided.unread;
+      read_whole = decided.read_whole;
+      read_fault = λ e. decided.cause (read_fault_is_due due written outcome is e);
+      no_read_fault = λ sure e. decided.unfailing sure (read_fault_is_due due written outcome is e);
+      write_fault = λ e. on_failure written puts.cause (writing_failed due written outcome is e);
+      no_write_fault = λ sure e. not_both written (puts.never 0 (subst (g.K.Sink.sure c.args.sink.now) (omega arith) sure)).0
+          (writing_failed due written outcome is e);
+    }

@@ -1,0 +1,25 @@
+//! What a run of a schedule leaves on an accepted site.
+ghost use Rattle.std.specs.Prelude.{List, Option};
+ghost use Rattle.tal_tree.specs.declared.site.Site.{Site};
+ghost use Rattle.schedule.specs.declared.line.Line.{Line};
+ghost use Rattle.player.specs.declared.stop.Stop.{Stop};
+ghost use Rattle.awaited_requests.specs.Seats.{IsLaidOut};
+ghost use Rattle.headline_laws.specs.Premises.{IsAcceptedSite};
+ghost use Rattle.schedule_runs.specs.Ends.{IsRunOf};
+ghost use Rattle.schedule_runs.specs.declared.ran.Ran.{Ran};
+ghost use Rattle.accepted_decks.specs.Left.{KeepsPossibleActs};
+
+use pair_machine::laws::a_closed_world_has_the_closed_run;
+use played_laws::{an_idle_end_that_is_played_leaves_none, what_is_played_is_possible};
+use schedule_runs::events_of_a_schedule_are_played;
+
+/// Whatever its schedule, a run of an accepted site keeps possible acts, and none is left at an idle end.
+pub fn a_run_of_an_accepted_site_keeps_possible_acts()
+    ensures { (site : Site) (lines : List Line) (stop : Option Stop) (ran : Ran) → IsAcceptedSite site → IsLaidOut site → IsRunOf site lines stop ran
+        → KeepsPossibleActs site ran }
+{
+    what_is_played_is_possible();
+    an_idle_end_that_is_played_leaves_none();
+    a_closed_world_has_the_closed_run();
+    events_of_a_schedule_are_played();
+}

@@ -1,0 +1,113 @@
+-- The first line that names amiss, found one after another.
+use Rattle.std.proofs.Common.{◌≡◌, ℕ, Bool, true, false, cond, List, [], ◌∷◌, ◌++◌, Option, Some, None, option_map, refl, sym, ap, ap₂, ◌∙◌, subst, ◌<◌, ◌+◌, length, take, get_or, add-one}
+use Rattle.std.proofs.Math.Seq.{take-suc}
+use Rattle.std.specs.Prelude.{is_some}
+use Rattle.tal_tree.specs.declared.fault.DeckFault.{DeckFault}
+use Rattle.tal_tree.specs.declared.fault.DeckFault.TheVariants as fault
+use Rattle.tal_tree.specs.declared.site.ProcessSpec.{ProcessSpec}
+use Rattle.tal_tree.specs.declared.site.TerminalSpec.{TerminalSpec}
+use Rattle.deck_reader.specs.Decks.{AreProcessesOf, IsTerminalOf, AreTerminalsOf}
+use Rattle.deck_reader.specs.Names.{IsMisnamedTarget, earlier, event_misnamed, first_of, misnamed_in, pairs_misnamed, process_misnamed, targets_misnamed}
+use Rattle.deck_reader.specs.Refusals.{Tells, fault_at, name_fault}
+use Rattle.deck_reader.specs.declared.line_fault.LineFault.{LineFault}
+use Rattle.deck_reader.specs.declared.line_fault.LineFault.TheVariants as line
+use Rattle.deck_reader.specs.declared.names.Misnamed.{Misnamed}
+use Rattle.deck_reader.specs.declared.outline.Outline.{Outline}
+use Rattle.deck_reader.specs.declared.outline.ProcessLines.{ProcessLines}
+use Rattle.deck_reader.specs.declared.outline.TerminalLines.{TerminalLines}
+use Rattle.deck_reader.proofs.EachLemmas.{IsDoneTo}
+
+regrouped : (a b c : Option Misnamed) → first_of a (first_of b c) ≡ first_of (first_of a b) c
+regrouped None b c = refl
+regrouped (Some a) b c = refl
+
+last_of : (a : Option Misnamed) → first_of a None ≡ a
+last_of None = refl
+last_of (Some a) = refl
+
+-- with one more pair
+pub pairs_more : (all lines : List ProcessLines) (specs : List ProcessSpec) (one : ProcessLines) (spec : ProcessSpec) → AreProcessesOf lines specs
+    → pairs_misnamed all (lines ++ one ∷ []) (specs ++ spec ∷ []) ≡ first_of (pairs_misnamed all lines specs) (process_misnamed all one.heading.name one.body spec.what)
+pairs_more all [] [] one spec each = last_of (process_misnamed all one.heading.name one.body spec.what)
+pairs_more all (x ∷ xs) (y ∷ ys) one spec each =
+    ap (first_of (process_misnamed all x.heading.name x.body y.what)) (pairs_more all xs ys one spec each.1)
+    ∙ regrouped (process_misnamed all x.heading.name x.body y.what) (pairs_misnamed all xs ys) (process_misnamed all one.heading.name one.body spec.what)
+pairs_more all [] (y ∷ ys) one spec each = absurd each
+pairs_more all (x ∷ xs) [] one spec each = absurd each
+
+abbrev named_rest : List ProcessLines → TerminalLines → List TerminalLines → Option ℕ → Option Misnamed
+named_rest processes terminal rest place = cond (is_some place) (targets_misnamed processes rest) (Some (record { line = terminal.line; own = false }))
+
+-- where the targets of the first terminals are there
+past_front : (processes : List ProcessLines) (front rest : List TerminalLines) (specs : List TerminalSpec) → AreTerminalsOf processes front specs
+    → targets_misnamed processes (front ++ rest) ≡ targets_misnamed processes rest
+past_front processes [] rest specs each = refl
+past_front processes (x ∷ xs) rest [] each = absurd each
+past_front processes (x ∷ xs) rest (y ∷ ys) each = ap (named_rest processes x (xs ++ rest)) each.0.target ∙ past_front processes xs rest ys each.1
+
+-- and that of the next one is not
+pub target_found : (processes : List ProcessLines) (all rest later : List TerminalLines) (one : TerminalLines) (specs : List TerminalSpec) (misnamed : Misnamed)
+    → IsDoneTo (IsTerminalOf processes) all rest specs → rest ≡ one ∷ later → IsMisnamedTarget processes one misnamed → targets_misnamed processes all ≡ Some misnamed
+target_found processes all rest later one specs misnamed done e is =
+    ap (targets_misnamed processes) (done.whole ∙ ap (λ xs. done.front ++ xs) e)
+    ∙ past_front processes done.front (one ∷ later) specs done.each
+    ∙ ap (named_rest processes one later) is.unknown
+    ∙ ap Some (sym is.same)
+
+pub all_named : (processes : List ProcessLines) (terminals : List TerminalLines) (specs : List TerminalSpec) → AreTerminalsOf processes terminals specs → targets_misnamed processes terminals ≡ None
+all_named processes [] specs each = refl
+all_named processes (x ∷ xs) [] each = absurd each
+all_named processes (x ∷ xs) (y ∷ ys) each = ap (named_rest processes x xs) each.0.target ∙ all_named processes xs ys each.1
+
+-- no line is the later one
+pub nothing_later : (one : Option Misnamed) → earlier one None ≡ one
+nothing_later None = refl
+nothing_later (Some one) = refl
+
+-- with the next pair of some lines
+pub pairs_next : (all lines : List ProcessLines) (specs : List ProcessSpec) (k : ℕ) (d one : ProcessLines) (spec : ProcessSpec) (before now more : Option Misnamed)
+    → k < length lines → AreProcessesOf (take k lines) specs → one ≡ get_or lines k d → before ≡ pairs_misnamed all (take k lines) specs
+    → more ≡ process_misnamed all one.heading.name one.body spec.what → now ≡ first_of before more → now ≡ pairs_misnamed all (take (k + 1) lines) (specs ++ spec ∷ [])
+pairs_next all lines specs k d one spec before now more within each is so_far found next =
+    next ∙ ap₂ first_of so_far found ∙ sym (pairs_more all (take k lines) specs one spec each)
+    ∙ ap (λ xs. pairs_misnamed all xs (specs ++ spec ∷ [])) (ap (λ x. take k lines ++ x ∷ []) is ∙ sym (ap (λ n. take n lines) (add-one k) ∙ take-suc lines k d within))
+
+-- where every target is there, only pairs and event lines name amiss
+pub found_in : (outline : Outline) (specs : List ProcessSpec) (terminals : List TerminalSpec) (pair event found : Option Misnamed) → AreTerminalsOf outline.processes outline.terminals terminals
+    → pair ≡ pairs_misnamed outline.processes outline.processes specs → event ≡ event_misnamed outline.events.unknown → found ≡ earlier pair event → misnamed_in outline specs ≡ found
+found_in outline specs terminals pair event found each p e f =
+    let pairs = pairs_misnamed outline.processes outline.processes specs in
+    ap (λ targets. earlier (earlier pairs targets) (event_misnamed outline.events.unknown)) (all_named outline.processes outline.terminals terminals each)
+    ∙ ap (λ one. earlier one (event_misnamed outline.events.unknown)) (nothing_later pairs)
+    ∙ sym (ap₂ earlier p e)
+    ∙ sym f
+
+-- and where one isn't
+pub found_with : (outline : Outline) (specs : List ProcessSpec) (pair event : Option Misnamed) (target : Misnamed) → targets_misnamed outline.processes outline.terminals ≡ Some target
+    → pair ≡ pairs_misnamed outline.processes outline.processes specs → event ≡ event_misnamed outline.events.unknown → misnamed_in outline specs ≡ earlier (earlier pair (Some target)) event
+found_with outline specs pair event target t p e =
+    ap (λ targets. earlier (earlier (pairs_misnamed outline.processes outline.processes specs) targets) (event_misnamed outline.events.unknown)) t
+    ∙ sym (ap₂ (λ a b. earlier (earlier a (Some target)) b) p e)
+
+-- what is told of a name is neither a program's fault nor want of memory
+pub tells_name : (IsRight : DeckFault → Type 0) (misnamed : Misnamed) → IsRight (name_fault misnamed) → Tells IsRight (name_fault misnamed)
+tells_name IsRight misnamed right = by misnamed.own right
+  where
+    by : (b : Bool) → IsRight (cond b (fault.OpensItself misnamed.line) (fault.UnknownName misnamed.line)) → Tells IsRight (cond b (fault.OpensItself misnamed.line) (fault.UnknownName misnamed.line))
+    by true right = right
+    by false right = right
+
+pub tells_named : (IsRight : DeckFault → Type 0) (misnamed : Option Misnamed) (f : DeckFault) → option_map name_fault misnamed ≡ Some f → IsRight f → Tells IsRight f
+tells_named IsRight None f e right = absurd (cc)
+tells_named IsRight (Some misnamed) f e right =
+    let same : name_fault misnamed ≡ f = cc in
+    subst (Tells IsRight) same (tells_name IsRight misnamed (subst IsRight (sym same) right))
+
+-- nor is what is told of a line
+pub tells_line : (IsRight : DeckFault → Type 0) (number : ℕ) (why : LineFault) → IsRight (fault_at number why) → Tells IsRight (fault_at number why)
+tells_line IsRight number line.Form right = right
+tells_line IsRight number line.NameTwice right = right
+tells_line IsRight number line.SameProcessor right = right
+tells_line IsRight number line.NoProcessor right = right
+tells_line IsRight number (line.Limit which) right = right
+tells_line IsRight number line.NoEnd right = right

@@ -1,0 +1,12 @@
+use Rattle.std.proofs.Common.{◌≡◌, ◌+◌, ◌≤◌, length}
+use Rattle.deck_reader.specs.Lines.{lines_of}
+use Rattle.deck_reader.specs.Outlined.{told_after, told_by}
+use Rattle.deck_reader.proofs.StageLemmas.{StageKeeps}
+use Rattle.deck_reader.proofs.told.told_by.Given as goal
+
+-- the lines that are left lead on from this stage, which keeps the limits, as all lines lead
+abbrev pub invariant-loop-line : goal.invariant-loop-line
+invariant-loop-line l = (told_after l.stage l.number (lines_of l.text) ≡ told_by (lines_of l.bytes)) × (l.number + length l.text ≤ length l.bytes) × StageKeeps l.stage
+
+abbrev pub decreases-loop-line : goal.decreases-loop-line
+decreases-loop-line l = length l.text

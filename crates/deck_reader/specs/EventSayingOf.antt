@@ -1,0 +1,91 @@
+-- What an event line of a deck says, after its first word. The forms of these lines are our own.
+use Rattle.std.specs.Prelude.{ℕ, Bool, true, false, List, [], ◌∷◌, codes, Option, Some, None, option_map, option_and_then, if◌then◌else◌}
+use Rattle.std.specs.Str.{bytes_eq}
+use Rattle.gd_words.specs.Spelling.{name_of}
+use Rattle.deck_reader.specs.Lines.{is_blank, one_word, two_words, three_words}
+use Rattle.deck_reader.specs.Numbers.{number_of}
+use Rattle.deck_reader.specs.declared.event_saying.EventKeyword.{EventKeyword}
+use Rattle.deck_reader.specs.declared.event_saying.EventKeyword.TheVariants as key
+use Rattle.deck_reader.specs.declared.event_saying.EventSaying.{EventSaying}
+use Rattle.deck_reader.specs.declared.event_saying.EventSaying.TheVariants as said
+use Rattle.deck_reader.specs.declared.event_saying.PacketPlace.{PacketPlace}
+
+-- how often a process runs: once, or TIMES times
+abbrev pub run_of : List ℕ → List (List ℕ) → Option EventSaying
+run_of name parts =
+    if is_blank parts then Some (said.Run name) else option_and_then (λ word. option_map (λ times. said.RunTimes name times) (number_of word)) (one_word parts)
+
+-- `run NAME` and `run NAME TIMES`
+abbrev pub run_said : List (List ℕ) → Option EventSaying
+run_said [] = None
+run_said (word ∷ parts) = option_and_then (λ name. run_of name parts) (name_of word)
+
+-- `enter NAME`
+abbrev pub enter_said : List (List ℕ) → Option EventSaying
+enter_said parts = option_and_then (λ word. option_map said.Enter (name_of word)) (one_word parts)
+
+-- a bus is `x` or `y`
+abbrev pub is_y_of : List ℕ → Option Bool
+is_y_of word = if bytes_eq word (codes "x") then Some false else if bytes_eq word (codes "y") then Some true else None
+
+-- `B K`: the packet at position K of bus B
+abbrev pub packet_of : List (List ℕ) → Option PacketPlace
+packet_of parts = option_and_then (λ words. option_and_then (λ y. option_map (λ k. record { y = y; k = k }) (number_of words.1)) (is_y_of words.0)) (two_words parts)
+
+-- `deliver B K`, `lose B K` and `repeat B K`
+abbrev pub deliver_said : List (List ℕ) → Option EventSaying
+deliver_said parts = option_map said.Deliver (packet_of parts)
+
+abbrev pub lose_said : List (List ℕ) → Option EventSaying
+lose_said parts = option_map said.Lose (packet_of parts)
+
+abbrev pub repeat_said : List (List ℕ) → Option EventSaying
+repeat_said parts = option_map said.Repeat (packet_of parts)
+
+-- `tick N`
+abbrev pub tick_said : List (List ℕ) → Option EventSaying
+tick_said parts = option_and_then (λ word. option_map said.Tick (number_of word)) (one_word parts)
+
+-- `fail P`
+abbrev pub fail_said : List (List ℕ) → Option EventSaying
+fail_said parts = option_and_then (λ word. option_map said.Fail (number_of word)) (one_word parts)
+
+-- `drain R`
+abbrev pub drain_said : List (List ℕ) → Option EventSaying
+drain_said parts = option_and_then (λ word. option_map said.Drain (number_of word)) (one_word parts)
+
+-- a number and R
+abbrev pub rounds_with : List (List ℕ) → Option (ℕ × ℕ)
+rounds_with parts = option_and_then (λ words. option_and_then (λ first. option_map (λ rounds. (first, rounds)) (number_of words.1)) (number_of words.0)) (two_words parts)
+
+-- `mix S R`
+abbrev pub mix_said : List (List ℕ) → Option EventSaying
+mix_said parts = option_map (λ numbers. said.Mix numbers.0 numbers.1) (rounds_with parts)
+
+-- `mute P R`
+abbrev pub mute_said : List (List ℕ) → Option EventSaying
+mute_said parts = option_map (λ numbers. said.Mute numbers.0 numbers.1) (rounds_with parts)
+
+-- what is counted is writes, `W`, or replies, `R`
+abbrev pub is_writes_of : List ℕ → Option Bool
+is_writes_of word = if bytes_eq word (codes "W") then Some true else if bytes_eq word (codes "R") then Some false else None
+
+-- `until W N R` and `until R N R`
+abbrev pub until_said : List (List ℕ) → Option EventSaying
+until_said parts =
+    option_and_then (λ words. option_and_then (λ writes. option_and_then (λ count. option_map (λ rounds. said.Until writes count rounds) (number_of words.2)) (number_of words.1)) (is_writes_of words.0))
+    (three_words parts)
+
+-- the parts of an event line by its first word
+abbrev pub event_said : List (List ℕ) → EventKeyword → Option EventSaying
+event_said parts key.Run = run_said parts
+event_said parts key.Enter = enter_said parts
+event_said parts key.Deliver = deliver_said parts
+event_said parts key.Lose = lose_said parts
+event_said parts key.Repeat = repeat_said parts
+event_said parts key.Tick = tick_said parts
+event_said parts key.Fail = fail_said parts
+event_said parts key.Drain = drain_said parts
+event_said parts key.Mix = mix_said parts
+event_said parts key.Mute = mute_said parts
+event_said parts key.Until = until_said parts

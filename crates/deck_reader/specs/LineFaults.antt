@@ -1,0 +1,103 @@
+-- What one more line of a deck adds, or why it can't stand where it does: a rule for each form of line, with its faults in
+-- their order. The forms and their limits are our own. The numbers of limits: 1 processes (16), 2 terminals (16), 3 requests of
+-- a terminal (1,000), 4 words of a request (16), 5 sectors (1 to 64), 6 single events (1,000,000), 7 rounds (100,000),
+-- 8 processors (2 to 16).
+use Rattle.std.specs.Prelude.{ℕ, ◌+◌, Bool, not, ◌&&◌, ◌||◌, ◌==◌, nat_lt, nat_le, List, [], length, Result, Ok, Err, None, if◌then◌else◌}
+use Rattle.std.specs.List.{list_any}
+use Rattle.std.specs.Str.{bytes_eq}
+use Rattle.deck_reader.specs.declared.event_saying.EventSaying.{EventSaying}
+use Rattle.deck_reader.specs.declared.event_saying.EventSaying.TheVariants as said
+use Rattle.deck_reader.specs.declared.line_fault.LineFault.{LineFault}
+use Rattle.deck_reader.specs.declared.line_fault.LineFault.TheVariants as fault
+use Rattle.deck_reader.specs.declared.outline.Body.TheVariants as body
+use Rattle.deck_reader.specs.declared.outline.Heading.{Heading}
+use Rattle.deck_reader.specs.declared.outline.Outline.{Outline}
+use Rattle.deck_reader.specs.declared.outline.ProcessLines.{ProcessLines}
+use Rattle.deck_reader.specs.declared.outline.Sums.{Sums}
+use Rattle.deck_reader.specs.declared.outline.TerminalLines.{TerminalLines}
+use Rattle.deck_reader.specs.declared.saying.Placing.{Placing}
+
+-- `processors N`: a site of 2 to 16 processors, with nothing else yet
+abbrev pub outline_with : ℕ → Outline
+outline_with processors = record { processors = processors; processes = []; terminals = []; events = record { lines = []; sums = record { singles = 0; rounds = 0 }; unknown = None } }
+
+abbrev pub processors_of : ℕ → Result Outline LineFault
+processors_of count =
+    if nat_lt count 2 then Err (fault.Limit 8)
+    else if nat_lt 16 count then Err (fault.Limit 8)
+    else Ok (outline_with count)
+
+-- no process and no terminal has the name
+abbrev pub is_new : Outline → List ℕ → Bool
+is_new outline name =
+    not (list_any (λ (process : ProcessLines). bytes_eq process.heading.name name) outline.processes)
+    && not (list_any (λ (terminal : TerminalLines). bytes_eq terminal.name name) outline.terminals)
+
+-- `NAME P B`: a new name, and two different processors of the site; there are at most 16 processes
+abbrev pub heading_of : Outline → Placing → Result Heading LineFault
+heading_of outline placing =
+    if not (is_new outline placing.name) then Err fault.NameTwice
+    else if placing.primary == placing.backup then Err fault.SameProcessor
+    else if nat_le outline.processors placing.primary then Err fault.NoProcessor
+    else if nat_le outline.processors placing.backup then Err fault.NoProcessor
+    else if nat_le 16 (length outline.processes) then Err (fault.Limit 1)
+    else Ok (record { name = placing.name; primary = placing.primary; backup = placing.backup })
+
+-- 1 to 64 sectors
+abbrev pub with_sectors : ℕ → Result Heading LineFault → Result ProcessLines LineFault
+with_sectors sectors (Err why) = Err why
+with_sectors sectors (Ok heading) =
+    if nat_lt sectors 1 then Err (fault.Limit 5)
+    else if nat_lt 64 sectors then Err (fault.Limit 5)
+    else Ok (record { heading = heading; body = body.Disc sectors })
+
+-- `disc NAME P B SECTORS`
+abbrev pub disc_of : Outline → Placing → ℕ → Result ProcessLines LineFault
+disc_of outline placing sectors = with_sectors sectors (heading_of outline placing)
+
+-- `terminal NAME TARGET` on the line of this number: a new name; there are at most 16 terminals
+abbrev pub terminal_of : Outline → ℕ → List ℕ → List ℕ → Result TerminalLines LineFault
+terminal_of outline line name target =
+    if not (is_new outline name) then Err fault.NameTwice
+    else if nat_le 16 (length outline.terminals) then Err (fault.Limit 2)
+    else Ok (record { line = line; name = name; target = target; requests = [] })
+
+-- so many more single events, or rounds
+abbrev pub more_singles : Sums → ℕ → Result Sums LineFault
+more_singles sums more =
+    if nat_lt 1000000 (sums.singles + more) then Err (fault.Limit 6) else Ok (record { singles = sums.singles + more; rounds = sums.rounds })
+
+abbrev pub more_rounds : Sums → ℕ → Result Sums LineFault
+more_rounds sums more =
+    if nat_lt 100000 (sums.rounds + more) then Err (fault.Limit 7) else Ok (record { singles = sums.singles; rounds = sums.rounds + more })
+
+-- `run NAME TIMES`: at least once
+abbrev pub run_times_asks : Sums → ℕ → Result Sums LineFault
+run_times_asks sums times = if nat_lt times 1 then Err fault.Form else more_singles sums times
+
+-- `tick N`: a processor of the site, or node 16, which is that of the terminals
+abbrev pub tick_asks : ℕ → Sums → ℕ → Result Sums LineFault
+tick_asks processors sums node = if nat_lt node processors || node == 16 then more_singles sums 1 else Err fault.NoProcessor
+
+-- `fail P`: a processor of the site
+abbrev pub fail_asks : ℕ → Sums → ℕ → Result Sums LineFault
+fail_asks processors sums processor = if nat_lt processor processors then more_singles sums 1 else Err fault.NoProcessor
+
+-- `mute P R`: a processor of the site
+abbrev pub mute_asks : ℕ → Sums → ℕ → ℕ → Result Sums LineFault
+mute_asks processors sums processor rounds = if nat_lt processor processors then more_rounds sums rounds else Err fault.NoProcessor
+
+-- what event lines ask for together with one more, on a site with so many processors
+abbrev pub asks : ℕ → Sums → EventSaying → Result Sums LineFault
+asks processors sums (said.Run name) = more_singles sums 1
+asks processors sums (said.RunTimes name times) = run_times_asks sums times
+asks processors sums (said.Enter name) = more_singles sums 1
+asks processors sums (said.Deliver place) = more_singles sums 1
+asks processors sums (said.Lose place) = more_singles sums 1
+asks processors sums (said.Repeat place) = more_singles sums 1
+asks processors sums (said.Tick node) = tick_asks processors sums node
+asks processors sums (said.Fail processor) = fail_asks processors sums processor
+asks processors sums (said.Drain rounds) = more_rounds sums rounds
+asks processors sums (said.Mix start rounds) = more_rounds sums rounds
+asks processors sums (said.Mute processor rounds) = mute_asks processors sums processor rounds
+asks processors sums (said.Until writes count rounds) = more_rounds sums rounds

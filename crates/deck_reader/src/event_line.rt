@@ -1,0 +1,126 @@
+ghost use Rattle.std.specs.Prelude.{◌≡◌, ◌≤◌, length, Some};
+ghost use Rattle.schedule.specs.declared.event.Event.TheVariants as event;
+ghost use Rattle.schedule.specs.declared.line.Line.TheVariants as line;
+ghost use Rattle.deck_reader.specs.EventLineOf.{run_line, run_times_line, enter_line, tick_line, fail_line, mute_line, event_line};
+ghost use Rattle.deck_reader.specs.Few.{AreFew};
+
+use crate::event_saying::{EventSaying, PacketPlace};
+use crate::outline::{Outline, process_place, terminal_place};
+use gd_words::Name;
+use schedule::{Event, Line};
+
+/// The number of the terminals' node.
+const TERMINAL_NODE: u32 = 16;
+
+/// The event line that is said; none where it names no process to run or no terminal to enter at, a processor or node that
+/// isn't there, or no steps.
+pub fn event_line(outline: &Outline, saying: EventSaying) -> Option<Line>
+    requires few { AreFew outline.now }
+    ensures { result ≡ event_line outline.now saying }
+{
+    match saying {
+        EventSaying::Run(name) => run_line(outline, &name),
+        EventSaying::RunTimes { name, times } => run_times_line(outline, &name, times),
+        EventSaying::Enter(name) => enter_line(outline, &name),
+        EventSaying::Deliver(place) => deliver_line(place),
+        EventSaying::Lose(place) => lose_line(place),
+        EventSaying::Repeat(place) => repeat_line(place),
+        EventSaying::Tick(node) => tick_line(outline.processors, node),
+        EventSaying::Fail(processor) => fail_line(outline.processors, processor),
+        EventSaying::Drain(rounds) => Some(Line::Drain(rounds)),
+        EventSaying::Mix { start, rounds } => Some(Line::Mix {
+            start: u64::from(start),
+            rounds,
+        }),
+        EventSaying::Mute { processor, rounds } => mute_line(outline.processors, processor, rounds),
+        EventSaying::Until {
+            writes,
+            count,
+            rounds,
+        } => Some(Line::Until {
+            writes,
+            count,
+            rounds,
+        }),
+    }
+}
+
+fn run_line(outline: &Outline, name: &Name) -> Option<Line>
+    requires few { AreFew outline.now }
+    ensures { result ≡ run_line outline.now name.now }
+{
+    let place = process_place(outline.processes.as_slice(), name)?;
+    Some(Line::One(Event::Run(place)))
+}
+
+fn run_times_line(outline: &Outline, name: &Name, times: u32) -> Option<Line>
+    requires few { AreFew outline.now }
+    ensures { result ≡ run_times_line outline.now name.now times }
+{
+    if times < 1 {
+        return None;
+    }
+    let place = process_place(outline.processes.as_slice(), name)?;
+    let event = Event::Run(place);
+    Some(Line::Many { event, times })
+}
+
+fn enter_line(outline: &Outline, name: &Name) -> Option<Line>
+    requires few { AreFew outline.now }
+    ensures { result ≡ enter_line outline.now name.now }
+{
+    let place = terminal_place(outline.terminals.as_slice(), name)?;
+    Some(Line::One(Event::Enter(place)))
+}
+
+fn deliver_line(place: PacketPlace) -> Option<Line>
+    ensures { result ≡ Some (line.One (event.Deliver place.y place.k)) }
+{
+    let PacketPlace { y, k } = place;
+    Some(Line::One(Event::Deliver { y, k }))
+}
+
+fn lose_line(place: PacketPlace) -> Option<Line>
+    ensures { result ≡ Some (line.One (event.Lose place.y place.k)) }
+{
+    let PacketPlace { y, k } = place;
+    Some(Line::One(Event::Lose { y, k }))
+}
+
+fn repeat_line(place: PacketPlace) -> Option<Line>
+    ensures { result ≡ Some (line.One (event.Repeat place.y place.k)) }
+{
+    let PacketPlace { y, k } = place;
+    Some(Line::One(Event::Repeat { y, k }))
+}
+
+fn tick_line(processors: u8, node: u32) -> Option<Line>
+    ensures { result ≡ tick_line processors node }
+{
+    if node < u32::from(processors) || node == TERMINAL_NODE {
+        Some(Line::One(Event::Tick(node as u8)))
+    } else {
+        None
+    }
+}
+
+fn fail_line(processors: u8, processor: u32) -> Option<Line>
+    ensures { result ≡ fail_line processors processor }
+{
+    if processor < u32::from(processors) {
+        Some(Line::One(Event::Fail(processor as u8)))
+    } else {
+        None
+    }
+}
+
+fn mute_line(processors: u8, processor: u32, rounds: u32) -> Option<Line>
+    ensures { result ≡ mute_line processors processor rounds }
+{
+    if processor < u32::from(processors) {
+        let node = processor as u8;
+        Some(Line::Mute { node, rounds })
+    } else {
+        None
+    }
+}

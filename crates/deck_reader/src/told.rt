@@ -1,0 +1,62 @@
+ghost use Rattle.std.specs.Prelude.{◌≡◌, ◌≤◌, length, IfOk};
+ghost use Rattle.deck_reader.specs.Lines.{lines_of};
+ghost use Rattle.deck_reader.specs.Outlined.{unended, at_end, told_by};
+
+use crate::line_fault::LineFault;
+use crate::lines::next_line;
+use crate::outline::{Heading, Outline};
+use crate::step::{Breach, Stage, Step, broken, broken_at_start, next_stage};
+use gd_words::NoMemory;
+use std::alloc::Global;
+
+/// What all lines say together.
+#[derive(Drop)]
+pub enum Told {
+    Whole(Outline),
+    Broken(Breach),
+}
+
+/// What the lines of a text say together.
+pub fn told_by(alloc: Global, bytes: &[u8]) -> Result<Told, NoMemory>
+    requires short { length bytes.now ≤ 1048576 }
+    ensures { IfOk result (λ told. told ≡ told_by (lines_of bytes.now)) }
+{
+    let mut stage = Stage::Opening;
+    let mut text = bytes;
+    let mut number = 0;
+    while let Some((line, rest)) = next_line(text) {
+        number += 1;
+        match next_stage(alloc, stage, number, line)? {
+            Step::Broken(breach) => return Ok(Told::Broken(breach)),
+            Step::Next(next) => stage = next,
+        }
+        text = rest;
+    }
+    Ok(at_end(alloc, stage, number))
+}
+
+/// What all lines say, where there are so many.
+fn at_end(alloc: Global, stage: Stage, count: u32) -> Told
+    ensures { result ≡ at_end stage count }
+{
+    match stage {
+        Stage::Opening => Told::Broken(broken_at_start(alloc, count, LineFault::NoEnd)),
+        Stage::Blocks(outline) => Told::Broken(broken(outline, count, LineFault::NoEnd)),
+        Stage::Program(outline, heading, program) => {
+            unended(outline, heading, program.line, count)
+        }
+        Stage::Requests(outline, _) => Told::Broken(broken(outline, count, LineFault::NoEnd)),
+        Stage::Schedule(outline) => Told::Broken(broken(outline, count, LineFault::NoEnd)),
+        Stage::Ended(outline) => Told::Whole(outline),
+    }
+}
+
+/// The last program has no end.
+fn unended(outline: Outline, heading: Result<Heading, LineFault>, line: u32, count: u32) -> Told
+    ensures { result ≡ unended outline heading line count }
+{
+    match heading {
+        Err(why) => Told::Broken(broken(outline, line, why)),
+        Ok(_) => Told::Broken(broken(outline, count, LineFault::NoEnd)),
+    }
+}

@@ -1,0 +1,43 @@
+-- The report of a run tells what the laws say of it.
+use Rattle.std.proofs.Common.{◌≡◌, ℕ, List, Option, ap, ◌∙◌}
+use Rattle.accepted_decks.specs.Left.{KeepsPossibleActs}
+use Rattle.deck_reader.specs.declared.deck.Deck.{Deck}
+use Rattle.player.specs.declared.stop.Stop.{Stop}
+use Rattle.schedule_runs.specs.Ends.{IsRunOf}
+use Rattle.shown_sectors.specs.Sectors.{sectors_after}
+use Rattle.shown_sectors.specs.declared.sectors.SectorWords.{SectorWords}
+use Rattle.tal_tree.specs.declared.act.Act.{Act}
+use Rattle.tal_tree.specs.declared.act.Shown.{Shown}
+use Rattle.tal_tree.specs.declared.site.Site.{Site}
+use Rattle.trace_print.specs.ReportText.{report_text}
+use Rattle.trace_print.specs.declared.closing.End.{End}
+use Rattle.runner.specs.Decided.{IsReportOf}
+use Rattle.runner.specs.RunEnds.{end_of, shown_in}
+use Rattle.runner.specs.Stopped.{stopped_from}
+use Rattle.runner.specs.Written.{text_of_run, told_acts}
+use Rattle.runner.specs.declared.due.Report.{Report}
+
+pub reported : (deck : Deck) (stop : Option Stop) (report : Report) → report.site ≡ deck.site → IsRunOf deck.site deck.lines stop report.run.ran
+    → KeepsPossibleActs deck.site report.run.ran → report.sectors ≡ sectors_after deck.site (shown_in report.run)
+    → report.stopped ≡ stopped_from 0 report.run.ran.machine.state.world.stopped → IsReportOf deck stop report
+reported deck stop report site run keeps sectors stopped = record {
+  site = site;
+  run = run;
+  possible = keeps.possible;
+  shown = keeps.shown;
+  none = keeps.none;
+  sectors = sectors;
+  stopped = stopped;
+}
+
+-- the text of what stands in a report is the text of the report
+pub report_is : (report : Report) (site : Site) (shown : List Shown) (sectors : List SectorWords) (stopped : List ℕ) (acts : List Act) (end : End)
+    → site ≡ report.site → shown ≡ shown_in report.run → sectors ≡ report.sectors → stopped ≡ report.stopped → acts ≡ told_acts report
+    → end ≡ end_of report.run.ran.ending → report_text site shown sectors stopped acts end ≡ text_of_run report
+report_is report site shown sectors stopped acts end is_site is_shown is_sectors is_stopped is_acts is_end =
+    ap (λ x. report_text x shown sectors stopped acts end) is_site
+    ∙ ap (λ x. report_text report.site x sectors stopped acts end) is_shown
+    ∙ ap (λ x. report_text report.site (shown_in report.run) x stopped acts end) is_sectors
+    ∙ ap (λ x. report_text report.site (shown_in report.run) report.sectors x acts end) is_stopped
+    ∙ ap (λ x. report_text report.site (shown_in report.run) report.sectors report.stopped x end) is_acts
+    ∙ ap (λ x. report_text report.site (shown_in report.run) report.sectors report.stopped (told_acts report) x) is_end

@@ -1,0 +1,20 @@
+use Rattle.std.proofs.Common.{◌∙◌, ap, subst}
+use Rattle.schedule_runs.specs.Ends.{IsRunOf}
+use Rattle.shown_sectors.specs.Sectors.{sectors_after}
+use Rattle.runner.specs.Stopped.{stopped_from}
+use Rattle.runner.proofs.Reported.{reported}
+use Rattle.runner.proofs.decide.report_of.Goals as goal
+
+pub returns-clause-run : goal.returns-clause-run
+returns-clause-run c =
+    let meets = c.an_accepted_deck_meets_the_premises.ensures in
+    let accepted = meets.accepted c.requires.spelt.0 c.args.deck c.requires.spelt.1 c.requires.accepted in
+    let laid_out = meets.laid_out c.requires.spelt.0 c.args.deck c.requires.spelt.1 in
+    let run : IsRunOf c.args.deck.site c.args.deck.lines c.args.stop c.in_ok-run.field-0 =
+    subst (λ site. IsRunOf site c.args.deck.lines c.args.stop c.in_ok-run.field-0) c.in_ok-site.ensures
+    (subst (λ lines. IsRunOf c.in_ok-site.site lines c.args.stop c.in_ok-run.field-0) c.as_slice.ensures c.in_ok-run.ensures) in
+    reported c.args.deck c.args.stop _ c.in_ok-site.ensures run
+    (c.a_run_of_an_accepted_site_keeps_possible_acts.ensures c.args.deck.site c.args.deck.lines c.args.stop c.in_ok-run.field-0 accepted laid_out run)
+    (c.in_ok-sectors.ensures ∙ ap (λ site. sectors_after site c.shown.result.now) (c.get.ensures ∙ c.in_ok-site.ensures)
+    ∙ ap (sectors_after c.args.deck.site) c.shown.ensures)
+    (c.in_ok-stopped.ensures ∙ ap (stopped_from 0) c.stopped.ensures)

@@ -1,0 +1,32 @@
+-- What is told of a run.
+use Rattle.std.specs.Prelude.{List, reverse}
+use Rattle.tal_tree.specs.declared.act.Act.{Act}
+use Rattle.tal_tree.specs.declared.act.Shown.{Shown}
+use Rattle.trace_print.specs.declared.closing.End.{End}
+use Rattle.trace_print.specs.declared.closing.End.TheVariants as end
+use Rattle.world_semantics.specs.Kept.{acts_of}
+use Rattle.schedule_runs.specs.declared.ran.Ending.{Ending}
+use Rattle.schedule_runs.specs.declared.ran.Ending.TheVariants.{Idle, Cut, Second}
+use Rattle.runner.specs.declared.outcome.RunEnd.{RunEnd}
+use Rattle.runner.specs.declared.outcome.Status.{Status}
+use Rattle.runner.specs.declared.outcome.Status.TheVariants as status
+
+-- the acts that the run keeps, in order
+abbrev pub acts_in : RunEnd → List Act
+acts_in run = acts_of run.ran.machine.state.world
+
+-- what was shown in it, in order
+abbrev pub shown_in : RunEnd → List Shown
+shown_in run = reverse run.ran.machine.state.world.shown
+
+-- the end that its report tells
+abbrev pub end_of : Ending → End
+end_of Idle = end.Idle
+end_of Cut = end.Cut
+end_of (Second processor) = end.Second processor
+
+-- the status of a command that made it
+abbrev pub status_of_run : Ending → Status
+status_of_run Idle = status.Done
+status_of_run Cut = status.Cut
+status_of_run (Second processor) = status.SecondStop processor
