@@ -7,7 +7,10 @@ use shown_sectors::SectorWords;
 use std::alloc::Global;
 use std::test::Fail;
 use tal_tree::{Act, DeckFault, Kind, Place, ProcessSpec, Shown, Site, TalFault, TerminalSpec};
-use trace_print::{End, write_end, write_fault, write_report, write_shown, write_usage};
+use trace_print::{
+    End, LoadCounts, write_end, write_fault, write_load_report, write_report, write_shown,
+    write_usage,
+};
 
 fn empty_sink(alloc: Global) -> Result<MemorySink, NoMemory> {
     MemorySink::new(alloc, 512, List::new(alloc))
@@ -101,6 +104,25 @@ fn lines_tell_the_end_and_the_usage(rt: HostRuntime) -> Result<(), Fail> {
     write_usage(&mut sink)?;
     let wanted =
         b"END idle\nEND cut\nEND second 15\nEND checked\nEND refused\nEND swept\nUSAGE guardian MODE [N] [--acts] [--fail P:K]\n";
+    assert!(rt; sink.bytes() == wanted.as_slice());
+    Ok(())
+}
+
+#[test]
+fn lines_tell_how_much_a_load_shows(rt: HostRuntime) -> Result<(), Fail> {
+    let site = Site {
+        processors: 16,
+        processes: List::new(rt.alloc()),
+        terminals: List::new(rt.alloc()),
+    };
+    let counts = LoadCounts {
+        requests: 200,
+        writes: 4_294_967_295,
+        replies: 0,
+    };
+    let mut sink = empty_sink(rt.alloc())?;
+    write_load_report(&mut sink, &site, counts, &[], &[4, 15], End::Idle)?;
+    let wanted = b"LOAD 200\nW 4294967295\nR 0\nS 4\nS 15\nEND idle\n";
     assert!(rt; sink.bytes() == wanted.as_slice());
     Ok(())
 }

@@ -1,6 +1,7 @@
 pub mod ActLine
 pub mod EndLine
 pub mod FaultLine
+pub mod LoadLines
 pub mod NumbersText
 pub mod ReportText
 pub mod SectorLine

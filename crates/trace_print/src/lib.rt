@@ -1,10 +1,10 @@
-//! The lines of a report: what a run shows, the sectors that were written, the processors that stopped, the acts that it kept and how
+//! The lines of a report: what a run shows, or for a load its counts, the sectors that were written, the processors that stopped, the acts that it kept and how
 //! it ended; which programs are accepted, and why one is refused; a deck's fault; and the usage. Each is one exact text that goes
 //! out by one call of `put_all`. Nothing here takes memory.
 //!
 //! Below stand `gd_io`, whose relation `Puts` is what each call here says of its sink, `tal_tree` with what the lines tell of,
 //! `plain_semantics` with the openers that acts name, `path_semantics` with the reasons of refusals, and `shown_sectors`. The crates
-//! above use the texts, `report_text`, `accepted_text`, `refusal_text`, `fault_line`, `end_line` and `usage_line`, and join other
+//! above use the texts, `report_text`, `load_report_text`, `accepted_text`, `refusal_text`, `fault_line`, `end_line` and `usage_line`, and join other
 //! texts by the lemmas of `gd_io` on `Puts`.
 #![tactic(auto)]
 
@@ -12,6 +12,7 @@ pub mod acts;
 pub mod closing;
 pub mod fault;
 mod line;
+pub mod load;
 pub mod report;
 pub mod sectors;
 pub mod shown;
@@ -21,7 +22,8 @@ pub mod verdict;
 pub use acts::{write_act, write_all_acts};
 pub use closing::{End, write_end, write_usage};
 pub use fault::write_fault;
-pub use report::write_report;
+pub use load::{LoadCounts, write_load};
+pub use report::{write_load_report, write_report};
 pub use sectors::{write_all_sectors, write_sector};
 pub use shown::{write_all_shown, write_shown};
 pub use stops::{write_all_stops, write_stop};

@@ -2,13 +2,15 @@ ghost use Rattle.std.specs.Prelude.{◌++◌};
 ghost use Rattle.gd_io.specs.Puts.{Puts};
 ghost use Rattle.plain_semantics.specs.SiteLimits.{KeepsSiteLimits};
 ghost use Rattle.trace_print.specs.ActLine.{act_lines};
-ghost use Rattle.trace_print.specs.ReportText.{report_text};
+ghost use Rattle.trace_print.specs.LoadLines.{load_lines};
+ghost use Rattle.trace_print.specs.ReportText.{load_report_text, report_text};
 ghost use Rattle.trace_print.specs.SectorLine.{sector_lines};
 ghost use Rattle.trace_print.specs.ShownLine.{shown_lines};
 ghost use Rattle.trace_print.specs.StopLine.{stop_lines};
 
 use crate::acts::write_all_acts;
 use crate::closing::{End, write_end};
+use crate::load::{LoadCounts, write_load};
 use crate::sectors::write_all_sectors;
 use crate::shown::write_all_shown;
 use crate::stops::write_all_stops;
@@ -73,5 +75,46 @@ fn write_outside<K: Sink>(
     ensures { Puts K.held K.faults K.sure sink.old sink.new (shown_lines site.now shown.now ++ sector_lines site.now sectors.now) result }
 {
     write_all_shown(sink, site, shown)?;
+    write_all_sectors(sink, site, sectors)
+}
+
+/// Writes the lines of a load's counts, of the sectors that were written, of the processors that have stopped, and of its end, in
+/// this order. It takes no memory.
+pub fn write_load_report<K: Sink>(
+    sink: &mut K,
+    site: &Site,
+    counts: LoadCounts,
+    sectors: &[SectorWords],
+    stopped: &[u8],
+    end: End,
+) -> Result<(), WriteFault>
+    ensures { Puts K.held K.faults K.sure sink.old sink.new (load_report_text site.now counts sectors.now stopped.now end) result }
+{
+    write_load_states(sink, site, counts, sectors, stopped)?;
+    write_end(sink, end)
+}
+
+fn write_load_states<K: Sink>(
+    sink: &mut K,
+    site: &Site,
+    counts: LoadCounts,
+    sectors: &[SectorWords],
+    stopped: &[u8],
+) -> Result<(), WriteFault>
+    ensures { Puts K.held K.faults K.sure sink.old sink.new (load_lines counts ++ sector_lines site.now sectors.now ++ stop_lines stopped.now) result }
+{
+    write_load_sectors(sink, site, counts, sectors)?;
+    write_all_stops(sink, stopped)
+}
+
+fn write_load_sectors<K: Sink>(
+    sink: &mut K,
+    site: &Site,
+    counts: LoadCounts,
+    sectors: &[SectorWords],
+) -> Result<(), WriteFault>
+    ensures { Puts K.held K.faults K.sure sink.old sink.new (load_lines counts ++ sector_lines site.now sectors.now) result }
+{
+    write_load(sink, counts)?;
     write_all_sectors(sink, site, sectors)
 }
