@@ -9,6 +9,7 @@ use Rattle.gd_io.specs.Faults.{HasRisen}
 use Rattle.deck_reader.specs.Decks.{Decks}
 use Rattle.deck_reader.specs.Refusals.{IsRefusalOf}
 use Rattle.deck_reader.specs.declared.deck.Deck.{Deck}
+use Rattle.load_deck.specs.LoadText.{load_text}
 use Rattle.player.specs.declared.stop.Stop.{Stop}
 use Rattle.plain_semantics.specs.Machine.{IsPossible, IsNoneLeft, shown_by}
 use Rattle.schedule_runs.specs.Ends.{IsRunOf}
@@ -17,12 +18,14 @@ use Rattle.shown_sectors.specs.Sectors.{sectors_after}
 use Rattle.verdicts.specs.Refused.{AreAccepted, IsFirstRefused}
 use Rattle.runner.specs.RunEnds.{acts_in, shown_in}
 use Rattle.runner.specs.Stopped.{stopped_from}
-use Rattle.runner.specs.Tasks.{can_stop}
+use Rattle.runner.specs.Tasks.{can_stop, load_task}
 use Rattle.runner.specs.declared.due.Due.{Due}
 use Rattle.runner.specs.declared.due.Due.TheVariants as due
 use Rattle.runner.specs.declared.due.Report.{Report}
 use Rattle.runner.specs.declared.task.Task.{Task}
 use Rattle.runner.specs.declared.task.Task.TheVariants as task
+use Rattle.runner.specs.declared.task.Telling.{Telling}
+use Rattle.runner.specs.declared.task.Telling.TheVariants as telling
 
 -- some bytes spell the deck
 abbrev pub IsSpelt : Deck → Type 0
@@ -40,15 +43,15 @@ pub record IsReportOf (deck : Deck) (stop : Option Stop) (report : Report) : Typ
   pub sectors : report.sectors ≡ sectors_after deck.site (shown_in report.run)
   pub stopped : report.stopped ≡ stopped_from 0 report.run.ran.machine.state.world.stopped
 
--- what is due of a deck that is run: the report of its run, with its acts where they are asked for
-abbrev pub IsDueOfRun : Deck → Option Stop → Bool → Due → Type 0
-IsDueOfRun deck stop acts (due.Report report) = IsReportOf deck stop report × (report.tells_acts ≡ acts)
-IsDueOfRun deck stop acts due.NoMemory = Unit {0}
-IsDueOfRun deck stop acts _ = ⊥
+-- what is due of a deck that is run: the report of its run, which is to tell so of it
+abbrev pub IsDueOfRun : Deck → Option Stop → Telling → Due → Type 0
+IsDueOfRun deck stop tells (due.Report report) = IsReportOf deck stop report × (report.tells ≡ tells)
+IsDueOfRun deck stop tells due.NoMemory = Unit {0}
+IsDueOfRun deck stop tells _ = ⊥
 
 -- what is due of a deck whose programs are all accepted, by what is to be done with it
 abbrev pub IsDueOfAccepted : Task → Deck → Due → Type 0
-IsDueOfAccepted (task.Run acts stop) deck decided = IsDueOfRun deck stop acts decided
+IsDueOfAccepted (task.Run tells stop) deck decided = IsDueOfRun deck stop tells decided
 IsDueOfAccepted task.Check deck decided = decided ≡ due.Accepted deck.site
 
 -- what is due of the programs of a deck: the first that is refused, or else what is due by what is to be done, and then all are accepted
@@ -84,11 +87,11 @@ IsDueOfSource task left before now due.ReadFault = HasRisen before now
 IsDueOfSource task left before now due.NoMemory = Unit {0}
 IsDueOfSource task left before now decided = (bytes : List ℕ) × IsTold left bytes × IsDueOfBytes task bytes decided
 
--- what is due by a command: of the deck that is read; the usage where one is to be made for a number, since none is made yet
+-- what is due by a command: of the deck that is read, or of the load deck, whose text is read as any other
 abbrev pub IsDueOfCommand : Command → Option (List ℕ) → ℕ → ℕ → Due → Type 0
-IsDueOfCommand (command.Run acts stop) left before now decided = IsDueOfSource (task.Run acts stop) left before now decided
+IsDueOfCommand (command.Run acts stop) left before now decided = IsDueOfSource (task.Run (telling.Lines acts) stop) left before now decided
 IsDueOfCommand command.Check left before now decided = IsDueOfSource task.Check left before now decided
-IsDueOfCommand (command.Load number) left before now decided = decided ≡ due.Usage
+IsDueOfCommand (command.Load requests) left before now decided = IsDueOfBytes (load_task requests) (load_text requests) decided
 
 -- what is due by what is asked for: the usage where that is nothing
 abbrev pub IsDueOn : Option Command → Option (List ℕ) → ℕ → ℕ → Due → Type 0
@@ -99,12 +102,12 @@ IsDueOn (Some asked) left before now decided = IsDueOfCommand asked left before 
 abbrev pub IsDue : List (List ℕ) → Option (List ℕ) → ℕ → ℕ → Due → Type 0
 IsDue words left before now decided = (decided ≡ due.NoMemory) ⊎ IsDueOn (asked_by words) left before now decided
 
--- no deck is read where nothing is asked for, or a deck that is made for a number
-abbrev pub NeedsNoDeck : Option Command → Type 0
-NeedsNoDeck None = Unit {0}
-NeedsNoDeck (Some (command.Load number)) = Unit {0}
-NeedsNoDeck (Some (command.Run acts stop)) = ⊥
-NeedsNoDeck (Some command.Check) = ⊥
+-- whether a deck is read for what is asked: not where that is nothing, or a load, whose deck is made
+abbrev pub reads_deck : Option Command → Bool
+reads_deck None = false
+reads_deck (Some (command.Run acts stop)) = true
+reads_deck (Some command.Check) = true
+reads_deck (Some (command.Load requests)) = false
 
 -- what is due only once the deck was read to its end: a report or a verdict, or a refusal for what the deck says
 abbrev pub IsOfWholeDeck : Due → Type 0

@@ -1,17 +1,17 @@
 -- How a command ends.
-use Rattle.std.specs.Prelude.{◌≡◌, ◌≢◌, ℕ, List, Option, length}
+use Rattle.std.specs.Prelude.{◌≡◌, ◌≢◌, ℕ, true, false, List, Option, length}
 use Rattle.std.specs.Io.KnownBytes.{IsAtEnd}
 use Rattle.command_words.specs.Asked.{asked_by}
 use Rattle.gd_io.specs.Faults.{HasRisen}
-use Rattle.runner.specs.Decided.{IsDue, IsOfWholeDeck, NeedsNoDeck}
+use Rattle.runner.specs.Decided.{IsDue, IsOfWholeDeck, reads_deck}
 use Rattle.runner.specs.Written.{text_of, IsWritten}
 use Rattle.runner.specs.declared.due.Due.{Due}
 use Rattle.runner.specs.declared.outcome.Outcome.{Outcome}
 use Rattle.runner.specs.declared.outcome.Status.TheVariants as status
 
 -- a command of these words, over a source and a sink, ends so: the words, the bytes that are read and the deck decide what is
--- due, which is written whole, or a write fault comes after a part. Words that need no deck leave the source as it is, and
--- nothing is left of a deck that is played or refused for what it says. A fault comes only where the source or the sink counted
+-- due, which is written whole, or a write fault comes after a part. Words for which no deck is read leave the source as it is, and
+-- nothing is left of one that is read and played, or refused for what it says. A fault comes only where the source or the sink counted
 -- one, and none comes of one that is sure of itself.
 pub record Ends {S K : Type 0} (left : S → Option (List ℕ)) (failed_reads : S → ℕ) (sure_to_read : S → Type 0)
     (held : K → Option (List ℕ)) (failed_writes : K → ℕ) (sure_to_write : K → ℕ → Type 0)
@@ -19,8 +19,8 @@ pub record Ends {S K : Type 0} (left : S → Option (List ℕ)) (failed_reads : 
   pub decided : Due
   pub is_due : IsDue words (left source) (failed_reads source) (failed_reads source_now) decided
   pub is_written : IsWritten held failed_writes sure_to_write sink sink_now decided outcome
-  pub unread : NeedsNoDeck (asked_by words) → source_now ≡ source
-  pub read_whole : IsOfWholeDeck decided → IsAtEnd (left source_now)
+  pub unread : reads_deck (asked_by words) ≡ false → source_now ≡ source
+  pub read_whole : reads_deck (asked_by words) ≡ true → IsOfWholeDeck decided → IsAtEnd (left source_now)
   pub read_fault : outcome.status ≡ status.ReadFault → HasRisen (failed_reads source) (failed_reads source_now)
   pub no_read_fault : sure_to_read source → outcome.status ≢ status.ReadFault
   pub write_fault : outcome.status ≡ status.WriteFault → HasRisen (failed_writes sink) (failed_writes sink_now)

@@ -1,9 +1,11 @@
 -- What is told of a run.
-use Rattle.std.specs.Prelude.{List, reverse}
+use Rattle.std.specs.Prelude.{ℕ, List, reverse}
+use Rattle.process_copies.specs.ShownCounts.{replies_in, writes_in}
 use Rattle.tal_tree.specs.declared.act.Act.{Act}
 use Rattle.tal_tree.specs.declared.act.Shown.{Shown}
 use Rattle.trace_print.specs.declared.closing.End.{End}
 use Rattle.trace_print.specs.declared.closing.End.TheVariants as end
+use Rattle.trace_print.specs.declared.load.LoadCounts.{LoadCounts}
 use Rattle.world_semantics.specs.Kept.{acts_of}
 use Rattle.schedule_runs.specs.declared.ran.Ending.{Ending}
 use Rattle.schedule_runs.specs.declared.ran.Ending.TheVariants.{Idle, Cut, Second}
@@ -18,6 +20,10 @@ acts_in run = acts_of run.ran.machine.state.world
 -- what was shown in it, in order
 abbrev pub shown_in : RunEnd → List Shown
 shown_in run = reverse run.ran.machine.state.world.shown
+
+-- how much was shown in it, as a load of so many requests of each terminal
+abbrev pub load_counts : ℕ → RunEnd → LoadCounts
+load_counts requests run = record { requests = requests; writes = writes_in run.ran.machine.state.world.shown; replies = replies_in run.ran.machine.state.world.shown }
 
 -- the end that its report tells
 abbrev pub end_of : Ending → End

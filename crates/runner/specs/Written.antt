@@ -1,14 +1,14 @@
 -- What a command writes.
-use Rattle.std.specs.Prelude.{◌≡◌, ℕ, List, [], Option, Some, None, Result, Ok, Err, ⊤, if◌then◌else◌}
+use Rattle.std.specs.Prelude.{◌≡◌, ℕ, Bool, List, [], Option, Some, None, Result, Ok, Err, ⊤, if◌then◌else◌}
 use Rattle.gd_io.specs.Puts.{Puts}
 use Rattle.gd_io.specs.declared.writing.WriteFault.{WriteFault}
 use Rattle.plain_semantics.specs.SiteLimits.{KeepsSiteLimits}
 use Rattle.tal_tree.specs.declared.act.Act.{Act}
 use Rattle.trace_print.specs.EndLine.{usage_line}
 use Rattle.trace_print.specs.FaultLine.{fault_line, IsOfDeck}
-use Rattle.trace_print.specs.ReportText.{report_text}
+use Rattle.trace_print.specs.ReportText.{load_report_text, report_text}
 use Rattle.trace_print.specs.VerdictText.{accepted_text, refusal_text}
-use Rattle.runner.specs.RunEnds.{acts_in, end_of, shown_in, status_of_run}
+use Rattle.runner.specs.RunEnds.{acts_in, end_of, load_counts, shown_in, status_of_run}
 use Rattle.runner.specs.declared.due.Due.{Due}
 use Rattle.runner.specs.declared.due.Due.TheVariants as due
 use Rattle.runner.specs.declared.due.Report.{Report}
@@ -16,14 +16,22 @@ use Rattle.runner.specs.declared.outcome.Outcome.{Outcome}
 use Rattle.runner.specs.declared.outcome.RunEnd.{RunEnd}
 use Rattle.runner.specs.declared.outcome.Status.{Status}
 use Rattle.runner.specs.declared.outcome.Status.TheVariants as status
+use Rattle.runner.specs.declared.task.Telling.{Telling}
+use Rattle.runner.specs.declared.task.Telling.TheVariants as telling
 
--- the acts that a report tells: all that were kept, where they are asked for
-abbrev pub told_acts : Report → List Act
-told_acts report = if report.tells_acts then acts_in report.run else []
+-- the acts that are told of a run: all that were kept, where they are asked for
+abbrev pub told_acts : Bool → RunEnd → List Act
+told_acts acts run = if acts then acts_in run else []
 
--- the report of a run
+-- the report of a run, by what it tells
+abbrev pub text_telling : Telling → Report → List ℕ
+text_telling (telling.Lines acts) report =
+    report_text report.site (shown_in report.run) report.sectors report.stopped (told_acts acts report.run) (end_of report.run.ran.ending)
+text_telling (telling.Counts requests) report =
+    load_report_text report.site (load_counts requests report.run) report.sectors report.stopped (end_of report.run.ran.ending)
+
 abbrev pub text_of_run : Report → List ℕ
-text_of_run report = report_text report.site (shown_in report.run) report.sectors report.stopped (told_acts report) (end_of report.run.ran.ending)
+text_of_run report = text_telling report.tells report
 
 -- the text that is due; nothing where reading failed or memory ran out
 abbrev pub text_of : Due → List ℕ

@@ -1,17 +1,19 @@
-ghost use Rattle.std.specs.Prelude.{◌≡◌, ◌≢◌, IfOk, Some, map, string_bytes};
+ghost use Rattle.std.specs.Prelude.{◌≡◌, ◌≢◌, ◌≤◌, true, false, IfOk, Some, map, string_bytes};
 ghost use Rattle.std.specs.Io.KnownBytes.{IsAtEnd};
-ghost use Rattle.command_words.specs.Asked.{asked_by};
+ghost use Rattle.command_words.specs.Asked.{asked_by, IsInRange};
 ghost use Rattle.gd_io.specs.Faults.{HasRisen};
+ghost use Rattle.load_deck.specs.LoadText.{load_text};
 ghost use Rattle.plain_semantics.specs.SiteLimits.{KeepsSiteLimits};
 ghost use Rattle.verdicts.specs.Refused.{AreAccepted};
+ghost use Rattle.runner.specs.Tasks.{load_task};
 ghost use Rattle.runner.specs.Written.{CanBeWritten};
 ghost use Rattle.runner.specs.Decided.{IsDue, IsDueOfCommand, IsDueOfSource, IsDueOfBytes, IsDueOfDeck, IsDueOfPrograms, IsDueOfAccepted, IsDueOfRun};
-ghost use Rattle.runner.specs.Decided.{IsReportOf, IsSpelt, IsOfWholeDeck, NeedsNoDeck, due_of_fault};
+ghost use Rattle.runner.specs.Decided.{IsReportOf, IsSpelt, IsOfWholeDeck, due_of_fault, reads_deck};
 
 use crate::due::{Due, RefusedSite, Report};
 use crate::outcome::RunEnd;
 use crate::stopped::stopped_processors;
-use crate::task::Task;
+use crate::task::{Task, Telling};
 use accepted_decks::{
     a_run_of_an_accepted_site_keeps_possible_acts, an_accepted_deck_meets_the_premises,
 };
@@ -19,6 +21,7 @@ use command_words::{Command, asked_by};
 use deck_reader::{Deck, read_deck};
 use gd_io::{ReadRefusal, Source, read_all};
 use gd_words::NoMemory;
+use load_deck::load_text;
 use logs::Shared;
 use player::Stop;
 use schedule_runs::run;
@@ -36,8 +39,8 @@ pub fn decide<S: Source>(alloc: Global, words: &[String], source: &mut S) -> Due
     ensures written { CanBeWritten result }
     ensures cause { result ≡ Due.ReadFault → HasRisen (S.faults source.old) (S.faults source.new) }
     ensures unfailing { S.sure source.old → result ≢ Due.ReadFault }
-    ensures unread { NeedsNoDeck (asked_by (map string_bytes words.entry.now)) → source.new ≡ source.old }
-    ensures read_whole { IsOfWholeDeck result → IsAtEnd (S.left source.new) }
+    ensures unread { reads_deck (asked_by (map string_bytes words.entry.now)) ≡ false → source.new ≡ source.old }
+    ensures read_whole { reads_deck (asked_by (map string_bytes words.entry.now)) ≡ true → IsOfWholeDeck result → IsAtEnd (S.left source.new) }
 {
     match asked_by(alloc, words) {
         Err(NoMemory) => Due::NoMemory,
@@ -47,18 +50,34 @@ pub fn decide<S: Source>(alloc: Global, words: &[String], source: &mut S) -> Due
 }
 
 fn due_of_command<S: Source>(alloc: Global, command: Command, source: &mut S) -> Due
+    requires { IsInRange command }
     ensures due { IsDueOfCommand command (S.left source.old) (S.faults source.old) (S.faults source.new) result }
     ensures written { CanBeWritten result }
     ensures cause { result ≡ Due.ReadFault → HasRisen (S.faults source.old) (S.faults source.new) }
     ensures unfailing { S.sure source.old → result ≢ Due.ReadFault }
-    ensures unread { NeedsNoDeck (Some command) → source.new ≡ source.old }
-    ensures read_whole { IsOfWholeDeck result → IsAtEnd (S.left source.new) }
+    ensures unread { reads_deck (Some command) ≡ false → source.new ≡ source.old }
+    ensures read_whole { reads_deck (Some command) ≡ true → IsOfWholeDeck result → IsAtEnd (S.left source.new) }
 {
     match command {
-        Command::Run { acts, stop } => due_of_source(alloc, Task::Run { acts, stop }, source),
+        Command::Run { acts, stop } => {
+            let tells = Telling::Lines { acts };
+            due_of_source(alloc, Task::Run { tells, stop }, source)
+        }
         Command::Check => due_of_source(alloc, Task::Check, source),
-        // No deck is made yet for a number.
-        Command::Load(_) => Due::Usage,
+        Command::Load(requests) => due_of_load(alloc, requests),
+    }
+}
+
+/// The load deck is read from its text, as any other deck.
+fn due_of_load(alloc: Global, requests: u32) -> Due
+    requires { requests ≤ 200 }
+    ensures due { IsDueOfBytes (load_task requests) (load_text requests) result }
+    ensures written { CanBeWritten result }
+    ensures unread { result ≢ Due.ReadFault }
+{
+    match load_text(alloc, requests) {
+        Err(NoMemory) => Due::NoMemory,
+        Ok(text) => due_of_bytes(alloc, Task::load(requests), text.as_slice()),
     }
 }
 
@@ -130,7 +149,7 @@ fn due_of_accepted(alloc: Global, task: Task, deck: Deck) -> Due
     ensures written { CanBeWritten result }
 {
     match task {
-        Task::Run { acts, stop } => due_of_run(alloc, deck, stop, acts),
+        Task::Run { tells, stop } => due_of_run(alloc, deck, stop, tells),
         Task::Check => {
             let Deck { site, lines: _ } = deck;
             Due::Accepted(site)
@@ -138,13 +157,13 @@ fn due_of_accepted(alloc: Global, task: Task, deck: Deck) -> Due
     }
 }
 
-fn due_of_run(alloc: Global, deck: Deck, stop: Option<Stop>, tells_acts: bool) -> Due
+fn due_of_run(alloc: Global, deck: Deck, stop: Option<Stop>, tells: Telling) -> Due
     requires spelt { IsSpelt deck }
     requires accepted { AreAccepted deck.site.processes }
-    ensures due { IsDueOfRun deck stop tells_acts result }
+    ensures due { IsDueOfRun deck stop tells result }
     ensures written { CanBeWritten result }
 {
-    match report_of(alloc, deck, stop, tells_acts) {
+    match report_of(alloc, deck, stop, tells) {
         Err(NoMemory) => Due::NoMemory,
         Ok(report) => Due::Report(report),
     }
@@ -155,12 +174,12 @@ fn report_of(
     alloc: Global,
     deck: Deck,
     stop: Option<Stop>,
-    tells_acts: bool,
+    tells: Telling,
 ) -> Result<Report, NoMemory>
     requires spelt { IsSpelt deck }
     requires accepted { AreAccepted deck.site.processes }
     ensures run { IfOk result (λ report. IsReportOf deck stop report) }
-    ensures acts { IfOk result (λ report. report.tells_acts ≡ tells_acts) }
+    ensures tells { IfOk result (λ report. report.tells ≡ tells) }
     ensures limits { IfOk result (λ report. KeepsSiteLimits report.site) }
 {
     an_accepted_deck_meets_the_premises();
@@ -177,6 +196,6 @@ fn report_of(
         run,
         sectors,
         stopped,
-        tells_acts,
+        tells,
     })
 }

@@ -1,4 +1,5 @@
 use crate::outcome::RunEnd;
+use crate::task::Telling;
 use gd_words::List;
 use logs::Shared;
 use shown_sectors::SectorWords;
@@ -21,14 +22,14 @@ pub enum Due {
 }
 
 /// A run that was made: its site, the run, what stands on the sectors that were written, the processors that have stopped, and
-/// whether the acts are to be told.
+/// what is to be told of it.
 #[derive(Drop)]
 pub struct Report {
     pub site: Shared<Site>,
     pub run: RunEnd,
     pub sectors: List<SectorWords>,
     pub stopped: List<u8>,
-    pub tells_acts: bool,
+    pub tells: Telling,
 }
 
 /// A site, and its first program that is refused.

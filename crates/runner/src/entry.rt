@@ -3,17 +3,20 @@ ghost use Rattle.gd_io.specs.Puts.{Puts};
 ghost use Rattle.runner.specs.Ends.{Ends};
 ghost use Rattle.runner.specs.Numbers.{number_of};
 ghost use Rattle.runner.specs.RunEnds.{end_of};
-ghost use Rattle.runner.specs.Written.{text_of, text_of_run, told_acts, run_of, outcome_of, CanBeWritten};
+ghost use Rattle.runner.specs.Written.{text_of, text_of_run, text_telling, told_acts, run_of, outcome_of, CanBeWritten};
 ghost use Rattle.runner.specs.declared.outcome.Outcome.{Outcome};
 
 use crate::decide::decide;
 use crate::due::{Due, RefusedSite, Report};
-use crate::outcome::{Outcome, Status};
+use crate::outcome::{Outcome, RunEnd, Status};
+use crate::task::Telling;
 use gd_io::{Sink, Source, WriteFault};
 use schedule_runs::Ending;
 use std::alloc::Global;
 use tal_tree::Act;
-use trace_print::{End, write_checked, write_fault, write_refusal, write_report, write_usage};
+use trace_print::{
+    End, write_checked, write_fault, write_load_report, write_refusal, write_report, write_usage,
+};
 use verdicts::RefusedProgram;
 
 /// Runs one command as `command` does, and answers the number of its status, with which the program ends.
@@ -34,7 +37,8 @@ pub fn exit_number<S: Source, K: Sink>(
 /// deck order and writes to the sink that all are accepted, or why the first is refused that isn't. `run` judges them so before any
 /// act, and where all are accepted it runs the deck's schedule on the machine of copies and writes the report; `run --acts` tells
 /// the acts that the run keeps besides, and `run --fail P:K` stops a processor. Any other words give the usage, and so does a
-/// processor that the deck hasn't.
+/// processor that the deck hasn't. `load N` reads no deck: it runs the load deck with N requests of each terminal, and tells in place of
+/// each write and reply how many there were.
 pub fn command<S: Source, K: Sink>(
     alloc: Global,
     words: &[String],
@@ -67,13 +71,34 @@ fn write_run<K: Sink>(sink: &mut K, report: &Report) -> Result<(), WriteFault>
     requires { CanBeWritten (Due.Report report.now) }
     ensures { Puts K.held K.faults K.sure sink.old sink.new (text_of_run report.now) result }
 {
+    match report.tells {
+        Telling::Lines { acts } => write_lines(sink, report, acts),
+        Telling::Counts { requests } => write_counts(sink, report, requests),
+    }
+}
+
+fn write_lines<K: Sink>(sink: &mut K, report: &Report, acts: bool) -> Result<(), WriteFault>
+    requires { CanBeWritten (Due.Report report.now) }
+    ensures { Puts K.held K.faults K.sure sink.old sink.new (text_telling (Telling.Lines acts) report.now) result }
+{
     let site = report.site.get();
     let shown = report.run.shown();
     let sectors = report.sectors.as_slice();
     let stopped = report.stopped.as_slice();
-    let acts = told_acts(report);
+    let acts = told_acts(&report.run, acts);
     let end = end_of(report.run.ran.ending);
     write_report(sink, site, shown, sectors, stopped, acts, end)
+}
+
+fn write_counts<K: Sink>(sink: &mut K, report: &Report, requests: u32) -> Result<(), WriteFault>
+    ensures { Puts K.held K.faults K.sure sink.old sink.new (text_telling (Telling.Counts requests) report.now) result }
+{
+    let site = report.site.get();
+    let counts = report.run.counts(requests);
+    let sectors = report.sectors.as_slice();
+    let stopped = report.stopped.as_slice();
+    let end = end_of(report.run.ran.ending);
+    write_load_report(sink, site, counts, sectors, stopped, end)
 }
 
 fn write_refused<K: Sink>(sink: &mut K, refused: &RefusedSite) -> Result<(), WriteFault>
@@ -84,15 +109,11 @@ fn write_refused<K: Sink>(sink: &mut K, refused: &RefusedSite) -> Result<(), Wri
     write_refusal(sink, &refused.site, found.process, &found.refusal, lines)
 }
 
-/// The acts that the report tells.
-fn told_acts(report: &Report) -> &[Act]
-    ensures { result.now ≡ told_acts report.now }
+/// The acts that are told of a run.
+fn told_acts(run: &RunEnd, acts: bool) -> &[Act]
+    ensures { result.now ≡ told_acts acts run.now }
 {
-    if report.tells_acts {
-        report.run.acts()
-    } else {
-        &[]
-    }
+    if acts { run.acts() } else { &[] }
 }
 
 fn end_of(ending: Ending) -> End

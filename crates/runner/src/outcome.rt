@@ -1,10 +1,11 @@
 ghost use Rattle.runner.specs.Numbers.{number_of};
-ghost use Rattle.runner.specs.RunEnds.{acts_in, shown_in, status_of_run};
+ghost use Rattle.runner.specs.RunEnds.{acts_in, load_counts, shown_in, status_of_run};
 ghost use Rattle.std.specs.Prelude.{◌≡◌};
 
 use path_semantics::Refusal;
 use schedule_runs::{Ending, Ran};
 use tal_tree::{Act, DeckFault, Shown};
+use trace_print::LoadCounts;
 
 /// How a call ended, and the run, where one was made.
 #[derive(Drop)]
@@ -83,6 +84,17 @@ impl RunEnd {
         ensures { result.now ≡ shown_in self.now }
     {
         self.ran.machine.shown()
+    }
+
+    /// How much was shown in it, as a load of so many requests of each terminal.
+    pub fn counts(&self, requests: u32) -> LoadCounts
+        ensures { result ≡ load_counts requests self.now }
+    {
+        LoadCounts {
+            requests,
+            writes: self.ran.machine.writes(),
+            replies: self.ran.machine.replies(),
+        }
     }
 
     /// How many events it asked for.

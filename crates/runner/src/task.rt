@@ -1,31 +1,50 @@
 ghost use Rattle.std.specs.Prelude.{◌≡◌};
-ghost use Rattle.runner.specs.Tasks.{can_stop};
+ghost use Rattle.runner.specs.Tasks.{can_stop, load_task};
 
 use player::Stop;
 use tal_tree::Site;
+
+/// What the report of a run tells of it.
+#[derive(Clone, Copy, PartialEq, Eq)]
+pub enum Telling {
+    /// All that is shown, and the acts that are kept, if they are asked for.
+    Lines { acts: bool },
+    /// How much a load shows, in which each terminal has so many requests.
+    Counts { requests: u32 },
+}
 
 /// What is to be done with a deck.
 #[derive(Clone, Copy, PartialEq, Eq)]
 pub enum Task {
     /// To judge its programs, and, where all are accepted, to run its schedule, with this stop beside those of the schedule, and to
-    /// tell the acts that are kept, if they are asked for.
-    Run { acts: bool, stop: Option<Stop> },
+    /// tell of the run.
+    Run { tells: Telling, stop: Option<Stop> },
     /// To judge its programs.
     Check,
 }
 
 impl Task {
+    /// To run the load deck with so many requests of each terminal.
+    pub(crate) fn load(requests: u32) -> Task
+        ensures { result ≡ load_task requests }
+    {
+        Task::Run {
+            tells: Telling::Counts { requests },
+            stop: None,
+        }
+    }
+
     /// Whether the stop, where there is one, is of a processor of the site.
     pub(crate) fn can_stop(self, site: &Site) -> bool
         ensures { result ≡ can_stop self site.now }
     {
         match self {
             Task::Run {
-                acts: _,
+                tells: _,
                 stop: Some(stop),
             } => stop.processor < site.processors,
             Task::Run {
-                acts: _,
+                tells: _,
                 stop: None,
             } => true,
             Task::Check => true,
