@@ -6,7 +6,7 @@ use Rattle.world_semantics.proofs.Lists.{some-same}
 use Rattle.kept_acts.specs.Shares.{closed_by, closed_by_all}
 use Rattle.message_wires.specs.Play.{Whole}
 use Rattle.process_copies.specs.Seen.{Placed}
-use Rattle.process_copies.specs.Steps.{Records, records_of}
+use Rattle.node_copies.specs.Records.{Records, records_of}
 use Rattle.process_copies.specs.Takeover.{let_go}
 use Rattle.pair_machine.specs.Closing.{closed_at, closed_from, closed_with}
 use Rattle.pair_machine.specs.Seen.{pairs_in}

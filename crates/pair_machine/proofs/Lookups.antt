@@ -7,7 +7,8 @@ use Rattle.world_semantics.specs.World.{Terminal, World}
 use Rattle.world_semantics.specs.Running.{run_done, run_pair}
 use Rattle.computed_changes.specs.Entered.{enter_to}
 use Rattle.process_copies.specs.Seen.{Placed}
-use Rattle.process_copies.specs.Steps.{in_world, records_of, step_of}
+use Rattle.node_copies.specs.Records.{records_of}
+use Rattle.process_copies.specs.Steps.{in_world, step_of}
 use Rattle.process_copies.proofs.Runs.{runs}
 use Rattle.pair_machine.specs.Seen.{pairs_in}
 use Rattle.pair_machine.proofs.Places.{pair-at}

@@ -9,7 +9,8 @@ use Rattle.machine_states.specs.declared.effect.Effect.{Effect}
 use Rattle.message_wires.specs.Play.{Whole, after_any, made_by}
 use Rattle.process_copies.specs.Handing.{step_on}
 use Rattle.process_copies.specs.Seen.{Placed, placed_after, records_after, sent_by}
-use Rattle.process_copies.specs.Steps.{Records, Stepped, in_world, records_of, step_of}
+use Rattle.node_copies.specs.Records.{Records, records_of}
+use Rattle.process_copies.specs.Steps.{Stepped, in_world, step_of}
 use Rattle.process_copies.proofs.Runs.{runs}
 use Rattle.pair_machine.specs.Seen.{pairs_in}
 use Rattle.pair_machine.specs.Told.{Answers, brought, brought_to, sent_all, sent_in, unsent}

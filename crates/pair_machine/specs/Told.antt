@@ -12,7 +12,8 @@ use Rattle.message_wires.specs.Play.{Whole}
 use Rattle.message_wires.specs.Wires.{all_posted}
 use Rattle.tal_tree.specs.declared.site.Site.{Site}
 use Rattle.process_copies.specs.Handing.{step_on}
-use Rattle.process_copies.specs.Steps.{in_world, records_of}
+use Rattle.node_copies.specs.Records.{records_of}
+use Rattle.process_copies.specs.Steps.{in_world}
 
 -- what a change sends, if one is made
 abbrev pub sent_in : Option Done → Option (List Sending)

@@ -13,8 +13,9 @@ use crate::routing::TERMINAL_NODE;
 use crate::terminal::Terminal;
 use crate::whole::Whole;
 use gd_words::{List, NoMemory, Request, Words};
+use node_copies::Address;
 use posted_letters::{Message, Sending};
-use process_copies::{Address, ProcessCopies};
+use process_copies::ProcessCopies;
 use world_semantics::Which;
 
 impl Whole {

@@ -6,14 +6,15 @@ ghost use Rattle.message_wires.specs.Play.{after_any, comes_in, deliver_played, 
 ghost use Rattle.pair_machine.specs.Told.{brought, sent_in, unsent};
 ghost use Rattle.plain_semantics.specs.Openers.{openers_of};
 ghost use Rattle.posted_letters.specs.Seen.{message_of};
-ghost use Rattle.process_copies.specs.Seen.{names_its, told_by};
+ghost use Rattle.node_copies.specs.Seen.{told_by};
+ghost use Rattle.process_copies.specs.Seen.{names_its};
 
 use crate::routing::TERMINAL_NODE;
 use crate::whole::Whole;
 use gd_words::{NoMemory, Reply};
 use machine_states::Effect;
+use node_copies::Step;
 use posted_letters::{Message, Sent};
-use process_copies::Step;
 use tal_tree::Who;
 
 impl Whole {

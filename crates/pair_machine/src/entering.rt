@@ -10,8 +10,8 @@ use crate::terminal::Terminal;
 use crate::whole::Whole;
 use gd_words::{NoMemory, Request, Words};
 use machine_states::Effect;
+use node_copies::Address;
 use posted_letters::{Message, Sending};
-use process_copies::Address;
 
 /// A request of these words, of this number, to the server where an opener stands.
 fn request_to(opener: Address, number: u32, words: Words) -> Request

@@ -1,9 +1,10 @@
 //! The machine over whole messages: both copies of each process of a site, terminals, marks, what happened, and the letters on the
 //! wires.
 //!
-//! Below stand `process_copies` with what one process does, `posted_letters` with the wires, and `message_wires` with what each event
-//! makes of a state. The layer above uses that `Pairs::boot` is the state at the beginning, that an event settles what `play` says
-//! (`Settles`), that `is_idle` is the definition's, and that after want of memory the machine answers so for good.
+//! Below stand `process_copies` with what one process does, `node_copies` with the records of what happened, `posted_letters` with the
+//! wires, and `message_wires` with what each event makes of a state. The layer above uses that `Pairs::boot` is the state at the
+//! beginning, that an event settles what `play` says (`Settles`), that `is_idle` is the definition's, and that after want of memory
+//! the machine answers so for good.
 #![tactic(auto)]
 
 mod asking_again;

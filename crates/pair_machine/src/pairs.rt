@@ -2,7 +2,7 @@ ghost use Rattle.std.specs.Prelude.{◌≡◌, false, true, length, reverse, if�
 ghost use Rattle.std.specs.Option.{option_map};
 ghost use Rattle.machine_states.specs.States.{Settles};
 ghost use Rattle.world_semantics.specs.Kept.{acts_of};
-ghost use Rattle.process_copies.specs.ShownCounts.{replies_in, writes_in};
+ghost use Rattle.node_copies.specs.ShownCounts.{replies_in, writes_in};
 ghost use Rattle.message_wires.specs.Idle.{is_idle};
 ghost use Rattle.message_wires.specs.Play.{packet_at, play, whole_at_boot};
 ghost use Rattle.process_copies.specs.Starting.{IsStartable};

@@ -5,13 +5,13 @@ ghost use Rattle.message_wires.specs.Wires.{all_posted};
 ghost use Rattle.plain_semantics.specs.Openers.{openers_of};
 ghost use Rattle.pair_machine.specs.Told.{Answers};
 ghost use Rattle.posted_letters.specs.Seen.{message_of};
-ghost use Rattle.process_copies.specs.Seen.{told_by};
+ghost use Rattle.node_copies.specs.Seen.{told_by};
 
 use crate::whole::Whole;
 use gd_words::{List, NoMemory};
 use machine_states::Effect;
+use node_copies::Step;
 use posted_letters::{Letter, Message, Sending};
-use process_copies::Step;
 use tal_tree::Who;
 
 impl Whole {

@@ -7,7 +7,7 @@ ghost use Rattle.plain_semantics.specs.Openers.{opener_of};
 use crate::terminal::Terminal;
 use crate::whole::Whole;
 use gd_words::{NoMemory, Reply};
-use process_copies::Address;
+use node_copies::Address;
 
 /// Whether a reply goes to the opener that stands here.
 fn is_to(opener: Option<Address>, reply: &Reply) -> bool

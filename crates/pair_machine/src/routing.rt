@@ -2,7 +2,8 @@ ghost use Rattle.std.specs.Prelude.{◌≡◌};
 ghost use Rattle.letters.specs.Routes.{end_of, home_of, route_of, route_to};
 
 use crate::whole::Whole;
-use process_copies::{Marks, ProcessCopies};
+use node_copies::Marks;
+use process_copies::ProcessCopies;
 use tal_tree::Who;
 use world_semantics::Which;
 

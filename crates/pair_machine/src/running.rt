@@ -3,12 +3,12 @@ ghost use Rattle.machine_states.specs.States.{Settles};
 ghost use Rattle.world_semantics.specs.Running.{run_done};
 ghost use Rattle.message_wires.specs.Play.{made_by};
 ghost use Rattle.pair_machine.specs.Told.{sent_in, unsent};
-ghost use Rattle.process_copies.specs.Seen.{told_by};
+ghost use Rattle.node_copies.specs.Seen.{told_by};
 
 use crate::whole::Whole;
 use gd_words::NoMemory;
 use machine_states::Effect;
-use process_copies::Step;
+use node_copies::Step;
 
 impl Whole {
     /// A process runs.

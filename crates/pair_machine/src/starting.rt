@@ -12,9 +12,10 @@ use crate::terminal::Terminal;
 use crate::whole::Whole;
 use gd_words::{List, NoMemory};
 use logs::Shared;
+use node_copies::{Address, Marks, Records};
 use plain_semantics::opener_of;
 use posted_letters::PostedLetters;
-use process_copies::{Address, Marks, ProcessCopies, Records};
+use process_copies::ProcessCopies;
 use std::alloc::Global;
 use tal_tree::{Site, TerminalSpec, Who};
 

@@ -13,11 +13,14 @@ use Rattle.world_semantics.specs.Messages.{Taking, sent_at}
 use Rattle.world_semantics.specs.Passes.{taken_of}
 use Rattle.computed_changes.specs.Fitting.{depths_of}
 use Rattle.computed_changes.specs.Handed.{is_next_for}
-use Rattle.process_copies.specs.declared.step.Step.{Step}
+use Rattle.node_copies.specs.Receiving.{copy_applying, core_as, core_where}
+use Rattle.node_copies.specs.Records.{Records}
+use Rattle.node_copies.specs.Seen.{told_by}
+use Rattle.node_copies.specs.declared.step.Step.{Step}
 use Rattle.process_copies.specs.Handing.{applied_step, checkpoint_step, checkpoint_step_where}
-use Rattle.process_copies.specs.Receiving.{Settles, copy_applying, core_as, core_by, core_where, other_covering, pair_covering, placed_with}
-use Rattle.process_copies.specs.Seen.{Placed, told_by}
-use Rattle.process_copies.specs.Steps.{Records, Stepped}
+use Rattle.process_copies.specs.Receiving.{Settles, core_by, other_covering, pair_covering, placed_with}
+use Rattle.process_copies.specs.Seen.{Placed}
+use Rattle.process_copies.specs.Steps.{Stepped}
 
 module _ (site : Site) (number : ℕ) (k : Which) (pair : Pair) (records : Records) (message : ImageMessage) where
   where-is : (next : Bool) (core : Option Core) → core_where (depths_of site number) (copy_of k pair) message next ≡ core

@@ -14,7 +14,8 @@ use Rattle.world_semantics.specs.Core.{Core, core_at_boot}
 use Rattle.world_semantics.specs.World.{Copy, copy_at_boot, device_at_boot, pair_at_boot}
 use Rattle.process_control.specs.Cores.{core_at_start}
 use Rattle.process_control.proofs.Starting.{starts}
-use Rattle.process_copies.specs.Seen.{CopyAndDepths, Placed}
+use Rattle.node_copies.specs.Seen.{CopyAndDepths}
+use Rattle.process_copies.specs.Seen.{Placed}
 
 -- a copy at the start, with these openers
 abbrev pub Started : ProcessSpec → List OpenerSpec → Role → ℕ → CopyAndDepths

@@ -16,8 +16,9 @@ use Rattle.world_semantics.specs.Messages.{Asking, Replying, Checkpointing, Taki
 use Rattle.world_semantics.specs.Running.{Done}
 use Rattle.computed_changes.specs.Fitting.{depths_of, put_fitting}
 use Rattle.computed_changes.specs.Handed.{acknowledged_where, applied_done, applied_where, asked_done, at_copy, awaits, checkpoint_done, copy_in, got_done, got_where, is_next_for, is_of_last, taken_done}
+use Rattle.node_copies.specs.Records.{records_of}
 use Rattle.process_copies.specs.Handing.{applied_step, checkpoint_step, checkpoint_step_where, reply_step, reply_step_where, request_step, step_by, step_on, taken_step, taken_step_where}
-use Rattle.process_copies.specs.Steps.{Stepped, in_world, records_of}
+use Rattle.process_copies.specs.Steps.{Stepped, in_world}
 
 requested : (k : Which) (pair : Pair) (w : World) (request : Request) (role : Role)
     → asked_done request k pair w role ≡ option_map (in_world request.process w) (request_step k pair (records_of w) request role)

@@ -13,7 +13,8 @@ use Rattle.world_semantics.specs.World.{Pair, World, copy_of, may_pass}
 use Rattle.world_semantics.specs.Running.{Own, first_of_two, mark_done, own_at, own_done, passed_done, run_as, run_at, run_pair}
 use Rattle.world_semantics.specs.Kept.{own_acts}
 use Rattle.world_semantics.specs.Own.{around}
-use Rattle.process_copies.specs.Steps.{Stepped, first_step, in_world, mark_step, own_step, passing_step, records_of, step_as, step_at, step_of, step_of_copy}
+use Rattle.node_copies.specs.Records.{records_of}
+use Rattle.process_copies.specs.Steps.{Stepped, first_step, in_world, mark_step, own_step, passing_step, step_as, step_at, step_of, step_of_copy}
 
 own : (number : ℕ) (k : Which) (pair : Pair) (w : World) (o : Option Own)
     → option_map (own_done number k pair w) o ≡ option_map (in_world number w) (option_map (own_step number k pair (records_of w)) o)

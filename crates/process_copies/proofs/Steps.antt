@@ -11,11 +11,14 @@ use Rattle.world_semantics.specs.Kept.{own_acts}
 use Rattle.world_semantics.specs.Messages.{Sending}
 use Rattle.world_semantics.specs.Running.{Own}
 use Rattle.world_semantics.specs.World.{Mark, Pair, copy_of}
-use Rattle.process_copies.specs.Acting.{HasActed, HasStepped, Scene, own_of, passed_step, step_by_act}
-use Rattle.process_copies.specs.Seen.{CopyAndDepths, Placed, sent_by, told_by}
-use Rattle.process_copies.specs.Steps.{Records, Stepped, first_step, mark_step, passing_step, step_at}
-use Rattle.process_copies.specs.declared.step.Step.{Step}
-use Rattle.process_copies.specs.declared.step.Step.TheVariants.{Impossible, Quiet, Sends}
+use Rattle.node_copies.specs.Acting.{HasActed, Scene}
+use Rattle.node_copies.specs.Records.{Records}
+use Rattle.node_copies.specs.Seen.{CopyAndDepths, told_by}
+use Rattle.node_copies.specs.declared.step.Step.{Step}
+use Rattle.node_copies.specs.declared.step.Step.TheVariants.{Impossible, Quiet, Sends}
+use Rattle.process_copies.specs.Acting.{HasStepped, own_of, passed_step, step_by_act}
+use Rattle.process_copies.specs.Seen.{Placed, sent_by}
+use Rattle.process_copies.specs.Steps.{Stepped, first_step, mark_step, passing_step, step_at}
 
 -- One copy, else the other one
 

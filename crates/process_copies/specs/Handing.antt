@@ -19,7 +19,8 @@ use Rattle.world_semantics.specs.Passes.{after_applying, kept_at_mark, taken_of}
 use Rattle.world_semantics.specs.Running.{Own}
 use Rattle.computed_changes.specs.Fitting.{depths_of, put_fitting}
 use Rattle.computed_changes.specs.Handed.{awaits, copy_in, is_next_for, is_of_last}
-use Rattle.process_copies.specs.Steps.{Records, Stepped, around_copy, own_step}
+use Rattle.node_copies.specs.Records.{Records}
+use Rattle.process_copies.specs.Steps.{Stepped, around_copy, own_step}
 
 -- Requests
 

@@ -2,7 +2,6 @@ pub mod Acting
 pub mod Handing
 pub mod Receiving
 pub mod Seen
-pub mod ShownCounts
 pub mod Starting
 pub mod Steps
 pub mod Takeover

@@ -2,10 +2,6 @@
 -- copies, and laws of this crate say so.
 use Rattle.std.specs.Prelude.{ℕ, ◌+◌, Bool, true, false, nat_lt, List, [], ◌∷◌, Option, Some, None}
 use Rattle.std.specs.Option.{option_map}
-use Rattle.gd_words.specs.declared.message.Request.{Request}
-use Rattle.gd_words.specs.declared.message.Reply.{Reply}
-use Rattle.tal_tree.specs.declared.act.Act.{Act}
-use Rattle.tal_tree.specs.declared.act.Shown.{Shown}
 use Rattle.tal_tree.specs.declared.site.Site.{Site}
 use Rattle.process_semantics.specs.declared.point.Point.{Point}
 use Rattle.process_semantics.specs.declared.point.Point.TheVariants as point
@@ -20,16 +16,7 @@ use Rattle.world_semantics.specs.Messages.{Checkpointing, Sending, sent_at}
 use Rattle.world_semantics.specs.Own.{Around}
 use Rattle.world_semantics.specs.Passes.{after_mark, after_sending, checkpoint_of, kept_at_mark}
 use Rattle.world_semantics.specs.Running.{Done, Own, entered, own_at}
-
--- what happened in a run: the requests and replies ever sent, what was shown, and the acts that are kept, each the newest first
-pub record Records : Type 0 where
-  pub requests : List Request
-  pub replies : List Reply
-  pub shown : List Shown
-  pub kept : List Act
-
-abbrev pub records_of : World → Records
-records_of w = record { requests = w.requests; replies = w.replies; shown = w.shown; kept = w.kept }
+use Rattle.node_copies.specs.Records.{Records}
 
 -- a step that a process made: the process after it, the records, and what was sent or sent again
 pub record Stepped : Type 0 where

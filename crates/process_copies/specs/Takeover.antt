@@ -1,9 +1,6 @@
 -- What becomes of a process where a run is closed.
-use Rattle.std.specs.Prelude.{[]}
-use Rattle.world_semantics.specs.World.{Copy, Pair}
-
-abbrev pub without_held : Copy → Copy
-without_held copy = record copy { held = [] }
+use Rattle.world_semantics.specs.World.{Pair}
+use Rattle.node_copies.specs.Takeover.{without_held}
 
 -- no copy of the process holds an act any more
 abbrev pub let_go : Pair → Pair

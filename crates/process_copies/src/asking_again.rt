@@ -10,11 +10,11 @@ ghost use Rattle.world_semantics.specs.Core.{next_on};
 ghost use Rattle.world_semantics.specs.World.{copy_of};
 ghost use Rattle.process_copies.specs.Receiving.{acts_at};
 
-use crate::address::Address;
 use crate::copies::ProcessCopies;
-use crate::sending::{address_in, request_to};
 use checkpoint_image::ReceiveBlock;
 use gd_words::{NoMemory, Reply, Request, Words};
+use node_copies::Address;
+use node_copies::sending::{address_in, request_to};
 use process_control::Asking;
 use process_semantics::Point;
 use std::alloc::Global;

@@ -5,12 +5,11 @@ ghost use Rattle.world_semantics.specs.World.{copy_of};
 ghost use Rattle.letters.specs.Routes.{other_end};
 ghost use Rattle.computed_changes.specs.Handed.{copy_in};
 
-use crate::address::Address;
-use crate::one::NodeCopy;
 use checkpoint_image::{ImageMessage, TakenMessage};
 use disc_device::Disc;
 use gd_words::List;
 use logs::{Log, Shared};
+use node_copies::{Address, NodeCopy};
 use process_semantics::Point;
 use std::marker::Model;
 use std::snapshot::Snapshot;
@@ -39,7 +38,8 @@ impl Model for ProcessCopies {
     ghost use Rattle.tal_tree.specs.contracts.statement.Statement as statement;
     ghost use Rattle.plain_semantics.specs.Openers.{openers_of};
     ghost use Rattle.computed_changes.specs.Fitting.{depths_of};
-    ghost use Rattle.process_copies.specs.Seen.{Placed, openers_on, sectors_on};
+    ghost use Rattle.node_copies.specs.Seen.{openers_on, sectors_on};
+    ghost use Rattle.process_copies.specs.Seen.{Placed};
 
     ghost Value = { Placed };
 

@@ -10,19 +10,19 @@ ghost use Rattle.world_semantics.specs.World.{copy_of, other_of};
 ghost use Rattle.world_semantics.specs.Messages.{Replying, Taking, sent_at};
 ghost use Rattle.world_semantics.specs.Passes.{taken_of};
 ghost use Rattle.computed_changes.specs.Handed.{awaits, is_of_last};
+ghost use Rattle.node_copies.specs.Receiving.{after_early_request, after_request, copy_applying};
+ghost use Rattle.node_copies.specs.Records as happened;
+ghost use Rattle.node_copies.specs.Seen.{told_by};
 ghost use Rattle.process_copies.specs.Handing.{checkpoint_step, reply_step, reply_step_where, request_step, step_by, step_on};
 ghost use Rattle.process_copies.specs.Handing.{taken_step, taken_step_where};
-ghost use Rattle.process_copies.specs.Receiving.{Settles, after_early_request, after_request, copy_applying, core_by, got_step};
-ghost use Rattle.process_copies.specs.Receiving.{is_awaiting, other_covering, pair_covering, placed_with, repeated_at};
-ghost use Rattle.process_copies.specs.Seen.{names_its, placed_after, records_after, sent_by, told_by};
-ghost use Rattle.process_copies.specs.Steps as steps;
+ghost use Rattle.process_copies.specs.Receiving.{Settles, core_by, got_step, is_awaiting, other_covering, pair_covering, placed_with, repeated_at};
+ghost use Rattle.process_copies.specs.Seen.{names_its, placed_after, records_after, sent_by};
 
 use crate::copies::ProcessCopies;
-use crate::records::Records;
-use crate::step::Step;
 use checkpoint_image::{ImageMessage, TakenMessage};
 use file_calls::Arrival;
 use gd_words::{NoMemory, Reply, Request};
+use node_copies::{Records, Step};
 use posted_letters::{Message, Sending};
 use process_semantics::Point;
 use world_semantics::{Role, Which};
@@ -87,7 +87,7 @@ impl ProcessCopies {
     }
 
     fn request_to(&mut self, which: Which, request: Request) -> Result<Step, NoMemory>
-        ensures step { (records : steps.Records) → IfOk result (λ step. Settles
+        ensures step { (records : happened.Records) → IfOk result (λ step. Settles
             (request_step which self.old.pair records request (copy_of which self.old.pair).role)
             self.old records step self.new records) }
         ensures site { self.new.site ≡ self.old.site }
@@ -290,7 +290,7 @@ impl ProcessCopies {
     }
 
     fn taken_to(&mut self, which: Which, taken: TakenMessage) -> Step
-        ensures step { (records : steps.Records) → Settles
+        ensures step { (records : happened.Records) → Settles
             (taken_step which self.old.pair records taken (copy_of which self.old.pair).role) self.old records result self.new records }
         ensures site { self.new.site ≡ self.old.site }
         ensures number { self.new.number ≡ self.old.number }
@@ -302,7 +302,7 @@ impl ProcessCopies {
     }
 
     fn taken_acting(&mut self, which: Which, taken: TakenMessage) -> Step
-        ensures step { (records : steps.Records) → Settles
+        ensures step { (records : happened.Records) → Settles
             (taken_step_where which self.old.pair records (is_of_last (copy_of which self.old.pair) taken))
             self.old records result self.new records }
         ensures site { self.new.site ≡ self.old.site }

@@ -10,8 +10,9 @@ ghost use Rattle.world_semantics.specs.World.{Pair, World, copy_of};
 ghost use Rattle.world_semantics.specs.Messages.{Asking, Replying, Checkpointing, Taking};
 ghost use Rattle.world_semantics.specs.Running.{run_pair};
 ghost use Rattle.computed_changes.specs.Handed.{asked_done, at_copy, checkpoint_done, got_done, taken_done};
+ghost use Rattle.node_copies.specs.Records.{records_of};
 ghost use Rattle.process_copies.specs.Handing.{step_on};
-ghost use Rattle.process_copies.specs.Steps.{in_world, records_of, step_of};
+ghost use Rattle.process_copies.specs.Steps.{in_world, step_of};
 
 /// Where a process runs, its step is the change of the world.
 pub fn a_process_runs_as_in_the_world()

@@ -4,11 +4,11 @@ ghost use Rattle.world_semantics.specs.World.{copy_of, other_of};
 ghost use Rattle.world_semantics.specs.Rules.{after_takeover, is_watching, marked_pair, stopped_pair, taken_over, taker, takes_over, told_again, told_at_mark};
 ghost use Rattle.kept_acts.specs.Shares.{closed_by};
 ghost use Rattle.process_copies.specs.Receiving.{placed_with};
-ghost use Rattle.process_copies.specs.Takeover.{let_go, without_held};
+ghost use Rattle.process_copies.specs.Takeover.{let_go};
 
 use crate::copies::ProcessCopies;
-use crate::records::Records;
 use gd_words::{List, NoMemory};
+use node_copies::Records;
 use posted_letters::Sending;
 use world_semantics::{Role, Which};
 

@@ -1,17 +1,16 @@
 ghost use Rattle.std.specs.Prelude.{◌≡◌, Some, IfOk, OnOk};
 ghost use Rattle.process_semantics.specs.Process.{point};
 ghost use Rattle.world_semantics.specs.World.{copy_of, may_pass};
+ghost use Rattle.node_copies.specs.Records as happened;
+ghost use Rattle.node_copies.specs.Seen.{told_by};
 ghost use Rattle.process_copies.specs.Acting.{HasStepped, own_of, passed_step, step_by_act};
-ghost use Rattle.process_copies.specs.Seen.{placed_after, records_after, sent_by, told_by};
-ghost use Rattle.process_copies.specs.Steps as steps;
+ghost use Rattle.process_copies.specs.Seen.{placed_after, records_after, sent_by};
 ghost use Rattle.process_copies.specs.Steps.{mark_step, sending_step, step_as, step_at, step_of, step_of_copy};
 
 use crate::copies::ProcessCopies;
-use crate::marks::Marks;
-use crate::records::Records;
-use crate::step::Step;
 use gd_words::NoMemory;
 use logs::Shared;
+use node_copies::{Marks, Records, Step};
 use posted_letters::{Message, Sending};
 use process_semantics::Point;
 use std::alloc::Global;
@@ -219,7 +218,7 @@ impl ProcessCopies {
     /// A copy sends the checkpoint of its mark.
     fn send(&mut self, alloc: Global, which: Which) -> Result<Step, NoMemory>
         requires { point (copy_of which self.old.pair).core.state ≡ Point.Mark }
-        ensures stepped { (records : steps.Records) → IfOk result (λ step. HasStepped (Some (sending_step self.old.number which self.old.pair records))
+        ensures stepped { (records : happened.Records) → IfOk result (λ step. HasStepped (Some (sending_step self.old.number which self.old.pair records))
             step self.old self.new records records) }
         ensures site { self.new.site ≡ self.old.site }
         ensures number { self.new.number ≡ self.old.number }

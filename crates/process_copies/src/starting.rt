@@ -1,30 +1,21 @@
-ghost use Rattle.std.specs.Prelude.{◌≡◌, ◌≤◌, All, Some, false, length, map, slice_get, IfOk};
-ghost use Rattle.process_semantics.specs.Process.{in_hand, start_of};
+ghost use Rattle.std.specs.Prelude.{◌≡◌, ◌≤◌, All, Some, length, slice_get, IfOk};
 ghost use Rattle.plain_semantics.specs.Openers.{files_of, openers_of};
 ghost use Rattle.plain_semantics.specs.SiteLimits.{KeepsSiteLimits};
-ghost use Rattle.processes.specs.Seen.{IsLoadableKind, state_of};
+ghost use Rattle.processes.specs.Seen.{IsLoadableKind};
 ghost use Rattle.sync_ids.specs.Tables.{IsDepth};
-ghost use Rattle.whole_states.specs.Listing as listing;
-ghost use Rattle.whole_states.specs.Processes.{IsWholeProcess};
-ghost use Rattle.process_control.specs.Cores.{core_at_start};
-ghost use Rattle.world_semantics.specs.World.{copy_at_boot, device_at_boot, pair_at_boot};
-ghost use Rattle.process_copies.specs.Seen.{file_row, sectors_on};
+ghost use Rattle.world_semantics.specs.World.{device_at_boot, pair_at_boot};
+ghost use Rattle.node_copies.specs.Seen.{file_row, sectors_on};
 ghost use Rattle.process_copies.specs.Starting.{HasSectors, IsStartable};
 
-use crate::address::Address;
 use crate::copies::ProcessCopies;
-use crate::one::NodeCopy;
 use disc_device::Disc;
-use file_calls::Waiting;
 use gd_words::{List, NoMemory};
-use kept_acts::CopyShare;
 use logs::Log;
+use node_copies::{Address, NodeCopy};
 use plain_semantics::{Opener, files_of, opener_of, openers};
-use process_control::CopyControl;
-use processes::Process;
 use std::alloc::Global;
 use std::snapshot::Snapshot;
-use tal_tree::{FileUse, Kind, OpenerSpec, ProcessSpec, Site, Who};
+use tal_tree::{FileUse, Kind, ProcessSpec, Site, Who};
 use world_semantics::Role;
 
 impl ProcessCopies {
@@ -76,49 +67,6 @@ fn start_in(
         takens: Log::new(alloc),
         device,
     })
-}
-
-impl NodeCopy {
-    /// A copy of a process in its processor, at the beginning.
-    fn start(
-        alloc: Global,
-        what: &Kind,
-        processor: u8,
-        role: Role,
-        openers: &[OpenerSpec],
-    ) -> Result<NodeCopy, NoMemory>
-        requires loadable { IsLoadableKind what.now }
-        requires few_files { length (files_of what.now) ≤ 8 }
-        requires few_openers { length openers.now ≤ 144 }
-        requires depths { All (λ opener. IsDepth opener.depth) openers.now }
-        ensures { IfOk result (λ one. one ≡ record {
-          copy = copy_at_boot role processor (core_at_start (start_of what.now) (length (files_of what.now)) openers.now).core;
-          depths = map (λ opener. opener.depth) openers.now;
-        }) }
-    {
-        let process = load(alloc, what)?;
-        let files = files_of(what).len() as u8;
-        let control = CopyControl::start(alloc, process, role, openers, files)?;
-        let waiting = Waiting::new(alloc, openers.len() as u16)?;
-        Ok(NodeCopy {
-            processor,
-            control,
-            waiting,
-            share: CopyShare::new(alloc),
-        })
-    }
-}
-
-/// The process at its beginning: with nothing in hand, and as many files as its program has.
-fn load(alloc: Global, what: &Kind) -> Result<Process, NoMemory>
-    requires { IsLoadableKind what.now }
-    ensures state { IfOk result (λ process. state_of process ≡ start_of what.now) }
-    ensures whole { IfOk result (λ process. IsWholeProcess (state_of process)) }
-    ensures free { IfOk result (λ process. in_hand (state_of process) ≡ false) }
-    ensures files { IfOk result (λ process. length (files_of what.now) ≡ listing.files_of (state_of process)) }
-{
-    let process = Process::load(alloc, what)?;
-    Ok(process)
 }
 
 /// Where each of these files of a process stands. A place that no address has answers want of memory.

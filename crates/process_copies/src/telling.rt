@@ -1,15 +1,11 @@
-ghost use Rattle.std.specs.Prelude.{◌≡◌, ◌||◌, ℕ, List, is_some};
-ghost use Rattle.tal_tree.specs.declared.site.Site.{Site};
-ghost use Rattle.disc_device.specs.declared.stored.Stored.{Stored};
-ghost use Rattle.computed_changes.specs.Fitting.{depths_of};
+ghost use Rattle.std.specs.Prelude.{◌≡◌, ◌||◌, ℕ, is_some};
 ghost use Rattle.world_semantics.specs.World.{Pair, copy_of, may_pass};
-ghost use Rattle.process_copies.specs.Acting.{own_in, own_of};
-ghost use Rattle.process_copies.specs.Steps as steps;
+ghost use Rattle.node_copies.specs.Records as happened;
+ghost use Rattle.process_copies.specs.Acting.{own_of};
 ghost use Rattle.process_copies.specs.Steps.{mark_step, step_as, step_at, step_of, step_of_copy};
 
 use crate::copies::ProcessCopies;
-use crate::marks::Marks;
-use crate::one::NodeCopy;
+use node_copies::Marks;
 use process_semantics::Point;
 use world_semantics::{Role, Which};
 
@@ -44,7 +40,7 @@ impl ProcessCopies {
 impl ProcessCopies {
     /// Whether the process can make a step.
     pub fn can_run(&self, marks: &Marks) -> bool
-        ensures { (records : steps.Records) → result ≡ is_some (step_of self.now.site self.now.number self.now.pair marks.now records) }
+        ensures { (records : happened.Records) → result ≡ is_some (step_of self.now.site self.now.number self.now.pair marks.now records) }
     {
         let first = self.can_run_copy(Which::First, marks);
         let second = self.can_run_copy(Which::Second, marks);
@@ -52,14 +48,14 @@ impl ProcessCopies {
     }
 
     fn can_run_copy(&self, which: Which, marks: &Marks) -> bool
-        ensures { (records : steps.Records) → result ≡ is_some (step_of_copy self.now.site self.now.number self.now.pair marks.now records which) }
+        ensures { (records : happened.Records) → result ≡ is_some (step_of_copy self.now.site self.now.number self.now.pair marks.now records which) }
     {
         let role = self.role(which);
         self.can_run_as(which, marks, role)
     }
 
     fn can_run_as(&self, which: Which, marks: &Marks, role: Role) -> bool
-        ensures { (records : steps.Records) → result ≡ is_some (step_as self.now.site self.now.number which self.now.pair marks.now records role) }
+        ensures { (records : happened.Records) → result ≡ is_some (step_as self.now.site self.now.number which self.now.pair marks.now records role) }
     {
         match role {
             Role::Acting => {
@@ -71,7 +67,7 @@ impl ProcessCopies {
     }
 
     fn can_run_at(&self, which: Which, marks: &Marks, stands: Point) -> bool
-        ensures { (records : steps.Records) → result ≡ is_some (step_at self.now.site self.now.number which self.now.pair marks.now records stands) }
+        ensures { (records : happened.Records) → result ≡ is_some (step_at self.now.site self.now.number which self.now.pair marks.now records stands) }
     {
         match stands {
             Point::Mark => {
@@ -84,7 +80,7 @@ impl ProcessCopies {
     }
 
     fn can_act(&self, which: Which, stands: Point) -> bool
-        ensures { (records : steps.Records) → result ≡ is_some (own_of self.now.site self.now.number which self.now.pair records stands) }
+        ensures { (records : happened.Records) → result ≡ is_some (own_of self.now.site self.now.number which self.now.pair records stands) }
     {
         match which {
             Which::First => self.first.can_act(stands),
@@ -99,48 +95,12 @@ fn is_any(first: bool, second: bool) -> bool
     first || second
 }
 
-fn is_there(hand: Option<u16>) -> bool
-    ensures { result ≡ is_some hand }
-{
-    hand.is_some()
-}
-
 /// Whether a copy at its mark can go on, which may pass or not, and has sent its checkpoint or not.
 fn can_go_on(free: bool, sent: bool) -> bool
-    ensures { (number : ℕ) (k : Which) (pair : Pair) (records : steps.Records) → result ≡ is_some (mark_step number k pair records free sent) }
+    ensures { (number : ℕ) (k : Which) (pair : Pair) (records : happened.Records) → result ≡ is_some (mark_step number k pair records free sent) }
 {
     if free {
         return true;
     }
     !sent
-}
-
-impl NodeCopy {
-    /// Whether there is an act of its own that it can do at this point.
-    pub(crate) fn can_act(&self, stands: Point) -> bool
-        ensures { (site : Site) (number : ℕ) (sectors : List Stored) (records : steps.Records) → self.now.depths ≡ depths_of site number
-            → result ≡ is_some (own_in site number (record { one = self.now; sectors = sectors; records = records }) stands) }
-    {
-        match stands {
-            Point::Inner | Point::Ask | Point::Device => true,
-            Point::Take => self.can_take(),
-            Point::Answer => self.can_answer(),
-            Point::Await | Point::Mark | Point::Ended => false,
-        }
-    }
-
-    fn can_take(&self) -> bool
-        ensures { (site : Site) (number : ℕ) (sectors : List Stored) (records : steps.Records)
-            → result ≡ is_some (own_in site number (record { one = self.now; sectors = sectors; records = records }) Point.Take) }
-    {
-        self.waiting.wakes(self.control.receive())
-    }
-
-    fn can_answer(&self) -> bool
-        ensures { (site : Site) (number : ℕ) (sectors : List Stored) (records : steps.Records) → self.now.depths ≡ depths_of site number
-            → result ≡ is_some (own_in site number (record { one = self.now; sectors = sectors; records = records }) Point.Answer) }
-    {
-        let hand = self.control.receive().in_hand();
-        is_there(hand)
-    }
 }

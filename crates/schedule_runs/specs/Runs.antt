@@ -14,7 +14,7 @@ use Rattle.player.specs.Lines.{begun, next_event}
 use Rattle.machine_states.specs.States.{Makes, Skips, WouldStop}
 use Rattle.message_wires.specs.Idle.{is_idle}
 use Rattle.message_wires.specs.Play.{Whole, play, whole_at_boot}
-use Rattle.process_copies.specs.ShownCounts.{replies_in, writes_in}
+use Rattle.node_copies.specs.ShownCounts.{replies_in, writes_in}
 use Rattle.player.specs.declared.stop.Stop.{Stop}
 
 -- What is counted before an event

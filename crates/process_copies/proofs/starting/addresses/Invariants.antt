@@ -1,5 +1,5 @@
 use Rattle.std.proofs.Common.{◌≡◌, ◌++◌, drop}
-use Rattle.process_copies.specs.Seen.{file_row}
+use Rattle.node_copies.specs.Seen.{file_row}
 use Rattle.process_copies.proofs.starting.addresses.Given as goal
 
 abbrev pub invariant-loop-file : goal.invariant-loop-file

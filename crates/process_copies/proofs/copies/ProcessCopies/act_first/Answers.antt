@@ -1,7 +1,9 @@
 use Rattle.std.proofs.Common.{subst, rules}
 use Rattle.world_semantics.specs.declared.which.Which.TheVariants.{First}
-use Rattle.process_copies.specs.Acting.{HasStepped, Scene, own_of, step_by_act}
-use Rattle.process_copies.specs.Seen.{Placed, sectors_on}
+use Rattle.node_copies.specs.Acting.{Scene}
+use Rattle.node_copies.specs.Seen.{sectors_on}
+use Rattle.process_copies.specs.Acting.{HasStepped, own_of, step_by_act}
+use Rattle.process_copies.specs.Seen.{Placed}
 use Rattle.process_copies.proofs.Steps.{first-acts, with-first}
 use Rattle.process_copies.proofs.copies.ProcessCopies.act_first.Goals as goal
 

@@ -2,9 +2,9 @@ use Rattle.std.proofs.Common.{◌∙◌, List, Option, ap}
 use Rattle.tal_tree.specs.declared.site.Who.TheVariants as who
 use Rattle.plain_semantics.specs.declared.slot.Opener.{Opener}
 use Rattle.plain_semantics.specs.Openers.{opener_of}
-use Rattle.process_copies.specs.Acting.{opener_among}
+use Rattle.node_copies.specs.Acting.{opener_among}
+use Rattle.node_copies.proofs.FileRows.{file-opener}
 use Rattle.process_copies.specs.Seen.{Placed}
-use Rattle.process_copies.proofs.FileRows.{file-opener}
 use Rattle.process_copies.proofs.copies.ProcessCopies.opener_of_file.Goals as goal
 
 pub returns : goal.returns

@@ -1,0 +1,6 @@
+mod Abilities
+mod Acts
+mod Choosing
+pub mod FileRows
+mod KeptReplies
+mod Loads

@@ -1,0 +1,60 @@
+-- What the parts of this crate's code show.
+use Rattle.std.specs.Prelude.{ℕ, ◌+◌, List, [], ◌∷◌, slice_get, Option, Some, None}
+use Rattle.gd_words.specs.declared.message.Request.{Request}
+use Rattle.tal_tree.specs.declared.program.FileUse.{FileUse}
+use Rattle.tal_tree.specs.declared.site.ProcessSpec.{ProcessSpec}
+use Rattle.tal_tree.specs.declared.site.Site.{Site}
+use Rattle.tal_tree.specs.declared.site.Who.TheVariants as who
+use Rattle.plain_semantics.specs.declared.slot.Opener.{Opener}
+use Rattle.plain_semantics.specs.Openers.{files_of, opener_of}
+use Rattle.disc_device.specs.declared.stored.Stored.{Stored}
+use Rattle.process_control.specs.Copies.{CopyState}
+use Rattle.kept_acts.specs.Shares.{Share}
+use Rattle.world_semantics.specs.World.{Copy}
+use Rattle.world_semantics.specs.Messages.{Sending}
+use Rattle.node_copies.specs.declared.step.Step.{Step}
+use Rattle.node_copies.specs.declared.step.Step.TheVariants.{Impossible, Quiet, Sends}
+
+-- a copy, and how many replies are kept at most of each opener of its process
+pub record CopyAndDepths : Type 0 where
+  pub copy : Copy
+  pub depths : List ℕ
+
+-- a copy in its processor, with the requests that wait there and its share of the kept acts
+abbrev pub copy_with : ℕ → CopyState → List Request → Share → Copy
+copy_with processor control waiting share = record {
+  processor = processor;
+  role = control.role;
+  era = control.era;
+  number = control.number;
+  sent = control.sent;
+  acknowledged = control.acknowledged;
+  core = control.core;
+  waiting = waiting;
+  position = share.position;
+  held = share.held;
+}
+
+-- the sectors of a process's device, if it has one
+abbrev pub sectors_on : Option (List Stored) → List Stored
+sectors_on None = []
+sectors_on (Some sectors) = sectors
+
+-- for each file of a process, from a number on, the opener that it is
+abbrev pub file_row : Site → ℕ → ℕ → List FileUse → List (Option Opener)
+file_row site process number [] = []
+file_row site process number (file ∷ files) = opener_of site (who.File process number) ∷ file_row site process (number + 1) files
+
+abbrev pub files_by : Site → ℕ → Option ProcessSpec → List (Option Opener)
+files_by site process None = []
+files_by site process (Some spec) = file_row site process 0 (files_of spec.what)
+
+-- where each file of the process of this number stands
+abbrev pub openers_on : Site → ℕ → List (Option Opener)
+openers_on site process = files_by site process (slice_get site.processes process)
+
+-- what a step that is told sends; none where it is told that none was made
+abbrev pub told_by : Step → Option (List Sending)
+told_by Impossible = None
+told_by Quiet = Some []
+told_by (Sends sending) = Some (sending ∷ [])

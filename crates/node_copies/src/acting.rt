@@ -1,0 +1,205 @@
+ghost use Rattle.std.specs.Prelude.{◌≡◌, List, IfOk, OnOk};
+ghost use Rattle.tal_tree.specs.declared.site.Site.{Site};
+ghost use Rattle.disc_device.specs.declared.stored.Stored.{Stored};
+ghost use Rattle.process_semantics.specs.Process.{point};
+ghost use Rattle.computed_changes.specs.Fitting.{depths_of};
+ghost use Rattle.world_semantics.specs.Passes.{after_sending, checkpoint_of};
+ghost use Rattle.node_copies.specs.Acting.{HasActed, copy_passed, own_in, records_passed};
+ghost use Rattle.node_copies.specs.Seen.{openers_on, sectors_on};
+
+use crate::address::Address;
+use crate::one::NodeCopy;
+use crate::records::Records;
+use crate::sending::{address_in, found_on, reply_of, request_to};
+use crate::step::Step;
+use checkpoint_image::ImageMessage;
+use disc_device::Disc;
+use gd_words::NoMemory;
+use process_semantics::Point;
+use std::alloc::Global;
+use tal_tree::Act;
+
+impl NodeCopy {
+    /// A step inside.
+    fn inner(&mut self, number: u8, records: &mut Records) -> Result<Step, NoMemory>
+        requires { point self.old.copy.core.state ≡ Point.Inner }
+        ensures acted { (site : Site) (sectors : List Stored) → IfOk result (λ step. HasActed number
+            (own_in site number (record { one = self.old; sectors = sectors; records = records.old }) Point.Inner) step
+            (record { one = self.old; sectors = sectors; records = records.old }) (record { one = self.new; sectors = sectors; records = records.new })) }
+        ensures depths { self.new.depths ≡ self.old.depths }
+    {
+        self.control.inner();
+        self.share
+            .enter(number, Act::Step(number), &mut records.kept)?;
+        Ok(Step::Quiet)
+    }
+
+    /// Takes the first request that stands Next, if there is one.
+    fn take(&mut self, number: u8, records: &mut Records) -> Result<Step, NoMemory>
+        requires { point self.old.copy.core.state ≡ Point.Take }
+        ensures acted { (site : Site) (sectors : List Stored) → IfOk result (λ step. HasActed number
+            (own_in site number (record { one = self.old; sectors = sectors; records = records.old }) Point.Take) step
+            (record { one = self.old; sectors = sectors; records = records.old }) (record { one = self.new; sectors = sectors; records = records.new })) }
+        ensures depths { self.new.depths ≡ self.old.depths }
+    {
+        match self.waiting.choose(self.control.receive()) {
+            None => Ok(Step::Impossible),
+            Some(request) => {
+                let opener = request.opener;
+                self.control.take(&request);
+                let done = Act::Take {
+                    process: number,
+                    opener,
+                };
+                self.share.enter(number, done, &mut records.kept)?;
+                Ok(Step::Quiet)
+            }
+        }
+    }
+
+    /// Asks on a file: the request is sent to the opener that the file is, if it is one.
+    fn ask(
+        &mut self,
+        number: u8,
+        files: &[Option<Address>],
+        records: &mut Records,
+    ) -> Result<Step, NoMemory>
+        requires { point self.old.copy.core.state ≡ Point.Ask }
+        ensures acted { (site : Site) (sectors : List Stored) → files.now ≡ openers_on site number → IfOk result (λ step. HasActed number
+            (own_in site number (record { one = self.old; sectors = sectors; records = records.old }) Point.Ask) step
+            (record { one = self.old; sectors = sectors; records = records.old }) (record { one = self.new; sectors = sectors; records = records.new })) }
+        ensures depths { self.new.depths ≡ self.old.depths }
+    {
+        let asking = self.control.ask()?;
+        self.share
+            .enter(number, Act::Step(number), &mut records.kept)?;
+        let address = address_in(files, asking.file);
+        let step = records.ask(self.processor, request_to(address, asking))?;
+        Ok(step)
+    }
+
+    /// Answers the request in hand: the reply is sent.
+    fn answer(&mut self, number: u8, records: &mut Records) -> Result<Step, NoMemory>
+        requires { point self.old.copy.core.state ≡ Point.Answer }
+        ensures acted { (site : Site) (sectors : List Stored) → self.old.depths ≡ depths_of site number → IfOk result (λ step. HasActed number
+            (own_in site number (record { one = self.old; sectors = sectors; records = records.old }) Point.Answer) step
+            (record { one = self.old; sectors = sectors; records = records.old }) (record { one = self.new; sectors = sectors; records = records.new })) }
+        ensures depths { self.new.depths ≡ self.old.depths }
+    {
+        let answering = self.control.answer();
+        self.share
+            .enter(number, Act::Step(number), &mut records.kept)?;
+        let step = records.answer(self.processor, reply_of(number, answering))?;
+        Ok(step)
+    }
+
+    /// Acts on the device. A process without one is never there, nor is a disc's sector called for that isn't there: both answer want of
+    /// memory, as does a disc whose writes have no number left.
+    fn device(
+        &mut self,
+        number: u8,
+        device: &mut Option<Disc>,
+        records: &mut Records,
+    ) -> Result<Step, NoMemory>
+        requires { point self.old.copy.core.state ≡ Point.Device }
+        ensures acted { (site : Site) → IfOk result (λ step. HasActed number
+            (own_in site number (record { one = self.old; sectors = sectors_on device.old; records = records.old }) Point.Device) step
+            (record { one = self.old; sectors = sectors_on device.old; records = records.old }) (record { one = self.new; sectors = sectors_on device.new; records = records.new })) }
+        ensures depths { self.new.depths ≡ self.old.depths }
+    {
+        match device {
+            None => Err(NoMemory),
+            Some(disc) => {
+                let step = self.act_on(number, disc, records)?;
+                Ok(step)
+            }
+        }
+    }
+
+    fn act_on(
+        &mut self,
+        number: u8,
+        disc: &mut Disc,
+        records: &mut Records,
+    ) -> Result<Step, NoMemory>
+        requires { point self.old.copy.core.state ≡ Point.Device }
+        ensures acted { (site : Site) → IfOk result (λ step. HasActed number
+            (own_in site number (record { one = self.old; sectors = disc.old; records = records.old }) Point.Device) step
+            (record { one = self.old; sectors = disc.old; records = records.old }) (record { one = self.new; sectors = disc.new; records = records.new })) }
+        ensures depths { self.new.depths ≡ self.old.depths }
+    {
+        if self.control.behaviour().last_write() == u32::MAX {
+            return Err(NoMemory);
+        }
+        let call = self.control.device();
+        let found = found_on(disc, &call);
+        self.control.device_done(&found);
+        self.share
+            .enter(number, Act::Step(number), &mut records.kept)?;
+        records.call(number, disc, &call)?;
+        Ok(Step::Quiet)
+    }
+
+    /// An act of its own at the point where it stands, if it can do one there.
+    pub fn act(
+        &mut self,
+        number: u8,
+        files: &[Option<Address>],
+        device: &mut Option<Disc>,
+        records: &mut Records,
+        stands: Point,
+    ) -> Result<Step, NoMemory>
+        requires { point self.old.copy.core.state ≡ stands }
+        ensures acted { (site : Site) → files.now ≡ openers_on site number → self.old.depths ≡ depths_of site number → IfOk result (λ step. HasActed number
+            (own_in site number (record { one = self.old; sectors = sectors_on device.old; records = records.old }) stands) step
+            (record { one = self.old; sectors = sectors_on device.old; records = records.old }) (record { one = self.new; sectors = sectors_on device.new; records = records.new })) }
+        ensures depths { self.new.depths ≡ self.old.depths }
+    {
+        match stands {
+            Point::Inner => {
+                let step = self.inner(number, records)?;
+                Ok(step)
+            }
+            Point::Take => {
+                let step = self.take(number, records)?;
+                Ok(step)
+            }
+            Point::Ask => {
+                let step = self.ask(number, files, records)?;
+                Ok(step)
+            }
+            Point::Answer => {
+                let step = self.answer(number, records)?;
+                Ok(step)
+            }
+            Point::Device => {
+                let step = self.device(number, device, records)?;
+                Ok(step)
+            }
+            Point::Await | Point::Mark | Point::Ended => Ok(Step::Impossible),
+        }
+    }
+
+    /// The checkpoint of the mark at which it stands.
+    pub fn send(&mut self, alloc: Global, number: u8) -> Result<ImageMessage, NoMemory>
+        requires { point self.old.copy.core.state ≡ Point.Mark }
+        ensures message { IfOk result (λ message. message ≡ checkpoint_of number self.old.copy) }
+        ensures copy { OnOk result (self.new ≡ record self.old { copy = after_sending self.old.copy }) }
+        ensures depths { self.new.depths ≡ self.old.depths }
+    {
+        let message = self.control.checkpoint_out(alloc, number)?;
+        Ok(message)
+    }
+
+    /// It passes its mark.
+    pub fn pass(&mut self, number: u8, records: &mut Records) -> Result<(), NoMemory>
+        requires { point self.old.copy.core.state ≡ Point.Mark }
+        ensures copy { OnOk result (self.new ≡ record self.old { copy = copy_passed number records.old self.old.copy }) }
+        ensures records { OnOk result (records.new ≡ records_passed number records.old self.old.copy) }
+        ensures depths { self.new.depths ≡ self.old.depths }
+    {
+        self.share.pass(number, &mut records.kept)?;
+        self.control.pass();
+        Ok(())
+    }
+}

@@ -1,0 +1,69 @@
+ghost use Rattle.std.specs.Prelude.{◌≡◌};
+ghost use Rattle.process_semantics.specs.Process.{point};
+
+use file_calls::Waiting;
+use kept_acts::CopyShare;
+use process_control::CopyControl;
+use process_semantics::Point;
+use processes::Process;
+use std::marker::Model;
+use world_semantics::Role;
+
+/// A copy of a process in its processor, with the requests that wait there and its share of the kept acts.
+#[derive(Drop)]
+pub struct NodeCopy {
+    pub(crate) processor: u8,
+    pub(crate) control: CopyControl<Process>,
+    pub(crate) waiting: Waiting,
+    pub(crate) share: CopyShare,
+}
+
+impl Model for NodeCopy {
+    ghost use Rattle.std.specs.Prelude.{◌≡◌, length};
+    ghost use Rattle.std.specs.Coded.{codes};
+    ghost use Rattle.tal_tree.specs.contracts.statement.Statement as statement;
+    ghost use Rattle.node_copies.specs.Seen.{CopyAndDepths, copy_with};
+
+    ghost Value = { CopyAndDepths };
+
+    ghost coded = { Prim.hlevel (codes, statement.the_row.coded) };
+
+    ghost view = { λ one. record {
+      copy = copy_with one.processor one.control one.waiting.requests one.share;
+      depths = one.control.depths;
+    } };
+
+    ghost invariant = { λ one. one.waiting.openers ≡ length one.control.depths };
+}
+
+impl NodeCopy {
+    pub fn processor(&self) -> u8
+        ensures { result ≡ self.now.copy.processor }
+    {
+        self.processor
+    }
+
+    pub fn role(&self) -> Role
+        ensures { result ≡ self.now.copy.role }
+    {
+        self.control.role()
+    }
+
+    pub fn sent(&self) -> bool
+        ensures { result ≡ self.now.copy.sent }
+    {
+        self.control.sent()
+    }
+
+    pub fn acknowledged(&self) -> bool
+        ensures { result ≡ self.now.copy.acknowledged }
+    {
+        self.control.acknowledged()
+    }
+
+    pub fn point(&self) -> Point
+        ensures { result ≡ point self.now.copy.core.state }
+    {
+        self.control.point()
+    }
+}

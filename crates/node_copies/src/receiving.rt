@@ -1,0 +1,162 @@
+ghost use Rattle.std.specs.Prelude.{◌≡◌, ◌<◌, ◌++◌, true, is_some, length, map, IfOk, OnOk, Some};
+ghost use Rattle.process_semantics.specs.declared.point.Point.TheVariants.{Await};
+ghost use Rattle.process_semantics.specs.Process.{asked_file, asked_words, point};
+ghost use Rattle.checkpoint_image.specs.Receive.{repeated};
+ghost use Rattle.file_calls.specs.Queue.{sent_again};
+ghost use Rattle.kept_acts.specs.Shares.{closing, covered, covering, share_of, with_share};
+ghost use Rattle.world_semantics.specs.declared.role.Role.TheVariants.{Watching};
+ghost use Rattle.world_semantics.specs.Core.{next_on};
+ghost use Rattle.world_semantics.specs.Rules.{stopped_copy, taken_over, told_again};
+ghost use Rattle.computed_changes.specs.Handed.{is_of_last};
+ghost use Rattle.node_copies.specs.Receiving.{after_early_request, after_request, copy_applying, core_applying, entered_reply, with_changed};
+ghost use Rattle.node_copies.specs.Takeover.{without_held};
+
+use crate::one::NodeCopy;
+use crate::records::Records;
+use crate::settling::settle;
+use checkpoint_image::{ImageMessage, ReceiveBlock, TakenMessage};
+use file_calls::Arrival;
+use gd_words::{List, NoMemory, Request, Words};
+use posted_letters::Sending;
+use std::alloc::Global;
+use tal_tree::Act;
+
+impl NodeCopy {
+    /// A request came to the copy, which acts.
+    pub fn arrive(&mut self, request: Request) -> Arrival
+        requires { request.opener < length self.old.depths }
+        ensures again { sent_again result ≡ repeated self.old.copy.core.receive request }
+        ensures copy { self.new ≡ with_changed self.old (after_request self.old.copy request) }
+    {
+        let receive = self.control.receive();
+        self.waiting.arrive(request, receive)
+    }
+
+    /// A request came to the copy, which watches.
+    pub fn arrive_watching(&mut self, request: Request)
+        requires { request.opener < length self.old.depths }
+        ensures { self.new ≡ with_changed self.old (after_early_request self.old.copy request) }
+    {
+        let _arrival = self.waiting.arrive_watching(request);
+    }
+
+    /// The copy gets the reply that it awaits: a step of its process.
+    pub fn get_reply(
+        &mut self,
+        process: u8,
+        words: &Words,
+        records: &mut Records,
+    ) -> Result<(), NoMemory>
+        requires { point self.old.copy.core.state ≡ Await }
+        ensures copy { OnOk result (self.new ≡ with_changed self.old (entered_reply process words.now records.old.kept self.old.copy).copy) }
+        ensures records { OnOk result (records.new ≡ record records.old { kept = (entered_reply process words.now records.old.kept self.old.copy).kept }) }
+        ensures depths { self.new.depths ≡ self.old.depths }
+    {
+        self.share
+            .enter(process, Act::Step(process), &mut records.kept)?;
+        self.control.got(words);
+        Ok(())
+    }
+
+    /// A checkpoint came: it is applied whole, or ignored, and then nothing changes.
+    pub fn apply(&mut self, message: &ImageMessage) -> bool
+        ensures told { result ≡ is_some (core_applying self.old.depths self.old.copy message.now) }
+        ensures copy { self.new ≡ with_changed self.old (copy_applying self.old.copy message.now (core_applying self.old.depths self.old.copy message.now)) }
+    {
+        self.control.checkpoint_in(message)
+    }
+
+    /// The other copy applied the checkpoint of this copy's mark. Answers the base.
+    pub fn cover(&mut self, process: u8, records: &mut Records) -> Result<u64, NoMemory>
+        ensures base { IfOk result (λ base. base ≡ covered process records.old.kept (share_of self.old.copy)) }
+        ensures copy { OnOk result (self.new
+            ≡ with_changed self.old (with_share (covering process records.old.kept (share_of self.old.copy)).share self.old.copy)) }
+        ensures records { OnOk result (records.new ≡ record records.old { kept = (covering process records.old.kept (share_of self.old.copy)).kept }) }
+        ensures depths { self.new.depths ≡ self.old.depths }
+    {
+        let base = self.share.cover(process, &mut records.kept)?;
+        Ok(base)
+    }
+
+    /// Whether it is what the copy sent last that was taken.
+    pub fn is_of_last(&self, taken: TakenMessage) -> bool
+        ensures { result ≡ is_of_last self.now.copy taken }
+    {
+        self.control.is_of_last(taken)
+    }
+
+    /// What the copy sent last was taken.
+    pub fn acked(&mut self)
+        ensures { self.new ≡ with_changed self.old (record self.old.copy { acknowledged = true }) }
+    {
+        self.control.acked();
+    }
+
+    /// The copy takes over, from the base on. The replies kept to its waiting requests are added to `told`.
+    pub fn take_over(&mut self, base: u64, told: &mut List<Sending>) -> Result<(), NoMemory>
+        requires { self.old.copy.role ≡ Watching }
+        ensures copy { OnOk result (self.new ≡ with_changed self.old (taken_over base self.old.copy)) }
+        ensures told { OnOk result (told.new ≡ told.old ++ told_again self.old.copy) }
+        ensures depths { self.new.depths ≡ self.old.depths }
+    {
+        let receive = self.control.receive();
+        settle(self.processor, &mut self.waiting, receive, told)?;
+        self.control.take_over()?;
+        self.share.take_over(base);
+        Ok(())
+    }
+
+    /// The other copy took over: what this one held is dropped.
+    pub fn let_go(&mut self)
+        ensures { self.new ≡ with_changed self.old (without_held self.old.copy) }
+    {
+        self.share.let_go();
+    }
+
+    /// The run is closed: what the copy still holds is kept.
+    pub fn close(&mut self, records: &mut Records) -> Result<(), NoMemory>
+        ensures copy { OnOk result (self.new ≡ with_changed self.old (without_held self.old.copy)) }
+        ensures records { OnOk result (records.new ≡ record records.old { kept = (closing records.old.kept (share_of self.old.copy)).kept }) }
+        ensures depths { self.new.depths ≡ self.old.depths }
+    {
+        self.share.close(&mut records.kept)?;
+        Ok(())
+    }
+
+    /// A processor stops: if it is the copy's, the copy is gone.
+    pub fn stop(&mut self, processor: u8)
+        ensures { self.new ≡ with_changed self.old (stopped_copy processor self.old.copy) }
+    {
+        if self.processor == processor {
+            self.control.stop();
+        }
+    }
+
+    /// The file on which its process asked.
+    pub fn asked_file(&self) -> u8
+        ensures { result ≡ asked_file self.now.copy.core.state }
+    {
+        self.control.behaviour().asked_file()
+    }
+
+    /// The words that its process asked.
+    pub fn asked_words(&self) -> Words
+        ensures { result ≡ asked_words self.now.copy.core.state }
+    {
+        self.control.behaviour().asked_words()
+    }
+
+    /// The number of the next request on a file.
+    pub fn next_on(&self, file: u8) -> u32
+        ensures { result ≡ next_on self.now.copy.core file }
+    {
+        self.control.next_on(file)
+    }
+
+    /// Its receive table.
+    pub fn kept_table(&self, alloc: Global) -> Result<ReceiveBlock, NoMemory>
+        ensures { IfOk result (λ block. block ≡ self.now.copy.core.receive) }
+    {
+        self.control.receive().block(alloc)
+    }
+}

@@ -1,0 +1,97 @@
+ghost use Rattle.std.specs.Prelude.{◌≡◌, ◌+◌, [], ◌∷◌, reverse, if◌then◌else◌, IfOk, OnOk, OnErr};
+ghost use Rattle.node_copies.specs.ShownCounts.{is_write, replies_in, writes_in};
+
+use gd_words::NoMemory;
+use logs::Log;
+use std::alloc::Global;
+use std::marker::Model;
+use tal_tree::Shown;
+
+/// What was shown, with how much of it are writes and how much replies.
+#[derive(Drop)]
+pub struct ShownLog {
+    log: Log<Shown>,
+    writes: u32,
+    replies: u32,
+}
+
+impl Model for ShownLog {
+    ghost use Rattle.std.specs.Prelude.{◌≡◌, List};
+    ghost use Rattle.tal_tree.specs.declared.act.Shown.{Shown};
+    ghost use Rattle.node_copies.specs.ShownCounts.{replies_in, writes_in};
+
+    ghost Value = { List Shown };
+
+    ghost view = { λ all. all.log };
+
+    ghost invariant = { λ all. (all.writes ≡ writes_in all.log) × (all.replies ≡ replies_in all.log) };
+}
+
+impl ShownLog {
+    /// Nothing was shown.
+    pub fn new(alloc: Global) -> ShownLog
+        ensures { result ≡ [] }
+    {
+        ShownLog {
+            log: Log::new(alloc),
+            writes: 0,
+            replies: 0,
+        }
+    }
+
+    /// What was shown, the oldest first.
+    pub fn as_slice(&self) -> &[Shown]
+        ensures { result.now ≡ reverse self.now }
+    {
+        self.log.as_slice()
+    }
+
+    /// How many writes were shown.
+    pub fn writes(&self) -> u32
+        ensures { result ≡ writes_in self.now }
+    {
+        self.writes
+    }
+
+    /// How many replies were shown.
+    pub fn replies(&self) -> u32
+        ensures { result ≡ replies_in self.now }
+    {
+        self.replies
+    }
+
+    /// One more is shown. Memory is wanting too where there would be more than can be counted.
+    pub fn add(&mut self, one: Shown) -> Result<(), NoMemory>
+        ensures ok { OnOk result (self.new ≡ one ∷ self.old) }
+        ensures err { OnErr result (self.new ≡ self.old) }
+    {
+        let writes = raised(self.writes, is_write(&one))?;
+        let replies = raised(self.replies, !is_write(&one))?;
+        self.log.add(one)?;
+        self.writes = writes;
+        self.replies = replies;
+        Ok(())
+    }
+}
+
+fn is_write(one: &Shown) -> bool
+    ensures { result ≡ is_write one.now }
+{
+    match one {
+        Shown::Write { .. } => true,
+        Shown::Reply { .. } => false,
+    }
+}
+
+/// A count, raised by one where it is to be.
+fn raised(count: u32, raises: bool) -> Result<u32, NoMemory>
+    ensures { IfOk result (λ new. new ≡ (if raises then 1 else 0) + count) }
+{
+    if !raises {
+        return Ok(count);
+    }
+    match count.checked_add(1) {
+        None => Err(NoMemory),
+        Some(new) => Ok(new),
+    }
+}
