@@ -9,12 +9,11 @@ ghost use Rattle.letters.specs.Again.{asks_again, awaited_by, awaited_from, ente
 ghost use Rattle.letters.specs.Again.{sent_again, terminals_ask};
 ghost use Rattle.pair_machine.specs.Again.{of_copy, of_terminal, terminal_asking};
 
-use crate::routing::TERMINAL_NODE;
 use crate::terminal::Terminal;
 use crate::whole::Whole;
 use gd_words::{List, NoMemory, Request, Words};
 use node_copies::Address;
-use posted_letters::{Message, Sending};
+use posted_letters::{Message, Sending, TERMINAL_NODE};
 use process_copies::ProcessCopies;
 use world_semantics::Which;
 

@@ -9,12 +9,11 @@ ghost use Rattle.posted_letters.specs.Seen.{message_of};
 ghost use Rattle.node_copies.specs.Seen.{told_by};
 ghost use Rattle.process_copies.specs.Seen.{names_its};
 
-use crate::routing::TERMINAL_NODE;
 use crate::whole::Whole;
 use gd_words::{NoMemory, Reply};
 use machine_states::Effect;
 use node_copies::Step;
-use posted_letters::{Message, Sent};
+use posted_letters::{Message, Sent, TERMINAL_NODE};
 use tal_tree::Who;
 
 impl Whole {

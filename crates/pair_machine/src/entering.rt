@@ -5,13 +5,12 @@ ghost use Rattle.machine_states.specs.States.{Settles};
 ghost use Rattle.message_wires.specs.Play.{after_done, made_by};
 ghost use Rattle.plain_semantics.specs.Machine.{next_request};
 
-use crate::routing::TERMINAL_NODE;
 use crate::terminal::Terminal;
 use crate::whole::Whole;
 use gd_words::{NoMemory, Request, Words};
 use machine_states::Effect;
 use node_copies::Address;
-use posted_letters::{Message, Sending};
+use posted_letters::{Message, Sending, TERMINAL_NODE};
 
 /// A request of these words, of this number, to the server where an opener stands.
 fn request_to(opener: Address, number: u32, words: Words) -> Request

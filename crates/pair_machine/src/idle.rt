@@ -5,9 +5,9 @@ ghost use Rattle.computed_changes.specs.Entered.{enter_done, enter_where};
 ghost use Rattle.message_wires.specs.Idle.{all_from, all_marked, has_marked_all, has_marked_if, is_idle, none_enters, none_owed, none_runs, none_waits};
 ghost use Rattle.pair_machine.specs.Seen.{pairs_in};
 
-use crate::routing::TERMINAL_NODE;
 use crate::terminal::Terminal;
 use crate::whole::Whole;
+use posted_letters::TERMINAL_NODE;
 use process_copies::ProcessCopies;
 
 impl Whole {

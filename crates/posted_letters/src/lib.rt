@@ -17,6 +17,6 @@ pub mod sent;
 pub use letter::Letter;
 pub use message::Message;
 pub use posted::PostedLetters;
-pub use running::is_running;
+pub use running::{TERMINAL_NODE, is_running};
 pub use sending::Sending;
 pub use sent::Sent;

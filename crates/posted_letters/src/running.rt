@@ -1,8 +1,8 @@
 ghost use Rattle.std.specs.Prelude.{◌≡◌};
 ghost use Rattle.world_semantics.specs.World.{is_running};
 
-/// The node of the terminals.
-const TERMINAL_NODE: u8 = 16;
+/// The node that carries the terminals.
+pub const TERMINAL_NODE: u8 = 16;
 
 /// Whether a node runs: a processor that hasn't stopped, or the node of the terminals.
 pub fn is_running(stopped: &[bool], node: u8) -> bool
