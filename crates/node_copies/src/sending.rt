@@ -11,7 +11,7 @@ use crate::records::Records;
 use crate::step::Step;
 use disc_device::Disc;
 use gd_words::{DeviceCall, NoMemory, Reply, Request, Sector};
-use posted_letters::{Message, Sending};
+use posted_letters::{Message, Sending, copy_reply, copy_request};
 use process_control::{Answering, Asking};
 use tal_tree::Shown;
 
@@ -24,7 +24,7 @@ impl Records {
         match request {
             None => Ok(Step::Quiet),
             Some(request) => {
-                self.requests.add(same_request(&request))?;
+                self.requests.add(copy_request(&request))?;
                 Ok(Step::Sends(Sending::new(node, Message::Asking(request))))
             }
         }
@@ -35,7 +35,7 @@ impl Records {
         ensures told { IfOk result (λ step. told_by step ≡ Some (sent_at node (Replying reply ∷ []))) }
         ensures records { OnOk result (self.new ≡ record self.old { replies = reply ∷ self.old.replies }) }
     {
-        self.replies.add(same_reply(&reply))?;
+        self.replies.add(copy_reply(&reply))?;
         Ok(Step::Sends(Sending::new(node, Message::Replying(reply))))
     }
 
@@ -141,26 +141,4 @@ fn read_on(disc: &Disc, sector: u8) -> Sector
         return [0; 8];
     }
     disc.read(sector)
-}
-
-fn same_request(request: &Request) -> Request
-    ensures { result ≡ request.now }
-{
-    Request {
-        process: request.process,
-        opener: request.opener,
-        number: request.number,
-        words: request.words.copy(),
-    }
-}
-
-fn same_reply(reply: &Reply) -> Reply
-    ensures { result ≡ reply.now }
-{
-    Reply {
-        process: reply.process,
-        opener: reply.opener,
-        number: reply.number,
-        words: reply.words.copy(),
-    }
 }

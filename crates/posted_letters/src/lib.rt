@@ -15,7 +15,7 @@ pub mod sending;
 pub mod sent;
 
 pub use letter::Letter;
-pub use message::Message;
+pub use message::{Message, copy_reply, copy_request};
 pub use posted::PostedLetters;
 pub use running::{TERMINAL_NODE, is_running};
 pub use sending::Sending;

@@ -31,7 +31,8 @@ impl Message {
     }
 }
 
-fn copy_request(request: &Request) -> Request
+/// The same request once more.
+pub fn copy_request(request: &Request) -> Request
     ensures { result ≡ request.now }
 {
     Request {
@@ -42,7 +43,8 @@ fn copy_request(request: &Request) -> Request
     }
 }
 
-fn copy_reply(reply: &Reply) -> Reply
+/// The same reply once more.
+pub fn copy_reply(reply: &Reply) -> Reply
     ensures { result ≡ reply.now }
 {
     Reply {
