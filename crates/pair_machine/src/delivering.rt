@@ -7,7 +7,6 @@ ghost use Rattle.pair_machine.specs.Told.{brought, sent_in, unsent};
 ghost use Rattle.plain_semantics.specs.Openers.{openers_of};
 ghost use Rattle.posted_letters.specs.Seen.{message_of};
 ghost use Rattle.node_copies.specs.Seen.{told_by};
-ghost use Rattle.process_copies.specs.Seen.{names_its};
 
 use crate::whole::Whole;
 use gd_words::{NoMemory, Reply};
@@ -112,7 +111,6 @@ impl Whole {
 
     /// A message comes to the process of a number at a node, and what that sends is posted.
     fn bring(&mut self, number: u8, node: u8, message: Message) -> Result<(), NoMemory>
-        requires { names_its number (message_of message) }
         ensures { OnOk result (self.new ≡ after_any self.old (brought self.old.site number node (message_of message) self.old.world)) }
     {
         let step = self.bring_to(number, node, message)?;
@@ -122,7 +120,6 @@ impl Whole {
 
     /// A message comes to the process of a number at a node. What that sends isn't posted yet.
     fn bring_to(&mut self, number: u8, node: u8, message: Message) -> Result<Step, NoMemory>
-        requires { names_its number (message_of message) }
         ensures told { IfOk result (λ step. told_by step ≡ sent_in (brought self.old.site number node (message_of message) self.old.world)) }
         ensures state { OnOk result (self.new ≡ unsent self.old (brought self.old.site number node (message_of message) self.old.world)) }
     {

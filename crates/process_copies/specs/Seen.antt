@@ -1,9 +1,9 @@
 -- What the parts of this crate's code show.
-use Rattle.std.specs.Prelude.{◌≡◌, ℕ, List, Option, Some, None}
+use Rattle.std.specs.Prelude.{ℕ, List, Option, Some, None}
 use Rattle.std.specs.Option.{option_map}
 use Rattle.tal_tree.specs.declared.site.Site.{Site}
 use Rattle.world_semantics.specs.World.{Pair}
-use Rattle.world_semantics.specs.Messages.{Message, Asking, Replying, Checkpointing, Taking, Sending}
+use Rattle.world_semantics.specs.Messages.{Sending}
 use Rattle.node_copies.specs.Records.{Records}
 use Rattle.process_copies.specs.Steps.{Stepped}
 
@@ -26,10 +26,3 @@ placed_after before (Some step) = record before { pair = step.pair }
 abbrev pub records_after : Records → Option Stepped → Records
 records_after before None = before
 records_after before (Some step) = step.records
-
--- a request, a checkpoint and that one was taken name the process to which they come; a reply names the one from which it comes
-abbrev pub names_its : ℕ → Message → Type 0
-names_its number (Asking request) = request.process ≡ number
-names_its number (Replying reply) = Unit {0}
-names_its number (Checkpointing message) = message.process ≡ number
-names_its number (Taking taken) = taken.process ≡ number

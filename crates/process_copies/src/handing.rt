@@ -16,7 +16,7 @@ ghost use Rattle.node_copies.specs.Seen.{told_by};
 ghost use Rattle.process_copies.specs.Handing.{checkpoint_step, reply_step, reply_step_where, request_step, step_by, step_on};
 ghost use Rattle.process_copies.specs.Handing.{taken_step, taken_step_where};
 ghost use Rattle.process_copies.specs.Receiving.{Settles, core_by, got_step, is_awaiting, other_covering, pair_covering, placed_with, repeated_at};
-ghost use Rattle.process_copies.specs.Seen.{names_its, placed_after, records_after, sent_by};
+ghost use Rattle.process_copies.specs.Seen.{placed_after, records_after, sent_by};
 
 use crate::copies::ProcessCopies;
 use checkpoint_image::{ImageMessage, TakenMessage};
@@ -28,16 +28,14 @@ use process_semantics::Point;
 use world_semantics::{Role, Which};
 
 impl ProcessCopies {
-    /// A message comes to the process at a node. A request comes to the process that it names, a checkpoint and that one was taken too;
-    /// a reply comes to the process that it is for. Want of memory is answered too to a request whose opener isn't there, which no
-    /// machine of the site sends.
+    /// A message comes to the process at a node; that it is for this process is the caller's part. Want of memory is answered too to a
+    /// request whose opener isn't there, which no machine of the site sends.
     pub fn come_in(
         &mut self,
         node: u8,
         message: Message,
         records: &mut Records,
     ) -> Result<Step, NoMemory>
-        requires { names_its self.old.number (message_of message) }
         ensures told { IfOk result (λ step. told_by step
             ≡ sent_by (step_on self.old.site self.old.number node self.old.pair records.old (message_of message))) }
         ensures process { OnOk result (self.new
