@@ -1,6 +1,6 @@
 -- What is told of a run.
 use Rattle.std.specs.Prelude.{ℕ, List, reverse}
-use Rattle.process_copies.specs.ShownCounts.{replies_in, writes_in}
+use Rattle.node_copies.specs.ShownCounts.{replies_in, writes_in}
 use Rattle.tal_tree.specs.declared.act.Act.{Act}
 use Rattle.tal_tree.specs.declared.act.Shown.{Shown}
 use Rattle.trace_print.specs.declared.closing.End.{End}
