@@ -11,3 +11,4 @@ pub mod Reroutes
 pub mod Steps
 pub mod Sweeps
 pub mod Terminals
+pub mod Unmarked

@@ -44,7 +44,7 @@ impl Whole {
     }
 }
 
-fn has_stopped(stopped: &[bool]) -> bool
+pub(crate) fn has_stopped(stopped: &[bool]) -> bool
     ensures { result ≡ has_stopped stopped.now }
 {
     stopped.iter().any(|one| *one)

@@ -9,6 +9,7 @@ ghost use Rattle.world_semantics.specs.Rules.{marked_pair, told_at_mark};
 ghost use Rattle.pair_machine.specs.Changes.{changed};
 ghost use Rattle.pair_machine.specs.Seen.{ArePlaced, pairs_in};
 
+use crate::stopping::has_stopped;
 use crate::whole::Whole;
 use gd_words::{List, NoMemory};
 use machine_states::Effect;
@@ -36,8 +37,18 @@ impl Whole {
         Ok(())
     }
 
-    /// A node marks each processor that has stopped and isn't marked yet.
+    /// A node marks each processor that has stopped and isn't marked yet. For most of a run none has.
     fn mark_stopped(&mut self, node: u8) -> Result<(), NoMemory>
+        ensures { OnOk result (self.new ≡ marks_from node 0 (length self.old.world.stopped) self.old) }
+    {
+        if has_stopped(self.stopped.as_slice()) {
+            self.mark_each(node)?;
+        }
+        Ok(())
+    }
+
+    /// A node looks at each processor, whether it is to be marked.
+    fn mark_each(&mut self, node: u8) -> Result<(), NoMemory>
         ensures { OnOk result (self.new ≡ marks_from node 0 (length self.old.world.stopped) self.old) }
     {
         for place in 0..self.stopped.len() {

@@ -1,11 +1,9 @@
-use Rattle.std.proofs.Common.{◌≡◌, ◌<◌, ◌∙◌, ap, length, arith}
-use Rattle.message_wires.specs.Play.{Whole}
-use Rattle.pair_machine.proofs.Marks.{marks-step}
+use Rattle.std.proofs.Common.{◌∙◌, ap, length, sym}
+use Rattle.message_wires.specs.Play.{Whole, has_stopped}
+use Rattle.pair_machine.proofs.Unmarked.{none-marked}
 use Rattle.pair_machine.proofs.whole.Whole.mark_stopped.Goals as goal
 
-pub loop-place-preserved : goal.loop-place-preserved
-loop-place-preserved c =
-    let count = length c.args.self.now.world.stopped in
-    let same : length c.self.inside.stopped.items ≡ count = ap (λ (s : Whole). length s.world.stopped) c.self.view_is in
-    let within : c.loop-place.place < count = omega (arith, same, c.len-place-end.ensures, c.self.inside.stopped.ok.0, c.loop-place-test.true) in
-    marks-step c.args.node c.loop-place.place count c.loop-place.self c.mark_at.new.self within c.in_ok-mark_at.ensures ∙ c.loop-place.invariant
+pub returns-else-has_stopped : goal.returns-else-has_stopped
+returns-else-has_stopped c =
+    sym (none-marked c.args.node 0 (length c.args.self.now.world.stopped) c.args.self.now
+    (ap has_stopped (sym (c.as_slice.ensures.value ∙ ap (λ (s : Whole). s.world.stopped) c.self.view_is)) ∙ sym c.has_stopped.ensures ∙ c.if-has_stopped.false))
