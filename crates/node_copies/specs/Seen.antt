@@ -35,6 +35,18 @@ copy_with processor control waiting share = record {
   held = share.held;
 }
 
+-- a copy by itself
+abbrev pub control_of : CopyAndDepths → CopyState
+control_of one = record {
+  role = one.copy.role;
+  era = one.copy.era;
+  number = one.copy.number;
+  sent = one.copy.sent;
+  acknowledged = one.copy.acknowledged;
+  core = one.copy.core;
+  depths = one.depths;
+}
+
 -- the sectors of a process's device, if it has one
 abbrev pub sectors_on : Option (List Stored) → List Stored
 sectors_on None = []

@@ -1,5 +1,6 @@
 ghost use Rattle.std.specs.Prelude.{◌≡◌};
 ghost use Rattle.process_semantics.specs.Process.{point};
+ghost use Rattle.node_copies.specs.Seen.{control_of};
 
 use file_calls::Waiting;
 use kept_acts::CopyShare;
@@ -65,5 +66,19 @@ impl NodeCopy {
         ensures { result ≡ point self.now.copy.core.state }
     {
         self.control.point()
+    }
+
+    /// The copy by itself, without its processor, its waiting requests and its share.
+    pub fn control(&self) -> &CopyControl<Process>
+        ensures { result.now ≡ control_of self.now }
+    {
+        &self.control
+    }
+
+    /// The requests that wait.
+    pub fn waiting(&self) -> &Waiting
+        ensures { result.now.requests ≡ self.now.copy.waiting }
+    {
+        &self.waiting
     }
 }

@@ -5,6 +5,7 @@ pub mod Closes
 pub mod Handing
 pub mod Lookups
 pub mod Marks
+pub mod PacketKinds
 pub mod Packets
 pub mod Places
 pub mod Reroutes

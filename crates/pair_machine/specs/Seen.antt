@@ -1,5 +1,6 @@
 -- What the parts of the machine show.
 use Rattle.std.specs.Prelude.{◌≡◌, ℕ, ◌+◌, Bool, List, [], ◌∷◌, map, slice_get, Option, Some}
+use Rattle.std.specs.Option.{option_map}
 use Rattle.tal_tree.specs.declared.site.Site.{Site}
 use Rattle.tal_tree.specs.declared.site.TerminalSpec.{TerminalSpec}
 use Rattle.tal_tree.specs.declared.site.Who.TheVariants as who
@@ -7,7 +8,7 @@ use Rattle.plain_semantics.specs.declared.slot.Opener.{Opener}
 use Rattle.plain_semantics.specs.Openers.{opener_of}
 use Rattle.world_semantics.specs.World.{Pair, World}
 use Rattle.kept_acts.specs.Shares.{closed_by_all}
-use Rattle.message_wires.specs.Play.{Whole}
+use Rattle.message_wires.specs.Play.{Whole, packet_at}
 use Rattle.process_copies.specs.Seen.{Placed}
 use Rattle.process_copies.specs.Takeover.{let_go}
 
@@ -28,6 +29,14 @@ terminal_row site number (terminal ∷ terminals) = opener_of site (who.Terminal
 pub record Standing : Type 0 where
   pub is_broken : Bool
   pub state : Whole
+
+-- the kind of a packet that carries a piece of a message, as packets are numbered
+abbrev pub piece : ℕ
+piece = 1
+
+-- the kind of the packet at a position of a bus, where one stands there: each carries a whole message, which counts as a piece
+abbrev pub kind_at : Whole → Bool → ℕ → Option ℕ
+kind_at s y k = option_map (λ packet. piece) (packet_at s y k)
 
 -- the world after its run was closed: what copies held is kept, and none holds an act any more
 abbrev pub closed_world : World → World

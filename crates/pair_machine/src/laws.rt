@@ -1,8 +1,9 @@
-//! What the machine shows at the end of a run.
-ghost use Rattle.std.specs.Prelude.{◌≡◌};
+//! What the machine shows at the end of a run, and what it tells of its packets.
+ghost use Rattle.std.specs.Prelude.{◌≡◌, ◌↔◌, ◌<◌, ℕ, Bool, if◌then◌else◌, length, None, Some};
 ghost use Rattle.world_semantics.specs.Kept.{acts_of, closed};
 ghost use Rattle.world_semantics.specs.World.{World};
-ghost use Rattle.pair_machine.specs.Seen.{closed_world};
+ghost use Rattle.message_wires.specs.Play.{Whole};
+ghost use Rattle.pair_machine.specs.Seen.{closed_world, kind_at};
 
 use kept_acts::laws::all_that_close_make_the_closed_run;
 
@@ -13,3 +14,9 @@ pub fn a_closed_world_has_the_closed_run()
 {
     all_that_close_make_the_closed_run();
 }
+
+/// A packet has a kind, that of a piece, exactly where it stands on its bus.
+pub fn each_packet_is_a_piece()
+    ensures there { (s : Whole) (y : Bool) (k : ℕ) → (k < (if y then 0 else length s.wires.bus) ↔ kind_at s y k ≡ Some 1) }
+    ensures none { (s : Whole) (y : Bool) (k : ℕ) → ((k < (if y then 0 else length s.wires.bus) → ⊥) ↔ kind_at s y k ≡ None) }
+{}

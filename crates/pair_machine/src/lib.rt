@@ -21,8 +21,9 @@ mod running;
 mod starting;
 mod stopping;
 mod telling_again;
-mod terminal;
+pub mod terminal;
 mod ticking;
 mod whole;
 
 pub use pairs::Pairs;
+pub use terminal::Terminal;

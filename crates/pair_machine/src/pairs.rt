@@ -6,16 +6,22 @@ ghost use Rattle.node_copies.specs.ShownCounts.{replies_in, writes_in};
 ghost use Rattle.message_wires.specs.Idle.{is_idle};
 ghost use Rattle.message_wires.specs.Play.{packet_at, play, whole_at_boot};
 ghost use Rattle.process_copies.specs.Starting.{IsStartable};
-ghost use Rattle.pair_machine.specs.Seen.{closed_state};
+ghost use Rattle.pair_machine.specs.Seen.{ArePlaced, closed_state, kind_at, pairs_in};
 
+use crate::terminal::Terminal;
 use crate::whole::Whole;
 use gd_words::NoMemory;
 use logs::Shared;
 use machine_states::Effect;
+use node_copies::Marks;
+use process_copies::ProcessCopies;
 use schedule::Event;
 use std::alloc::Global;
 use std::marker::Model;
 use tal_tree::{Act, Shown, Site};
+
+/// The kind of a packet that carries a piece of a message.
+const PIECE: u8 = 1;
 
 /// The machine over whole messages. Once it wanted memory it answers so for good.
 #[derive(Drop)]
@@ -84,6 +90,16 @@ impl Pairs {
         self.whole.wires.sender_at(k as usize)
     }
 
+    /// The kind of the packet at a position of a bus: a whole message counts as a piece.
+    pub fn kind_at(&self, y: bool, k: u32) -> Option<u8>
+        ensures { result ≡ kind_at self.now.state y k }
+    {
+        match self.sender_at(y, k) {
+            None => None,
+            Some(_sender) => Some(PIECE),
+        }
+    }
+
     /// How many writes were shown.
     pub fn writes(&self) -> u32
         ensures { result ≡ writes_in self.now.state.world.shown }
@@ -127,6 +143,27 @@ impl Pairs {
         ensures { result.now ≡ self.now.state.world.stopped }
     {
         self.whole.stopped.as_slice()
+    }
+
+    /// Which node has marked which processor.
+    pub fn marks(&self) -> &Marks
+        ensures { result.now ≡ self.now.state.world.marks }
+    {
+        &self.whole.marks
+    }
+
+    /// The processes in their places, both copies of each.
+    pub fn processes(&self) -> &[ProcessCopies]
+        ensures processes { pairs_in result.now ≡ self.now.state.world.processes }
+        ensures placed { ArePlaced self.now.state.site result.now }
+    {
+        self.whole.processes.as_slice()
+    }
+
+    pub fn terminals(&self) -> &[Terminal]
+        ensures { result.now ≡ self.now.state.world.terminals }
+    {
+        self.whole.terminals.as_slice()
     }
 
     /// The acts that are kept, in order.

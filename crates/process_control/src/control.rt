@@ -152,6 +152,13 @@ impl<B: Behaviour> CopyControl<B> {
         self.core.receive().standing(request.opener, request.number)
     }
 
+    /// The numbers of the next requests, from file 0 on.
+    pub fn next(&self) -> &[u32]
+        ensures { result.now ≡ self.now.core.next }
+    {
+        self.core.next()
+    }
+
     /// The number of the next request on a file.
     pub fn next_on(&self, file: u8) -> u32
         ensures { result ≡ next_on self.now.core file }

@@ -90,6 +90,12 @@ impl<B: Behaviour> CopyCore<B> {
         &self.receive
     }
 
+    pub fn next(&self) -> &[u32]
+        ensures { result.now ≡ self.now.core.next }
+    {
+        self.asker.as_slice()
+    }
+
     pub fn next_on(&self, file: u8) -> u32
         ensures { result ≡ next_on self.now.core file }
     {

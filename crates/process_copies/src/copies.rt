@@ -6,7 +6,7 @@ ghost use Rattle.letters.specs.Routes.{other_end};
 ghost use Rattle.computed_changes.specs.Handed.{copy_in};
 
 use checkpoint_image::{ImageMessage, TakenMessage};
-use disc_device::Disc;
+use disc_device::{Disc, Stored};
 use gd_words::List;
 use logs::{Log, Shared};
 use node_copies::{Address, NodeCopy};
@@ -76,6 +76,26 @@ impl ProcessCopies {
         ensures { result.now ≡ openers_of self.now.site self.now.number }
     {
         self.openers.as_slice()
+    }
+
+    /// A copy in its processor.
+    pub fn copy(&self, which: Which) -> &NodeCopy
+        ensures { result.now.copy ≡ copy_of which self.now.pair }
+    {
+        match which {
+            Which::First => &self.first,
+            Which::Second => &self.second,
+        }
+    }
+
+    /// The sectors of its device; none where it has no device.
+    pub fn sectors(&self) -> &[Stored]
+        ensures { result.now ≡ self.now.pair.sectors }
+    {
+        match &self.device {
+            None => &[],
+            Some(disc) => disc.sectors(),
+        }
     }
 
     pub fn processor(&self, which: Which) -> u8

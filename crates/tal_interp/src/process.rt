@@ -1,4 +1,4 @@
-ghost use Rattle.std.specs.Prelude.{◌≡◌, IfOk};
+ghost use Rattle.std.specs.Prelude.{◌≡◌, ◌≤◌, length, IfOk};
 ghost use Rattle.tal_tree.specs.declared.site.Kind.TheVariants.{Pair};
 ghost use Rattle.process_semantics.specs.Calls.{asked_file, asked_words};
 ghost use Rattle.process_semantics.specs.Process.{start_of};
@@ -10,7 +10,7 @@ use gd_words::{DeviceCall, List, NoMemory, Sector, Words};
 use process_semantics::{Asked, Point};
 use std::alloc::Global;
 use std::marker::Model;
-use tal_tree::Program;
+use tal_tree::{Item, Program};
 
 /// A program that runs as a process. What runs is its table: the text of the program isn't kept.
 #[derive(Drop)]
@@ -41,6 +41,14 @@ impl TalProcess {
     {
         let interpreter = Interpreter::load(alloc, program)?;
         Ok(TalProcess { interpreter })
+    }
+
+    /// The items of its program.
+    pub fn items(&self) -> &[Item]
+        ensures value { result.now ≡ self.now.program.items }
+        ensures few { length result.now ≤ 64 }
+    {
+        self.interpreter.table.items()
     }
 
     /// The number of the file on which it asks, or awaits the reply; 0 elsewhere.
