@@ -1,0 +1,2 @@
+mod Playable
+mod Made

@@ -1,0 +1,51 @@
+use gd_words::NoMemory;
+use thiserror::Error;
+
+/// Why a report isn't replayed. Lines are those of the report, counted from 1.
+#[derive(Clone, Copy, Debug, PartialEq, Eq, Error)]
+pub enum Difference {
+    #[error("DIFFERS line {0}: the act isn't possible")]
+    Impossible(usize),
+    #[error("DIFFERS line {0}: the acts have another line there, or none")]
+    OtherLine(usize),
+    #[error("DIFFERS at END idle: an act is possible")]
+    ActLeft,
+    #[error("FORM the input can't be read")]
+    NoInput,
+    #[error("FORM no line REPORT after the deck")]
+    NoReport,
+    #[error("FORM the deck is refused")]
+    NoDeck,
+    #[error("FORM line {0}: no line of a report of this deck")]
+    NoLine(usize),
+    #[error("FORM the report has no end")]
+    NoEnd,
+    #[error("FORM out of memory")]
+    NoMemory,
+}
+
+impl From<NoMemory> for Difference {
+    ghost use Rattle.std.specs.Prelude.{◌≡◌};
+    ghost use Rattle.replay.specs.declared.difference.Difference.TheVariants as difference;
+
+    ghost from_gives = { λ _ answered. answered ≡ difference.NoMemory };
+
+    fn from(_: NoMemory) -> Difference {
+        Difference::NoMemory
+    }
+}
+
+impl Difference {
+    /// The status of the program: 1 where the report differs, 2 where the input has another form, 8 where memory ran out.
+    pub fn status(self) -> u8 {
+        match self {
+            Difference::Impossible(_) | Difference::OtherLine(_) | Difference::ActLeft => 1,
+            Difference::NoInput
+            | Difference::NoReport
+            | Difference::NoDeck
+            | Difference::NoLine(_)
+            | Difference::NoEnd => 2,
+            Difference::NoMemory => 8,
+        }
+    }
+}
