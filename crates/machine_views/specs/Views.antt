@@ -1,0 +1,120 @@
+-- What is told of a world of copies. The world is our own; that a copy's image is told with everything in it, so that copies of one process can be
+-- compared, is our own rule too.
+use Rattle.std.specs.Prelude.{ℕ, zero, suc, ◌+◌, ◌-◌, ℤ, Bool, if◌then◌else◌, nat_lt, List, [], ◌∷◌, ◌++◌, map, Option, Some, None}
+use Rattle.checkpoint_image.specs.declared.message.FileNumber.{FileNumber}
+use Rattle.disc_device.specs.declared.stored.Stored.{Stored}
+use Rattle.process_images.specs.Images.{everything_of}
+use Rattle.process_semantics.specs.declared.point.Point.{Point}
+use Rattle.process_semantics.specs.declared.point.Point.TheVariants.{Await}
+use Rattle.process_semantics.specs.Image.{image_of}
+use Rattle.process_semantics.specs.Process.{ProcessState, asked_file, point}
+use Rattle.world_semantics.specs.Core.{Core, next_on}
+use Rattle.world_semantics.specs.World as world
+use Rattle.world_semantics.specs.World.{Copy, Pair, World, has_marked, terminal_node}
+use Rattle.machine_views.specs.declared.views.Awaited.{Awaited}
+use Rattle.machine_views.specs.declared.views.CopyView.{CopyView}
+use Rattle.machine_views.specs.declared.views.Mark.{Mark}
+use Rattle.machine_views.specs.declared.views.SectorView.{SectorView}
+use Rattle.machine_views.specs.declared.views.TerminalView.{TerminalView}
+use Rattle.machine_views.specs.declared.views.View.{View}
+
+-- In order
+
+-- what each of so many numbers gives, from one on
+abbrev pub each_number : {A : Type 0} → (ℕ → List A) → ℕ → ℕ → List A
+each_number give number zero = []
+each_number give number (suc more) = give number ++ each_number give (number + 1) more
+
+-- what each one of a list gives with its place, where the first has this place
+abbrev pub each_at : {A B : Type 0} → (ℕ → A → List B) → ℕ → List A → List B
+each_at give place [] = []
+each_at give place (one ∷ rest) = give place one ++ each_at give (place + 1) rest
+
+-- Nodes
+
+-- a processor, if it has stopped
+abbrev pub if_stopped : ℕ → Bool → List ℕ
+if_stopped processor stopped = if stopped then processor ∷ [] else []
+
+-- the processors that have stopped
+abbrev pub stopped_in : List Bool → List ℕ
+stopped_in stopped = each_at if_stopped 0 stopped
+
+-- the mark of a processor by a node, if it stands
+abbrev pub mark_of : List world.Mark → ℕ → ℕ → List Mark
+mark_of marks node processor = if has_marked marks node processor then record { node = node; down = processor } ∷ [] else []
+
+-- the marks by a node: a processor's number is below that of the node of the terminals
+abbrev pub marks_by : List world.Mark → ℕ → List Mark
+marks_by marks node = each_number (mark_of marks node) 0 terminal_node
+
+-- the marks by all nodes, the processors and the node of the terminals
+abbrev pub marks_in : List world.Mark → List Mark
+marks_in marks = each_number (marks_by marks) 0 (terminal_node + 1)
+
+-- Copies
+
+abbrev pub awaited_at : Core → Point → Option Awaited
+awaited_at core Await = Some (record { file = asked_file core.state; number = next_on core (asked_file core.state) - 1 })
+awaited_at core _ = None
+
+-- the request whose reply is awaited: the last one that was asked on its file
+abbrev pub awaited_by : Core → Option Awaited
+awaited_by core = awaited_at core (point core.state)
+
+-- a process's image with everything that it may list
+abbrev pub image_of_everything : ProcessState → List ℤ
+image_of_everything state = image_of (everything_of state) state
+
+-- the number of the next request on a file
+abbrev pub file_number : ℕ → ℕ → List FileNumber
+file_number file next = record { file = file; next = next } ∷ []
+
+-- a copy of the process of a number
+abbrev pub copy_view : ℕ → Copy → CopyView
+copy_view process copy = record {
+  process = process;
+  processor = copy.processor;
+  role = copy.role;
+  era = copy.era;
+  number = copy.number;
+  sent = copy.sent;
+  awaited = awaited_by copy.core;
+  point = point copy.core.state;
+  state = image_of_everything copy.core.state;
+  files = each_at file_number 0 copy.core.next;
+  receive = copy.core.receive;
+  waiting = copy.waiting;
+}
+
+-- both copies of the process of a number, that in the lower processor first
+abbrev pub copy_views : ℕ → Pair → List CopyView
+copy_views process pair =
+    if nat_lt pair.second.processor pair.first.processor
+    then copy_view process pair.second ∷ copy_view process pair.first ∷ []
+    else copy_view process pair.first ∷ copy_view process pair.second ∷ []
+
+-- Terminals and sectors
+
+abbrev pub terminal_view : world.Terminal → TerminalView
+terminal_view terminal = record { entered = terminal.entered; printed = terminal.printed }
+
+-- a sector of the process of a number
+abbrev pub sector_view : ℕ → ℕ → Stored → List SectorView
+sector_view process sector stored = record { process = process; sector = sector; words = stored.words; number = stored.number } ∷ []
+
+-- the sectors of the process of a number
+abbrev pub sector_views : ℕ → Pair → List SectorView
+sector_views process pair = each_at (sector_view process) 0 pair.sectors
+
+-- Worlds
+
+-- what is told of a world
+abbrev pub view_of : World → View
+view_of w = record {
+  stopped = stopped_in w.stopped;
+  down = marks_in w.marks;
+  copies = each_at copy_views 0 w.processes;
+  terminals = map terminal_view w.terminals;
+  sectors = each_at sector_views 0 w.processes;
+}

@@ -1,0 +1,85 @@
+ghost use Rattle.std.specs.Prelude.{◌≡◌, ◌++◌, map, IfOk, OnOk};
+ghost use Rattle.machine_views.specs.Views.{mark_of, marks_by, marks_in, stopped_in, terminal_view};
+
+use crate::byte::byte;
+use crate::views::{Mark, TerminalView};
+use gd_words::{List, NoMemory};
+use node_copies::Marks;
+use pair_machine::Terminal;
+use std::alloc::Global;
+
+/// How many processors a site can have, and how many nodes: the terminals are on a node of their own.
+const PROCESSORS: u8 = 16;
+
+const NODES: u8 = 17;
+
+/// The processors that have stopped.
+pub(crate) fn stopped(alloc: Global, stopped: &[bool]) -> Result<List<u8>, NoMemory>
+    ensures { IfOk result (λ processors. processors ≡ stopped_in stopped.now) }
+{
+    let mut processors = List::new(alloc);
+    for (place, has_stopped) in stopped.iter().enumerate() {
+        if *has_stopped {
+            let processor = byte(place)?;
+            processors.push(processor)?;
+        }
+    }
+    Ok(processors)
+}
+
+/// The marks that stand.
+pub(crate) fn down(alloc: Global, marks: &Marks) -> Result<List<Mark>, NoMemory>
+    ensures { IfOk result (λ down. down ≡ marks_in marks.now) }
+{
+    let mut down = List::new(alloc);
+    for node in 0..NODES {
+        add_marks(marks, node, &mut down)?;
+    }
+    Ok(down)
+}
+
+/// The marks by a node are added to `down`.
+fn add_marks(marks: &Marks, node: u8, down: &mut List<Mark>) -> Result<(), NoMemory>
+    ensures { OnOk result (down.new ≡ down.old ++ marks_by marks.now node) }
+{
+    for processor in 0..PROCESSORS {
+        add_mark(marks, node, processor, down)?;
+    }
+    Ok(())
+}
+
+/// The mark of a processor by a node is added to `down`, if it stands.
+fn add_mark(marks: &Marks, node: u8, processor: u8, down: &mut List<Mark>) -> Result<(), NoMemory>
+    ensures { OnOk result (down.new ≡ down.old ++ mark_of marks.now node processor) }
+{
+    if marks.has(node, processor) {
+        down.push(Mark {
+            node,
+            down: processor,
+        })?;
+    }
+    Ok(())
+}
+
+/// The terminals, in deck order.
+pub(crate) fn terminals(
+    alloc: Global,
+    terminals: &[Terminal],
+) -> Result<List<TerminalView>, NoMemory>
+    ensures { IfOk result (λ views. views ≡ map terminal_view terminals.now) }
+{
+    let mut views = List::new(alloc);
+    for terminal in terminals {
+        views.push(view_of(terminal))?;
+    }
+    Ok(views)
+}
+
+fn view_of(terminal: &Terminal) -> TerminalView
+    ensures { result ≡ terminal_view terminal.now }
+{
+    TerminalView {
+        entered: terminal.entered(),
+        printed: terminal.printed(),
+    }
+}

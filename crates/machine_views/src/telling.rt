@@ -1,0 +1,29 @@
+ghost use Rattle.std.specs.Prelude.{◌≡◌, IfOk};
+ghost use Rattle.machine_views.specs.Views.{view_of};
+
+use crate::copies::copies;
+use crate::nodes::{down, stopped, terminals};
+use crate::sectors::sectors;
+use crate::views::View;
+use gd_words::NoMemory;
+use pair_machine::Pairs;
+use std::alloc::Global;
+
+/// What the machine tells of itself. Of one that once wanted memory it tells the state in which that left it.
+pub fn view(alloc: Global, machine: &Pairs) -> Result<View, NoMemory>
+    ensures { IfOk result (λ view. view ≡ view_of machine.now.state.world) }
+{
+    let processes = machine.processes();
+    let stopped = stopped(alloc, machine.stopped())?;
+    let down = down(alloc, machine.marks())?;
+    let copies = copies(alloc, processes)?;
+    let terminals = terminals(alloc, machine.terminals())?;
+    let sectors = sectors(alloc, processes)?;
+    Ok(View {
+        stopped,
+        down,
+        copies,
+        terminals,
+        sectors,
+    })
+}

@@ -1,0 +1,64 @@
+use checkpoint_image::{FileNumber, ReceiveBlock};
+use gd_words::{List, Request, Sector};
+use process_semantics::Point;
+use world_semantics::Role;
+
+/// What a machine tells of itself: the processors that have stopped, the marks, both copies of each process, the terminals in deck
+/// order, and the sectors of all discs. The processors rise, and marks, copies and sectors rise by their first two fields.
+#[derive(Drop)]
+pub struct View {
+    pub stopped: List<u8>,
+    pub down: List<Mark>,
+    pub copies: List<CopyView>,
+    pub terminals: List<TerminalView>,
+    pub sectors: List<SectorView>,
+}
+
+/// A node has marked a processor down.
+#[derive(Clone, Copy, PartialEq, Eq)]
+pub struct Mark {
+    pub node: u8,
+    pub down: u8,
+}
+
+/// A copy of a process in its processor. `number` is that of the last checkpoint sent or applied in its era, and `sent` says whether
+/// that of the mark at which it stands was sent. `awaited` is the request whose reply it awaits. `state` is the image of its process
+/// with everything that may be listed: at a mark that of the state after it. `files` has the number of the next request on each file.
+#[derive(Drop)]
+pub struct CopyView {
+    pub process: u8,
+    pub processor: u8,
+    pub role: Role,
+    pub era: u32,
+    pub number: u32,
+    pub sent: bool,
+    pub awaited: Option<Awaited>,
+    pub point: Point,
+    pub state: List<i16>,
+    pub files: List<FileNumber>,
+    pub receive: ReceiveBlock,
+    pub waiting: List<Request>,
+}
+
+/// A request whose reply is awaited: the file on which it was asked, and its number.
+#[derive(Clone, Copy, PartialEq, Eq)]
+pub struct Awaited {
+    pub file: u8,
+    pub number: u32,
+}
+
+/// How many requests a terminal has entered, and how many replies it has printed.
+#[derive(Clone, Copy, PartialEq, Eq)]
+pub struct TerminalView {
+    pub entered: u32,
+    pub printed: u32,
+}
+
+/// A sector of a disc: its words, and the number of the write that put them, 0 where none did.
+#[derive(Clone, Copy, PartialEq, Eq)]
+pub struct SectorView {
+    pub process: u8,
+    pub sector: u8,
+    pub words: Sector,
+    pub number: u32,
+}
