@@ -8,12 +8,30 @@ use crate::reading::{Stop, message_in};
 use gd_words::{List, NoMemory};
 use std::alloc::Global;
 
+/// How many words a checkpoint has, so that their memory is taken at once: the ten that each has, those of its body, three of each
+/// file, three of each opener, and those of each reply with their count.
+fn count_words(message: &ImageMessage) -> usize {
+    let image = &message.image;
+    let openers = image.receive.openers.as_slice();
+    let files = image.files.len().saturating_mul(3);
+    let mut count = 10_usize
+        .saturating_add(image.body.len())
+        .saturating_add(files)
+        .saturating_add(openers.len().saturating_mul(3));
+    for opener in openers {
+        for reply in opener.kept.as_slice() {
+            count = count.saturating_add(1).saturating_add(reply.len());
+        }
+    }
+    count
+}
+
 /// The words of a checkpoint whose counts and whose place in hand each fit a word.
 pub fn to_words(alloc: Global, message: &ImageMessage) -> Result<List<i16>, NoMemory>
     requires { HasShortLists message.now }
     ensures { IfOk result (λ words. words ≡ message_words message.now) }
 {
-    let mut words = List::new(alloc);
+    let mut words = List::from_vec(Vec::with_capacity(alloc, count_words(message))?);
     put_heading(message, &mut words)?;
     put_image(&message.image, &mut words)?;
     Ok(words)
