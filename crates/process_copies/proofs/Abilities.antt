@@ -1,5 +1,5 @@
 -- Whether a process can make a step, by what its copies can do.
-use Rattle.std.proofs.Common.{◌≡◌, ◌≢◌, ◌||◌, ℕ, List, Option, Some, None, refl, ap, ◌∙◌}
+use Rattle.std.proofs.Common.{◌≡◌, ◌≢◌, ℕ, List, Option, Some, None, refl, ap, ◌∙◌}
 use Rattle.std.specs.Prelude.{is_some}
 use Rattle.std.specs.Option.{option_map}
 use Rattle.tal_tree.specs.declared.site.Site.{Site}
@@ -9,16 +9,12 @@ use Rattle.world_semantics.specs.declared.which.Which.{Which}
 use Rattle.world_semantics.specs.World.{Mark, Pair}
 use Rattle.node_copies.specs.Records.{Records}
 use Rattle.process_copies.specs.Acting.{own_of}
-use Rattle.process_copies.specs.Steps.{Stepped, first_step, own_step, step_at}
+use Rattle.process_copies.specs.Steps.{Stepped, own_step, step_at}
 use Rattle.process_copies.proofs.Steps.{at-other}
 
 is-told : {A B : Type 0} (f : A → B) (o : Option A) → is_some (option_map f o) ≡ is_some o
 is-told f None = refl
 is-told f (Some x) = refl
-
-pub either : (one other : Option Stepped) → is_some (first_step one other) ≡ (is_some one || is_some other)
-either None other = refl
-either (Some step) other = refl
 
 pub by-point : (site : Site) (number : ℕ) (k : Which) (pair : Pair) (marks : List Mark) (records : Records) (stands : Point) → stands ≢ point.Mark
     → is_some (step_at site number k pair marks records stands) ≡ is_some (own_of site number k pair records stands)

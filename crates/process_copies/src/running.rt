@@ -88,7 +88,11 @@ impl ProcessCopies {
         match role {
             Role::Acting => {
                 let stands = self.point(which);
-                let step = self.run_at(alloc, which, marks, records, stands)?;
+                // a call for each, so that a copy which doesn't act costs no more than a look at its role
+                let step = match which {
+                    Which::First => self.run_at(alloc, Which::First, marks, records, stands)?,
+                    Which::Second => self.run_at(alloc, Which::Second, marks, records, stands)?,
+                };
                 Ok(step)
             }
             Role::Watching | Role::Gone => Ok(Step::Impossible),

@@ -1,4 +1,4 @@
-ghost use Rattle.std.specs.Prelude.{◌≡◌, ◌||◌, ℕ, is_some};
+ghost use Rattle.std.specs.Prelude.{◌≡◌, ℕ, is_some};
 ghost use Rattle.world_semantics.specs.World.{Pair, copy_of, may_pass};
 ghost use Rattle.node_copies.specs.Records as happened;
 ghost use Rattle.process_copies.specs.Acting.{own_of};
@@ -42,9 +42,10 @@ impl ProcessCopies {
     pub fn can_run(&self, marks: &Marks) -> bool
         ensures { (records : happened.Records) → result ≡ is_some (step_of self.now.site self.now.number self.now.pair marks.now records) }
     {
-        let first = self.can_run_copy(Which::First, marks);
-        let second = self.can_run_copy(Which::Second, marks);
-        is_any(first, second)
+        if self.can_run_copy(Which::First, marks) {
+            return true;
+        }
+        self.can_run_copy(Which::Second, marks)
     }
 
     fn can_run_copy(&self, which: Which, marks: &Marks) -> bool
@@ -87,12 +88,6 @@ impl ProcessCopies {
             Which::Second => self.second.can_act(stands),
         }
     }
-}
-
-fn is_any(first: bool, second: bool) -> bool
-    ensures { result ≡ (first || second) }
-{
-    first || second
 }
 
 /// Whether a copy at its mark can go on, which may pass or not, and has sent its checkpoint or not.
