@@ -11,14 +11,14 @@ use posted_letters::TERMINAL_NODE;
 use process_copies::ProcessCopies;
 
 impl Whole {
-    /// Whether nothing is left to do.
+    /// Whether nothing is left to do. What is owed is looked at first, since that takes least.
     pub(crate) fn is_idle(&self) -> bool
         ensures { result ≡ is_idle self.now }
     {
-        self.none_enters()
+        self.none_owed()
+            && self.none_enters()
             && self.none_runs()
             && self.none_waits()
-            && self.none_owed()
             && self.all_marked()
     }
 
@@ -143,7 +143,7 @@ impl Whole {
         if processor >= self.stopped.len() {
             return true;
         }
-        !self.stopped[processor] || self.marks.has_at(node, processor)
+        !self.stopped.as_slice()[processor] || self.marks.has_at(node, processor)
     }
 }
 

@@ -16,6 +16,7 @@ pub mod laws;
 pub mod pairs;
 mod posting;
 mod printing;
+mod processors;
 mod routing;
 mod running;
 mod starting;

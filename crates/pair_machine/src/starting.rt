@@ -8,6 +8,7 @@ ghost use Rattle.process_copies.specs.Starting.{IsStartable};
 ghost use Rattle.pair_machine.specs.Seen.{terminal_row};
 ghost use Rattle.pair_machine.specs.Starting.{placed_from};
 
+use crate::processors::Processors;
 use crate::terminal::Terminal;
 use crate::whole::Whole;
 use gd_words::{List, NoMemory};
@@ -26,7 +27,7 @@ impl Whole {
         ensures { IfOk result (λ whole. whole ≡ whole_at_boot site.now) }
     {
         let places = terminal_places(alloc, site.get())?;
-        let stopped = vec![in alloc; false; usize::from(site.get().processors)]?;
+        let stopped = Processors::new(alloc, usize::from(site.get().processors))?;
         let processes = first_processes(alloc, site.get())?;
         let terminals = first_terminals(alloc, site.get().terminals.as_slice())?;
         let records = Records::new(alloc)?;

@@ -1,7 +1,7 @@
-ghost use Rattle.std.specs.Prelude.{◌≡◌, true, IfOk, Some, map, slice_set};
+ghost use Rattle.std.specs.Prelude.{◌≡◌, IfOk, Some, map};
 ghost use Rattle.machine_states.specs.States.{Settles};
 ghost use Rattle.computed_changes.specs.Stopped.{stop_done, stop_where, stopped_world};
-ghost use Rattle.message_wires.specs.Play.{fail_played, has_stopped};
+ghost use Rattle.message_wires.specs.Play.{fail_played};
 ghost use Rattle.world_semantics.specs.Rules.{stopped_pair};
 ghost use Rattle.pair_machine.specs.Changes.{changed};
 
@@ -19,7 +19,7 @@ impl Whole {
         if place >= self.stopped.len() {
             return Ok(Effect::Skipped);
         }
-        let stands = self.stopped[place];
+        let stands = self.stopped.as_slice()[place];
         Ok(self.fail_one(processor, stands))
     }
 
@@ -29,7 +29,7 @@ impl Whole {
         if stands {
             return Effect::Skipped;
         }
-        if has_stopped(self.stopped.as_slice()) {
+        if self.stopped.has_stopped() {
             return Effect::WouldStopSecond(processor);
         }
         self.stop(processor);
@@ -39,23 +39,8 @@ impl Whole {
     fn stop(&mut self, processor: u8)
         ensures { self.new ≡ record self.old { world = stopped_world processor self.old.world } }
     {
-        set_stopped(self.stopped.as_mut_slice(), processor);
+        self.stopped.stop(processor);
         stop_all(self.processes.as_mut_slice(), processor);
-    }
-}
-
-pub(crate) fn has_stopped(stopped: &[bool]) -> bool
-    ensures { result ≡ has_stopped stopped.now }
-{
-    stopped.iter().any(|one| *one)
-}
-
-fn set_stopped(stopped: &mut [bool], processor: u8)
-    ensures { stopped.new ≡ slice_set stopped.old processor true }
-{
-    let place = usize::from(processor);
-    if place < stopped.len() {
-        stopped[place] = true;
     }
 }
 

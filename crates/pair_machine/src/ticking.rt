@@ -9,7 +9,6 @@ ghost use Rattle.world_semantics.specs.Rules.{marked_pair, told_at_mark};
 ghost use Rattle.pair_machine.specs.Changes.{changed};
 ghost use Rattle.pair_machine.specs.Seen.{ArePlaced, pairs_in};
 
-use crate::stopping::has_stopped;
 use crate::whole::Whole;
 use gd_words::{List, NoMemory};
 use machine_states::Effect;
@@ -41,7 +40,7 @@ impl Whole {
     fn mark_stopped(&mut self, node: u8) -> Result<(), NoMemory>
         ensures { OnOk result (self.new ≡ marks_from node 0 (length self.old.world.stopped) self.old) }
     {
-        if has_stopped(self.stopped.as_slice()) {
+        if self.stopped.has_stopped() {
             self.mark_each(node)?;
         }
         Ok(())
@@ -87,7 +86,7 @@ impl Whole {
         if place >= self.stopped.len() {
             return false;
         }
-        if !self.stopped[place] {
+        if !self.stopped.as_slice()[place] {
             return false;
         }
         self.may_mark(node, processor)

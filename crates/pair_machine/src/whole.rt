@@ -1,6 +1,7 @@
 ghost use Rattle.std.specs.Prelude.{◌≡◌, length};
 ghost use Rattle.world_semantics.specs.World.{is_running};
 
+use crate::processors::Processors;
 use crate::terminal::Terminal;
 use gd_words::List;
 use logs::Shared;
@@ -18,7 +19,7 @@ pub struct Whole {
     pub(crate) alloc: Global,
     pub(crate) site: Shared<Site>,
     pub(crate) places: List<Option<Address>>,
-    pub(crate) stopped: Vec<bool>,
+    pub(crate) stopped: Processors,
     pub(crate) marks: Marks,
     pub(crate) processes: Vec<ProcessCopies>,
     pub(crate) terminals: Vec<Terminal>,
@@ -40,7 +41,7 @@ impl Model for Whole {
     ghost view = { λ m. record {
       site = m.site;
       world = record {
-        stopped = m.stopped.items;
+        stopped = m.stopped;
         marks = m.marks;
         requests = m.records.requests;
         replies = m.records.replies;

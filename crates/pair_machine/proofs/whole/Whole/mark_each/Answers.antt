@@ -6,6 +6,6 @@ use Rattle.pair_machine.proofs.whole.Whole.mark_each.Goals as goal
 pub loop-place-preserved : goal.loop-place-preserved
 loop-place-preserved c =
     let count = length c.args.self.now.world.stopped in
-    let same : length c.self.inside.stopped.items ≡ count = ap (λ (s : Whole). length s.world.stopped) c.self.view_is in
-    let within : c.loop-place.place < count = omega (arith, same, c.len-place-end.ensures, c.self.inside.stopped.ok.0, c.loop-place-test.true) in
+    let same : length c.self.inside.stopped ≡ count = ap (λ (s : Whole). length s.world.stopped) c.self.view_is in
+    let within : c.loop-place.place < count = omega (arith, same, c.len-place-end.ensures, c.loop-place-test.true) in
     marks-step c.args.node c.loop-place.place count c.loop-place.self c.mark_at.new.self within c.in_ok-mark_at.ensures ∙ c.loop-place.invariant

@@ -1,4 +1,4 @@
-use Rattle.std.proofs.Common.{rules, ◌∙◌, ap, map, refl, slice_set, true}
+use Rattle.std.proofs.Common.{rules, ◌∙◌, ap, map, refl}
 use Rattle.std.proofs.lemmas.List.{length-map, places, with_items_is}
 use Rattle.world_semantics.specs.Rules.{stopped_pair}
 use Rattle.pair_machine.specs.Changes.{changed}
@@ -9,7 +9,7 @@ pub invariant_of-self : goal.invariant_of-self
 invariant_of-self c =
     let before = c.self.inside.processes in
     let f = stopped_pair c.args.processor in
-    let after = with_items_is before c.stop_all.new.processes (search (rules, places)) ∙ c.stop_all.ensures ∙ ap (map (changed f)) c.as_mut_slice-2.ensures.value in
+    let after = with_items_is before c.stop_all.new.processes (search (rules, places)) ∙ c.stop_all.ensures ∙ ap (map (changed f)) c.as_mut_slice.ensures.value in
     rw after
     (placed-changed f c.self.inside.site before.items c.self.invariant.0, length-map before.items (changed f) ∙ c.self.invariant.1, c.self.invariant.2)
 
@@ -17,8 +17,5 @@ pub returns : goal.returns
 returns c =
     let before = c.self.inside.processes in
     let f = stopped_pair c.args.processor in
-    let after = with_items_is before c.stop_all.new.processes (search (rules, places)) ∙ c.stop_all.ensures ∙ ap (map (changed f)) c.as_mut_slice-2.ensures.value in
-    let stopped =
-    with_items_is c.self.inside.stopped c.set_stopped.new.stopped (search (rules, places)) ∙ c.set_stopped.ensures
-    ∙ ap (λ items. slice_set items c.args.processor true) c.as_mut_slice.ensures.value in
-    rw (after, stopped, pairs-changed f before.items, ← c.self.view_is) refl
+    let after = with_items_is before c.stop_all.new.processes (search (rules, places)) ∙ c.stop_all.ensures ∙ ap (map (changed f)) c.as_mut_slice.ensures.value in
+    rw (after, c.stop.ensures, pairs-changed f before.items, ← c.self.view_is) refl
