@@ -106,20 +106,6 @@ fn refuses_words_and_processors(rt: HostRuntime) -> Result<(), Fail> {
     Ok(())
 }
 
-/// What a load of one request of each terminal writes.
-const LOADED: &[u8] =
-    b"LOAD 1\nW 16\nR 16\nD $D0 0: 90 0 0 0 0 0 0 0\nD $D0 2: 18 0 0 0 0 0 0 0\nD $D0 4: 31 0 0 0 0 0 0 0\nD $D0 6: 45 0 0 0 0 0 0 0\nD $D0 8: 59 0 0 0 0 0 0 0\nD $D0 10: 73 0 0 0 0 0 0 0\nD $D1 1: 104 0 0 0 0 0 0 0\nD $D1 3: 32 0 0 0 0 0 0 0\nD $D1 5: 38 0 0 0 0 0 0 0\nD $D1 7: 52 0 0 0 0 0 0 0\nD $D1 9: 66 0 0 0 0 0 0 0\nD $D1 11: 80 0 0 0 0 0 0 0\nS 4\nEND idle\n";
-
-#[test]
-fn a_load_reads_no_deck(rt: HostRuntime) -> Result<(), Fail> {
-    let deck = List::new(rt.alloc());
-    let end = run_words(rt.alloc(), &["load", "1"], deck, &[1], &[])?;
-    assert!(rt; matches!(end.status, Status::Done));
-    assert!(rt; end.run.is_some());
-    assert!(rt; end.text.as_slice() == LOADED);
-    Ok(())
-}
-
 #[test]
 fn tells_stops(rt: HostRuntime) -> Result<(), Fail> {
     let given: [&str; 3] = ["run", "--fail", "0:0"];

@@ -1,0 +1,18 @@
+//! Tests of single copies of processes, played from scripts: one copy acts, asks, answers and sends checkpoints, the other applies what
+//! is its next one and fits, and takes over; and the largest process goes out in a checkpoint, through its words, and in.
+//!
+//! Below stand the crates that are tested; nothing stands above.
+#![tactic(auto)]
+
+#[cfg(test)]
+mod adders;
+#[cfg(test)]
+mod large;
+#[cfg(test)]
+mod scripts;
+#[cfg(test)]
+mod starting;
+#[cfg(test)]
+mod steps;
+#[cfg(test)]
+mod worded;

@@ -1,0 +1,103 @@
+use crate::steps::{answer, ask, learn, pass, repeat, send, take, take_over};
+use crate::worded::words_of;
+use checkpoint_image::{Behaviour, ImageMessage};
+use gd_words::NoMemory;
+use process_control::CopyControl;
+use std::alloc::Global;
+
+/// What a copy does next, and what is seen of it.
+#[derive(Clone, Copy)]
+pub enum Step<'a> {
+    /// Takes the request of this opener, number and word, which stands next.
+    Take(u16, u32, i16),
+    /// Sends the checkpoint of its mark, which has these words.
+    Checkpoint(&'a [i16]),
+    /// What was sent last comes: it applies it, or ignores it.
+    Come(bool),
+    /// Learns that what it sent last was taken.
+    Learn,
+    /// Goes on after its mark.
+    Pass,
+    /// Asks under this number, and gets its own word back, which is this one.
+    Ask(u32, i16),
+    /// Answers the request of this opener and number with this word.
+    Answer(u16, u32, i16),
+    /// Tells again to the request of this opener and number that its answer was this word.
+    Repeat(u16, u32, i16),
+    /// Takes over, into this era.
+    TakeOver(u32),
+}
+
+/// Which of two copies makes a step.
+#[derive(Clone, Copy)]
+pub enum Turn<'a> {
+    First(Step<'a>),
+    Second(Step<'a>),
+}
+
+/// Two copies of a process, and what was sent last.
+#[derive(Drop)]
+pub struct Copies<B: Behaviour> {
+    pub first: CopyControl<B>,
+    pub second: CopyControl<B>,
+    pub sent: Option<ImageMessage>,
+}
+
+/// Two copies make their steps, one by one, up to the first that isn't as it says; the answer is how many were.
+pub fn play<B: Behaviour>(
+    alloc: Global,
+    copies: &mut Copies<B>,
+    script: &[Turn<'_>],
+) -> Result<usize, NoMemory> {
+    for (made, turn) in script.iter().enumerate() {
+        let is_so = match *turn {
+            Turn::First(step) => play_step(alloc, &mut copies.first, &mut copies.sent, step)?,
+            Turn::Second(step) => play_step(alloc, &mut copies.second, &mut copies.sent, step)?,
+        };
+        if !is_so {
+            return Ok(made);
+        }
+    }
+    Ok(script.len())
+}
+
+fn play_step<B: Behaviour>(
+    alloc: Global,
+    copy: &mut CopyControl<B>,
+    sent: &mut Option<ImageMessage>,
+    step: Step<'_>,
+) -> Result<bool, NoMemory> {
+    match step {
+        Step::Take(opener, number, word) => take(alloc, copy, opener, number, word),
+        Step::Checkpoint(words) => {
+            *sent = send(alloc, copy)?;
+            has_words(alloc, sent, words)
+        }
+        Step::Come(applies) => Ok(comes(copy, sent) == applies),
+        Step::Learn => Ok(learn(copy)),
+        Step::Pass => Ok(pass(copy)),
+        Step::Ask(number, word) => ask(copy, number, word),
+        Step::Answer(opener, number, word) => Ok(answer(copy, opener, number, word)),
+        Step::Repeat(opener, number, word) => repeat(alloc, copy, opener, number, word),
+        Step::TakeOver(era) => take_over(copy, era),
+    }
+}
+
+/// Whether a checkpoint was sent that has these words.
+fn has_words(alloc: Global, sent: &Option<ImageMessage>, wanted: &[i16]) -> Result<bool, NoMemory> {
+    match sent {
+        None => Ok(false),
+        Some(message) => match words_of(alloc, message)? {
+            None => Ok(false),
+            Some(words) => Ok(words.as_slice() == wanted),
+        },
+    }
+}
+
+/// Whether a copy applies what was sent last.
+fn comes<B: Behaviour>(copy: &mut CopyControl<B>, sent: &Option<ImageMessage>) -> bool {
+    match sent {
+        None => false,
+        Some(message) => copy.checkpoint_in(message),
+    }
+}

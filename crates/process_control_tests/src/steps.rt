@@ -1,0 +1,186 @@
+ghost use Rattle.std.specs.Prelude.{◌≡◌, ◌<◌, length, IfOk, IsTrue};
+ghost use Rattle.process_semantics.specs.Process.{point};
+
+use checkpoint_image::{Behaviour, ImageMessage, Standing, TakenMessage};
+use gd_words::{NoMemory, Request, Words};
+use process_control::CopyControl;
+use process_semantics::Point;
+use std::alloc::Global;
+use world_semantics::Role;
+
+/// A request of one word to the process 1.
+fn request(opener: u16, number: u32, word: i16) -> Request
+    ensures { result.opener ≡ opener }
+{
+    let mut words = Words::new();
+    let _full = words.push(word);
+    Request {
+        process: 1,
+        opener,
+        number,
+        words,
+    }
+}
+
+/// Whether a copy has an opener.
+fn has_opener<B: Behaviour>(
+    alloc: Global,
+    copy: &CopyControl<B>,
+    opener: u16,
+) -> Result<bool, NoMemory>
+    ensures { IfOk result (λ has. IsTrue has → opener < length copy.now.depths) }
+{
+    let table = copy.receive().block(alloc)?;
+    Ok(usize::from(opener) < table.openers.len())
+}
+
+/// Makes the steps inside, and says where the copy stands then.
+fn settled<B: Behaviour>(copy: &mut CopyControl<B>) -> Point
+    ensures { result ≡ point copy.new.core.state }
+{
+    for _step in 0..100 {
+        match copy.point() {
+            Point::Inner => copy.inner(),
+            _ => break,
+        }
+    }
+    copy.point()
+}
+
+/// Takes a request of one word that stands next.
+pub fn take<B: Behaviour>(
+    alloc: Global,
+    copy: &mut CopyControl<B>,
+    opener: u16,
+    number: u32,
+    word: i16,
+) -> Result<bool, NoMemory> {
+    let point = settled(copy);
+    if !has_opener(alloc, copy, opener)? {
+        return Ok(false);
+    }
+    let request = request(opener, number, word);
+    match (point, copy.standing(&request)) {
+        (Point::Take, Standing::Next) => {
+            copy.take(&request);
+            Ok(true)
+        }
+        _ => Ok(false),
+    }
+}
+
+/// Sends the checkpoint of its mark; none where it doesn't stand there.
+pub fn send<B: Behaviour>(
+    alloc: Global,
+    copy: &mut CopyControl<B>,
+) -> Result<Option<ImageMessage>, NoMemory> {
+    match settled(copy) {
+        Point::Mark => {
+            let message = copy.checkpoint_out(alloc, 1)?;
+            Ok(Some(message))
+        }
+        _ => Ok(None),
+    }
+}
+
+/// Learns that what it sent last was taken.
+pub fn learn<B: Behaviour>(copy: &mut CopyControl<B>) -> bool {
+    let taken = TakenMessage {
+        process: 1,
+        era: copy.era(),
+        number: copy.number(),
+    };
+    if copy.acknowledged() || !copy.is_of_last(taken) {
+        return false;
+    }
+    copy.acked();
+    copy.acknowledged()
+}
+
+/// Goes on after its mark.
+pub fn pass<B: Behaviour>(copy: &mut CopyControl<B>) -> bool {
+    match settled(copy) {
+        Point::Mark => {
+            copy.pass();
+            !copy.sent() && !copy.acknowledged()
+        }
+        _ => false,
+    }
+}
+
+/// Asks on its file 1 under this number, and gets its own word back, which is this one.
+pub fn ask<B: Behaviour>(
+    copy: &mut CopyControl<B>,
+    number: u32,
+    word: i16,
+) -> Result<bool, NoMemory> {
+    match settled(copy) {
+        Point::Ask => {
+            let asking = copy.ask()?;
+            Ok(
+                get(copy, &asking.words)
+                    && asking.file == 1
+                    && asking.number == number
+                    && asking.words.get(0) == Some(word),
+            )
+        }
+        _ => Ok(false),
+    }
+}
+
+/// Gets the reply that it awaits.
+fn get<B: Behaviour>(copy: &mut CopyControl<B>, words: &Words) -> bool {
+    match copy.point() {
+        Point::Await => {
+            copy.got(words);
+            true
+        }
+        _ => false,
+    }
+}
+
+/// Answers the request of this opener and number with this word.
+pub fn answer<B: Behaviour>(
+    copy: &mut CopyControl<B>,
+    opener: u16,
+    number: u32,
+    word: i16,
+) -> bool {
+    match settled(copy) {
+        Point::Answer => {
+            let answering = copy.answer();
+            answering.opener == opener
+                && answering.number == number
+                && answering.words.get(0) == Some(word)
+        }
+        _ => false,
+    }
+}
+
+/// Tells this kept reply again to a request that comes again.
+pub fn repeat<B: Behaviour>(
+    alloc: Global,
+    copy: &CopyControl<B>,
+    opener: u16,
+    number: u32,
+    word: i16,
+) -> Result<bool, NoMemory> {
+    if !has_opener(alloc, copy, opener)? {
+        return Ok(false);
+    }
+    match copy.standing(&request(opener, number, 0)) {
+        Standing::Kept(words) => Ok(words.get(0) == Some(word)),
+        _ => Ok(false),
+    }
+}
+
+/// Takes over, into this era.
+pub fn take_over<B: Behaviour>(copy: &mut CopyControl<B>, era: u32) -> Result<bool, NoMemory> {
+    match copy.role() {
+        Role::Watching => {
+            copy.take_over()?;
+            Ok(copy.era() == era && copy.number() == 0)
+        }
+        _ => Ok(false),
+    }
+}
