@@ -1,0 +1,81 @@
+ghost use Rattle.std.specs.Prelude.{◌≡◌, ◌<◌, [], ◌∷◌, ◌++◌, false, length, IfSome, OnOk};
+ghost use Rattle.name_table.specs.Entries.{has_name, place_of};
+
+use gd_words::{Name, NoMemory};
+use indexmap::IndexMap;
+use indexmap::map::{IntoIter, Iter};
+use std::alloc::Global;
+use std::marker::Model;
+
+/// Names, each once, in the order in which they came, and what stands under each.
+#[derive(Drop)]
+pub struct NameTable<T> {
+    entries: IndexMap<Name, T>,
+}
+
+impl<T> Model for NameTable<T> {
+    ghost use Rattle.std.specs.Prelude.{List, ℕ};
+
+    ghost Value = { List (List ℕ × T) };
+
+    ghost view = { λ table. table.entries.entries };
+}
+
+impl<T> NameTable<T> {
+    /// No names.
+    pub fn new(alloc: Global) -> NameTable<T>
+        ensures { result ≡ [] }
+    {
+        NameTable {
+            entries: IndexMap::new(alloc),
+        }
+    }
+
+    /// How many names there are.
+    pub fn len(&self) -> usize
+        ensures { result ≡ length self.now }
+    {
+        self.entries.len()
+    }
+
+    /// Whether the name is there.
+    pub fn contains(&self, name: &Name) -> bool
+        ensures { result ≡ has_name self.now name.now }
+    {
+        self.entries.contains_key(name)
+    }
+
+    /// Where the name stands.
+    pub fn place_of(&self, name: &Name) -> Option<usize>
+        ensures value { result ≡ place_of self.now name.now }
+        ensures there { IfSome result (λ place. place < length self.now) }
+    {
+        self.entries.get_index_of(name)
+    }
+
+    /// The names with what stands under them, in order.
+    pub fn iter(&self) -> Iter<'_, Name, T>
+        ensures { result ≡ self.now }
+    {
+        self.entries.iter()
+    }
+}
+
+impl<T: Drop> NameTable<T> {
+    /// Puts a new name after the last.
+    pub fn push(&mut self, name: Name, value: T) -> Result<(), NoMemory>
+        requires new { has_name self.old name ≡ false }
+        ensures { OnOk result (self.new ≡ self.old ++ (name, value) ∷ []) }
+    {
+        self.entries.insert(name, value)?;
+        Ok(())
+    }
+
+    /// The names with what stands under them, in order, by value.
+    pub fn into_entries(self) -> IntoIter<Name, T>
+        ensures { result ≡ self }
+    {
+        let NameTable { entries } = self;
+        entries.into_iter()
+    }
+}
