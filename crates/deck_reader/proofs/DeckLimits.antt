@@ -50,10 +50,10 @@ deck_of_within outline deck keeps fit is =
             subst (λ processors. All (IsProcessWithinLimits processors) deck.site.processes) (sym is.processors)
             (all_with _ (LinesKeep outline.processors) (IsProcessWithinLimits outline.processors)
             (λ lines process one of. record {
-              primary = omega (arith, one.heading.primary, of.primary);
-              backup = omega (arith, one.heading.backup, of.backup);
-              apart = λ same. one.heading.apart (sym of.primary ∙ same ∙ of.backup);
-              what = kind_within lines.body process.what one.body of.what;
+              primary = omega (arith, one.primary, of.primary);
+              backup = omega (arith, one.backup, of.backup);
+              apart = λ same. one.apart (sym of.primary ∙ same ∙ of.backup);
+              what = kind_within lines.1.body process.what one.body of.what;
             }) outline.processes deck.site.processes keeps.each_process is.processes);
         terminals = omega (arith, keeps.few.terminals, terminals);
         each_terminal =

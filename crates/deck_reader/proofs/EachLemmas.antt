@@ -1,6 +1,5 @@
 -- Lists whose elements belong together, one after another.
-use Rattle.std.proofs.Common.{◌≡◌, ℕ, ◌+◌, ◌<◌, zero, suc, List, [], ◌∷◌, ◌++◌, length, take, get_or, sym, ap, ◌∙◌, arith, subst, add-one, append_assoc, append-nil}
-use Rattle.std.proofs.Math.Seq.{take-suc}
+use Rattle.std.proofs.Common.{◌≡◌, ℕ, ◌<◌, zero, suc, List, [], ◌∷◌, ◌++◌, length, get_or, sym, ap, ◌∙◌, arith, subst, append_assoc, append-nil}
 use Rattle.deck_reader.specs.Decks.{EachWith}
 
 pub each_more : {X Y : Type 0} (R : X → Y → Type 0) (xs : List X) (ys : List Y) (x : X) (y : Y) → EachWith R xs ys → R x y → EachWith R (xs ++ x ∷ []) (ys ++ y ∷ [])
@@ -16,23 +15,16 @@ each_at R (x ∷ xs) [] k d each within = absurd each
 each_at R (x ∷ xs) (y ∷ ys) zero d each within = (y, each.0)
 each_at R (x ∷ xs) (y ∷ ys) (suc k) d each within = each_at R xs ys k d each.1 (omega arith)
 
--- one more of a list's elements with its own
-pub each_next : {X Y : Type 0} (R : X → Y → Type 0) (xs : List X) (ys : List Y) (k : ℕ) (d : X) (y : Y) → k < length xs → EachWith R (take k xs) ys → R (get_or xs k d) y
-    → EachWith R (take (k + 1) xs) (ys ++ y ∷ [])
-each_next R xs ys k d y within each one =
-    let P : List _ → Type 0 = λ front. EachWith R front (ys ++ y ∷ []) in
-    subst P (sym (ap (λ n. take n xs) (add-one k) ∙ take-suc xs k d within)) (each_more R (take k xs) ys (get_or xs k d) y each one)
-
 -- of all xs some are done, each with its y, and these are left
 pub record IsDoneTo {X Y : Type 0} (R : X → Y → Type 0) (all rest : List X) (ys : List Y) : Type 0 where
   pub front : List X
   pub whole : all ≡ front ++ rest
   pub each : EachWith R front ys
 
-pub none_done : {X Y : Type 0} (R : X → Y → Type 0) (all rest : List X) → rest ≡ all → IsDoneTo R all rest []
+unfoldable pub none_done : {X Y : Type 0} (R : X → Y → Type 0) (all rest : List X) → rest ≡ all → IsDoneTo R all rest []
 none_done R all rest e = record { front = []; whole = sym e; each = tt }
 
-pub one_done : {X Y : Type 0} (R : X → Y → Type 0) (all rest later : List X) (x : X) (ys : List Y) (y : Y) → IsDoneTo R all rest ys → rest ≡ x ∷ later → R x y → IsDoneTo R all later (ys ++ y ∷ [])
+unfoldable pub one_done : {X Y : Type 0} (R : X → Y → Type 0) (all rest later : List X) (x : X) (ys : List Y) (y : Y) → IsDoneTo R all rest ys → rest ≡ x ∷ later → R x y → IsDoneTo R all later (ys ++ y ∷ [])
 one_done R all rest later x ys y before e one = record {
   front = before.front ++ x ∷ [];
   whole = before.whole ∙ ap (λ xs. before.front ++ xs) e ∙ sym (append_assoc before.front (x ∷ []) later);

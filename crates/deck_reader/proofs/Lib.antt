@@ -3,6 +3,7 @@ pub mod DeckLimits
 pub mod DeckPrograms
 pub mod DeckRequests
 pub mod EachLemmas
+pub mod FreshLemmas
 pub mod LineLemmas
 pub mod NameLemmas
 pub mod NumberLemmas

@@ -1,12 +1,12 @@
 -- The first line that names amiss, found one after another.
-use Rattle.std.proofs.Common.{◌≡◌, ℕ, Bool, true, false, cond, List, [], ◌∷◌, ◌++◌, Option, Some, None, option_map, refl, sym, ap, ap₂, ◌∙◌, subst, ◌<◌, ◌+◌, length, take, get_or, add-one}
-use Rattle.std.proofs.Math.Seq.{take-suc}
+use Rattle.std.proofs.Common.{◌≡◌, ℕ, Bool, true, false, cond, List, [], ◌∷◌, ◌++◌, Option, Some, None, option_map, refl, sym, ap, ap₂, ◌∙◌, subst, append-nil}
 use Rattle.std.specs.Prelude.{is_some}
+use Rattle.name_table.specs.Entries.{Named}
 use Rattle.tal_tree.specs.declared.fault.DeckFault.{DeckFault}
 use Rattle.tal_tree.specs.declared.fault.DeckFault.TheVariants as fault
 use Rattle.tal_tree.specs.declared.site.ProcessSpec.{ProcessSpec}
 use Rattle.tal_tree.specs.declared.site.TerminalSpec.{TerminalSpec}
-use Rattle.deck_reader.specs.Decks.{AreProcessesOf, IsTerminalOf, AreTerminalsOf}
+use Rattle.deck_reader.specs.Decks.{AreProcessesOf, IsProcessOf, IsTerminalOf, AreTerminalsOf}
 use Rattle.deck_reader.specs.Names.{IsMisnamedTarget, earlier, event_misnamed, first_of, misnamed_in, pairs_misnamed, process_misnamed, targets_misnamed}
 use Rattle.deck_reader.specs.Refusals.{Tells, fault_at, name_fault}
 use Rattle.deck_reader.specs.declared.line_fault.LineFault.{LineFault}
@@ -15,7 +15,7 @@ use Rattle.deck_reader.specs.declared.names.Misnamed.{Misnamed}
 use Rattle.deck_reader.specs.declared.outline.Outline.{Outline}
 use Rattle.deck_reader.specs.declared.outline.ProcessLines.{ProcessLines}
 use Rattle.deck_reader.specs.declared.outline.TerminalLines.{TerminalLines}
-use Rattle.deck_reader.proofs.EachLemmas.{IsDoneTo}
+use Rattle.deck_reader.proofs.EachLemmas.{IsDoneTo, none_done, one_done}
 
 regrouped : (a b c : Option Misnamed) → first_of a (first_of b c) ≡ first_of (first_of a b) c
 regrouped None b c = refl
@@ -26,35 +26,35 @@ last_of None = refl
 last_of (Some a) = refl
 
 -- with one more pair
-pub pairs_more : (all lines : List ProcessLines) (specs : List ProcessSpec) (one : ProcessLines) (spec : ProcessSpec) → AreProcessesOf lines specs
-    → pairs_misnamed all (lines ++ one ∷ []) (specs ++ spec ∷ []) ≡ first_of (pairs_misnamed all lines specs) (process_misnamed all one.heading.name one.body spec.what)
-pairs_more all [] [] one spec each = last_of (process_misnamed all one.heading.name one.body spec.what)
+pub pairs_more : (all lines : List (Named ProcessLines)) (specs : List ProcessSpec) (one : Named ProcessLines) (spec : ProcessSpec) → AreProcessesOf lines specs
+    → pairs_misnamed all (lines ++ one ∷ []) (specs ++ spec ∷ []) ≡ first_of (pairs_misnamed all lines specs) (process_misnamed all one.0 one.1.body spec.what)
+pairs_more all [] [] one spec each = last_of (process_misnamed all one.0 one.1.body spec.what)
 pairs_more all (x ∷ xs) (y ∷ ys) one spec each =
-    ap (first_of (process_misnamed all x.heading.name x.body y.what)) (pairs_more all xs ys one spec each.1)
-    ∙ regrouped (process_misnamed all x.heading.name x.body y.what) (pairs_misnamed all xs ys) (process_misnamed all one.heading.name one.body spec.what)
+    ap (first_of (process_misnamed all x.0 x.1.body y.what)) (pairs_more all xs ys one spec each.1)
+    ∙ regrouped (process_misnamed all x.0 x.1.body y.what) (pairs_misnamed all xs ys) (process_misnamed all one.0 one.1.body spec.what)
 pairs_more all [] (y ∷ ys) one spec each = absurd each
 pairs_more all (x ∷ xs) [] one spec each = absurd each
 
-abbrev named_rest : List ProcessLines → TerminalLines → List TerminalLines → Option ℕ → Option Misnamed
-named_rest processes terminal rest place = cond (is_some place) (targets_misnamed processes rest) (Some (record { line = terminal.line; own = false }))
+abbrev named_rest : List (Named ProcessLines) → Named TerminalLines → List (Named TerminalLines) → Option ℕ → Option Misnamed
+named_rest processes terminal rest place = cond (is_some place) (targets_misnamed processes rest) (Some (record { line = terminal.1.line; own = false }))
 
 -- where the targets of the first terminals are there
-past_front : (processes : List ProcessLines) (front rest : List TerminalLines) (specs : List TerminalSpec) → AreTerminalsOf processes front specs
+past_front : (processes : List (Named ProcessLines)) (front rest : List (Named TerminalLines)) (specs : List TerminalSpec) → AreTerminalsOf processes front specs
     → targets_misnamed processes (front ++ rest) ≡ targets_misnamed processes rest
 past_front processes [] rest specs each = refl
 past_front processes (x ∷ xs) rest [] each = absurd each
 past_front processes (x ∷ xs) rest (y ∷ ys) each = ap (named_rest processes x (xs ++ rest)) each.0.target ∙ past_front processes xs rest ys each.1
 
 -- and that of the next one is not
-pub target_found : (processes : List ProcessLines) (all rest later : List TerminalLines) (one : TerminalLines) (specs : List TerminalSpec) (misnamed : Misnamed)
-    → IsDoneTo (IsTerminalOf processes) all rest specs → rest ≡ one ∷ later → IsMisnamedTarget processes one misnamed → targets_misnamed processes all ≡ Some misnamed
+pub target_found : (processes : List (Named ProcessLines)) (all rest later : List (Named TerminalLines)) (one : Named TerminalLines) (specs : List TerminalSpec) (misnamed : Misnamed)
+    → IsDoneTo (IsTerminalOf processes) all rest specs → rest ≡ one ∷ later → IsMisnamedTarget processes one.1 misnamed → targets_misnamed processes all ≡ Some misnamed
 target_found processes all rest later one specs misnamed done e is =
     ap (targets_misnamed processes) (done.whole ∙ ap (λ xs. done.front ++ xs) e)
     ∙ past_front processes done.front (one ∷ later) specs done.each
     ∙ ap (named_rest processes one later) is.unknown
     ∙ ap Some (sym is.same)
 
-pub all_named : (processes : List ProcessLines) (terminals : List TerminalLines) (specs : List TerminalSpec) → AreTerminalsOf processes terminals specs → targets_misnamed processes terminals ≡ None
+pub all_named : (processes : List (Named ProcessLines)) (terminals : List (Named TerminalLines)) (specs : List TerminalSpec) → AreTerminalsOf processes terminals specs → targets_misnamed processes terminals ≡ None
 all_named processes [] specs each = refl
 all_named processes (x ∷ xs) [] each = absurd each
 all_named processes (x ∷ xs) (y ∷ ys) each = ap (named_rest processes x xs) each.0.target ∙ all_named processes xs ys each.1
@@ -64,13 +64,29 @@ pub nothing_later : (one : Option Misnamed) → earlier one None ≡ one
 nothing_later None = refl
 nothing_later (Some one) = refl
 
--- with the next pair of some lines
-pub pairs_next : (all lines : List ProcessLines) (specs : List ProcessSpec) (k : ℕ) (d one : ProcessLines) (spec : ProcessSpec) (before now more : Option Misnamed)
-    → k < length lines → AreProcessesOf (take k lines) specs → one ≡ get_or lines k d → before ≡ pairs_misnamed all (take k lines) specs
-    → more ≡ process_misnamed all one.heading.name one.body spec.what → now ≡ first_of before more → now ≡ pairs_misnamed all (take (k + 1) lines) (specs ++ spec ∷ [])
-pairs_next all lines specs k d one spec before now more within each is so_far found next =
-    next ∙ ap₂ first_of so_far found ∙ sym (pairs_more all (take k lines) specs one spec each)
-    ∙ ap (λ xs. pairs_misnamed all xs (specs ++ spec ∷ [])) (ap (λ x. take k lines ++ x ∷ []) is ∙ sym (ap (λ n. take n lines) (add-one k) ∙ take-suc lines k d within))
+-- of all processes some are read, the first pair of them that names amiss is this, and the rest are left
+pub record AreReadTo (all rest : List (Named ProcessLines)) (specs : List ProcessSpec) (misnamed : Option Misnamed) : Type 0 where
+  pub done : IsDoneTo IsProcessOf all rest specs
+  pub named : misnamed ≡ pairs_misnamed all done.front specs
+
+pub none_read : (all rest : List (Named ProcessLines)) → rest ≡ all → AreReadTo all rest [] None
+unfolding none_done
+none_read all rest e = record { done = none_done IsProcessOf all rest e; named = refl }
+
+pub one_read : (all rest later : List (Named ProcessLines)) (one : Named ProcessLines) (specs : List ProcessSpec) (spec : ProcessSpec) (before more now : Option Misnamed)
+    → AreReadTo all rest specs before → rest ≡ one ∷ later → IsProcessOf one spec → more ≡ process_misnamed all one.0 one.1.body spec.what → now ≡ first_of before more
+    → AreReadTo all later (specs ++ spec ∷ []) now
+unfolding one_done
+one_read all rest later one specs spec before more now read e is found next = record {
+  done = one_done IsProcessOf all rest later one specs spec read.done e is;
+  named = next ∙ ap₂ first_of read.named found ∙ sym (pairs_more all read.done.front specs one spec read.done.each);
+}
+
+pub all_read : (all rest : List (Named ProcessLines)) (specs : List ProcessSpec) (misnamed : Option Misnamed) → AreReadTo all rest specs misnamed → rest ≡ []
+    → misnamed ≡ pairs_misnamed all all specs
+all_read all rest specs misnamed read e =
+    let whole : all ≡ read.done.front = read.done.whole ∙ ap (λ xs. read.done.front ++ xs) e ∙ append-nil read.done.front in
+    read.named ∙ ap (λ xs. pairs_misnamed all xs specs) (sym whole)
 
 -- where every target is there, only pairs and event lines name amiss
 pub found_in : (outline : Outline) (specs : List ProcessSpec) (terminals : List TerminalSpec) (pair event found : Option Misnamed) → AreTerminalsOf outline.processes outline.terminals terminals

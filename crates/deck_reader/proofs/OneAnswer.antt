@@ -1,6 +1,7 @@
 -- Bytes spell one deck, or are refused for one fault.
 use Rattle.std.proofs.Common.{◌≡◌, ◌<◌, ◌≤◌, ℕ, List, [], ◌∷◌, length, Option, Some, None, option_map, refl, sym, ap, ap₂, ◌∙◌, subst, arith, inl, inr, ℤ}
 use Rattle.std.specs.Prelude.{◌⊎◌}
+use Rattle.name_table.specs.Entries.{Named}
 use Rattle.schedule.specs.declared.line.Line.{Line}
 use Rattle.tal_reader.proofs.Reading.{one-fault}
 use Rattle.tal_tree.specs.declared.fault.DeckFault.{DeckFault}
@@ -32,13 +33,13 @@ one_outline bytes a b e f = (let both : told.Whole b ≡ told.Whole a = sym f �
 abbrev terminal_with : List ℕ → ℕ → List (List ℤ) → TerminalSpec
 terminal_with name target requests = record { name = name; target = target; requests = requests }
 
-one_terminal : (lines : List ProcessLines) (one : TerminalLines) (a b : TerminalSpec) → IsTerminalOf lines one a → IsTerminalOf lines one b → a ≡ b
+one_terminal : (lines : List (Named ProcessLines)) (one : Named TerminalLines) (a b : TerminalSpec) → IsTerminalOf lines one a → IsTerminalOf lines one b → a ≡ b
 one_terminal lines one a b h k =
     let place : Some a.target ≡ Some b.target = sym h.target ∙ k.target in
     ap (λ name. terminal_with name a.target a.requests) (h.name ∙ sym k.name) ∙ ap (λ target. terminal_with b.name target a.requests) (cc)
     ∙ ap (terminal_with b.name b.target) (h.requests ∙ sym k.requests)
 
-same_terminals : (lines : List ProcessLines) (all : List TerminalLines) (xs ys : List TerminalSpec) → AreTerminalsOf lines all xs → AreTerminalsOf lines all ys → xs ≡ ys
+same_terminals : (lines : List (Named ProcessLines)) (all : List (Named TerminalLines)) (xs ys : List TerminalSpec) → AreTerminalsOf lines all xs → AreTerminalsOf lines all ys → xs ≡ ys
 same_terminals lines [] [] [] h k = refl
 same_terminals lines (one ∷ rest) (x ∷ xs) (y ∷ ys) h k = ap₂ (λ z zs. z ∷ zs) (one_terminal lines one x y h.0 k.0) (same_terminals lines rest xs ys h.1 k.1)
 same_terminals lines [] (x ∷ xs) ys h k = absurd h
@@ -68,11 +69,11 @@ one_program_fault (body.Pair lines) (fault.Program n a) (fault.Program m b) h k 
 one_program_fault (body.Pair lines) (fault.Program n a) _ h k = absurd k
 one_program_fault (body.Pair lines) _ g h k = absurd h
 
-one_refused : (lines : List ProcessLines) (f g : DeckFault) → IsFirstRefused lines f → IsFirstRefused lines g → f ≡ g
+one_refused : (lines : List (Named ProcessLines)) (f g : DeckFault) → IsFirstRefused lines f → IsFirstRefused lines g → f ≡ g
 one_refused [] f g h k = absurd h
-one_refused (one ∷ rest) f g (inl h) (inl k) = one_program_fault one.body f g h k
-one_refused (one ∷ rest) f g (inl h) (inr k) = absurd (not_both one.body k.0 f k.1 h)
-one_refused (one ∷ rest) f g (inr h) (inl k) = absurd (not_both one.body h.0 g h.1 k)
+one_refused (one ∷ rest) f g (inl h) (inl k) = one_program_fault one.1.body f g h k
+one_refused (one ∷ rest) f g (inl h) (inr k) = absurd (not_both one.1.body k.0 f k.1 h)
+one_refused (one ∷ rest) f g (inr h) (inl k) = absurd (not_both one.1.body h.0 g h.1 k)
 one_refused (one ∷ rest) f g (inr h) (inr k) = one_refused rest f g h.2 k.2
 
 one_own : (own : Option ProgramLines) (line f g : DeckFault) → IsOwnFault own line f → IsOwnFault own line g → f ≡ g

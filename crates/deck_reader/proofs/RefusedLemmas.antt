@@ -1,6 +1,7 @@
 -- Why bytes are refused as a deck.
-use Rattle.std.proofs.Common.{◌≡◌, ℕ, ◌<◌, ◌≤◌, zero, suc, Bool, true, false, cond, List, [], ◌∷◌, length, take, get_or, Option, Some, None, option_map, refl, sym, ap, ap₂, ◌∙◌, subst, arith, inl, inr}
+use Rattle.std.proofs.Common.{◌≡◌, ℕ, ◌<◌, ◌≤◌, zero, suc, Bool, true, false, cond, List, [], ◌∷◌, ◌++◌, length, get_or, Option, Some, None, option_map, refl, sym, ap, ap₂, ◌∙◌, subst, arith, inl, inr}
 use Rattle.std.specs.Prelude.{◌≢◌, Result, Ok, Err, IfErr}
+use Rattle.name_table.specs.Entries.{Named}
 use Rattle.tal_laws.proofs.WithinLimits.{read_is_within}
 use Rattle.tal_reader.proofs.Reading.{one-program, refused-as-none}
 use Rattle.tal_tree.specs.declared.fault.DeckFault.{DeckFault}
@@ -26,6 +27,7 @@ use Rattle.deck_reader.specs.declared.outline.ProgramLines.{ProgramLines}
 use Rattle.deck_reader.specs.declared.step.Breach.{Breach}
 use Rattle.deck_reader.specs.declared.told.Told.{Told}
 use Rattle.deck_reader.specs.declared.told.Told.TheVariants as told
+use Rattle.deck_reader.proofs.EachLemmas.{IsDoneTo}
 
 -- a program that was read has few procedures
 pub few_procedures : (lines : Body) (program : Program) → IsKindOf lines (kind.Pair program) → length program.procedures ≤ 64
@@ -44,14 +46,14 @@ one_kind (body.Pair lines) (kind.Pair p) (kind.Disc y) h k = absurd k
 abbrev process_with : List ℕ → ℕ → ℕ → Kind → ProcessSpec
 process_with name primary backup what = record { name = name; primary = primary; backup = backup; what = what }
 
-one_process : (lines : ProcessLines) (a b : ProcessSpec) → IsProcessOf lines a → IsProcessOf lines b → a ≡ b
+one_process : (lines : Named ProcessLines) (a b : ProcessSpec) → IsProcessOf lines a → IsProcessOf lines b → a ≡ b
 one_process lines a b h k =
     ap (λ name. process_with name a.primary a.backup a.what) (h.name ∙ sym k.name)
     ∙ ap (λ primary. process_with b.name primary a.backup a.what) (h.primary ∙ sym k.primary)
     ∙ ap (λ backup. process_with b.name b.primary backup a.what) (h.backup ∙ sym k.backup)
-    ∙ ap (process_with b.name b.primary b.backup) (one_kind lines.body a.what b.what h.what k.what)
+    ∙ ap (process_with b.name b.primary b.backup) (one_kind lines.1.body a.what b.what h.what k.what)
 
-pub same_processes : (lines : List ProcessLines) (xs ys : List ProcessSpec) → AreProcessesOf lines xs → AreProcessesOf lines ys → xs ≡ ys
+pub same_processes : (lines : List (Named ProcessLines)) (xs ys : List ProcessSpec) → AreProcessesOf lines xs → AreProcessesOf lines ys → xs ≡ ys
 same_processes [] [] [] h k = refl
 same_processes (one ∷ rest) (x ∷ xs) (y ∷ ys) h k = ap₂ (λ z zs. z ∷ zs) (one_process one x y h.0 k.0) (same_processes rest xs ys h.1 k.1)
 same_processes [] (x ∷ xs) ys h k = absurd h
@@ -67,28 +69,27 @@ not_both (body.Pair lines) (kind.Pair p) (fault.Program number why) h refused = 
 not_both (body.Pair lines) (kind.Pair p) _ h refused = absurd refused
 
 -- where all programs read none is refused
-pub none_refused : (lines : List ProcessLines) (specs : List ProcessSpec) (f : DeckFault) → AreProcessesOf lines specs → IsFirstRefused lines f → ⊥
+pub none_refused : (lines : List (Named ProcessLines)) (specs : List ProcessSpec) (f : DeckFault) → AreProcessesOf lines specs → IsFirstRefused lines f → ⊥
 none_refused [] specs f each refused = refused
 none_refused (one ∷ rest) [] f each refused = absurd each
-none_refused (one ∷ rest) (x ∷ xs) f each (inl here) = not_both one.body x.what f each.0.what here
+none_refused (one ∷ rest) (x ∷ xs) f each (inl here) = not_both one.1.body x.what f each.0.what here
 none_refused (one ∷ rest) (x ∷ xs) f each (inr later) = none_refused rest xs f each.1 later.2
 
 -- each process that was read is that of some lines
-pub kind_at : (lines : List ProcessLines) (specs : List ProcessSpec) (k : ℕ) (d : ProcessSpec) → AreProcessesOf lines specs → k < length specs
+pub kind_at : (lines : List (Named ProcessLines)) (specs : List ProcessSpec) (k : ℕ) (d : ProcessSpec) → AreProcessesOf lines specs → k < length specs
     → (told : Body) × IsKindOf told (get_or specs k d).what
 kind_at [] [] k d each there = absurd (omega arith)
 kind_at [] (x ∷ xs) k d each there = absurd each
 kind_at (one ∷ rest) [] k d each there = absurd each
-kind_at (one ∷ rest) (x ∷ xs) zero d each there = (one.body, each.0.what)
+kind_at (one ∷ rest) (x ∷ xs) zero d each there = (one.1.body, each.0.what)
 kind_at (one ∷ rest) (x ∷ xs) (suc k) d each there = kind_at rest xs k d each.1 (omega arith)
 
 -- the first that is refused, where those before it read
-pub first_at : (lines : List ProcessLines) (specs : List ProcessSpec) (k : ℕ) (d : ProcessLines) (f : DeckFault) → AreProcessesOf (take k lines) specs → k < length lines
-    → IsRefusedAs (get_or lines k d).body f → IsFirstRefused lines f
-first_at [] specs k d f each there refused = absurd (omega arith)
-first_at (one ∷ rest) specs zero d f each there refused = inl refused
-first_at (one ∷ rest) [] (suc k) d f each there refused = absurd each
-first_at (one ∷ rest) (x ∷ xs) (suc k) d f each there refused = inr (x.what, each.0.what, first_at rest xs k d f each.1 (omega arith) refused)
+first_after : (front later : List (Named ProcessLines)) (one : Named ProcessLines) (specs : List ProcessSpec) (f : DeckFault) → AreProcessesOf front specs → IsRefusedAs one.1.body f
+    → IsFirstRefused (front ++ one ∷ later) f
+first_after [] later one specs f each refused = inl refused
+first_after (x ∷ xs) later one [] f each refused = absurd each
+first_after (x ∷ xs) later one (y ∷ ys) f each refused = inr (y.what, each.0.what, first_after xs later one ys f each.1 refused)
 
 -- what is told for one reason is told for another that follows from it
 pub tells_too : (P Q : DeckFault → Type 0) → ((f : DeckFault) → P f → Q f) → (f : DeckFault) → Tells P f → Tells Q f
@@ -113,9 +114,9 @@ body_is_short : (lines : Body) → IsRefusedAs lines fault.TooLong → ⊥
 body_is_short (body.Disc sectors) h = h
 body_is_short (body.Pair program) h = h
 
-first_is_short : (lines : List ProcessLines) → IsFirstRefused lines fault.TooLong → ⊥
+first_is_short : (lines : List (Named ProcessLines)) → IsFirstRefused lines fault.TooLong → ⊥
 first_is_short [] h = h
-first_is_short (lines ∷ rest) (inl here) = body_is_short lines.body here
+first_is_short (lines ∷ rest) (inl here) = body_is_short lines.1.body here
 first_is_short (lines ∷ rest) (inr later) = first_is_short rest later.2
 
 line_is_short : (number : ℕ) (why : LineFault) → fault.TooLong ≡ fault_at number why → ⊥
@@ -171,10 +172,11 @@ pub of_broken : (breach : Breach) (f : DeckFault) (said : Told) → said ≡ tol
 of_broken breach f said e h = subst (λ all. Tells (IsFaultOf all) f) (sym e) (tells_too (IsBreachFault breach) (IsFaultOf (told.Broken breach)) (λ g k. k) f h)
 
 -- the first that is refused, where those before it read, is the fault of programs, of a line that can't stand, and of an outline
-pub programs_tell : (lines : List ProcessLines) (specs : List ProcessSpec) (k : ℕ) (d one : ProcessLines) (f : DeckFault) → AreProcessesOf (take k lines) specs → k < length lines → one ≡ get_or lines k d
-    → Tells (IsRefusedAs one.body) f → Tells (IsFirstRefused lines) f
-programs_tell lines specs k d one f each there is h =
-    tells_too (IsRefusedAs one.body) (IsFirstRefused lines) (λ g refused. first_at lines specs k d g each there (subst (λ (l : ProcessLines). IsRefusedAs l.body g) is refused)) f h
+pub programs_tell : (all rest later : List (Named ProcessLines)) (one : Named ProcessLines) (specs : List ProcessSpec) (f : DeckFault) → IsDoneTo IsProcessOf all rest specs → rest ≡ one ∷ later
+    → Tells (IsRefusedAs one.1.body) f → Tells (IsFirstRefused all) f
+programs_tell all rest later one specs f done e h =
+    tells_too (IsRefusedAs one.1.body) (IsFirstRefused all)
+    (λ g refused. subst (λ lines. IsFirstRefused lines g) (sym (done.whole ∙ ap (λ xs. done.front ++ xs) e)) (first_after done.front later one specs g done.each refused)) f h
 
 pub outline_tells : (outline : Outline) (f : DeckFault) → Tells (IsFirstRefused outline.processes) f → Tells (IsOutlineFault outline) f
 outline_tells outline f h = tells_too (IsFirstRefused outline.processes) (IsOutlineFault outline) (λ g first. inl first) f h

@@ -3,10 +3,11 @@ use Rattle.std.proofs.Common.{◌≡◌, ℕ, ◌+◌, ◌<◌, ◌≤◌, Bool,
 use Rattle.std.specs.Prelude.{position}
 use Rattle.std.proofs.lemmas.Bool.{ltb-true}
 use Rattle.std.proofs.lemmas.Bool.Decides.{nat_tests}
+use Rattle.name_table.specs.Entries.{place_of}
 use Rattle.schedule.specs.declared.event.Event.TheVariants as event
 use Rattle.schedule.specs.declared.line.Line.{Line}
 use Rattle.schedule.specs.declared.line.Line.TheVariants as told
-use Rattle.deck_reader.specs.EventLineOf.{event_line, process_place}
+use Rattle.deck_reader.specs.EventLineOf.{event_line}
 use Rattle.deck_reader.specs.LineFaults.{asks, more_singles, more_rounds}
 use Rattle.deck_reader.specs.Schedules.{IsLineOf, IsNodeOf, singles_in, rounds_in, singles_of, rounds_of}
 use Rattle.deck_reader.specs.declared.event_saying.EventSaying.{EventSaying}
@@ -138,7 +139,7 @@ line_asked outline saying line e = by saying e
     P : ℕ → ℕ → Line → Type 0
     P singles rounds one = IsLineAsked outline singles rounds one
 
-    times : (n : ℕ) (name : List ℕ) (b : Bool) → nat_lt n 1 ≡ b → cond b None (option_map (λ place. told.Many (event.Run place) n) (process_place outline.processes name)) ≡ Some line → P n 0 line
+    times : (n : ℕ) (name : List ℕ) (b : Bool) → nat_lt n 1 ≡ b → cond b None (option_map (λ place. told.Many (event.Run place) n) (place_of outline.processes name)) ≡ Some line → P n 0 line
     times n name true few same = absurd (cc)
     times n name false few same =
         of_place (P n 0) (λ place. told.Many (event.Run place) n) _ outline.processes line (λ k there. record { of_site = (there, grind (arith, nat_tests)); singles = refl; rounds = refl }) same

@@ -6,11 +6,12 @@ use Rattle.std.specs.Str.{bytes_eq}
 use Rattle.std.proofs.lemmas.Bool.{leb-true}
 use Rattle.std.proofs.lemmas.List.Elements.{All-append, All-cons, All-nil}
 use Rattle.gd_words.specs.Spelling.{name_of}
+use Rattle.name_table.specs.Entries.{Named}
 use Rattle.deck_reader.specs.EventSayingOf.{event_said}
 use Rattle.deck_reader.specs.LineFaults.{asks, disc_of, is_new, outline_with, terminal_of}
 use Rattle.deck_reader.specs.Lines.{words_of, is_blank, is_printable, one_word, two_words, three_words, four_words}
 use Rattle.deck_reader.specs.Numbers.{number_of, word_of}
-use Rattle.deck_reader.specs.Outlined.{asked, at_end, broken, disc_told, ended, in_blocks, in_program, in_requests, in_schedule, led_on, next_stage, opening, program_ended, site_told, terminal_told, told_after, told_by}
+use Rattle.deck_reader.specs.Outlined.{asked, at_end, broken, disc_told, ended, in_blocks, in_program, in_requests, in_schedule, led_on, next_stage, opening, program_ended, site_told, terminal_told, told_after, told_by, with_terminal}
 use Rattle.deck_reader.specs.SayingOf.{are_words, is_remark, keyword_of, or_formless, or_long, parts_say, placing_of, request_of, request_words, said_by, saying_of, terminal_said}
 use Rattle.deck_reader.specs.declared.event_saying.EventSaying.{EventSaying}
 use Rattle.deck_reader.specs.declared.line_fault.LineFault.{LineFault}
@@ -36,8 +37,8 @@ use Rattle.deck_reader.specs.declared.told.Told.TheVariants as told
 abbrev pub IsShort : List ℤ → Type 0
 IsShort request = length request ≤ 16
 
-abbrev pub HasShort : TerminalLines → Type 0
-HasShort terminal = All IsShort terminal.requests
+abbrev pub HasShort : Named TerminalLines → Type 0
+HasShort terminal = All IsShort terminal.1.requests
 
 abbrev pub HaveShort : Outline → Type 0
 HaveShort outline = All HasShort outline.terminals
@@ -134,7 +135,7 @@ abbrev StageShort : Stage → Type 0
 StageShort at.Opening = Unit {0}
 StageShort (at.Blocks outline) = HaveShort outline
 StageShort (at.Program outline heading program) = HaveShort outline
-StageShort (at.Requests outline terminal) = HaveShort outline × HasShort terminal
+StageShort (at.Requests outline name terminal) = HaveShort outline × HasShort (name, terminal)
 StageShort (at.Schedule outline) = HaveShort outline
 StageShort (at.Ended outline) = HaveShort outline
 
@@ -145,16 +146,16 @@ StepShort (step.Broken breach) = Unit {0}
 all_more : {X : Type 0} (P : X → Type 0) (xs : List X) (x : X) → All P xs → P x → All P (xs ++ x ∷ [])
 all_more P xs x all one = All-append P xs (x ∷ []) all (All-cons P x [] one (All-nil P))
 
-disc_short : (outline : Outline) (number : ℕ) (o : Result ProcessLines LineFault) → HaveShort outline → StepShort (disc_told outline number o)
+disc_short : (outline : Outline) (number : ℕ) (o : Result (Named ProcessLines) LineFault) → HaveShort outline → StepShort (disc_told outline number o)
 disc_short outline number (Err why) short = tt
 disc_short outline number (Ok process) short = short
 
 terminal_begins : (outline : Outline) (number : ℕ) (name target : List ℕ) → HaveShort outline
-    → StepShort (terminal_told outline number (terminal_of outline number name target))
+    → StepShort (terminal_told outline number name (terminal_of outline number name target))
 terminal_begins outline number name target short = by (not (is_new outline name)) (nat_le 16 (length outline.terminals))
   where
     by : (a b : Bool)
-        → StepShort (terminal_told outline number (cond a (Err fault.NameTwice) (cond b (Err (fault.Limit 2)) (Ok (record { line = number; name = name; target = target; requests = [] })))))
+        → StepShort (terminal_told outline number name (cond a (Err fault.NameTwice) (cond b (Err (fault.Limit 2)) (Ok (record { line = number; target = target; requests = [] })))))
     by true b = tt
     by false true = tt
     by false false = (short, All-nil IsShort)
@@ -167,29 +168,29 @@ blocks_short outline number (said.Terminal name target) short = terminal_begins 
 blocks_short outline number said.Schedule short = short
 blocks_short outline number _ short = tt
 
-requests_short : (outline : Outline) (terminal : TerminalLines) (number : ℕ) (saying : Saying) → SayingShort saying → HaveShort outline → HasShort terminal
-    → StepShort (in_requests outline terminal number saying)
-requests_short outline terminal number said.Nothing one short own = (short, own)
-requests_short outline terminal number (said.Send words) one short own = by (nat_le 1000 (length terminal.requests))
+requests_short : (outline : Outline) (name : List ℕ) (terminal : TerminalLines) (number : ℕ) (saying : Saying) → SayingShort saying → HaveShort outline → HasShort (name, terminal)
+    → StepShort (in_requests outline name terminal number saying)
+requests_short outline name terminal number said.Nothing one short own = (short, own)
+requests_short outline name terminal number (said.Send words) one short own = by (nat_le 1000 (length terminal.requests))
   where
     by : (b : Bool)
-        → StepShort (cond b (step.Broken (broken outline number (fault.Limit 3))) (step.Next (at.Requests outline (record terminal { requests = terminal.requests ++ words ∷ [] }))))
+        → StepShort (cond b (step.Broken (broken outline number (fault.Limit 3))) (step.Next (at.Requests outline name (record terminal { requests = terminal.requests ++ words ∷ [] }))))
     by true = tt
     by false = (short, all_more IsShort terminal.requests words own one)
-requests_short outline terminal number said.LongSend one short own = by (nat_le 1000 (length terminal.requests))
+requests_short outline name terminal number said.LongSend one short own = by (nat_le 1000 (length terminal.requests))
   where
     by : (b : Bool) → StepShort (cond b (step.Broken (broken outline number (fault.Limit 3))) (step.Broken (broken outline number (fault.Limit 4))))
     by true = tt
     by false = tt
-requests_short outline terminal number (said.Disc placing sectors) one short own =
-    blocks_short (record outline { terminals = outline.terminals ++ terminal ∷ [] }) number (said.Disc placing sectors) (all_more HasShort outline.terminals terminal short own)
-requests_short outline terminal number (said.Pair placing) one short own =
-    blocks_short (record outline { terminals = outline.terminals ++ terminal ∷ [] }) number (said.Pair placing) (all_more HasShort outline.terminals terminal short own)
-requests_short outline terminal number (said.Terminal name target) one short own =
-    blocks_short (record outline { terminals = outline.terminals ++ terminal ∷ [] }) number (said.Terminal name target) (all_more HasShort outline.terminals terminal short own)
-requests_short outline terminal number said.Schedule one short own =
-    blocks_short (record outline { terminals = outline.terminals ++ terminal ∷ [] }) number said.Schedule (all_more HasShort outline.terminals terminal short own)
-requests_short outline terminal number _ one short own = tt
+requests_short outline name terminal number (said.Disc placing sectors) one short own =
+    blocks_short (with_terminal outline name terminal) number (said.Disc placing sectors) (all_more HasShort outline.terminals (name, terminal) short own)
+requests_short outline name terminal number (said.Pair placing) one short own =
+    blocks_short (with_terminal outline name terminal) number (said.Pair placing) (all_more HasShort outline.terminals (name, terminal) short own)
+requests_short outline name terminal number (said.Terminal other target) one short own =
+    blocks_short (with_terminal outline name terminal) number (said.Terminal other target) (all_more HasShort outline.terminals (name, terminal) short own)
+requests_short outline name terminal number said.Schedule one short own =
+    blocks_short (with_terminal outline name terminal) number said.Schedule (all_more HasShort outline.terminals (name, terminal) short own)
+requests_short outline name terminal number _ one short own = tt
 
 opening_short : (number : ℕ) (saying : Saying) → StepShort (opening number saying)
 opening_short number said.Nothing = tt
@@ -231,7 +232,7 @@ next_short : (stage : Stage) (number : ℕ) (line : List ℕ) → StageShort sta
 next_short at.Opening number line short = opening_short number (saying_of line)
 next_short (at.Blocks outline) number line short = blocks_short outline number (saying_of line) short
 next_short (at.Program outline heading program) number line short = program_short outline heading program line short
-next_short (at.Requests outline terminal) number line short = requests_short outline terminal number (saying_of line) (saying_short line) short.0 short.1
+next_short (at.Requests outline name terminal) number line short = requests_short outline name terminal number (saying_of line) (saying_short line) short.0 short.1
 next_short (at.Schedule outline) number line short = schedule_short outline number (saying_of line) short
 next_short (at.Ended outline) number line short = ended_short outline number (saying_of line) short
 
@@ -244,7 +245,7 @@ end_short at.Opening count short = tt
 end_short (at.Blocks outline) count short = tt
 end_short (at.Program outline (Err why) program) count short = tt
 end_short (at.Program outline (Ok heading) program) count short = tt
-end_short (at.Requests outline terminal) count short = tt
+end_short (at.Requests outline name terminal) count short = tt
 end_short (at.Schedule outline) count short = tt
 end_short (at.Ended outline) count short = short
 

@@ -1,10 +1,13 @@
 -- The texts of a deck's programs are together no longer than the deck.
-use Rattle.std.proofs.Common.{◌≡◌, ℕ, ◌+◌, ◌<◌, ◌≤◌, zero, suc, Bool, true, false, cond, List, [], ◌∷◌, ◌++◌, length, None, Result, Ok, Err, get_or, arith, length-append, nat_eq, nat_le, nat_lt}
+use Rattle.std.proofs.Common.{◌≡◌, ℕ, ◌+◌, ◌≤◌, suc, Bool, true, false, cond, List, [], ◌∷◌, ◌++◌, length, None, Result, Ok, Err, sym, ap, ◌∙◌, subst, arith, length-append, nat_eq, nat_le, nat_lt}
 use Rattle.std.specs.Prelude.{codes}
 use Rattle.std.specs.Str.{bytes_eq}
-use Rattle.deck_reader.specs.LineFaults.{asks, disc_of, heading_of, outline_with, terminal_of, with_sectors}
+use Rattle.name_table.specs.Entries.{Named}
+use Rattle.tal_tree.specs.declared.site.ProcessSpec.{ProcessSpec}
+use Rattle.deck_reader.specs.Decks.{IsProcessOf}
+use Rattle.deck_reader.specs.LineFaults.{asks, disc_of, heading_of, outline_with, process_with, terminal_of, with_sectors}
 use Rattle.deck_reader.specs.Lines.{lines_of, before_first}
-use Rattle.deck_reader.specs.Outlined.{asked, at_end, disc_told, ended, in_blocks, in_program, in_requests, in_schedule, led_on, next_stage, opening, program_ended, site_told, terminal_told, told_after, told_by}
+use Rattle.deck_reader.specs.Outlined.{asked, at_end, disc_told, ended, in_blocks, in_program, in_requests, in_schedule, led_on, next_stage, opening, program_ended, site_told, terminal_told, told_after, told_by, with_terminal}
 use Rattle.deck_reader.specs.SayingOf.{saying_of}
 use Rattle.deck_reader.specs.Sizes.{body_size, breach_size, text_size}
 use Rattle.deck_reader.specs.declared.event_saying.EventSaying.{EventSaying}
@@ -26,13 +29,14 @@ use Rattle.deck_reader.specs.declared.step.Step.{Step}
 use Rattle.deck_reader.specs.declared.step.Step.TheVariants as step
 use Rattle.deck_reader.specs.declared.told.Told.{Told}
 use Rattle.deck_reader.specs.declared.told.Told.TheVariants as told
+use Rattle.deck_reader.proofs.EachLemmas.{IsDoneTo}
 
 -- how long the texts are that were told up to a stage
 abbrev stage_size : Stage → ℕ
 stage_size at.Opening = 0
 stage_size (at.Blocks outline) = text_size outline.processes
 stage_size (at.Program outline heading program) = text_size outline.processes + length program.text
-stage_size (at.Requests outline terminal) = text_size outline.processes
+stage_size (at.Requests outline name terminal) = text_size outline.processes
 stage_size (at.Schedule outline) = text_size outline.processes
 stage_size (at.Ended outline) = text_size outline.processes
 
@@ -41,7 +45,7 @@ abbrev IsWithin : ℕ → Step → Type 0
 IsWithin n (step.Next stage) = stage_size stage ≤ n
 IsWithin n (step.Broken breach) = breach_size breach ≤ n
 
-size-more : (processes : List ProcessLines) (one : ProcessLines) → text_size (processes ++ one ∷ []) ≡ text_size processes + body_size one.body
+size-more : (processes : List (Named ProcessLines)) (one : Named ProcessLines) → text_size (processes ++ one ∷ []) ≡ text_size processes + body_size one.1.body
 size-more [] one = omega arith
 size-more (lines ∷ rest) one = omega (arith, size-more rest one)
 
@@ -49,46 +53,46 @@ disc_within : (outline : Outline) (number : ℕ) (placing : Placing) (sectors : 
 disc_within outline number placing sectors = by (heading_of outline placing)
   where
     sized : (heading : Heading) (a b : Bool)
-        → IsWithin (text_size outline.processes) (disc_told outline number (cond a (Err (fault.Limit 5)) (cond b (Err (fault.Limit 5)) (Ok (record { heading = heading; body = body.Disc sectors })))))
+        → IsWithin (text_size outline.processes) (disc_told outline number (cond a (Err (fault.Limit 5)) (cond b (Err (fault.Limit 5)) (Ok (process_with heading (body.Disc sectors))))))
     sized heading true b = omega arith
     sized heading false true = omega arith
-    sized heading false false = omega (arith, size-more outline.processes (record { heading = heading; body = body.Disc sectors }))
+    sized heading false false = omega (arith, size-more outline.processes (process_with heading (body.Disc sectors)))
 
     by : (o : Result Heading LineFault) → IsWithin (text_size outline.processes) (disc_told outline number (with_sectors sectors o))
     by (Err why) = omega arith
     by (Ok heading) = sized heading (nat_lt sectors 1) (nat_lt 64 sectors)
 
-terminal_within : (outline : Outline) (number : ℕ) (o : Result TerminalLines LineFault) → IsWithin (text_size outline.processes) (terminal_told outline number o)
-terminal_within outline number (Err why) = omega arith
-terminal_within outline number (Ok terminal) = omega arith
+terminal_within : (outline : Outline) (number : ℕ) (name : List ℕ) (o : Result TerminalLines LineFault) → IsWithin (text_size outline.processes) (terminal_told outline number name o)
+terminal_within outline number name (Err why) = omega arith
+terminal_within outline number name (Ok terminal) = omega arith
 
 blocks_within : (outline : Outline) (number : ℕ) (saying : Saying) → IsWithin (text_size outline.processes) (in_blocks outline number saying)
 blocks_within outline number said.Nothing = omega arith
 blocks_within outline number (said.Disc placing sectors) = disc_within outline number placing sectors
 blocks_within outline number (said.Pair placing) = omega arith
-blocks_within outline number (said.Terminal name target) = terminal_within outline number (terminal_of outline number name target)
+blocks_within outline number (said.Terminal name target) = terminal_within outline number name (terminal_of outline number name target)
 blocks_within outline number said.Schedule = omega arith
 blocks_within outline number _ = omega arith
 
-requests_within : (outline : Outline) (terminal : TerminalLines) (number : ℕ) (saying : Saying) → IsWithin (text_size outline.processes) (in_requests outline terminal number saying)
-requests_within outline terminal number said.Nothing = omega arith
-requests_within outline terminal number (said.Send words) = by (nat_le 1000 (length terminal.requests))
+requests_within : (outline : Outline) (name : List ℕ) (terminal : TerminalLines) (number : ℕ) (saying : Saying) → IsWithin (text_size outline.processes) (in_requests outline name terminal number saying)
+requests_within outline name terminal number said.Nothing = omega arith
+requests_within outline name terminal number (said.Send words) = by (nat_le 1000 (length terminal.requests))
   where
     by : (b : Bool)
-        → IsWithin (text_size outline.processes) (cond b (step.Broken (record { processes = outline.processes; own = None; line = number; why = fault.Limit 3 })) (step.Next (at.Requests outline (record terminal { requests = terminal.requests ++ words ∷ [] }))))
+        → IsWithin (text_size outline.processes) (cond b (step.Broken (record { processes = outline.processes; own = None; line = number; why = fault.Limit 3 })) (step.Next (at.Requests outline name (record terminal { requests = terminal.requests ++ words ∷ [] }))))
     by true = omega arith
     by false = omega arith
-requests_within outline terminal number said.LongSend = by (nat_le 1000 (length terminal.requests))
+requests_within outline name terminal number said.LongSend = by (nat_le 1000 (length terminal.requests))
   where
     by : (b : Bool)
         → IsWithin (text_size outline.processes) (cond b (step.Broken (record { processes = outline.processes; own = None; line = number; why = fault.Limit 3 })) (step.Broken (record { processes = outline.processes; own = None; line = number; why = fault.Limit 4 })))
     by true = omega arith
     by false = omega arith
-requests_within outline terminal number (said.Disc placing sectors) = blocks_within (record outline { terminals = outline.terminals ++ terminal ∷ [] }) number (said.Disc placing sectors)
-requests_within outline terminal number (said.Pair placing) = blocks_within (record outline { terminals = outline.terminals ++ terminal ∷ [] }) number (said.Pair placing)
-requests_within outline terminal number (said.Terminal name target) = blocks_within (record outline { terminals = outline.terminals ++ terminal ∷ [] }) number (said.Terminal name target)
-requests_within outline terminal number said.Schedule = blocks_within (record outline { terminals = outline.terminals ++ terminal ∷ [] }) number said.Schedule
-requests_within outline terminal number _ = omega arith
+requests_within outline name terminal number (said.Disc placing sectors) = blocks_within (with_terminal outline name terminal) number (said.Disc placing sectors)
+requests_within outline name terminal number (said.Pair placing) = blocks_within (with_terminal outline name terminal) number (said.Pair placing)
+requests_within outline name terminal number (said.Terminal other target) = blocks_within (with_terminal outline name terminal) number (said.Terminal other target)
+requests_within outline name terminal number said.Schedule = blocks_within (with_terminal outline name terminal) number said.Schedule
+requests_within outline name terminal number _ = omega arith
 
 opening_within : (number : ℕ) (saying : Saying) → IsWithin 0 (opening number saying)
 opening_within number said.Nothing = omega arith
@@ -121,7 +125,7 @@ program_within outline heading program line = by (bytes_eq line (codes "."))
   where
     at_point : (o : Result Heading LineFault) → IsWithin (text_size outline.processes + length program.text + (length line + 1)) (program_ended outline o program)
     at_point (Err why) = omega arith
-    at_point (Ok told) = omega (arith, size-more outline.processes (record { heading = told; body = body.Pair program }))
+    at_point (Ok told) = omega (arith, size-more outline.processes (process_with told (body.Pair program)))
 
     by : (b : Bool)
         → IsWithin (text_size outline.processes + length program.text + (length line + 1)) (cond b (program_ended outline heading program) (step.Next (at.Program outline heading (record program { text = program.text ++ line ++ 10 ∷ [] }))))
@@ -137,8 +141,8 @@ next_within (at.Program outline heading program) number line = program_within ou
 next_within at.Opening number line = widened 0 (0 + (length line + 1)) (opening number (saying_of line)) (omega arith) (opening_within number (saying_of line))
 next_within (at.Blocks outline) number line =
     widened (text_size outline.processes) (text_size outline.processes + (length line + 1)) (in_blocks outline number (saying_of line)) (omega arith) (blocks_within outline number (saying_of line))
-next_within (at.Requests outline terminal) number line =
-    widened (text_size outline.processes) (text_size outline.processes + (length line + 1)) (in_requests outline terminal number (saying_of line)) (omega arith) (requests_within outline terminal number (saying_of line))
+next_within (at.Requests outline name terminal) number line =
+    widened (text_size outline.processes) (text_size outline.processes + (length line + 1)) (in_requests outline name terminal number (saying_of line)) (omega arith) (requests_within outline name terminal number (saying_of line))
 next_within (at.Schedule outline) number line =
     widened (text_size outline.processes) (text_size outline.processes + (length line + 1)) (in_schedule outline number (saying_of line)) (omega arith) (schedule_within outline number (saying_of line))
 next_within (at.Ended outline) number line =
@@ -159,7 +163,7 @@ end_within at.Opening count = omega arith
 end_within (at.Blocks outline) count = omega arith
 end_within (at.Program outline (Err why) program) count = omega arith
 end_within (at.Program outline (Ok heading) program) count = omega arith
-end_within (at.Requests outline terminal) count = omega arith
+end_within (at.Requests outline name terminal) count = omega arith
 end_within (at.Schedule outline) count = omega arith
 end_within (at.Ended outline) count = omega arith
 
@@ -193,7 +197,10 @@ pub texts_within : (bytes : List ℕ) → TellsWithin (length bytes + 1) (told_b
 texts_within bytes = told_widened (0 + total (lines_of bytes)) (length bytes + 1) (told_by (lines_of bytes)) (omega (arith, total_within bytes)) (all_within at.Opening 0 (lines_of bytes))
 
 -- the text of one program is no longer than all
-pub size_at : (lines : List ProcessLines) (k : ℕ) (d : ProcessLines) → k < length lines → body_size (get_or lines k d).body ≤ text_size lines
-size_at [] k d there = absurd (omega arith)
-size_at (one ∷ rest) zero d there = omega arith
-size_at (one ∷ rest) (suc k) d there = omega (arith, size_at rest k d (omega arith))
+size_among : (front later : List (Named ProcessLines)) (one : Named ProcessLines) → body_size one.1.body ≤ text_size (front ++ one ∷ later)
+size_among [] later one = omega arith
+size_among (x ∷ xs) later one = omega (arith, size_among xs later one)
+
+pub size_left : (all rest later : List (Named ProcessLines)) (one : Named ProcessLines) (specs : List ProcessSpec) → IsDoneTo IsProcessOf all rest specs → rest ≡ one ∷ later → body_size one.1.body ≤ text_size all
+size_left all rest later one specs done e =
+    subst (λ lines. body_size one.1.body ≤ text_size lines) (sym (done.whole ∙ ap (λ xs. done.front ++ xs) e)) (size_among done.front later one)

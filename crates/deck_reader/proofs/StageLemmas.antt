@@ -5,11 +5,13 @@ use Rattle.std.specs.List.{All}
 use Rattle.std.specs.Str.{bytes_eq}
 use Rattle.std.proofs.lemmas.Bool.Decides.{nat_tests}
 use Rattle.std.proofs.lemmas.List.Elements.{All-append, All-cons, All-nil}
+use Rattle.name_table.specs.Entries.{Named, has_name}
 use Rattle.schedule.specs.declared.line.Line.{Line}
 use Rattle.deck_reader.specs.EventLineOf.{event_line}
 use Rattle.deck_reader.specs.Few.{AreFew, HasFew}
-use Rattle.deck_reader.specs.LineFaults.{is_new, asks, disc_of, heading_of, outline_with, terminal_of, with_sectors}
-use Rattle.deck_reader.specs.Outlined.{asked, at_end, disc_told, ended, in_blocks, in_program, in_requests, in_schedule, led_on, next_stage, opening, program_ended, site_told, terminal_told, told_after, told_by, with_event, with_process}
+use Rattle.deck_reader.specs.Fresh.{HasNew, IsNewHeading}
+use Rattle.deck_reader.specs.LineFaults.{is_new, asks, disc_of, heading_of, outline_with, process_with, terminal_of, with_sectors}
+use Rattle.deck_reader.specs.Outlined.{asked, at_end, disc_told, ended, in_blocks, in_program, in_requests, in_schedule, led_on, next_stage, opening, program_ended, site_told, terminal_told, told_after, told_by, with_event, with_process, with_terminal}
 use Rattle.deck_reader.specs.SayingOf.{saying_of}
 use Rattle.deck_reader.specs.Schedules.{IsLineOf, singles_of, rounds_of}
 use Rattle.deck_reader.specs.declared.event_saying.EventSaying.{EventSaying}
@@ -33,6 +35,7 @@ use Rattle.deck_reader.specs.declared.step.Step.{Step}
 use Rattle.deck_reader.specs.declared.step.Step.TheVariants as step
 use Rattle.deck_reader.specs.declared.told.Told.{Told}
 use Rattle.deck_reader.specs.declared.told.Told.TheVariants as told
+use Rattle.deck_reader.proofs.FreshLemmas.{heading_new, new_names}
 use Rattle.deck_reader.proofs.ScheduleLemmas.{AreFewAsked, AsksMore, asks_more, line_asked, rounds_asked, rounds_with, singles_asked, singles_with}
 
 -- two different processors of the deck
@@ -45,12 +48,17 @@ abbrev pub BodyKeeps : Body → Type 0
 BodyKeeps (body.Disc sectors) = (1 ≤ sectors) × (sectors ≤ 64)
 BodyKeeps (body.Pair lines) = Unit {0}
 
-pub record LinesKeep (processors : ℕ) (lines : ProcessLines) : Type 0 where
-  pub heading : HeadingKeeps processors lines.heading
-  pub body : BodyKeeps lines.body
+pub record LinesKeep (processors : ℕ) (lines : Named ProcessLines) : Type 0 where
+  pub primary : lines.1.primary < processors
+  pub backup : lines.1.backup < processors
+  pub apart : lines.1.primary ≢ lines.1.backup
+  pub body : BodyKeeps lines.1.body
 
-abbrev pub TerminalKeeps : TerminalLines → Type 0
-TerminalKeeps terminal = length terminal.requests ≤ 1000
+pub process_keeps : (processors : ℕ) (heading : Heading) (body : Body) → HeadingKeeps processors heading → BodyKeeps body → LinesKeep processors (process_with heading body)
+process_keeps processors heading body keeps own = record { primary = keeps.primary; backup = keeps.backup; apart = keeps.apart; body = own }
+
+abbrev pub TerminalKeeps : Named TerminalLines → Type 0
+TerminalKeeps terminal = length terminal.1.requests ≤ 1000
 
 -- the processors, the processes and the terminals keep the limits
 pub record BlocksKeep (outline : Outline) : Type 0 where
@@ -74,12 +82,18 @@ abbrev pub PairKeeps : Outline → Result Heading LineFault → Type 0
 PairKeeps outline (Err why) = Unit {0}
 PairKeeps outline (Ok heading) = (length outline.processes < 16) × HeadingKeeps outline.processors heading
 
+-- there is room for a terminal, it keeps the limits, and its name is new
+pub record TerminalFits (outline : Outline) (name : List ℕ) (terminal : TerminalLines) : Type 0 where
+  pub room : length outline.terminals < 16
+  pub keeps : TerminalKeeps (name, terminal)
+  pub fresh : has_name outline.terminals name ≡ false
+
 -- the limits are kept up to a stage, and event lines come last
 abbrev pub StageKeeps : Stage → Type 0
 StageKeeps at.Opening = Unit {0}
 StageKeeps (at.Blocks outline) = BlocksKeep outline × (outline.events ≡ no_events)
-StageKeeps (at.Program outline heading program) = BlocksKeep outline × (outline.events ≡ no_events) × PairKeeps outline heading
-StageKeeps (at.Requests outline terminal) = BlocksKeep outline × (outline.events ≡ no_events) × (length outline.terminals < 16) × TerminalKeeps terminal
+StageKeeps (at.Program outline heading program) = BlocksKeep outline × (outline.events ≡ no_events) × PairKeeps outline heading × IsNewHeading outline heading
+StageKeeps (at.Requests outline name terminal) = BlocksKeep outline × (outline.events ≡ no_events) × TerminalFits outline name terminal
 StageKeeps (at.Schedule outline) = BlocksKeep outline × EventsFit outline
 StageKeeps (at.Ended outline) = BlocksKeep outline × EventsFit outline
 
@@ -87,9 +101,17 @@ pub few_kept : (stage : Stage) → StageKeeps stage → HasFew stage
 few_kept at.Opening keeps = tt
 few_kept (at.Blocks outline) keeps = keeps.0.few
 few_kept (at.Program outline heading program) keeps = keeps.0.few
-few_kept (at.Requests outline terminal) keeps = keeps.0.few
+few_kept (at.Requests outline name terminal) keeps = keeps.0.few
 few_kept (at.Schedule outline) keeps = keeps.0.few
 few_kept (at.Ended outline) keeps = keeps.0.few
+
+pub fresh_kept : (stage : Stage) → StageKeeps stage → HasNew stage
+fresh_kept at.Opening keeps = tt
+fresh_kept (at.Blocks outline) keeps = tt
+fresh_kept (at.Program outline heading program) keeps = keeps.3
+fresh_kept (at.Requests outline name terminal) keeps = keeps.2.fresh
+fresh_kept (at.Schedule outline) keeps = tt
+fresh_kept (at.Ended outline) keeps = tt
 
 -- so does the next stage, if there is one
 abbrev Keeps : Step → Type 0
@@ -99,7 +121,7 @@ Keeps (step.Broken breach) = Unit {0}
 all_more : {X : Type 0} (P : X → Type 0) (xs : List X) (x : X) → All P xs → P x → All P (xs ++ x ∷ [])
 all_more P xs x all one = All-append P xs (x ∷ []) all (All-cons P x [] one (All-nil P))
 
-process_kept : (outline : Outline) (lines : ProcessLines) → BlocksKeep outline → length outline.processes < 16 → LinesKeep outline.processors lines → BlocksKeep (with_process outline lines)
+process_kept : (outline : Outline) (lines : Named ProcessLines) → BlocksKeep outline → length outline.processes < 16 → LinesKeep outline.processors lines → BlocksKeep (with_process outline lines)
 process_kept outline lines keeps room one = record {
   processors = keeps.processors;
   few = record { processes = omega (arith, room, length-append outline.processes (lines ∷ [])); terminals = keeps.few.terminals };
@@ -107,15 +129,12 @@ process_kept outline lines keeps room one = record {
   each_terminal = keeps.each_terminal;
 }
 
-abbrev with_terminal : Outline → TerminalLines → Outline
-with_terminal outline terminal = record outline { terminals = outline.terminals ++ terminal ∷ [] }
-
-terminal_kept : (outline : Outline) (terminal : TerminalLines) → BlocksKeep outline → length outline.terminals < 16 → TerminalKeeps terminal → BlocksKeep (with_terminal outline terminal)
-terminal_kept outline terminal keeps room one = record {
+terminal_kept : (outline : Outline) (name : List ℕ) (terminal : TerminalLines) → BlocksKeep outline → TerminalFits outline name terminal → BlocksKeep (with_terminal outline name terminal)
+terminal_kept outline name terminal keeps one = record {
   processors = keeps.processors;
-  few = record { processes = keeps.few.processes; terminals = omega (arith, room, length-append outline.terminals (terminal ∷ [])) };
+  few = record { processes = keeps.few.processes; terminals = omega (arith, one.room, length-append outline.terminals ((name, terminal) ∷ [])) };
   each_process = keeps.each_process;
-  each_terminal = all_more TerminalKeeps outline.terminals terminal keeps.each_terminal one;
+  each_terminal = all_more TerminalKeeps outline.terminals (name, terminal) keeps.each_terminal one.keeps;
 }
 
 heading_kept : (outline : Outline) (placing : Placing) → PairKeeps outline (heading_of outline placing)
@@ -140,11 +159,12 @@ disc_kept : (outline : Outline) (number : ℕ) (placing : Placing) (sectors : �
 disc_kept outline number placing sectors keeps none = by (heading_of outline placing) (heading_kept outline placing)
   where
     sized : (heading : Heading) → PairKeeps outline (Ok heading) → (a b : Bool) → nat_lt sectors 1 ≡ a → nat_lt 64 sectors ≡ b
-        → Keeps (disc_told outline number (cond a (Err (fault.Limit 5)) (cond b (Err (fault.Limit 5)) (Ok (record { heading = heading; body = body.Disc sectors })))))
+        → Keeps (disc_told outline number (cond a (Err (fault.Limit 5)) (cond b (Err (fault.Limit 5)) (Ok (process_with heading (body.Disc sectors))))))
     sized heading pair true b p q = tt
     sized heading pair false true p q = tt
     sized heading pair false false p q = (
-      process_kept outline (record { heading = heading; body = body.Disc sectors }) keeps pair.0 (record { heading = pair.1; body = (grind (arith, nat_tests), grind (arith, nat_tests)) }),
+      process_kept outline (process_with heading (body.Disc sectors)) keeps pair.0
+          (process_keeps outline.processors heading (body.Disc sectors) pair.1 (grind (arith, nat_tests), grind (arith, nat_tests))),
       none,
     )
 
@@ -152,19 +172,19 @@ disc_kept outline number placing sectors keeps none = by (heading_of outline pla
     by (Err why) pair = tt
     by (Ok heading) pair = sized heading pair (nat_lt sectors 1) (nat_lt 64 sectors) refl refl
 
-terminal_begun : (outline : Outline) (number : ℕ) (name target : List ℕ) → BlocksKeep outline → outline.events ≡ no_events → Keeps (terminal_told outline number (terminal_of outline number name target))
-terminal_begun outline number name target keeps none = by (not (is_new outline name)) (nat_le 16 (length outline.terminals)) refl
+terminal_begun : (outline : Outline) (number : ℕ) (name target : List ℕ) → BlocksKeep outline → outline.events ≡ no_events → Keeps (terminal_told outline number name (terminal_of outline number name target))
+terminal_begun outline number name target keeps none = by (not (is_new outline name)) (nat_le 16 (length outline.terminals)) refl refl
   where
-    by : (a b : Bool) → nat_le 16 (length outline.terminals) ≡ b
-        → Keeps (terminal_told outline number (cond a (Err fault.NameTwice) (cond b (Err (fault.Limit 2)) (Ok (record { line = number; name = name; target = target; requests = [] })))))
-    by true b p = tt
-    by false true p = tt
-    by false false p = (keeps, none, grind (arith, nat_tests), omega arith)
+    by : (a b : Bool) → not (is_new outline name) ≡ a → nat_le 16 (length outline.terminals) ≡ b
+        → Keeps (terminal_told outline number name (cond a (Err fault.NameTwice) (cond b (Err (fault.Limit 2)) (Ok (record { line = number; target = target; requests = [] })))))
+    by true b o p = tt
+    by false true o p = tt
+    by false false o p = (keeps, none, record { room = grind (arith, nat_tests); keeps = omega arith; fresh = (new_names outline name o).1 })
 
 blocks_kept : (outline : Outline) (number : ℕ) (saying : Saying) → BlocksKeep outline → outline.events ≡ no_events → Keeps (in_blocks outline number saying)
 blocks_kept outline number said.Nothing keeps none = (keeps, none)
 blocks_kept outline number (said.Disc placing sectors) keeps none = disc_kept outline number placing sectors keeps none
-blocks_kept outline number (said.Pair placing) keeps none = (keeps, none, heading_kept outline placing)
+blocks_kept outline number (said.Pair placing) keeps none = (keeps, none, heading_kept outline placing, heading_new outline placing)
 blocks_kept outline number (said.Terminal name target) keeps none = terminal_begun outline number name target keeps none
 blocks_kept outline number said.Schedule keeps none =
     let of = IsLineOf outline.processors (length outline.processes) (length outline.terminals) in (
@@ -181,24 +201,25 @@ blocks_kept outline number said.Schedule keeps none =
     )
 blocks_kept outline number _ keeps none = tt
 
-request_kept : (outline : Outline) (terminal : TerminalLines) (number : ℕ) (saying : Saying) → StageKeeps (at.Requests outline terminal) → Keeps (in_requests outline terminal number saying)
-request_kept outline terminal number said.Nothing keeps = keeps
-request_kept outline terminal number (said.Send words) keeps = by (nat_le 1000 (length terminal.requests)) refl
+request_kept : (outline : Outline) (name : List ℕ) (terminal : TerminalLines) (number : ℕ) (saying : Saying) → StageKeeps (at.Requests outline name terminal) → Keeps (in_requests outline name terminal number saying)
+request_kept outline name terminal number said.Nothing keeps = keeps
+request_kept outline name terminal number (said.Send words) keeps = by (nat_le 1000 (length terminal.requests)) refl
   where
     by : (b : Bool) → nat_le 1000 (length terminal.requests) ≡ b
-        → Keeps (cond b (step.Broken (record { processes = outline.processes; own = None; line = number; why = fault.Limit 3 })) (step.Next (at.Requests outline (record terminal { requests = terminal.requests ++ words ∷ [] }))))
+        → Keeps (cond b (step.Broken (record { processes = outline.processes; own = None; line = number; why = fault.Limit 3 })) (step.Next (at.Requests outline name (record terminal { requests = terminal.requests ++ words ∷ [] }))))
     by true over = tt
-    by false within = let few : length terminal.requests < 1000 = grind (arith, nat_tests) in (keeps.0, keeps.1, keeps.2, omega (arith, few, length-append terminal.requests (words ∷ [])))
-request_kept outline terminal number said.LongSend keeps = by (nat_le 1000 (length terminal.requests))
+    by false within = let few : length terminal.requests < 1000 = grind (arith, nat_tests) in
+        (keeps.0, keeps.1, record { room = keeps.2.room; keeps = omega (arith, few, length-append terminal.requests (words ∷ [])); fresh = keeps.2.fresh })
+request_kept outline name terminal number said.LongSend keeps = by (nat_le 1000 (length terminal.requests))
   where
     by : (b : Bool) → Keeps (cond b (step.Broken (record { processes = outline.processes; own = None; line = number; why = fault.Limit 3 })) (step.Broken (record { processes = outline.processes; own = None; line = number; why = fault.Limit 4 })))
     by true = tt
     by false = tt
-request_kept outline terminal number (said.Disc placing sectors) keeps = blocks_kept (with_terminal outline terminal) number (said.Disc placing sectors) (terminal_kept outline terminal keeps.0 keeps.2 keeps.3) keeps.1
-request_kept outline terminal number (said.Pair placing) keeps = blocks_kept (with_terminal outline terminal) number (said.Pair placing) (terminal_kept outline terminal keeps.0 keeps.2 keeps.3) keeps.1
-request_kept outline terminal number (said.Terminal name target) keeps = blocks_kept (with_terminal outline terminal) number (said.Terminal name target) (terminal_kept outline terminal keeps.0 keeps.2 keeps.3) keeps.1
-request_kept outline terminal number said.Schedule keeps = blocks_kept (with_terminal outline terminal) number said.Schedule (terminal_kept outline terminal keeps.0 keeps.2 keeps.3) keeps.1
-request_kept outline terminal number _ keeps = tt
+request_kept outline name terminal number (said.Disc placing sectors) keeps = blocks_kept (with_terminal outline name terminal) number (said.Disc placing sectors) (terminal_kept outline name terminal keeps.0 keeps.2) keeps.1
+request_kept outline name terminal number (said.Pair placing) keeps = blocks_kept (with_terminal outline name terminal) number (said.Pair placing) (terminal_kept outline name terminal keeps.0 keeps.2) keeps.1
+request_kept outline name terminal number (said.Terminal other target) keeps = blocks_kept (with_terminal outline name terminal) number (said.Terminal other target) (terminal_kept outline name terminal keeps.0 keeps.2) keeps.1
+request_kept outline name terminal number said.Schedule keeps = blocks_kept (with_terminal outline name terminal) number said.Schedule (terminal_kept outline name terminal keeps.0 keeps.2) keeps.1
+request_kept outline name terminal number _ keeps = tt
 
 opening_kept : (number : ℕ) (saying : Saying) → Keeps (opening number saying)
 opening_kept number said.Nothing = tt
@@ -258,7 +279,7 @@ program_kept outline heading program line keeps = by (bytes_eq line (codes "."))
   where
     at_point : (o : Result Heading LineFault) → PairKeeps outline o → Keeps (program_ended outline o program)
     at_point (Err why) pair = tt
-    at_point (Ok told) pair = (process_kept outline (record { heading = told; body = body.Pair program }) keeps.0 pair.0 (record { heading = pair.1; body = tt }), keeps.1)
+    at_point (Ok told) pair = (process_kept outline (process_with told (body.Pair program)) keeps.0 pair.0 (process_keeps outline.processors told (body.Pair program) pair.1 tt), keeps.1)
 
     by : (b : Bool) → Keeps (cond b (program_ended outline heading program) (step.Next (at.Program outline heading (record program { text = program.text ++ line ++ 10 ∷ [] }))))
     by true = at_point heading keeps.2
@@ -269,7 +290,7 @@ pub next_kept : (stage : Stage) (number : ℕ) (line : List ℕ) → StageKeeps 
 next_kept at.Opening number line keeps = opening_kept number (saying_of line)
 next_kept (at.Blocks outline) number line keeps = blocks_kept outline number (saying_of line) keeps.0 keeps.1
 next_kept (at.Program outline heading program) number line keeps = program_kept outline heading program line keeps
-next_kept (at.Requests outline terminal) number line keeps = request_kept outline terminal number (saying_of line) keeps
+next_kept (at.Requests outline name terminal) number line keeps = request_kept outline name terminal number (saying_of line) keeps
 next_kept (at.Schedule outline) number line keeps = schedule_kept outline number (saying_of line) keeps.0 keeps.1
 next_kept (at.Ended outline) number line keeps = ended_kept outline number (saying_of line) keeps.0 keeps.1
 
@@ -296,7 +317,7 @@ end_kept at.Opening count keeps = tt
 end_kept (at.Blocks outline) count keeps = tt
 end_kept (at.Program outline (Err why) program) count keeps = tt
 end_kept (at.Program outline (Ok heading) program) count keeps = tt
-end_kept (at.Requests outline terminal) count keeps = tt
+end_kept (at.Requests outline name terminal) count keeps = tt
 end_kept (at.Schedule outline) count keeps = tt
 end_kept (at.Ended outline) count keeps = keeps
 

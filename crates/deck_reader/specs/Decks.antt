@@ -1,11 +1,11 @@
 -- The deck that bytes spell.
 use Rattle.std.specs.Prelude.{◌≡◌, ◌≤◌, ℕ, List, [], ◌∷◌, length, Some, None}
+use Rattle.name_table.specs.Entries.{Named, place_of}
 use Rattle.tal_reader.specs.Reads.{Reads}
 use Rattle.tal_tree.specs.declared.site.Kind.{Kind}
 use Rattle.tal_tree.specs.declared.site.Kind.TheVariants as kind
 use Rattle.tal_tree.specs.declared.site.ProcessSpec.{ProcessSpec}
 use Rattle.tal_tree.specs.declared.site.TerminalSpec.{TerminalSpec}
-use Rattle.deck_reader.specs.EventLineOf.{process_place}
 use Rattle.deck_reader.specs.Lines.{lines_of}
 use Rattle.deck_reader.specs.Names.{misnamed_in}
 use Rattle.deck_reader.specs.Outlined.{told_by}
@@ -30,23 +30,23 @@ IsKindOf (body.Disc told) (kind.Disc sectors) = sectors ≡ told
 IsKindOf (body.Pair lines) (kind.Pair program) = Reads lines.text program
 IsKindOf _ _ = ⊥
 
--- the process of its lines
-pub record IsProcessOf (lines : ProcessLines) (process : ProcessSpec) : Type 0 where
-  pub name : process.name ≡ lines.heading.name
-  pub primary : process.primary ≡ lines.heading.primary
-  pub backup : process.backup ≡ lines.heading.backup
-  pub what : IsKindOf lines.body process.what
+-- the process of its name and its lines
+pub record IsProcessOf (lines : Named ProcessLines) (process : ProcessSpec) : Type 0 where
+  pub name : process.name ≡ lines.0
+  pub primary : process.primary ≡ lines.1.primary
+  pub backup : process.backup ≡ lines.1.backup
+  pub what : IsKindOf lines.1.body process.what
 
-abbrev pub AreProcessesOf : List ProcessLines → List ProcessSpec → Type 0
+abbrev pub AreProcessesOf : List (Named ProcessLines) → List ProcessSpec → Type 0
 AreProcessesOf lines processes = EachWith IsProcessOf lines processes
 
--- the terminal of a terminal's lines asks the process that they name
-pub record IsTerminalOf (processes : List ProcessLines) (lines : TerminalLines) (terminal : TerminalSpec) : Type 0 where
-  pub name : terminal.name ≡ lines.name
-  pub target : process_place processes lines.target ≡ Some terminal.target
-  pub requests : terminal.requests ≡ lines.requests
+-- the terminal of its name and its lines asks the process that they name
+pub record IsTerminalOf (processes : List (Named ProcessLines)) (lines : Named TerminalLines) (terminal : TerminalSpec) : Type 0 where
+  pub name : terminal.name ≡ lines.0
+  pub target : place_of processes lines.1.target ≡ Some terminal.target
+  pub requests : terminal.requests ≡ lines.1.requests
 
-abbrev pub AreTerminalsOf : List ProcessLines → List TerminalLines → List TerminalSpec → Type 0
+abbrev pub AreTerminalsOf : List (Named ProcessLines) → List (Named TerminalLines) → List TerminalSpec → Type 0
 AreTerminalsOf processes lines terminals = EachWith (IsTerminalOf processes) lines terminals
 
 -- the deck of an outline: programs read and names looked up

@@ -1,34 +1,24 @@
 -- The event line that is said, with the places of what it names. Node 16 is that of the terminals.
-use Rattle.std.specs.Prelude.{ℕ, ◌==◌, ◌||◌, nat_lt, List, Option, Some, None, option_map, position, if◌then◌else◌}
-use Rattle.std.specs.Str.{bytes_eq}
+use Rattle.std.specs.Prelude.{ℕ, ◌==◌, ◌||◌, nat_lt, List, Option, Some, None, option_map, if◌then◌else◌}
+use Rattle.name_table.specs.Entries.{place_of}
 use Rattle.schedule.specs.declared.event.Event.TheVariants as event
 use Rattle.schedule.specs.declared.line.Line.{Line}
 use Rattle.schedule.specs.declared.line.Line.TheVariants as line
 use Rattle.deck_reader.specs.declared.event_saying.EventSaying.{EventSaying}
 use Rattle.deck_reader.specs.declared.event_saying.EventSaying.TheVariants as said
 use Rattle.deck_reader.specs.declared.outline.Outline.{Outline}
-use Rattle.deck_reader.specs.declared.outline.ProcessLines.{ProcessLines}
-use Rattle.deck_reader.specs.declared.outline.TerminalLines.{TerminalLines}
-
--- where the process of this name stands, counted from 0
-abbrev pub process_place : List ProcessLines → List ℕ → Option ℕ
-process_place processes name = position (λ process. bytes_eq process.heading.name name) processes
-
--- where the terminal of this name stands, counted from 0
-abbrev pub terminal_place : List TerminalLines → List ℕ → Option ℕ
-terminal_place terminals name = position (λ terminal. bytes_eq terminal.name name) terminals
 
 -- a step of a process that is there
 abbrev pub run_line : Outline → List ℕ → Option Line
-run_line outline name = option_map (λ place. line.One (event.Run place)) (process_place outline.processes name)
+run_line outline name = option_map (λ place. line.One (event.Run place)) (place_of outline.processes name)
 
 -- at least one step of a process that is there
 abbrev pub run_times_line : Outline → List ℕ → ℕ → Option Line
-run_times_line outline name times = if nat_lt times 1 then None else option_map (λ place. line.Many (event.Run place) times) (process_place outline.processes name)
+run_times_line outline name times = if nat_lt times 1 then None else option_map (λ place. line.Many (event.Run place) times) (place_of outline.processes name)
 
 -- the next request of a terminal that is there
 abbrev pub enter_line : Outline → List ℕ → Option Line
-enter_line outline name = option_map (λ place. line.One (event.Enter place)) (terminal_place outline.terminals name)
+enter_line outline name = option_map (λ place. line.One (event.Enter place)) (place_of outline.terminals name)
 
 -- the tick of a processor of the site, or of node 16
 abbrev pub tick_line : ℕ → ℕ → Option Line

@@ -14,6 +14,6 @@ abbrev pub HasFew : Stage → Type 0
 HasFew at.Opening = Unit {0}
 HasFew (at.Blocks outline) = AreFew outline
 HasFew (at.Program outline heading program) = AreFew outline
-HasFew (at.Requests outline terminal) = AreFew outline
+HasFew (at.Requests outline name terminal) = AreFew outline
 HasFew (at.Schedule outline) = AreFew outline
 HasFew (at.Ended outline) = AreFew outline

@@ -3,6 +3,7 @@ pub mod Decks
 pub mod EventLineOf
 pub mod EventSayingOf
 pub mod Few
+pub mod Fresh
 pub mod Limits
 pub mod LineFaults
 pub mod Lines

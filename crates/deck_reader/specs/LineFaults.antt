@@ -3,12 +3,12 @@
 -- a terminal (1,000), 4 words of a request (16), 5 sectors (1 to 64), 6 single events (1,000,000), 7 rounds (100,000),
 -- 8 processors (2 to 16).
 use Rattle.std.specs.Prelude.{ℕ, ◌+◌, Bool, not, ◌&&◌, ◌||◌, ◌==◌, nat_lt, nat_le, List, [], length, Result, Ok, Err, None, if◌then◌else◌}
-use Rattle.std.specs.List.{list_any}
-use Rattle.std.specs.Str.{bytes_eq}
+use Rattle.name_table.specs.Entries.{Named, has_name}
 use Rattle.deck_reader.specs.declared.event_saying.EventSaying.{EventSaying}
 use Rattle.deck_reader.specs.declared.event_saying.EventSaying.TheVariants as said
 use Rattle.deck_reader.specs.declared.line_fault.LineFault.{LineFault}
 use Rattle.deck_reader.specs.declared.line_fault.LineFault.TheVariants as fault
+use Rattle.deck_reader.specs.declared.outline.Body.{Body}
 use Rattle.deck_reader.specs.declared.outline.Body.TheVariants as body
 use Rattle.deck_reader.specs.declared.outline.Heading.{Heading}
 use Rattle.deck_reader.specs.declared.outline.Outline.{Outline}
@@ -29,9 +29,7 @@ processors_of count =
 
 -- no process and no terminal has the name
 abbrev pub is_new : Outline → List ℕ → Bool
-is_new outline name =
-    not (list_any (λ (process : ProcessLines). bytes_eq process.heading.name name) outline.processes)
-    && not (list_any (λ (terminal : TerminalLines). bytes_eq terminal.name name) outline.terminals)
+is_new outline name = not (has_name outline.processes name) && not (has_name outline.terminals name)
 
 -- `NAME P B`: a new name, and two different processors of the site; there are at most 16 processes
 abbrev pub heading_of : Outline → Placing → Result Heading LineFault
@@ -43,16 +41,20 @@ heading_of outline placing =
     else if nat_le 16 (length outline.processes) then Err (fault.Limit 1)
     else Ok (record { name = placing.name; primary = placing.primary; backup = placing.backup })
 
+-- a process: under the name of its heading stands the rest of it, and what follows
+abbrev pub process_with : Heading → Body → Named ProcessLines
+process_with heading body = (heading.name, record { primary = heading.primary; backup = heading.backup; body = body })
+
 -- 1 to 64 sectors
-abbrev pub with_sectors : ℕ → Result Heading LineFault → Result ProcessLines LineFault
+abbrev pub with_sectors : ℕ → Result Heading LineFault → Result (Named ProcessLines) LineFault
 with_sectors sectors (Err why) = Err why
 with_sectors sectors (Ok heading) =
     if nat_lt sectors 1 then Err (fault.Limit 5)
     else if nat_lt 64 sectors then Err (fault.Limit 5)
-    else Ok (record { heading = heading; body = body.Disc sectors })
+    else Ok (process_with heading (body.Disc sectors))
 
 -- `disc NAME P B SECTORS`
-abbrev pub disc_of : Outline → Placing → ℕ → Result ProcessLines LineFault
+abbrev pub disc_of : Outline → Placing → ℕ → Result (Named ProcessLines) LineFault
 disc_of outline placing sectors = with_sectors sectors (heading_of outline placing)
 
 -- `terminal NAME TARGET` on the line of this number: a new name; there are at most 16 terminals
@@ -60,7 +62,7 @@ abbrev pub terminal_of : Outline → ℕ → List ℕ → List ℕ → Result Te
 terminal_of outline line name target =
     if not (is_new outline name) then Err fault.NameTwice
     else if nat_le 16 (length outline.terminals) then Err (fault.Limit 2)
-    else Ok (record { line = line; name = name; target = target; requests = [] })
+    else Ok (record { line = line; target = target; requests = [] })
 
 -- so many more single events, or rounds
 abbrev pub more_singles : Sums → ℕ → Result Sums LineFault

@@ -3,13 +3,13 @@
 use Rattle.std.specs.Prelude.{◌≡◌, ℕ, Bool, true, false, not, nat_lt, List, [], ◌∷◌, Option, Some, None, is_some, if◌then◌else◌}
 use Rattle.std.specs.List.{list_all}
 use Rattle.std.specs.Str.{bytes_eq}
+use Rattle.name_table.specs.Entries.{Named, place_of}
 use Rattle.tal_tree.specs.declared.program.FileUse.{FileUse}
 use Rattle.tal_tree.specs.declared.program.Target.{Target}
 use Rattle.tal_tree.specs.declared.program.Target.TheVariants as target
 use Rattle.tal_tree.specs.declared.site.Kind.{Kind}
 use Rattle.tal_tree.specs.declared.site.Kind.TheVariants as kind
 use Rattle.tal_tree.specs.declared.site.ProcessSpec.{ProcessSpec}
-use Rattle.deck_reader.specs.EventLineOf.{process_place}
 use Rattle.deck_reader.specs.declared.names.Misnamed.{Misnamed}
 use Rattle.deck_reader.specs.declared.outline.Body.{Body}
 use Rattle.deck_reader.specs.declared.outline.Body.TheVariants as body
@@ -18,11 +18,11 @@ use Rattle.deck_reader.specs.declared.outline.ProcessLines.{ProcessLines}
 use Rattle.deck_reader.specs.declared.outline.TerminalLines.{TerminalLines}
 
 -- a process has this name
-abbrev pub is_process : List ProcessLines → List ℕ → Bool
-is_process processes name = is_some (process_place processes name)
+abbrev pub is_process : List (Named ProcessLines) → List ℕ → Bool
+is_process processes name = is_some (place_of processes name)
 
 -- a file is opened to `$RECEIVE`, or to a process that is there
-abbrev pub is_known : List ProcessLines → Target → Bool
+abbrev pub is_known : List (Named ProcessLines) → Target → Bool
 is_known processes target.Receive = true
 is_known processes (target.Process name) = is_process processes name
 
@@ -32,18 +32,18 @@ is_other own target.Receive = true
 is_other own (target.Process name) = not (bytes_eq name own)
 
 -- the pair on this line, of this name: it opens files to processes that are there, and to none that is itself
-abbrev pub files_misnamed : List ProcessLines → ℕ → List ℕ → List FileUse → Option Misnamed
+abbrev pub files_misnamed : List (Named ProcessLines) → ℕ → List ℕ → List FileUse → Option Misnamed
 files_misnamed processes line own files =
     if not (list_all (λ (file : FileUse). is_known processes file.target) files) then Some (record { line = line; own = false })
     else if not (list_all (λ (file : FileUse). is_other own file.target) files) then Some (record { line = line; own = true })
     else None
 
 -- a pair with its program; a disc names nothing
-abbrev pub kind_misnamed : List ProcessLines → List ℕ → ℕ → Kind → Option Misnamed
+abbrev pub kind_misnamed : List (Named ProcessLines) → List ℕ → ℕ → Kind → Option Misnamed
 kind_misnamed processes own line (kind.Disc sectors) = None
 kind_misnamed processes own line (kind.Pair program) = files_misnamed processes line own program.files
 
-abbrev pub process_misnamed : List ProcessLines → List ℕ → Body → Kind → Option Misnamed
+abbrev pub process_misnamed : List (Named ProcessLines) → List ℕ → Body → Kind → Option Misnamed
 process_misnamed processes own (body.Disc sectors) what = None
 process_misnamed processes own (body.Pair lines) what = kind_misnamed processes own lines.line what
 
@@ -53,21 +53,21 @@ first_of None later = later
 first_of (Some first) later = Some first
 
 -- the first pair of some lines with their processes, among all these
-abbrev pub pairs_misnamed : List ProcessLines → List ProcessLines → List ProcessSpec → Option Misnamed
+abbrev pub pairs_misnamed : List (Named ProcessLines) → List (Named ProcessLines) → List ProcessSpec → Option Misnamed
 pairs_misnamed all [] processes = None
 pairs_misnamed all (lines ∷ rest) [] = None
 pairs_misnamed all (lines ∷ rest) (process ∷ processes) =
-    first_of (process_misnamed all lines.heading.name lines.body process.what) (pairs_misnamed all rest processes)
+    first_of (process_misnamed all lines.0 lines.1.body process.what) (pairs_misnamed all rest processes)
 
 -- the first terminal whose target is no process
-abbrev pub targets_misnamed : List ProcessLines → List TerminalLines → Option Misnamed
+abbrev pub targets_misnamed : List (Named ProcessLines) → List (Named TerminalLines) → Option Misnamed
 targets_misnamed processes [] = None
 targets_misnamed processes (terminal ∷ rest) =
-    if is_process processes terminal.target then targets_misnamed processes rest else Some (record { line = terminal.line; own = false })
+    if is_process processes terminal.1.target then targets_misnamed processes rest else Some (record { line = terminal.1.line; own = false })
 
--- this is the line of a terminal whose target is no process
-pub record IsMisnamedTarget (processes : List ProcessLines) (terminal : TerminalLines) (misnamed : Misnamed) : Type 0 where
-  pub unknown : process_place processes terminal.target ≡ None
+-- this is the line of a terminal of these lines, whose target is no process
+pub record IsMisnamedTarget (processes : List (Named ProcessLines)) (terminal : TerminalLines) (misnamed : Misnamed) : Type 0 where
+  pub unknown : place_of processes terminal.target ≡ None
   pub same : misnamed ≡ record { line = terminal.line; own = false }
 
 -- the first event line that names no process to run, or no terminal to enter at

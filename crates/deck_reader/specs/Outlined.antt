@@ -1,9 +1,10 @@
 -- What the lines of a deck say together, line by line, up to the first that can't stand where it does.
 use Rattle.std.specs.Prelude.{ℕ, ◌+◌, nat_le, List, [], ◌∷◌, ◌++◌, length, codes, Option, Some, None, Result, Ok, Err, if◌then◌else◌, ℤ}
 use Rattle.std.specs.Str.{bytes_eq}
+use Rattle.name_table.specs.Entries.{Named}
 use Rattle.schedule.specs.declared.line.Line.{Line}
 use Rattle.deck_reader.specs.EventLineOf.{event_line}
-use Rattle.deck_reader.specs.LineFaults.{processors_of, heading_of, disc_of, terminal_of, asks}
+use Rattle.deck_reader.specs.LineFaults.{processors_of, heading_of, disc_of, process_with, terminal_of, asks}
 use Rattle.deck_reader.specs.SayingOf.{saying_of}
 use Rattle.deck_reader.specs.declared.event_saying.EventSaying.{EventSaying}
 use Rattle.deck_reader.specs.declared.line_fault.LineFault.{LineFault}
@@ -44,18 +45,18 @@ opening number said.Nothing = step.Next at.Opening
 opening number (said.Processors count) = site_told number (processors_of count)
 opening number _ = step.Broken (broken_at_start number fault.Form)
 
-abbrev pub with_process : Outline → ProcessLines → Outline
+abbrev pub with_process : Outline → Named ProcessLines → Outline
 with_process outline process = record outline { processes = outline.processes ++ process ∷ [] }
 
 -- a disc
-abbrev pub disc_told : Outline → ℕ → Result ProcessLines LineFault → Step
+abbrev pub disc_told : Outline → ℕ → Result (Named ProcessLines) LineFault → Step
 disc_told outline number (Err why) = step.Broken (broken outline number why)
 disc_told outline number (Ok process) = step.Next (at.Blocks (with_process outline process))
 
 -- a terminal; its requests follow
-abbrev pub terminal_told : Outline → ℕ → Result TerminalLines LineFault → Step
-terminal_told outline number (Err why) = step.Broken (broken outline number why)
-terminal_told outline number (Ok terminal) = step.Next (at.Requests outline terminal)
+abbrev pub terminal_told : Outline → ℕ → List ℕ → Result TerminalLines LineFault → Step
+terminal_told outline number name (Err why) = step.Broken (broken outline number why)
+terminal_told outline number name (Ok terminal) = step.Next (at.Requests outline name terminal)
 
 -- where a process, a terminal or the schedule may begin. A fault of a pair's line waits for the end of its program, since a
 -- fault of the program goes before it
@@ -63,14 +64,14 @@ abbrev pub in_blocks : Outline → ℕ → Saying → Step
 in_blocks outline number said.Nothing = step.Next (at.Blocks outline)
 in_blocks outline number (said.Disc placing sectors) = disc_told outline number (disc_of outline placing sectors)
 in_blocks outline number (said.Pair placing) = step.Next (at.Program outline (heading_of outline placing) (record { line = number; text = [] }))
-in_blocks outline number (said.Terminal name target) = terminal_told outline number (terminal_of outline number name target)
+in_blocks outline number (said.Terminal name target) = terminal_told outline number name (terminal_of outline number name target)
 in_blocks outline number said.Schedule = step.Next (at.Schedule outline)
 in_blocks outline number _ = step.Broken (broken outline number fault.Form)
 
 -- the end of a program
 abbrev pub program_ended : Outline → Result Heading LineFault → ProgramLines → Step
 program_ended outline (Err why) program = step.Broken (record { processes = outline.processes; own = Some program; line = program.line; why = why })
-program_ended outline (Ok heading) program = step.Next (at.Blocks (with_process outline (record { heading = heading; body = body.Pair program })))
+program_ended outline (Ok heading) program = step.Next (at.Blocks (with_process outline (process_with heading (body.Pair program))))
 
 -- a program ends before the first line that is a point alone
 abbrev pub in_program : Outline → Result Heading LineFault → ProgramLines → List ℕ → Step
@@ -79,22 +80,26 @@ in_program outline heading program line =
     else step.Next (at.Program outline heading (record program { text = program.text ++ line ++ 10 ∷ [] }))
 
 -- one more request: a terminal has at most 1,000
-abbrev pub request_told : Outline → TerminalLines → ℕ → List ℤ → Step
-request_told outline terminal number words =
+abbrev pub request_told : Outline → List ℕ → TerminalLines → ℕ → List ℤ → Step
+request_told outline name terminal number words =
     if nat_le 1000 (length terminal.requests) then step.Broken (broken outline number (fault.Limit 3))
-    else step.Next (at.Requests outline (record terminal { requests = terminal.requests ++ words ∷ [] }))
+    else step.Next (at.Requests outline name (record terminal { requests = terminal.requests ++ words ∷ [] }))
 
 -- a request of more than 16 words
 abbrev pub long_request_told : Outline → TerminalLines → ℕ → Step
 long_request_told outline terminal number =
     if nat_le 1000 (length terminal.requests) then step.Broken (broken outline number (fault.Limit 3)) else step.Broken (broken outline number (fault.Limit 4))
 
+-- the terminal stands in the outline once its requests are told
+abbrev pub with_terminal : Outline → List ℕ → TerminalLines → Outline
+with_terminal outline name terminal = record outline { terminals = outline.terminals ++ (name, terminal) ∷ [] }
+
 -- one more request of the terminal, or what begins after it
-abbrev pub in_requests : Outline → TerminalLines → ℕ → Saying → Step
-in_requests outline terminal number said.Nothing = step.Next (at.Requests outline terminal)
-in_requests outline terminal number (said.Send words) = request_told outline terminal number words
-in_requests outline terminal number said.LongSend = long_request_told outline terminal number
-in_requests outline terminal number saying = in_blocks (record outline { terminals = outline.terminals ++ terminal ∷ [] }) number saying
+abbrev pub in_requests : Outline → List ℕ → TerminalLines → ℕ → Saying → Step
+in_requests outline name terminal number said.Nothing = step.Next (at.Requests outline name terminal)
+in_requests outline name terminal number (said.Send words) = request_told outline name terminal number words
+in_requests outline name terminal number said.LongSend = long_request_told outline terminal number
+in_requests outline name terminal number saying = in_blocks (with_terminal outline name terminal) number saying
 
 -- of the lines that name what isn't there the first one counts
 abbrev pub first_noted : Option ℕ → ℕ → ℕ
@@ -127,7 +132,7 @@ abbrev pub next_stage : Stage → ℕ → List ℕ → Step
 next_stage at.Opening number line = opening number (saying_of line)
 next_stage (at.Blocks outline) number line = in_blocks outline number (saying_of line)
 next_stage (at.Program outline heading program) number line = in_program outline heading program line
-next_stage (at.Requests outline terminal) number line = in_requests outline terminal number (saying_of line)
+next_stage (at.Requests outline name terminal) number line = in_requests outline name terminal number (saying_of line)
 next_stage (at.Schedule outline) number line = in_schedule outline number (saying_of line)
 next_stage (at.Ended outline) number line = ended outline number (saying_of line)
 
@@ -141,7 +146,7 @@ abbrev pub at_end : Stage → ℕ → Told
 at_end at.Opening count = told.Broken (broken_at_start count fault.NoEnd)
 at_end (at.Blocks outline) count = told.Broken (broken outline count fault.NoEnd)
 at_end (at.Program outline heading program) count = unended outline heading program.line count
-at_end (at.Requests outline terminal) count = told.Broken (broken outline count fault.NoEnd)
+at_end (at.Requests outline name terminal) count = told.Broken (broken outline count fault.NoEnd)
 at_end (at.Schedule outline) count = told.Broken (broken outline count fault.NoEnd)
 at_end (at.Ended outline) count = told.Whole outline
 

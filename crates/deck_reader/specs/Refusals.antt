@@ -2,6 +2,7 @@
 -- up to the first that can't stand where it does, and the programs of the pairs up to that line: the fault of a program stands on
 -- its pair's line, and goes before another fault of that line. Where all lines stand and all programs read, names are looked up.
 use Rattle.std.specs.Prelude.{◌≡◌, ◌≢◌, ◌⊎◌, ◌<◌, ◌≤◌, ℕ, List, [], ◌∷◌, length, Option, Some, None, option_map, if◌then◌else◌}
+use Rattle.name_table.specs.Entries.{Named}
 use Rattle.tal_reader.specs.Reads.{Reads, IsRefused}
 use Rattle.tal_tree.specs.declared.fault.DeckFault.{DeckFault}
 use Rattle.tal_tree.specs.declared.fault.DeckFault.TheVariants as fault
@@ -31,9 +32,9 @@ IsRefusedAs (body.Pair lines) (fault.Program number why) = (number ≡ lines.lin
 IsRefusedAs _ _ = ⊥
 
 -- the first of these programs that is refused: those before it all read
-abbrev pub IsFirstRefused : List ProcessLines → DeckFault → Type 0
+abbrev pub IsFirstRefused : List (Named ProcessLines) → DeckFault → Type 0
 IsFirstRefused [] why = ⊥
-IsFirstRefused (lines ∷ rest) why = IsRefusedAs lines.body why ⊎ ((what : Kind) × IsKindOf lines.body what × IsFirstRefused rest why)
+IsFirstRefused (lines ∷ rest) why = IsRefusedAs lines.1.body why ⊎ ((what : Kind) × IsKindOf lines.1.body what × IsFirstRefused rest why)
 
 -- the fault of a line that can't stand
 abbrev pub fault_at : ℕ → LineFault → DeckFault

@@ -1,5 +1,6 @@
 -- How long the texts of programs are.
 use Rattle.std.specs.Prelude.{ℕ, ◌+◌, List, [], ◌∷◌, length, Option, Some, None}
+use Rattle.name_table.specs.Entries.{Named}
 use Rattle.deck_reader.specs.declared.outline.Body.{Body}
 use Rattle.deck_reader.specs.declared.outline.Body.TheVariants as body
 use Rattle.deck_reader.specs.declared.outline.ProcessLines.{ProcessLines}
@@ -12,9 +13,9 @@ body_size (body.Disc sectors) = 0
 body_size (body.Pair lines) = length lines.text
 
 -- how long the texts of all programs are
-abbrev pub text_size : List ProcessLines → ℕ
+abbrev pub text_size : List (Named ProcessLines) → ℕ
 text_size [] = 0
-text_size (lines ∷ rest) = body_size lines.body + text_size rest
+text_size (lines ∷ rest) = body_size lines.1.body + text_size rest
 
 -- how long the text of a program is, if there is one
 abbrev pub own_size : Option ProgramLines → ℕ

@@ -7,10 +7,11 @@ ghost use Rattle.tal_tree.specs.declared.fault.DeckFault.{DeckFault};
 ghost use Rattle.deck_reader.specs.declared.deck.Deck.{Deck};
 
 use crate::names::{Misnamed, earlier, earlier_than, event_misnamed, name_fault};
-use crate::outline::{Outline, ProcessLines, TerminalLines, process_place};
+use crate::outline::{Outline, ProcessLines, TerminalLines, place_of};
 use crate::programs::{ReadProcesses, breach_fault, processes_of};
 use crate::told::{Told, told_by};
-use gd_words::{List, NoMemory};
+use gd_words::{List, Name, NoMemory};
+use name_table::NameTable;
 use schedule::Line;
 use std::alloc::Global;
 use tal_tree::{DeckFault, Site, TalFault, TerminalSpec};
@@ -55,9 +56,9 @@ fn deck_of(alloc: Global, outline: Outline) -> Result<Deck, DeckFault>
         terminals,
         events,
     } = outline;
-    let ReadProcesses { specs, misnamed } = processes_of(alloc, processes.as_slice())?;
+    let ReadProcesses { specs, misnamed } = processes_of(alloc, &processes)?;
     let event = event_misnamed(events.unknown);
-    match terminals_of(alloc, processes.as_slice(), terminals)? {
+    match terminals_of(alloc, &processes, terminals)? {
         Err(target) => Err(target_fault(misnamed, target, event)),
         Ok(terminals) => match earlier(misnamed, event) {
             Some(misnamed) => Err(name_fault(misnamed)),
@@ -87,15 +88,15 @@ fn target_fault(pair: Option<Misnamed>, target: Misnamed, event: Option<Misnamed
 /// The terminals of their lines, or the first that asks a process that isn't there.
 fn terminals_of(
     alloc: Global,
-    processes: &[ProcessLines],
-    terminals: List<TerminalLines>,
+    processes: &NameTable<ProcessLines>,
+    terminals: NameTable<TerminalLines>,
 ) -> Result<Result<List<TerminalSpec>, Misnamed>, NoMemory>
     requires few { length processes.now ≤ 16 }
     ensures { IfOk result (λ specs. MatchResult specs (λ specs. AreTerminalsOf processes.now terminals specs) (λ target. targets_misnamed processes.now terminals ≡ Some target)) }
 {
     let mut specs = List::new(alloc);
-    for lines in terminals.into_vec() {
-        match terminal_of(processes, lines) {
+    for (name, lines) in terminals.into_entries() {
+        match terminal_of(processes, name, lines) {
             Err(target) => return Ok(Err(target)),
             Ok(terminal) => specs.push(terminal)?,
         }
@@ -104,17 +105,20 @@ fn terminals_of(
 }
 
 /// The terminal of a terminal's lines, or its line, where it asks a process that isn't there.
-fn terminal_of(processes: &[ProcessLines], lines: TerminalLines) -> Result<TerminalSpec, Misnamed>
+fn terminal_of(
+    processes: &NameTable<ProcessLines>,
+    name: Name,
+    lines: TerminalLines,
+) -> Result<TerminalSpec, Misnamed>
     requires few { length processes.now ≤ 16 }
-    ensures { MatchResult result (λ terminal. IsTerminalOf processes.now lines terminal) (λ target. IsMisnamedTarget processes.now lines target) }
+    ensures { MatchResult result (λ terminal. IsTerminalOf processes.now (name, lines) terminal) (λ target. IsMisnamedTarget processes.now lines target) }
 {
     let TerminalLines {
         line,
-        name,
         target,
         requests,
     } = lines;
-    match process_place(processes, &target) {
+    match place_of(processes, &target) {
         None => Err(Misnamed { line, own: false }),
         Some(target) => Ok(TerminalSpec {
             name,

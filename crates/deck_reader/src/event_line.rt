@@ -5,7 +5,7 @@ ghost use Rattle.deck_reader.specs.EventLineOf.{run_line, run_times_line, enter_
 ghost use Rattle.deck_reader.specs.Few.{AreFew};
 
 use crate::event_saying::{EventSaying, PacketPlace};
-use crate::outline::{Outline, process_place, terminal_place};
+use crate::outline::{Outline, place_of};
 use gd_words::Name;
 use schedule::{Event, Line};
 
@@ -49,7 +49,7 @@ fn run_line(outline: &Outline, name: &Name) -> Option<Line>
     requires few { AreFew outline.now }
     ensures { result ≡ run_line outline.now name.now }
 {
-    let place = process_place(outline.processes.as_slice(), name)?;
+    let place = place_of(&outline.processes, name)?;
     Some(Line::One(Event::Run(place)))
 }
 
@@ -60,7 +60,7 @@ fn run_times_line(outline: &Outline, name: &Name, times: u32) -> Option<Line>
     if times < 1 {
         return None;
     }
-    let place = process_place(outline.processes.as_slice(), name)?;
+    let place = place_of(&outline.processes, name)?;
     let event = Event::Run(place);
     Some(Line::Many { event, times })
 }
@@ -69,7 +69,7 @@ fn enter_line(outline: &Outline, name: &Name) -> Option<Line>
     requires few { AreFew outline.now }
     ensures { result ≡ enter_line outline.now name.now }
 {
-    let place = terminal_place(outline.terminals.as_slice(), name)?;
+    let place = place_of(&outline.terminals, name)?;
     Some(Line::One(Event::Enter(place)))
 }
 

@@ -2,7 +2,9 @@ ghost use Rattle.std.specs.Prelude.{◌≡◌};
 ghost use Rattle.deck_reader.specs.LineFaults.{heading_of, disc_of, terminal_of, more_singles, more_rounds, tick_asks, fail_asks, mute_asks, run_times_asks, asks};
 
 use crate::event_saying::EventSaying;
-use crate::outline::{Body, Heading, Outline, ProcessLines, Sums, TerminalLines, is_new};
+use crate::outline::{
+    Body, Heading, Outline, ProcessLines, Sums, TerminalLines, is_new, process_with,
+};
 use crate::saying::Placing;
 use gd_words::{List, Name};
 use std::alloc::Global;
@@ -63,7 +65,11 @@ pub fn heading_of(outline: &Outline, placing: Placing) -> Result<Heading, LineFa
 }
 
 /// One more disc.
-pub fn disc_of(outline: &Outline, placing: Placing, sectors: u32) -> Result<ProcessLines, LineFault>
+pub fn disc_of(
+    outline: &Outline,
+    placing: Placing,
+    sectors: u32,
+) -> Result<(Name, ProcessLines), LineFault>
     ensures { result ≡ disc_of outline.now placing sectors }
 {
     let heading = heading_of(outline, placing)?;
@@ -76,7 +82,7 @@ pub fn disc_of(outline: &Outline, placing: Placing, sectors: u32) -> Result<Proc
     let body = Body::Disc {
         sectors: sectors as u8,
     };
-    Ok(ProcessLines { heading, body })
+    Ok(process_with(heading, body))
 }
 
 /// One more terminal, on the line of this number.
@@ -84,12 +90,12 @@ pub fn terminal_of(
     alloc: Global,
     outline: &Outline,
     line: u32,
-    name: Name,
+    name: &Name,
     target: Name,
 ) -> Result<TerminalLines, LineFault>
-    ensures { result ≡ terminal_of outline.now line name target }
+    ensures { result ≡ terminal_of outline.now line name.now target }
 {
-    if !is_new(outline, &name) {
+    if !is_new(outline, name) {
         return Err(LineFault::NameTwice);
     }
     if 16 <= outline.terminals.len() {
@@ -97,7 +103,6 @@ pub fn terminal_of(
     }
     Ok(TerminalLines {
         line,
-        name,
         target,
         requests: List::new(alloc),
     })

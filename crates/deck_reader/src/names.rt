@@ -5,6 +5,7 @@ ghost use Rattle.deck_reader.specs.Refusals.{name_fault};
 
 use crate::outline::{Body, ProcessLines, is_process};
 use gd_words::Name;
+use name_table::NameTable;
 use tal_tree::{DeckFault, FileUse, Kind, Target};
 
 /// A line that names what isn't there or, where `own` is set, whose program opens its own pair.
@@ -16,7 +17,7 @@ pub struct Misnamed {
 
 /// What the process of these lines, among all these processes, names amiss.
 pub fn process_misnamed(
-    processes: &[ProcessLines],
+    processes: &NameTable<ProcessLines>,
     own: &Name,
     body: &Body,
     what: &Kind,
@@ -29,7 +30,12 @@ pub fn process_misnamed(
     }
 }
 
-fn pair_misnamed(processes: &[ProcessLines], own: &Name, line: u32, what: &Kind) -> Option<Misnamed>
+fn pair_misnamed(
+    processes: &NameTable<ProcessLines>,
+    own: &Name,
+    line: u32,
+    what: &Kind,
+) -> Option<Misnamed>
     ensures { result ≡ kind_misnamed processes.now own.now line what.now }
 {
     match what {
@@ -39,7 +45,7 @@ fn pair_misnamed(processes: &[ProcessLines], own: &Name, line: u32, what: &Kind)
 }
 
 fn files_misnamed(
-    processes: &[ProcessLines],
+    processes: &NameTable<ProcessLines>,
     line: u32,
     own: &Name,
     files: &[FileUse],
@@ -55,7 +61,7 @@ fn files_misnamed(
     None
 }
 
-fn are_known(processes: &[ProcessLines], files: &[FileUse]) -> bool
+fn are_known(processes: &NameTable<ProcessLines>, files: &[FileUse]) -> bool
     ensures { result ≡ list_all (λ file. is_known processes.now file.target) files.now }
 {
     files.iter().all(|file| is_known(processes, &file.target))
@@ -68,7 +74,7 @@ fn are_others(own: &Name, files: &[FileUse]) -> bool
 }
 
 /// Whether a file is opened to `$RECEIVE` or to one of these processes.
-fn is_known(processes: &[ProcessLines], target: &Target) -> bool
+fn is_known(processes: &NameTable<ProcessLines>, target: &Target) -> bool
     ensures { result ≡ is_known processes.now target.now }
 {
     match target {

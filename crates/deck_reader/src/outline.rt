@@ -1,11 +1,10 @@
-ghost use Rattle.std.specs.Prelude.{◌≡◌, ◌<◌, ◌≤◌, length, IfSome};
-ghost use Rattle.std.specs.List.{list_any};
-ghost use Rattle.std.specs.Str.{bytes_eq};
-ghost use Rattle.deck_reader.specs.LineFaults.{is_new, outline_with};
-ghost use Rattle.deck_reader.specs.EventLineOf.{process_place, terminal_place};
+ghost use Rattle.std.specs.Prelude.{◌≡◌, ◌≤◌, length};
+ghost use Rattle.name_table.specs.Entries.{place_of};
+ghost use Rattle.deck_reader.specs.LineFaults.{is_new, outline_with, process_with};
 ghost use Rattle.deck_reader.specs.Names.{is_process};
 
 use gd_words::{List, Name, Words};
+use name_table::NameTable;
 use schedule::Line;
 use std::alloc::Global;
 
@@ -31,18 +30,18 @@ pub enum Body {
     Pair(ProgramLines),
 }
 
-/// The lines of a process.
+/// What stands under the name of a process: the processors of its two copies, and what follows its heading.
 #[derive(Drop)]
 pub struct ProcessLines {
-    pub heading: Heading,
+    pub primary: u8,
+    pub backup: u8,
     pub body: Body,
 }
 
-/// The line of a terminal, with its number, and its requests.
+/// What stands under the name of a terminal: the number of its line, the process that it asks, and its requests.
 #[derive(Drop)]
 pub struct TerminalLines {
     pub line: u32,
-    pub name: Name,
     pub target: Name,
     pub requests: List<Words>,
 }
@@ -67,8 +66,8 @@ pub struct EventLines {
 #[derive(Drop)]
 pub struct Outline {
     pub processors: u8,
-    pub processes: List<ProcessLines>,
-    pub terminals: List<TerminalLines>,
+    pub processes: NameTable<ProcessLines>,
+    pub terminals: NameTable<TerminalLines>,
     pub events: EventLines,
 }
 
@@ -87,76 +86,49 @@ impl Outline {
         };
         Outline {
             processors,
-            processes: List::new(alloc),
-            terminals: List::new(alloc),
+            processes: NameTable::new(alloc),
+            terminals: NameTable::new(alloc),
             events,
         }
     }
+}
+
+/// A process under the name of its heading.
+pub fn process_with(heading: Heading, body: Body) -> (Name, ProcessLines)
+    ensures { result ≡ process_with heading body }
+{
+    let Heading {
+        name,
+        primary,
+        backup,
+    } = heading;
+    let lines = ProcessLines {
+        primary,
+        backup,
+        body,
+    };
+    (name, lines)
 }
 
 /// Whether no process and no terminal has the name.
 pub fn is_new(outline: &Outline, name: &Name) -> bool
     ensures { result ≡ is_new outline.now name.now }
 {
-    !is_process_name(outline.processes.as_slice(), name)
-        && !is_terminal_name(outline.terminals.as_slice(), name)
+    !outline.processes.contains(name) && !outline.terminals.contains(name)
 }
 
-fn is_process_name(processes: &[ProcessLines], name: &Name) -> bool
-    ensures { result ≡ list_any (λ process. bytes_eq process.heading.name name.now) processes.now }
+/// Where the name stands among at most 16.
+pub fn place_of<T>(table: &NameTable<T>, name: &Name) -> Option<u8>
+    requires few { length table.now ≤ 16 }
+    ensures { result ≡ place_of table.now name.now }
 {
-    processes
-        .iter()
-        .any(|process| process.heading.name.text() == name.text())
-}
-
-fn is_terminal_name(terminals: &[TerminalLines], name: &Name) -> bool
-    ensures { result ≡ list_any (λ terminal. bytes_eq terminal.name name.now) terminals.now }
-{
-    terminals
-        .iter()
-        .any(|terminal| terminal.name.text() == name.text())
-}
-
-/// Where the process of this name stands.
-pub fn process_place(processes: &[ProcessLines], name: &Name) -> Option<u8>
-    requires few { length processes.now ≤ 16 }
-    ensures { result ≡ process_place processes.now name.now }
-{
-    let place = process_index(processes, name)?;
+    let place = table.place_of(name)?;
     Some(place as u8)
-}
-
-fn process_index(processes: &[ProcessLines], name: &Name) -> Option<usize>
-    ensures value { result ≡ process_place processes.now name.now }
-    ensures there { IfSome result (λ place. place < length processes.now) }
-{
-    processes
-        .iter()
-        .position(|process| process.heading.name.text() == name.text())
 }
 
 /// Whether a process has the name.
-pub fn is_process(processes: &[ProcessLines], name: &Name) -> bool
+pub fn is_process(processes: &NameTable<ProcessLines>, name: &Name) -> bool
     ensures { result ≡ is_process processes.now name.now }
 {
-    process_index(processes, name).is_some()
-}
-
-/// Where the terminal of this name stands.
-pub fn terminal_place(terminals: &[TerminalLines], name: &Name) -> Option<u8>
-    requires few { length terminals.now ≤ 16 }
-    ensures { result ≡ terminal_place terminals.now name.now }
-{
-    let place = terminal_index(terminals, name)?;
-    Some(place as u8)
-}
-
-fn terminal_index(terminals: &[TerminalLines], name: &Name) -> Option<usize>
-    ensures value { result ≡ terminal_place terminals.now name.now }
-    ensures there { IfSome result (λ place. place < length terminals.now) }
-{
-    terminals
-        .iter()
-        .position(|terminal| terminal.name.text() == name.text())
+    processes.place_of(name).is_some()
 }

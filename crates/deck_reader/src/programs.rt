@@ -8,7 +8,8 @@ use crate::line_fault::LineFault;
 use crate::names::{Misnamed, first_of, process_misnamed};
 use crate::outline::{Body, ProcessLines};
 use crate::step::Breach;
-use gd_words::List;
+use gd_words::{List, Name};
+use name_table::NameTable;
 use std::alloc::Global;
 use tal_reader::read_program;
 use tal_tree::{DeckFault, Kind, ProcessSpec, TalFault};
@@ -21,7 +22,10 @@ pub struct ReadProcesses {
 }
 
 /// The processes of their lines.
-pub fn processes_of(alloc: Global, lines: &[ProcessLines]) -> Result<ReadProcesses, DeckFault>
+pub fn processes_of(
+    alloc: Global,
+    lines: &NameTable<ProcessLines>,
+) -> Result<ReadProcesses, DeckFault>
     requires short { text_size lines.now < 4294967295 }
     ensures ok { IfOk result (λ read. AreProcessesOf lines.now read.specs) }
     ensures named { IfOk result (λ read. read.misnamed ≡ pairs_misnamed lines.now lines.now read.specs) }
@@ -29,11 +33,11 @@ pub fn processes_of(alloc: Global, lines: &[ProcessLines]) -> Result<ReadProcess
 {
     let mut specs = List::new(alloc);
     let mut misnamed = None;
-    for process in lines {
-        match process_of(alloc, process) {
+    for (name, process) in lines.iter() {
+        match process_of(alloc, name, process) {
             Err(fault) => return Err(fault),
             Ok(spec) => {
-                let one = process_misnamed(lines, &process.heading.name, &process.body, &spec.what);
+                let one = process_misnamed(lines, name, &process.body, &spec.what);
                 misnamed = first_of(misnamed, one);
                 specs.push(spec)?;
             }
@@ -43,16 +47,16 @@ pub fn processes_of(alloc: Global, lines: &[ProcessLines]) -> Result<ReadProcess
 }
 
 /// The process of its lines.
-fn process_of(alloc: Global, lines: &ProcessLines) -> Result<ProcessSpec, DeckFault>
+fn process_of(alloc: Global, name: &Name, lines: &ProcessLines) -> Result<ProcessSpec, DeckFault>
     requires short { body_size lines.now.body < 4294967295 }
-    ensures ok { IfOk result (λ process. IsProcessOf lines.now process) }
+    ensures ok { IfOk result (λ process. IsProcessOf (name.now, lines.now) process) }
     ensures err { IfErr result (λ fault. Tells (IsRefusedAs lines.now.body) fault) }
 {
     let what = kind_of(alloc, &lines.body)?;
     Ok(ProcessSpec {
-        name: lines.heading.name,
-        primary: lines.heading.primary,
-        backup: lines.heading.backup,
+        name: *name,
+        primary: lines.primary,
+        backup: lines.backup,
         what,
     })
 }
@@ -78,7 +82,7 @@ pub fn breach_fault(alloc: Global, breach: &Breach) -> DeckFault
     requires short { breach_size breach.now < 4294967295 }
     ensures { Tells (IsBreachFault breach.now) result }
 {
-    match processes_of(alloc, breach.processes.as_slice()) {
+    match processes_of(alloc, &breach.processes) {
         Err(fault) => fault,
         Ok(_) => own_fault(alloc, breach),
     }

@@ -1,17 +1,21 @@
-ghost use Rattle.std.specs.Prelude.{◌≡◌, [], Some, IfOk};
+ghost use Rattle.std.specs.Prelude.{◌≡◌, false, [], Some, IfOk};
+ghost use Rattle.name_table.specs.Entries.{has_name};
 ghost use Rattle.deck_reader.specs.declared.step.Stage.TheVariants as at;
 ghost use Rattle.deck_reader.specs.declared.step.Step.TheVariants as step;
 ghost use Rattle.deck_reader.specs.LineFaults.{processors_of, disc_of, heading_of, terminal_of};
 ghost use Rattle.deck_reader.specs.Few.{AreFew, HasFew};
-ghost use Rattle.deck_reader.specs.Outlined.{broken, broken_at_start, opening, disc_told, terminal_told, program_ended, in_program, in_blocks, in_requests, first_noted, with_event, request_told, long_request_told, in_schedule, ended, next_stage};
+ghost use Rattle.deck_reader.specs.Fresh.{HasNew, IsNewHeading};
+ghost use Rattle.deck_reader.specs.Outlined.{broken, broken_at_start, opening, with_process, with_terminal, disc_told, terminal_told, program_ended, in_program, in_blocks, in_requests, first_noted, with_event, request_told, long_request_told, in_schedule, ended, next_stage};
 
 use crate::event_line::event_line;
 use crate::line_fault::{LineFault, asks, disc_of, heading_of, terminal_of};
 use crate::outline::{
     Body, EventLines, Heading, Outline, ProcessLines, ProgramLines, Sums, TerminalLines,
+    process_with,
 };
 use crate::saying::{Placing, Saying, saying_of};
 use gd_words::{List, Name, NoMemory, Words};
+use name_table::NameTable;
 use schedule::Line;
 use std::alloc::Global;
 
@@ -25,7 +29,7 @@ pub enum Stage {
     /// In the program of a pair, after its heading, or the fault of its line.
     Program(Outline, Result<Heading, LineFault>, ProgramLines),
     /// After a terminal or one of its requests.
-    Requests(Outline, TerminalLines),
+    Requests(Outline, Name, TerminalLines),
     Schedule(Outline),
     /// After END.
     Ended(Outline),
@@ -35,7 +39,7 @@ pub enum Stage {
 #[derive(Drop)]
 pub struct Breach {
     /// The processes of the lines before it.
-    pub processes: List<ProcessLines>,
+    pub processes: NameTable<ProcessLines>,
     /// The program that follows it, where it is a pair's line and that program has an end.
     pub own: Option<ProgramLines>,
     /// Its number, counted from 1.
@@ -73,7 +77,7 @@ pub fn broken_at_start(alloc: Global, line: u32, why: LineFault) -> Breach
     ensures { result ≡ broken_at_start line why }
 {
     Breach {
-        processes: List::new(alloc),
+        processes: NameTable::new(alloc),
         own: None,
         line,
         why,
@@ -83,14 +87,15 @@ pub fn broken_at_start(alloc: Global, line: u32, why: LineFault) -> Breach
 /// What comes of one more line, which has this number.
 pub fn next_stage(alloc: Global, stage: Stage, number: u32, line: &[u8]) -> Result<Step, NoMemory>
     requires few { HasFew stage }
+    requires fresh { HasNew stage }
     ensures { IfOk result (λ next. next ≡ next_stage stage number line.now) }
 {
     match stage {
         Stage::Opening => Ok(opening(alloc, number, saying_of(line))),
         Stage::Blocks(outline) => in_blocks(alloc, outline, number, saying_of(line)),
         Stage::Program(outline, heading, program) => in_program(outline, heading, program, line),
-        Stage::Requests(outline, terminal) => {
-            in_requests(alloc, outline, terminal, number, saying_of(line))
+        Stage::Requests(outline, name, terminal) => {
+            in_requests(alloc, outline, name, terminal, number, saying_of(line))
         }
         Stage::Schedule(outline) => in_schedule(outline, number, saying_of(line)),
         Stage::Ended(outline) => Ok(ended(outline, number, saying_of(line))),
@@ -148,11 +153,21 @@ fn disc_told(
     match disc_of(&outline, placing, sectors) {
         Err(why) => Ok(Step::Broken(broken(outline, number, why))),
         Ok(process) => {
-            let mut outline = outline;
-            outline.processes.push(process)?;
+            let outline = with_process(outline, process)?;
             Ok(Step::Next(Stage::Blocks(outline)))
         }
     }
+}
+
+/// With one more process, whose name is new.
+fn with_process(outline: Outline, process: (Name, ProcessLines)) -> Result<Outline, NoMemory>
+    requires new { has_name outline.processes process.0 ≡ false }
+    ensures { IfOk result (λ next. next ≡ with_process outline process) }
+{
+    let (name, lines) = process;
+    let mut outline = outline;
+    outline.processes.push(name, lines)?;
+    Ok(outline)
 }
 
 fn pair_told(alloc: Global, outline: Outline, number: u32, placing: Placing) -> Step
@@ -167,11 +182,11 @@ fn pair_told(alloc: Global, outline: Outline, number: u32, placing: Placing) -> 
 }
 
 fn terminal_told(alloc: Global, outline: Outline, number: u32, name: Name, target: Name) -> Step
-    ensures { result ≡ terminal_told outline number (terminal_of outline number name target) }
+    ensures { result ≡ terminal_told outline number name (terminal_of outline number name target) }
 {
-    match terminal_of(alloc, &outline, number, name, target) {
+    match terminal_of(alloc, &outline, number, &name, target) {
         Err(why) => Step::Broken(broken(outline, number, why)),
-        Ok(terminal) => Step::Next(Stage::Requests(outline, terminal)),
+        Ok(terminal) => Step::Next(Stage::Requests(outline, name, terminal)),
     }
 }
 
@@ -181,6 +196,7 @@ fn in_program(
     program: ProgramLines,
     line: &[u8],
 ) -> Result<Step, NoMemory>
+    requires new { IsNewHeading outline heading }
     ensures { IfOk result (λ next. next ≡ in_program outline heading program line.now) }
 {
     if line == b".".as_slice() {
@@ -199,14 +215,14 @@ fn program_ended(
     heading: Result<Heading, LineFault>,
     program: ProgramLines,
 ) -> Result<Step, NoMemory>
+    requires new { IsNewHeading outline heading }
     ensures { IfOk result (λ next. next ≡ program_ended outline heading program) }
 {
     match heading {
         Err(why) => Ok(Step::Broken(broken_pair(outline, program, why))),
         Ok(heading) => {
-            let body = Body::Pair(program);
-            let mut outline = outline;
-            outline.processes.push(ProcessLines { heading, body })?;
+            let process = process_with(heading, Body::Pair(program));
+            let outline = with_process(outline, process)?;
             Ok(Step::Next(Stage::Blocks(outline)))
         }
     }
@@ -234,39 +250,51 @@ fn broken_pair(outline: Outline, program: ProgramLines, why: LineFault) -> Breac
 fn in_requests(
     alloc: Global,
     outline: Outline,
+    name: Name,
     terminal: TerminalLines,
     number: u32,
     saying: Saying,
 ) -> Result<Step, NoMemory>
-    ensures { IfOk result (λ next. next ≡ in_requests outline terminal number saying) }
+    requires new { has_name outline.terminals name ≡ false }
+    ensures { IfOk result (λ next. next ≡ in_requests outline name terminal number saying) }
 {
     match saying {
-        Saying::Nothing => Ok(Step::Next(Stage::Requests(outline, terminal))),
-        Saying::Send(words) => request_told(outline, terminal, number, words),
+        Saying::Nothing => Ok(Step::Next(Stage::Requests(outline, name, terminal))),
+        Saying::Send(words) => request_told(outline, name, terminal, number, words),
         Saying::LongSend => Ok(long_request_told(outline, &terminal, number)),
         saying => {
-            let mut outline = outline;
-            outline.terminals.push(terminal)?;
+            let outline = with_terminal(outline, name, terminal)?;
             in_blocks(alloc, outline, number, saying)
         }
     }
 }
 
+/// With one more terminal, whose name is new.
+fn with_terminal(outline: Outline, name: Name, terminal: TerminalLines) -> Result<Outline, NoMemory>
+    requires new { has_name outline.terminals name ≡ false }
+    ensures { IfOk result (λ next. next ≡ with_terminal outline name terminal) }
+{
+    let mut outline = outline;
+    outline.terminals.push(name, terminal)?;
+    Ok(outline)
+}
+
 /// One more request, of which a terminal has at most 1,000.
 fn request_told(
     outline: Outline,
+    name: Name,
     terminal: TerminalLines,
     number: u32,
     words: Words,
 ) -> Result<Step, NoMemory>
-    ensures { IfOk result (λ next. next ≡ request_told outline terminal number words) }
+    ensures { IfOk result (λ next. next ≡ request_told outline name terminal number words) }
 {
     if 1_000 <= terminal.requests.len() {
         return Ok(Step::Broken(broken(outline, number, LineFault::Limit(3))));
     }
     let mut terminal = terminal;
     terminal.requests.push(words)?;
-    Ok(Step::Next(Stage::Requests(outline, terminal)))
+    Ok(Step::Next(Stage::Requests(outline, name, terminal)))
 }
 
 /// A request of more than 16 words.

@@ -45,7 +45,7 @@ fn at_end(alloc: Global, stage: Stage, count: u32) -> Told
         Stage::Program(outline, heading, program) => {
             unended(outline, heading, program.line, count)
         }
-        Stage::Requests(outline, _) => Told::Broken(broken(outline, count, LineFault::NoEnd)),
+        Stage::Requests(outline, _, _) => Told::Broken(broken(outline, count, LineFault::NoEnd)),
         Stage::Schedule(outline) => Told::Broken(broken(outline, count, LineFault::NoEnd)),
         Stage::Ended(outline) => Told::Whole(outline),
     }

@@ -10,7 +10,7 @@ use Rattle.std.specs.Map.{keys_of, lookup}
 use Rattle.std.specs.Str.{bytes_eq}
 use Rattle.gd_words.specs.Spelling.{padded}
 use Rattle.gd_words.specs.contracts.name.NamePartialEq.TheImpl.{ghosts}
-use Rattle.name_table.specs.Entries.{has_name, place_of}
+use Rattle.name_table.specs.Entries.{Named, has_name, place_of}
 
 -- what stands before the padding
 unpadded : (x : List ℕ) → take (length x) (padded 6 x) ≡ x
@@ -36,17 +36,17 @@ same_name x y = by (pointwise nat_eq (padded 6 x) (padded 6 y)) (nat_eq (length 
 
 module _ {T : Type 0} (name : List ℕ) where
   -- as many names stand before it
-  as_many_before : (entries : List (List ℕ × T)) → position_or_len (ghosts.eq name) (keys_of entries) ≡ position_or_len (λ entry. bytes_eq entry.0 name) entries
+  as_many_before : (entries : List (Named T)) → position_or_len (ghosts.eq name) (keys_of entries) ≡ position_or_len (λ entry. bytes_eq entry.0 name) entries
   as_many_before [] = refl
   as_many_before (entry ∷ rest) = λ i. cond (not (same_name name entry.0 i)) (1 + as_many_before rest i) 0
 
   -- where the map finds a name it stands
-  pub place-found : (entries : List (List ℕ × T)) → position (ghosts.eq name) (keys_of entries) ≡ place_of entries name
+  pub place-found : (entries : List (Named T)) → position (ghosts.eq name) (keys_of entries) ≡ place_of entries name
   place-found entries =
       ap₂ (λ place many. cond (nat_lt place many) (Some place) None) (as_many_before entries) (length-map entries (λ entry. entry.0))
 
   -- the map finds a name exactly where it is there
-  pub found-there : (entries : List (List ℕ × T)) → is_some (lookup (ghosts.eq name) entries) ≡ has_name entries name
+  pub found-there : (entries : List (Named T)) → is_some (lookup (ghosts.eq name) entries) ≡ has_name entries name
   found-there [] = refl
   found-there (entry ∷ rest) = by (ghosts.eq name entry.0) (bytes_eq entry.0 name) (same_name name entry.0) (found-there rest)
     where
@@ -57,7 +57,7 @@ module _ {T : Type 0} (name : List ℕ) where
       by false true e later = absurd (true≢false (sym e))
 
   -- a new name is not found
-  pub not_found : (entries : List (List ℕ × T)) → has_name entries name ≡ false → lookup (ghosts.eq name) entries ≡ None
+  pub not_found : (entries : List (Named T)) → has_name entries name ≡ false → lookup (ghosts.eq name) entries ≡ None
   not_found entries new = by (lookup (ghosts.eq name) entries) (found-there entries ∙ new)
     where
       by : (found : Option T) → is_some found ≡ false → found ≡ None

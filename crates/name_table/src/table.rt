@@ -14,9 +14,10 @@ pub struct NameTable<T> {
 }
 
 impl<T> Model for NameTable<T> {
-    ghost use Rattle.std.specs.Prelude.{List, ℕ};
+    ghost use Rattle.std.specs.Prelude.{List};
+    ghost use Rattle.name_table.specs.Entries.{Named};
 
-    ghost Value = { List (List ℕ × T) };
+    ghost Value = { List (Named T) };
 
     ghost view = { λ table. table.entries.entries };
 }

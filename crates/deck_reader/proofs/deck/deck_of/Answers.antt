@@ -1,8 +1,7 @@
-use Rattle.std.proofs.Common.{◌≡◌, List, Some, option_map, subst, sym, ap, ◌∙◌, inr, refl}
-use Rattle.deck_reader.specs.Decks.{AreProcessesOf, AreTerminalsOf}
-use Rattle.deck_reader.specs.Names.{misnamed_in, pairs_misnamed}
+use Rattle.std.proofs.Common.{◌≡◌, Some, option_map, subst, sym, ap, ◌∙◌, inr, refl}
+use Rattle.deck_reader.specs.Decks.{AreTerminalsOf}
+use Rattle.deck_reader.specs.Names.{misnamed_in}
 use Rattle.deck_reader.specs.Refusals.{IsOutlineFault, Tells, name_fault}
-use Rattle.deck_reader.specs.declared.outline.ProcessLines.{ProcessLines}
 use Rattle.deck_reader.proofs.NameLemmas.{found_in, tells_name}
 use Rattle.deck_reader.proofs.deck.deck_of.Goals as goal
 
@@ -10,31 +9,21 @@ pub returns-in-Some-clause-err : goal.returns-in-Some-clause-err
 returns-in-Some-clause-err c =
     let outline = c.args.outline in
     let specs = c.in_ok-specs.field-0.specs in
-    let P : List ProcessLines → Type 0 = λ lines. AreProcessesOf lines specs in
-    let Q : List ProcessLines → Type 0 = λ lines. c.in_ok-specs.field-0.misnamed ≡ pairs_misnamed lines lines specs in
-    let R : List ProcessLines → Type 0 = λ lines. AreTerminalsOf lines outline.terminals c.in-Ok.terminals in
-    let each : AreProcessesOf outline.processes specs = subst P c.as_slice.ensures c.in_ok-specs.ensures.ok in
-    let pair : c.in_ok-specs.field-0.misnamed ≡ pairs_misnamed outline.processes outline.processes specs = subst Q c.as_slice.ensures c.in_ok-specs.ensures.named in
-    let terminals : AreTerminalsOf outline.processes outline.terminals c.in-Ok.terminals = subst R c.as_slice-2.ensures (rw c.in-Ok.is at c.in_ok-target.ensures) in
+    let terminals : AreTerminalsOf outline.processes outline.terminals c.in-Ok.terminals = rw c.in-Ok.is at c.in_ok-target.ensures in
     let found : misnamed_in outline specs ≡ Some c.in-Some.misnamed =
-    found_in outline specs c.in-Ok.terminals _ _ _ terminals pair c.event_misnamed-event.ensures c.earlier.ensures ∙ c.in-Some.is in
+    found_in outline specs c.in-Ok.terminals _ _ _ terminals c.in_ok-specs.ensures.named c.event_misnamed-event.ensures c.earlier.ensures ∙ c.in-Some.is in
     subst (Tells (IsOutlineFault outline)) (sym c.name_fault.ensures)
-    (tells_name (IsOutlineFault outline) c.in-Some.misnamed (inr (specs, each, ap (option_map name_fault) found)))
+    (tells_name (IsOutlineFault outline) c.in-Some.misnamed (inr (specs, c.in_ok-specs.ensures.ok, ap (option_map name_fault) found)))
 
 pub returns-clause-ok : goal.returns-clause-ok
 returns-clause-ok c =
     let outline = c.args.outline in
     let specs = c.in_ok-specs.field-0.specs in
-    let P : List ProcessLines → Type 0 = λ lines. AreProcessesOf lines specs in
-    let Q : List ProcessLines → Type 0 = λ lines. c.in_ok-specs.field-0.misnamed ≡ pairs_misnamed lines lines specs in
-    let R : List ProcessLines → Type 0 = λ lines. AreTerminalsOf lines outline.terminals c.in-Ok.terminals in
-    let each : AreProcessesOf outline.processes specs = subst P c.as_slice.ensures c.in_ok-specs.ensures.ok in
-    let pair : c.in_ok-specs.field-0.misnamed ≡ pairs_misnamed outline.processes outline.processes specs = subst Q c.as_slice.ensures c.in_ok-specs.ensures.named in
-    let terminals : AreTerminalsOf outline.processes outline.terminals c.in-Ok.terminals = subst R c.as_slice-2.ensures (rw c.in-Ok.is at c.in_ok-target.ensures) in
+    let terminals : AreTerminalsOf outline.processes outline.terminals c.in-Ok.terminals = rw c.in-Ok.is at c.in_ok-target.ensures in
     record {
       processors = refl;
-      processes = each;
+      processes = c.in_ok-specs.ensures.ok;
       terminals = terminals;
       lines = refl;
-      named = found_in outline specs c.in-Ok.terminals _ _ _ terminals pair c.event_misnamed-event.ensures c.earlier.ensures ∙ c.in-None.is;
+      named = found_in outline specs c.in-Ok.terminals _ _ _ terminals c.in_ok-specs.ensures.named c.event_misnamed-event.ensures c.earlier.ensures ∙ c.in-None.is;
     }

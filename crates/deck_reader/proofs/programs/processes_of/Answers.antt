@@ -1,40 +1,32 @@
-use Rattle.std.proofs.Common.{◌≡◌, List, ◌+◌, take, subst, sym, ap, arith}
-use Rattle.tal_tree.specs.declared.site.ProcessSpec.{ProcessSpec}
-use Rattle.deck_reader.specs.Decks.{AreProcessesOf, IsProcessOf}
-use Rattle.deck_reader.specs.Names.{pairs_misnamed}
-use Rattle.deck_reader.specs.Sizes.{body_size}
+use Rattle.std.proofs.Common.{None, subst, sym, ◌∙◌, arith}
+use Rattle.name_table.specs.Entries.{Named}
 use Rattle.deck_reader.specs.declared.outline.ProcessLines.{ProcessLines}
-use Rattle.deck_reader.proofs.EachLemmas.{each_next}
-use Rattle.deck_reader.proofs.NameLemmas.{pairs_next}
+use Rattle.deck_reader.proofs.NameLemmas.{AreReadTo, none_read, one_read}
 use Rattle.deck_reader.proofs.RefusedLemmas.{programs_tell}
-use Rattle.deck_reader.proofs.SizeLemmas.{size_at}
+use Rattle.deck_reader.proofs.SizeLemmas.{size_left}
 use Rattle.deck_reader.proofs.programs.processes_of.Goals as goal
 
-pub process_of-requires : goal.process_of-requires
-process_of-requires c = record {
-  short = omega (
-    arith,
-    size_at c.args.lines.now c.loop-process.process-index c.process-item.result c.loop-process-test.true,
-    ap (λ (l : ProcessLines). body_size l.body) c.process-item.is,
-    c.requires.short,
-  );
-}
-
-pub loop-process-preserved : goal.loop-process-preserved
-loop-process-preserved c =
-    let k = c.loop-process.process-index in
+pub loop-name-init : goal.loop-name-init
+loop-name-init c =
     let lines = c.args.lines.now in
-    let one = c.process-item.result in
-    let spec = c.in-Ok.spec in
-    let P : List ProcessSpec → Type 0 = λ specs. AreProcessesOf (take (k + 1) lines) specs × (c.first_of-misnamed.result ≡ pairs_misnamed lines (take (k + 1) lines) specs) in
-    let Q : ProcessLines → Type 0 = λ l. IsProcessOf l spec in
-    subst P (sym c.in_ok-push-in-Ok.ensures.ok) (
-      each_next IsProcessOf lines c.loop-process.specs k one spec c.loop-process-test.true c.loop-process.invariant.0 (subst Q c.process-item.is c.in-Ok.ensures.ok),
-      pairs_next lines lines c.loop-process.specs k one one spec c.loop-process.misnamed c.first_of-misnamed.result c.process_misnamed-one.result
-          c.loop-process-test.true c.loop-process.invariant.0 c.process-item.is c.loop-process.invariant.1 c.process_misnamed-one.ensures c.first_of-misnamed.ensures,
-    )
+    let all = c.into_iter-name-iterator.ensures.into_iter_gives ∙ c.iter-name-items.ensures in
+    subst (λ specs. AreReadTo lines c.into_iter-name-iterator.result specs None) (sym c.new-specs.ensures) (none_read lines c.into_iter-name-iterator.result all)
+
+pub process_of-requires : goal.process_of-requires
+process_of-requires c =
+    let one : Named ProcessLines = (c.in-Some.name.now, c.in-Some.process.now) in record {
+      short = omega (arith, size_left c.args.lines.now _ _ one c.loop-name.specs c.loop-name.invariant.done c.in-Some.ensures.steps, c.requires.short);
+    }
 
 pub returns-in-Err-clause-err : goal.returns-in-Err-clause-err
 returns-in-Err-clause-err c =
-    programs_tell c.args.lines.now c.loop-process.specs c.loop-process.process-index c.process-item.result c.process-item.result c.in-Err.fault
-    c.loop-process.invariant.0 c.loop-process-test.true c.process-item.is c.in-Err.ensures.err
+    let one : Named ProcessLines = (c.in-Some.name.now, c.in-Some.process.now) in
+    programs_tell c.args.lines.now _ _ one c.loop-name.specs c.in-Err.fault c.loop-name.invariant.done c.in-Some.ensures.steps c.in-Err.ensures.err
+
+pub loop-name-preserved : goal.loop-name-preserved
+loop-name-preserved c =
+    let lines = c.args.lines.now in
+    let one : Named ProcessLines = (c.in-Some.name.now, c.in-Some.process.now) in
+    subst (λ specs. AreReadTo lines c.next.new.self specs c.first_of-misnamed.result) (sym c.in_ok-push-in-Ok.ensures.ok)
+    (one_read lines _ _ one c.loop-name.specs c.in-Ok.spec c.loop-name.misnamed c.process_misnamed-one.result c.first_of-misnamed.result c.loop-name.invariant
+    c.in-Some.ensures.steps c.in-Ok.ensures.ok c.process_misnamed-one.ensures c.first_of-misnamed.ensures)

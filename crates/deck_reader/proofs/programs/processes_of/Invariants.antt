@@ -1,7 +1,5 @@
-use Rattle.std.proofs.Common.{◌≡◌, take}
-use Rattle.deck_reader.specs.Decks.{AreProcessesOf}
-use Rattle.deck_reader.specs.Names.{pairs_misnamed}
+use Rattle.deck_reader.proofs.NameLemmas.{AreReadTo}
 use Rattle.deck_reader.proofs.programs.processes_of.Given as goal
 
-abbrev pub invariant-loop-process : goal.invariant-loop-process
-invariant-loop-process l = AreProcessesOf (take l.process-index l.lines) l.specs × (l.misnamed ≡ pairs_misnamed l.lines (take l.process-index l.lines) l.specs)
+abbrev pub invariant-loop-name : goal.invariant-loop-name
+invariant-loop-name l = AreReadTo l.lines l.name-iterator l.specs l.misnamed
