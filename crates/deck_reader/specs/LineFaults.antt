@@ -41,7 +41,7 @@ heading_of outline placing =
     else if nat_le 16 (length outline.processes) then Err (fault.Limit 1)
     else Ok (record { name = placing.name; primary = placing.primary; backup = placing.backup })
 
--- a process: under the name of its heading stands the rest of it, and what follows
+-- a process: under the name of its heading stand the processors of its two copies, and what it is
 abbrev pub process_with : Heading → Body → Named ProcessLines
 process_with heading body = (heading.name, record { primary = heading.primary; backup = heading.backup; body = body })
 

@@ -1,8 +1,9 @@
 //! Reads a deck: the processors, the processes with their programs, the terminals with their requests, and the schedule.
 //!
-//! Below stand `tal_reader`, which reads the programs, `tal_laws`, `tal_tree` for the site and the faults, and `schedule` for the
-//! event lines. The layer above uses the clauses of `read_deck`: what is taken is a deck, every deck is taken, and what is refused
-//! is refused for its one fault; and the law `a_deck_keeps_the_limits`.
+//! Below stand `tal_reader`, which reads the programs, `tal_laws`, `tal_tree` for the site and the faults, `schedule` for the
+//! event lines, and `name_table`, in which processes and terminals stand by their names. The layer above uses the clauses of
+//! `read_deck`: what is taken is a deck, every deck is taken, and what is refused is refused for its one fault; and the law
+//! `a_deck_keeps_the_limits`.
 //!
 //! `saying` and `event_saying` tell what a line says, `line_fault` what it adds or why it can't stand, `step` and `told` go from
 //! line to line, `programs` reads the programs, and `names` looks up names.

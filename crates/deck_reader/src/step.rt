@@ -87,7 +87,7 @@ pub fn broken_at_start(alloc: Global, line: u32, why: LineFault) -> Breach
 /// What comes of one more line, which has this number.
 pub fn next_stage(alloc: Global, stage: Stage, number: u32, line: &[u8]) -> Result<Step, NoMemory>
     requires few { HasFew stage }
-    requires fresh { HasNew stage }
+    requires new { HasNew stage }
     ensures { IfOk result (λ next. next ≡ next_stage stage number line.now) }
 {
     match stage {
