@@ -1,0 +1,9 @@
+pub mod Accepted
+pub mod BankSyntax
+pub mod Below
+pub mod Decked
+pub mod Outlines
+pub mod Paths
+pub mod Readings
+pub mod Sends
+pub mod Sizes
