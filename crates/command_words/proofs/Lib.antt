@@ -1,3 +1,3 @@
 mod NumberRead
-mod Ranges
+pub mod Ranges
 mod Refused

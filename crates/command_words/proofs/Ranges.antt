@@ -5,7 +5,8 @@ use Rattle.std.specs.List.{after_first, before_first}
 use Rattle.std.specs.Str.{bytes_eq}
 use Rattle.std.proofs.lemmas.Bool.{and_parts, leb-true}
 use Rattle.clap.specs.Words.{Row, Text, first_of}
-use Rattle.command_words.specs.Asked.{IsInRange, acts_in, check_as, command_as, command_in, load_as, load_of, run_as, stop_at, stop_of}
+use Rattle.command_words.specs.Asked.{IsInRange, acts_in, asked_by, check_as, command_as, command_in, load_as, load_of, run_as, stop_at, stop_of}
+use Rattle.command_words.specs.Line.{parse_of}
 use Rattle.command_words.specs.Numbers.{number_of}
 use Rattle.command_words.specs.declared.asked.Command.TheVariants.{Run, Load}
 use Rattle.player.specs.declared.stop.Stop.{Stop}
@@ -67,3 +68,10 @@ moded (Some mode) number acts fail =
 
 pub in_range : (rows : List Row) → IfSome (command_in rows) IsInRange
 in_range rows = moded (first_of (codes "mode") rows) (first_of (codes "number") rows) (acts_in rows) (first_of (codes "fail") rows)
+
+found : (rows : Option (List Row)) → IfSome (option_and_then command_in rows) IsInRange
+found None = tt
+found (Some rows) = in_range rows
+
+pub asked_in_range : (words : List Text) → IfSome (asked_by words) IsInRange
+asked_in_range words = found (parse_of words)

@@ -1,12 +1,13 @@
 -- A load is run.
 use Rattle.std.proofs.Common.{◌≡◌, ◌≤◌, ◌⊎◌, inl, inr, ℕ, List, Option, Some, None, subst, sym}
-use Rattle.std.specs.Prelude.{⊤, Result, Ok, Err}
+use Rattle.std.specs.Prelude.{⊤, IfSome, Result, Ok, Err}
 use Rattle.tal_tree.specs.declared.site.ProcessSpec.{ProcessSpec}
 use Rattle.path_semantics.specs.declared.reason.Refusal.{Refusal}
 use Rattle.path_semantics.specs.declared.reason.Refusal.TheVariants.{NoMemory}
-use Rattle.command_words.specs.Asked.{asked_by}
+use Rattle.command_words.specs.Asked.{IsInRange, asked_by}
 use Rattle.command_words.specs.declared.asked.Command.{Command}
 use Rattle.command_words.specs.declared.asked.Command.TheVariants.{Load}
+use Rattle.command_words.proofs.Ranges.{asked_in_range}
 use Rattle.deck_reader.specs.declared.deck.Deck.{Deck}
 use Rattle.deck_reader.proofs.OneAnswer.{no_deck, one_deck}
 use Rattle.discipline.proofs.Verdicts.{accepted-ok}
@@ -29,7 +30,6 @@ use Rattle.runner.specs.declared.outcome.Outcome.{Outcome}
 use Rattle.runner.specs.declared.task.Telling.{Telling}
 use Rattle.runner.specs.declared.task.Telling.TheVariants.{Counts}
 use Rattle.load_dues.specs.LoadStatus.{IsStatusOfLoad}
-use Rattle.load_dues.proofs.Asked.{IsFew, asked-few}
 
 only-wanting : (refusal : Refusal) → (◌≡◌ {A = Result ⊤ Refusal} (Err refusal) (Ok tt)) ⊎ (◌≡◌ {A = Result ⊤ Refusal} (Err refusal) (Err NoMemory)) → refusal ≡ NoMemory
 only-wanting refusal (inl fine) = absurd (cc)
@@ -61,7 +61,7 @@ pub load-run : (words : List (List ℕ)) (left : Option (List ℕ)) (before now 
     → IsDue words left before now decided → IsDueOfRun (load_deck count) None (Counts count) decided
 load-run words left before now count decided asked (inl none) = subst (IsDueOfRun (load_deck count) None (Counts count)) (sym none) tt
 load-run words left before now count decided asked (inr is) =
-    bytes-run count decided (subst IsFew asked (asked-few words)) (subst (λ (c : Option Command). IsDueOn c left before now decided) asked is)
+    bytes-run count decided (subst (λ (c : Option Command). IfSome c IsInRange) asked (asked_in_range words)).1 (subst (λ (c : Option Command). IsDueOn c left before now decided) asked is)
 
 ended : (how : Ending) → IsStatusOfLoad (status_of_run how)
 ended ending.Idle = tt
