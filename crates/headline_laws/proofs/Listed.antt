@@ -14,6 +14,7 @@ use Rattle.path_semantics.specs.declared.reason.Reason.{Reason}
 use Rattle.path_semantics.specs.declared.reason.Reason.TheVariants.{Data, SyncBlock, Input, Depth}
 use Rattle.path_semantics.specs.Accepted.{IsAccepted}
 use Rattle.path_semantics.specs.Bounds.{IsWithinBounds}
+use Rattle.path_semantics.specs.Dues.{after_entry}
 use Rattle.path_semantics.specs.Break.{Breaks, asked_count, is_reached, breaks_data, breaks_sync, breaks_input, breaks_depth, breaks_by, breaks_entry, breaks_at}
 use Rattle.path_semantics.specs.Path.{Walks}
 use Rattle.path_semantics.specs.Place.{Stand, next_entry, successors, first_stand}
@@ -146,3 +147,23 @@ listed-accepted program all places bounds begins led safe = record { bounds = bo
         let among = walks-among program all places led broken.front (first_stand program) broken.stand (among-at all 0 (first_stand program) begins) broken.leads in
         not-both (breaks_at program reason broken.stand) broken.breaks
         (safe-entry program reason broken.stand.dues (next_entry broken.stand) (all-do (is_safe_at program) all broken.stand safe among))
+
+-- Stands in MAIN alone
+
+-- the stands along entries of MAIN, one after the other
+abbrev pub along : Dues → List Entry → List Stand
+along dues [] = []
+along dues (entry ∷ rest) = record { place = (entry ∷ rest) ∷ []; dues = dues } ∷ along (after_entry dues entry) rest
+
+-- the dues behind them, what stands last among them, and the stand at the end of MAIN
+abbrev pub behind : Dues → List Entry → Dues
+behind dues [] = dues
+behind dues (entry ∷ rest) = behind (after_entry dues entry) rest
+
+abbrev pub last_in : List Entry → List Entry
+last_in [] = []
+last_in (entry ∷ []) = entry ∷ []
+last_in (entry ∷ rest) = last_in rest
+
+abbrev pub ended : Dues → Stand
+ended dues = record { place = []; dues = dues }

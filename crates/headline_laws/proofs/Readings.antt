@@ -20,7 +20,8 @@ use Rattle.headline_laws.proofs.Listed.{both}
 use Rattle.headline_laws.proofs.AdderSyntax.{adder_syntax}
 use Rattle.headline_laws.proofs.BankSyntax.{bank_syntax}
 
-all-low : (m : ℕ) (levels : List ℕ) → list_all (λ level. nat_le level m) levels ≡ true → AllAtMost m levels
+-- levels that a test finds at most so high
+pub all-low : (m : ℕ) (levels : List ℕ) → list_all (λ level. nat_le level m) levels ≡ true → AllAtMost m levels
 all-low m [] low = tt
 all-low m (level ∷ levels) low = let parts = both (nat_le level m) _ low in (leb-true level m parts.0, all-low m levels parts.1)
 

@@ -8,28 +8,10 @@ use Rattle.process_semantics.specs.State.{Entry, runs_of}
 use Rattle.path_semantics.specs.declared.dues.Dues.{Dues}
 use Rattle.path_semantics.specs.Accepted.{IsAccepted}
 use Rattle.path_semantics.specs.Bounds.{IsWithinBounds}
-use Rattle.path_semantics.specs.Dues.{no_dues, after_entry}
+use Rattle.path_semantics.specs.Dues.{no_dues}
 use Rattle.path_semantics.specs.Place.{Stand, body_of}
-use Rattle.headline_laws.proofs.Listed.{AreLed, is_safe_at, listed-accepted}
+use Rattle.headline_laws.proofs.Listed.{AreLed, along, behind, ended, is_safe_at, last_in, listed-accepted}
 use Rattle.load_laws.specs.LoadDeck.{bank_program, serving}
-
--- the stands along entries of MAIN, one after the other
-abbrev along : Dues → List Entry → List Stand
-along dues [] = []
-along dues (entry ∷ rest) = record { place = (entry ∷ rest) ∷ []; dues = dues } ∷ along (after_entry dues entry) rest
-
--- the dues behind them
-abbrev behind : Dues → List Entry → Dues
-behind dues [] = dues
-behind dues (entry ∷ rest) = behind (after_entry dues entry) rest
-
-abbrev last_in : List Entry → List Entry
-last_in [] = []
-last_in (entry ∷ []) = entry ∷ []
-last_in (entry ∷ rest) = last_in rest
-
-abbrev ended : Dues → Stand
-ended dues = record { place = []; dues = dues }
 
 -- what is due behind a round
 abbrev after_round : ℕ → Dues

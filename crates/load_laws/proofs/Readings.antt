@@ -1,10 +1,7 @@
 -- The programs of the banks read as these.
-use Rattle.std.proofs.Common.{◌≡◌, ℕ, zero, suc, List, [], ◌∷◌, ◌++◌, ◌%◌, true, None, length, refl, codes}
+use Rattle.std.proofs.Common.{◌≡◌, ℕ, zero, suc, List, [], ◌++◌, ◌%◌, None, length, refl, codes}
 use Rattle.std.specs.Fmt.{decimal, digits}
 use Rattle.std.specs.Int.{int_wrap}
-use Rattle.std.specs.List.{list_all}
-use Rattle.std.specs.Prelude.{nat_le}
-use Rattle.std.proofs.lemmas.Bool.{leb-true}
 use Rattle.tal_tokens.specs.Lexer.{tokens_of}
 use Rattle.tal_syntax.specs.Grammar as g
 use Rattle.tal_syntax.specs.Nesting.{nest_text}
@@ -12,7 +9,7 @@ use Rattle.tal_syntax.specs.Expected.{AllAtMost}
 use Rattle.tal_rules.specs.Texts.{faults}
 use Rattle.tal_trees.specs.Programs.{tree_of}
 use Rattle.tal_reader.specs.Reads.{Reads}
-use Rattle.headline_laws.proofs.Listed.{both}
+use Rattle.headline_laws.proofs.Readings.{all-low}
 use Rattle.load_deck.specs.LoadText.{line, program_head, program_middle}
 use Rattle.load_laws.specs.LoadDeck.{bank_program}
 use Rattle.load_laws.proofs.BankSyntax.{program_syntax, syntax_with}
@@ -45,10 +42,6 @@ tree disc sector wide = refl
 
 text : (disc sector wide : ℕ) → g.IsText (syntax_with disc sector wide)
 text disc sector wide = ((tt, (tt, (tt, ((tt, (tt, (tt, (tt, (tt, (tt, (tt, (tt, (tt, (tt, tt)))))))))), (tt, tt))))), tt)
-
-all-low : (most : ℕ) (levels : List ℕ) → list_all (λ level. nat_le level most) levels ≡ true → AllAtMost most levels
-all-low most [] low = tt
-all-low most (level ∷ levels) low = let parts = both (nat_le level most) _ low in (leb-true level most parts.0, all-low most levels parts.1)
 
 low : (disc sector wide : ℕ) → AllAtMost 33 (nest_text (syntax_with disc sector wide))
 low disc sector wide = all-low 33 (nest_text (syntax_with disc sector wide)) refl
