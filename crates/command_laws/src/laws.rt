@@ -1,0 +1,66 @@
+ghost use Rattle.std.specs.Prelude.{◌≡◌, ◌≢◌, ◌⊎◌, ℕ, Bool, true, List, Option, Some, None};
+ghost use Rattle.command_words.specs.Asked.{asked_by};
+ghost use Rattle.command_words.specs.declared.asked.Command.TheVariants.{Check, Load, Run};
+ghost use Rattle.deck_reader.specs.Decks.{Decks};
+ghost use Rattle.deck_reader.specs.declared.deck.Deck.{Deck};
+ghost use Rattle.load_laws.specs.LoadDeck.{load_deck};
+ghost use Rattle.player.specs.declared.stop.Stop.{Stop};
+ghost use Rattle.runner.specs.Decided.{IsDue, IsDueOfRun};
+ghost use Rattle.runner.specs.Ends.{Ends};
+ghost use Rattle.runner.specs.Tasks.{can_stop};
+ghost use Rattle.runner.specs.declared.due.Due.{Due};
+ghost use Rattle.runner.specs.declared.due.Due.TheVariants as due;
+ghost use Rattle.runner.specs.declared.outcome.Outcome.{Outcome};
+ghost use Rattle.runner.specs.declared.task.Task.TheVariants as task;
+ghost use Rattle.runner.specs.declared.task.Telling.TheVariants.{Counts, Lines};
+ghost use Rattle.command_laws.specs.RunStatus.{IsStatusOfCheck, IsStatusOfRun};
+ghost use Rattle.verdicts.specs.Refused.{AreAccepted};
+
+use gd_io::{Sink, Source};
+
+/// Where the words ask for a run, and the source tells bytes that spell a deck which has the processor that is to stop and whose
+/// programs are accepted, what is due is the report of a run of that deck, unless reading fails or memory runs out.
+pub fn an_accepted_deck_is_run()
+    ensures { (words : List (List ℕ)) (bytes : List ℕ) (before now : ℕ) (acts : Bool) (stop : Option Stop) (deck : Deck) (decided : Due)
+        → asked_by words ≡ Some (Run acts stop) → Decks bytes deck → can_stop (task.Run (Lines acts) stop) deck.site ≡ true → AreAccepted deck.site.processes
+        → IsDue words (Some bytes) before now decided → decided ≢ due.ReadFault → IsDueOfRun deck stop (Lines acts) decided }
+{}
+
+/// So such a command ends with a run, where the source is sure of itself, unless memory runs out or a write fails: no words, deck or
+/// program is refused.
+pub fn no_accepted_deck_is_refused<S: Source, K: Sink>()
+    ensures { (words : List (List ℕ)) (source source_now : S) (sink sink_now : K) (outcome : Outcome)
+        → Ends S.left S.faults S.sure K.held K.faults K.sure words source source_now sink sink_now outcome
+        → (bytes : List ℕ) (acts : Bool) (stop : Option Stop) (deck : Deck) → asked_by words ≡ Some (Run acts stop)
+        → S.left source ≡ Some bytes → S.sure source → Decks bytes deck → can_stop (task.Run (Lines acts) stop) deck.site ≡ true
+        → AreAccepted deck.site.processes → IsStatusOfRun outcome.status }
+{}
+
+/// Where the words ask for a check, and the source tells bytes that spell a deck whose programs are accepted, it is due to say so,
+/// unless reading fails or memory runs out.
+pub fn an_accepted_deck_is_checked()
+    ensures { (words : List (List ℕ)) (bytes : List ℕ) (before now : ℕ) (deck : Deck) (decided : Due)
+        → asked_by words ≡ Some Check → Decks bytes deck → AreAccepted deck.site.processes
+        → IsDue words (Some bytes) before now decided → decided ≢ due.ReadFault → (decided ≡ due.Accepted deck.site) ⊎ (decided ≡ due.NoMemory) }
+{}
+
+/// So such a command ends well, where the source is sure of itself, unless memory runs out or a write fails.
+pub fn no_accepted_deck_is_refused_a_check<S: Source, K: Sink>()
+    ensures { (words : List (List ℕ)) (source source_now : S) (sink sink_now : K) (outcome : Outcome)
+        → Ends S.left S.faults S.sure K.held K.faults K.sure words source source_now sink sink_now outcome
+        → (bytes : List ℕ) (deck : Deck) → asked_by words ≡ Some Check
+        → S.left source ≡ Some bytes → S.sure source → Decks bytes deck → AreAccepted deck.site.processes → IsStatusOfCheck outcome.status }
+{}
+
+/// Where the words ask for a load, what is due is the report of a run of the load deck, told in counts, or want of memory.
+pub fn a_load_is_run()
+    ensures { (words : List (List ℕ)) (left : Option (List ℕ)) (before now count : ℕ) (decided : Due) → asked_by words ≡ Some (Load count)
+        → IsDue words left before now decided → IsDueOfRun (load_deck count) None (Counts count) decided }
+{}
+
+/// So a command of such words ends with a run, unless memory runs out or a write fails: no words, deck, program or source is refused.
+pub fn a_load_is_never_refused<S: Source, K: Sink>()
+    ensures { (words : List (List ℕ)) (source source_now : S) (sink sink_now : K) (outcome : Outcome) (count : ℕ)
+        → Ends S.left S.faults S.sure K.held K.faults K.sure words source source_now sink sink_now outcome → asked_by words ≡ Some (Load count)
+        → IsStatusOfRun outcome.status }
+{}
