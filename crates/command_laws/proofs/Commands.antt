@@ -1,5 +1,5 @@
 -- What is due by words, and how a command of them ends.
-use Rattle.std.proofs.Common.{◌≡◌, ◌≢◌, ◌⊎◌, inl, inr, ℕ, true, List, Option, Some, None, refl, subst, sym, ap, ◌∙◌}
+use Rattle.std.proofs.Common.{◌≡◌, ◌≢◌, ◌⊎◌, inl, inr, ℕ, true, List, Option, Some, None, refl, subst, sym, ap, ◌∙◌, arith}
 use Rattle.std.specs.Prelude.{⊤, Bool, IfSome, Result, Ok, Err}
 use Rattle.command_words.specs.Asked.{IsInRange, asked_by}
 use Rattle.command_words.specs.declared.asked.Command.{Command}
@@ -9,25 +9,27 @@ use Rattle.deck_reader.specs.Decks.{Decks}
 use Rattle.deck_reader.specs.declared.deck.Deck.{Deck}
 use Rattle.gd_io.specs.declared.writing.WriteFault.{WriteFault}
 use Rattle.load_deck.specs.LoadText.{load_text}
-use Rattle.load_laws.specs.LoadDeck.{load_deck}
+use Rattle.load_laws.specs.LoadDeck.{load_deck, load_lines}
 use Rattle.load_laws.proofs.Accepted.{load-accepted}
 use Rattle.load_laws.proofs.Decked.{load-decks}
 use Rattle.player.specs.declared.stop.Stop.{Stop}
 use Rattle.schedule_runs.specs.declared.ran.Ending.{Ending}
 use Rattle.schedule_runs.specs.declared.ran.Ending.TheVariants as ending
+use Rattle.single_stops.proofs.Runs.{never-second}
 use Rattle.verdicts.specs.Refused.{AreAccepted}
-use Rattle.runner.specs.Decided.{IsDue, IsDueOfRun, IsDueOn}
+use Rattle.runner.specs.Decided.{IsDue, IsDueOfRun, IsDueOn, IsReportOf}
 use Rattle.runner.specs.RunEnds.{status_of_run}
 use Rattle.runner.specs.Tasks.{can_stop, load_task}
 use Rattle.runner.specs.Written.{outcome_of, status_of}
 use Rattle.runner.specs.declared.due.Due.{Due}
 use Rattle.runner.specs.declared.due.Due.TheVariants as due
+use Rattle.runner.specs.declared.due.Report.{Report}
 use Rattle.runner.specs.declared.outcome.Outcome.{Outcome}
 use Rattle.runner.specs.declared.outcome.Status.TheVariants as status
 use Rattle.runner.specs.declared.task.Task.TheVariants as task
 use Rattle.runner.specs.declared.task.Telling.{Telling}
 use Rattle.runner.specs.declared.task.Telling.TheVariants.{Counts, Lines}
-use Rattle.command_laws.specs.RunStatus.{IsStatusOfCheck, IsStatusOfRun}
+use Rattle.command_laws.specs.RunStatus.{IsStatusOfCheck, IsStatusOfLoad, IsStatusOfRun}
 use Rattle.command_laws.proofs.Accepted.{IsGood, of-bytes, of-source}
 
 good-run : (deck : Deck) (stop : Option Stop) (tells : Telling) (decided : Due) → IsGood (task.Run tells stop) deck decided → IsDueOfRun deck stop tells decided
@@ -76,7 +78,7 @@ run-status deck stop tells (due.Report report) is = ended report.run.ran.ending
 run-status deck stop tells due.NoMemory is = tt
 run-status deck stop tells _ is = absurd is
 
-pub run-ends : (deck : Deck) (stop : Option Stop) (tells : Telling) (decided : Due) (result : Result ⊤ WriteFault) (outcome : Outcome)
+run-ends : (deck : Deck) (stop : Option Stop) (tells : Telling) (decided : Due) (result : Result ⊤ WriteFault) (outcome : Outcome)
     → IsDueOfRun deck stop tells decided → outcome ≡ outcome_of decided result → IsStatusOfRun outcome.status
 run-ends deck stop tells decided (Ok done) outcome is same = subst (λ (o : Outcome). IsStatusOfRun o.status) (sym same) (run-status deck stop tells decided is)
 run-ends deck stop tells decided (Err fault) outcome is same = subst (λ (o : Outcome). IsStatusOfRun o.status) (sym same) tt
@@ -95,6 +97,25 @@ deck-ends words bytes before now acts stop deck decided (Err fault) outcome aske
 deck-ends words bytes before now acts stop deck decided (Ok done) outcome asked spelt able accepted is same sure =
     run-ends deck stop (Lines acts) decided (Ok done) outcome
     (deck-run words bytes before now acts stop deck decided asked spelt able accepted is (none-failed decided done outcome same sure)) same
+
+-- the schedule of a load asks for one stop
+load-ended : (count : ℕ) (report : Report) → IsReportOf (load_deck count) None report → (how : Ending) → report.run.ran.ending ≡ how
+    → IsStatusOfLoad (status_of_run how)
+load-ended count report is ending.Idle how = tt
+load-ended count report is ending.Cut how = tt
+load-ended count report is (ending.Second processor) how =
+    never-second (load_deck count).site load_lines None report.run.ran processor (omega arith) is.run how
+
+load-status : (count : ℕ) (decided : Due) → IsDueOfRun (load_deck count) None (Counts count) decided → IsStatusOfLoad (status_of decided)
+load-status count (due.Report report) is = load-ended count report is.0 report.run.ran.ending refl
+load-status count due.NoMemory is = tt
+load-status count _ is = absurd is
+
+pub load-ends : (words : List (List ℕ)) (left : Option (List ℕ)) (before now count : ℕ) (decided : Due) (result : Result ⊤ WriteFault) (outcome : Outcome)
+    → asked_by words ≡ Some (Load count) → IsDue words left before now decided → outcome ≡ outcome_of decided result → IsStatusOfLoad outcome.status
+load-ends words left before now count decided (Err fault) outcome asked is same = subst (λ (o : Outcome). IsStatusOfLoad o.status) (sym same) tt
+load-ends words left before now count decided (Ok done) outcome asked is same =
+    subst (λ (o : Outcome). IsStatusOfLoad o.status) (sym same) (load-status count decided (load-run words left before now count decided asked is))
 
 checked-status : (decided : Due) (deck : Deck) → (decided ≡ due.Accepted deck.site) ⊎ (decided ≡ due.NoMemory) → IsStatusOfCheck (status_of decided)
 checked-status decided deck (inl is) = subst (λ (d : Due). IsStatusOfCheck (status_of d)) (sym is) tt

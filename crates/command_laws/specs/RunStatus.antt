@@ -11,6 +11,14 @@ IsStatusOfRun status.WriteFault = Unit {0}
 IsStatusOfRun status.NoMemory = Unit {0}
 IsStatusOfRun _ = ⊥
 
+-- the same of a load, whose deck asks for one stop
+abbrev pub IsStatusOfLoad : Status → Type 0
+IsStatusOfLoad status.Done = Unit {0}
+IsStatusOfLoad status.Cut = Unit {0}
+IsStatusOfLoad status.WriteFault = Unit {0}
+IsStatusOfLoad status.NoMemory = Unit {0}
+IsStatusOfLoad _ = ⊥
+
 -- all programs were accepted, a write failed, or memory ran out
 abbrev pub IsStatusOfCheck : Status → Type 0
 IsStatusOfCheck status.Done = Unit {0}

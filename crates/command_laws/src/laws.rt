@@ -13,7 +13,7 @@ ghost use Rattle.runner.specs.declared.due.Due.TheVariants as due;
 ghost use Rattle.runner.specs.declared.outcome.Outcome.{Outcome};
 ghost use Rattle.runner.specs.declared.task.Task.TheVariants as task;
 ghost use Rattle.runner.specs.declared.task.Telling.TheVariants.{Counts, Lines};
-ghost use Rattle.command_laws.specs.RunStatus.{IsStatusOfCheck, IsStatusOfRun};
+ghost use Rattle.command_laws.specs.RunStatus.{IsStatusOfCheck, IsStatusOfLoad, IsStatusOfRun};
 ghost use Rattle.verdicts.specs.Refused.{AreAccepted};
 
 use gd_io::{Sink, Source};
@@ -58,9 +58,10 @@ pub fn a_load_is_run()
         → IsDue words left before now decided → IsDueOfRun (load_deck count) None (Counts count) decided }
 {}
 
-/// So a command of such words ends with a run, unless memory runs out or a write fails: no words, deck, program or source is refused.
+/// So a command of such words ends with a run, unless memory runs out or a write fails: no words, deck, program or source is refused,
+/// and no second processor would stop.
 pub fn a_load_is_never_refused<S: Source, K: Sink>()
     ensures { (words : List (List ℕ)) (source source_now : S) (sink sink_now : K) (outcome : Outcome) (count : ℕ)
         → Ends S.left S.faults S.sure K.held K.faults K.sure words source source_now sink sink_now outcome → asked_by words ≡ Some (Load count)
-        → IsStatusOfRun outcome.status }
+        → IsStatusOfLoad outcome.status }
 {}

@@ -2,7 +2,8 @@
 //! read or a write fails; and a load is such a command.
 //!
 //! Below stand `runner`, whose definitions say what is due and how a command ends, `deck_reader`, `verdicts` and `discipline` with the
-//! laws that decks and verdicts are one, and `load_laws`, which says what deck the load text is. No code runs here.
+//! laws that decks and verdicts are one, `load_laws`, which says what deck the load text is, and `single_stops`, by which its run has no
+//! second stop. No code runs here.
 #![tactic(auto)]
 
 pub mod laws;

@@ -1,0 +1,4 @@
+pub mod Calm
+pub mod Costs
+pub mod Runs
+pub mod Turns

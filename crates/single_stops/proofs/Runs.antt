@@ -1,0 +1,77 @@
+-- Where a schedule asks for one stop at most, none is still to come once a processor has stopped.
+use Rattle.std.proofs.Common.{◌≡◌, ◌≤◌, ◌⊎◌, inl, inr, ℕ, zero, suc, Bool, true, false, List, length, replicate, Option, Some, refl, subst, arith}
+use Rattle.tal_tree.specs.declared.site.Site.{Site}
+use Rattle.schedule.specs.declared.event.Event.{Event}
+use Rattle.schedule.specs.declared.event.Event.TheVariants as event
+use Rattle.schedule.specs.declared.line.Line.{Line}
+use Rattle.player.specs.declared.stop.Stop.{Stop}
+use Rattle.message_wires.specs.Play.{Whole, has_stopped}
+use Rattle.schedule_runs.specs.Ends.{EndsAs, IsRunOf}
+use Rattle.schedule_runs.specs.Runs.{Agenda, IsPlay, Plan, Plays, RunsToStop, counts_of, plays_none, plays_on, sizes_of}
+use Rattle.schedule_runs.specs.declared.ran.Ending.{Ending}
+use Rattle.schedule_runs.specs.declared.ran.Ending.TheVariants.{Second}
+use Rattle.schedule_runs.specs.declared.ran.Ran.{Ran}
+use Rattle.single_stops.specs.StopsAsked.{stops_asked, stops_in}
+use Rattle.single_stops.proofs.Calm.{calm-kept, would-stop}
+use Rattle.single_stops.proofs.Costs.{IsPaid, to_come, upcoming-paid}
+
+-- at most one stop is still to come, and none where a processor has stopped
+record IsSingle (agenda : Agenda) (s : Whole) : Type 0 where
+  few : to_come agenda ≤ 1
+  none : has_stopped s.world.stopped ≡ true → to_come agenda ≡ 0
+
+none-at-first : (processors : ℕ) → has_stopped (replicate processors false) ≡ false
+none-at-first zero = refl
+none-at-first (suc processors) = none-at-first processors
+
+not-both : (test : Bool) → test ≡ false → test ≡ true → ⊥
+not-both test isnt is = absurd (cc)
+
+stop-or-calm : (event : Event) → (stops_in event 1 ≡ 0) ⊎ (stops_in event 1 ≡ 1)
+stop-or-calm (event.Fail processor) = inr refl
+stop-or-calm (event.Run place) = inl refl
+stop-or-calm (event.Enter place) = inl refl
+stop-or-calm (event.Deliver y k) = inl refl
+stop-or-calm (event.Lose y k) = inl refl
+stop-or-calm (event.Repeat y k) = inl refl
+stop-or-calm (event.Tick node) = inl refl
+
+-- after an event that is paid
+single-on : (agenda : Agenda) (s next : Whole) (plan : Plan) → IsSingle agenda s → IsPaid (to_come agenda) (Some plan) → IsPlay s plan.event next
+    → IsSingle plan.agenda next
+single-on agenda s next plan single paid play = by (stop-or-calm plan.event)
+  where
+    by : (stops_in plan.event 1 ≡ 0) ⊎ (stops_in plan.event 1 ≡ 1) → IsSingle plan.agenda next
+    by (inr stop) = let few = single.few in record { few = omega (arith, few, paid, stop); none = λ stopped. omega (arith, few, paid, stop) }
+    by (inl calm) =
+        let few = single.few in
+        record {
+          few = omega (arith, few, paid);
+          none = λ stopped.
+              let none = single.none (subst (λ (all : List Bool). has_stopped all ≡ true) (calm-kept s plan.event next calm play) stopped) in
+              omega (arith, none, paid);
+        }
+
+played-single : (site : Site) (lines : List Line) (stop : Option Stop) → stops_asked lines stop ≤ 1 → (events : List Event) (agenda : Agenda) (s : Whole)
+    → Plays site lines stop events agenda s → IsSingle agenda s
+played-single site lines stop few _ _ _ plays_none =
+    record { few = omega (arith, few); none = λ stopped. absurd (not-both _ (none-at-first site.processors) stopped) }
+played-single site lines stop few _ _ _ (plays_on {events = events} {agenda = agenda} {s = s} {next = next} plan before comes play) =
+    single-on agenda s next plan (played-single site lines stop few events agenda s before)
+    (subst (IsPaid (to_come agenda)) comes (upcoming-paid (sizes_of site) (length events) (counts_of s) agenda)) play
+
+no-second : (site : Site) (lines : List Line) (stop : Option Stop) → stops_asked lines stop ≤ 1 → (events : List Event) (s : Whole) (processor : ℕ)
+    → RunsToStop site lines stop events s processor → ⊥
+no-second site lines stop few events s processor runs =
+    let single = played-single site lines stop few events runs.agenda s runs.played in
+    let would = would-stop s runs.plan.event processor runs.would in
+    let none = single.none would.1 in
+    let one = would.0 in
+    let paid = subst (IsPaid (to_come runs.agenda)) runs.comes (upcoming-paid (sizes_of site) (length events) (counts_of s) runs.agenda) in
+    omega (arith, none, one, paid)
+
+pub never-second : (site : Site) (lines : List Line) (stop : Option Stop) (ran : Ran) (processor : ℕ) → stops_asked lines stop ≤ 1
+    → IsRunOf site lines stop ran → ran.ending ≡ Second processor → ⊥
+never-second site lines stop ran processor few run ended =
+    let ends = subst (λ (ending : Ending). EndsAs site lines stop run.events run.state ran.machine.state ran.asked ending) ended run.ends in
+    no-second site lines stop few run.events run.state processor ends.0
