@@ -8,7 +8,7 @@ use Rattle.tal_tree.specs.declared.site.Kind.{Kind}
 use Rattle.tal_tree.specs.declared.site.Kind.TheVariants as kind
 use Rattle.deck_reader.specs.Decks.{Decks, IsDeckOf, IsKindOf, EachWith}
 use Rattle.deck_reader.specs.Limits.{IsKindWithinLimits, IsProcessWithinLimits, IsTerminalWithinLimits, IsWithinDeckLimits}
-use Rattle.deck_reader.specs.Lines.{lines_of}
+use Rattle.deck_lines.specs.Lines.{lines_of}
 use Rattle.deck_reader.specs.Schedules.{IsLineOf, singles_of, rounds_of}
 use Rattle.deck_reader.specs.declared.deck.Deck.{Deck}
 use Rattle.deck_reader.specs.declared.outline.Body.{Body}

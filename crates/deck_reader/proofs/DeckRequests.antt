@@ -3,7 +3,7 @@ use Rattle.std.proofs.Common.{ℕ, List, sym, subst}
 use Rattle.std.specs.List.{All}
 use Rattle.deck_reader.specs.Decks.{Decks, IsTerminalOf}
 use Rattle.deck_reader.specs.Limits.{HasShortRequests}
-use Rattle.deck_reader.specs.Lines.{lines_of}
+use Rattle.deck_lines.specs.Lines.{lines_of}
 use Rattle.deck_reader.specs.declared.deck.Deck.{Deck}
 use Rattle.deck_reader.proofs.DeckLimits.{all_with}
 use Rattle.deck_reader.proofs.ShortRequests.{HasShort, IsShort, outline_short}

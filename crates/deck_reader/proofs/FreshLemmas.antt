@@ -10,7 +10,7 @@ use Rattle.deck_reader.specs.declared.outline.Body.TheVariants as body
 use Rattle.deck_reader.specs.declared.outline.Heading.{Heading}
 use Rattle.deck_reader.specs.declared.outline.Outline.{Outline}
 use Rattle.deck_reader.specs.declared.outline.ProcessLines.{ProcessLines}
-use Rattle.deck_reader.specs.declared.saying.Placing.{Placing}
+use Rattle.deck_lines.specs.declared.saying.Placing.{Placing}
 
 -- a new name is neither a process's nor a terminal's
 pub new_names : (outline : Outline) (name : List ℕ) → not (is_new outline name) ≡ false → (has_name outline.processes name ≡ false) × (has_name outline.terminals name ≡ false)

@@ -1,15 +1,11 @@
-pub mod CutLemmas
 pub mod DeckLimits
 pub mod DeckPrograms
 pub mod DeckRequests
 pub mod EachLemmas
 pub mod FreshLemmas
-pub mod LineLemmas
 pub mod NameLemmas
-pub mod NumberLemmas
 pub mod OneAnswer
 pub mod RefusedLemmas
-pub mod RequestLemmas
 pub mod ScheduleLemmas
 pub mod ShortRequests
 pub mod SizeLemmas

@@ -12,7 +12,7 @@ use Rattle.tal_tree.specs.declared.site.Kind.{Kind}
 use Rattle.tal_tree.specs.declared.site.Kind.TheVariants as kind
 use Rattle.tal_tree.specs.declared.site.ProcessSpec.{ProcessSpec}
 use Rattle.deck_reader.specs.Decks.{IsKindOf, IsProcessOf, AreProcessesOf}
-use Rattle.deck_reader.specs.Lines.{lines_of}
+use Rattle.deck_lines.specs.Lines.{lines_of}
 use Rattle.deck_reader.specs.Outlined.{told_by}
 use Rattle.deck_reader.specs.Refusals.{IsBreachFault, IsFaultOf, IsFirstRefused, IsOutlineFault, IsOwnFault, IsRefusedAs, IsRefusalOf, Tells, fault_at, name_fault}
 use Rattle.deck_reader.specs.declared.deck.Deck.{Deck}

@@ -10,8 +10,8 @@ use Rattle.schedule.specs.declared.line.Line.TheVariants as told
 use Rattle.deck_reader.specs.EventLineOf.{event_line}
 use Rattle.deck_reader.specs.LineFaults.{asks, more_singles, more_rounds}
 use Rattle.deck_reader.specs.Schedules.{IsLineOf, IsNodeOf, singles_in, rounds_in, singles_of, rounds_of}
-use Rattle.deck_reader.specs.declared.event_saying.EventSaying.{EventSaying}
-use Rattle.deck_reader.specs.declared.event_saying.EventSaying.TheVariants as asked
+use Rattle.deck_lines.specs.declared.event_saying.EventSaying.{EventSaying}
+use Rattle.deck_lines.specs.declared.event_saying.EventSaying.TheVariants as asked
 use Rattle.deck_reader.specs.declared.line_fault.LineFault.{LineFault}
 use Rattle.deck_reader.specs.declared.line_fault.LineFault.TheVariants as fault
 use Rattle.deck_reader.specs.declared.outline.Outline.{Outline}

@@ -7,13 +7,13 @@ use Rattle.std.proofs.lemmas.Bool.{leb-true}
 use Rattle.std.proofs.lemmas.List.Elements.{All-append, All-cons, All-nil}
 use Rattle.gd_words.specs.Spelling.{name_of}
 use Rattle.name_table.specs.Entries.{Named}
-use Rattle.deck_reader.specs.EventSayingOf.{event_said}
+use Rattle.deck_lines.specs.EventSayingOf.{event_said}
 use Rattle.deck_reader.specs.LineFaults.{asks, disc_of, is_new, outline_with, terminal_of}
-use Rattle.deck_reader.specs.Lines.{words_of, is_blank, is_printable, one_word, two_words, three_words, four_words}
-use Rattle.deck_reader.specs.Numbers.{number_of, word_of}
+use Rattle.deck_lines.specs.Lines.{words_of, is_blank, is_printable, one_word, two_words, three_words, four_words}
+use Rattle.deck_lines.specs.Numbers.{number_of, word_of}
 use Rattle.deck_reader.specs.Outlined.{asked, at_end, broken, disc_told, ended, in_blocks, in_program, in_requests, in_schedule, led_on, next_stage, opening, program_ended, site_told, terminal_told, told_after, told_by, with_terminal}
-use Rattle.deck_reader.specs.SayingOf.{are_words, is_remark, keyword_of, or_formless, or_long, parts_say, placing_of, request_of, request_words, said_by, saying_of, terminal_said}
-use Rattle.deck_reader.specs.declared.event_saying.EventSaying.{EventSaying}
+use Rattle.deck_lines.specs.SayingOf.{are_words, is_remark, keyword_of, or_formless, or_long, parts_say, placing_of, request_of, request_words, said_by, saying_of, terminal_said}
+use Rattle.deck_lines.specs.declared.event_saying.EventSaying.{EventSaying}
 use Rattle.deck_reader.specs.declared.line_fault.LineFault.{LineFault}
 use Rattle.deck_reader.specs.declared.line_fault.LineFault.TheVariants as fault
 use Rattle.deck_reader.specs.declared.outline.Heading.{Heading}
@@ -22,10 +22,10 @@ use Rattle.deck_reader.specs.declared.outline.ProcessLines.{ProcessLines}
 use Rattle.deck_reader.specs.declared.outline.ProgramLines.{ProgramLines}
 use Rattle.deck_reader.specs.declared.outline.Sums.{Sums}
 use Rattle.deck_reader.specs.declared.outline.TerminalLines.{TerminalLines}
-use Rattle.deck_reader.specs.declared.saying.Keyword.{Keyword}
-use Rattle.deck_reader.specs.declared.saying.Keyword.TheVariants as key
-use Rattle.deck_reader.specs.declared.saying.Saying.{Saying}
-use Rattle.deck_reader.specs.declared.saying.Saying.TheVariants as said
+use Rattle.deck_lines.specs.declared.saying.Keyword.{Keyword}
+use Rattle.deck_lines.specs.declared.saying.Keyword.TheVariants as key
+use Rattle.deck_lines.specs.declared.saying.Saying.{Saying}
+use Rattle.deck_lines.specs.declared.saying.Saying.TheVariants as said
 use Rattle.deck_reader.specs.declared.step.Stage.{Stage}
 use Rattle.deck_reader.specs.declared.step.Stage.TheVariants as at
 use Rattle.deck_reader.specs.declared.step.Step.{Step}

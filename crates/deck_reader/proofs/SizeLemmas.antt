@@ -6,11 +6,11 @@ use Rattle.name_table.specs.Entries.{Named}
 use Rattle.tal_tree.specs.declared.site.ProcessSpec.{ProcessSpec}
 use Rattle.deck_reader.specs.Decks.{IsProcessOf}
 use Rattle.deck_reader.specs.LineFaults.{asks, disc_of, heading_of, outline_with, process_with, terminal_of, with_sectors}
-use Rattle.deck_reader.specs.Lines.{lines_of, before_first}
+use Rattle.deck_lines.specs.Lines.{lines_of, before_first}
 use Rattle.deck_reader.specs.Outlined.{asked, at_end, disc_told, ended, in_blocks, in_program, in_requests, in_schedule, led_on, next_stage, opening, program_ended, site_told, terminal_told, told_after, told_by, with_terminal}
-use Rattle.deck_reader.specs.SayingOf.{saying_of}
+use Rattle.deck_lines.specs.SayingOf.{saying_of}
 use Rattle.deck_reader.specs.Sizes.{body_size, breach_size, text_size}
-use Rattle.deck_reader.specs.declared.event_saying.EventSaying.{EventSaying}
+use Rattle.deck_lines.specs.declared.event_saying.EventSaying.{EventSaying}
 use Rattle.deck_reader.specs.declared.line_fault.LineFault.{LineFault}
 use Rattle.deck_reader.specs.declared.line_fault.LineFault.TheVariants as fault
 use Rattle.deck_reader.specs.declared.outline.Body.TheVariants as body
@@ -20,9 +20,9 @@ use Rattle.deck_reader.specs.declared.outline.ProcessLines.{ProcessLines}
 use Rattle.deck_reader.specs.declared.outline.ProgramLines.{ProgramLines}
 use Rattle.deck_reader.specs.declared.outline.Sums.{Sums}
 use Rattle.deck_reader.specs.declared.outline.TerminalLines.{TerminalLines}
-use Rattle.deck_reader.specs.declared.saying.Placing.{Placing}
-use Rattle.deck_reader.specs.declared.saying.Saying.{Saying}
-use Rattle.deck_reader.specs.declared.saying.Saying.TheVariants as said
+use Rattle.deck_lines.specs.declared.saying.Placing.{Placing}
+use Rattle.deck_lines.specs.declared.saying.Saying.{Saying}
+use Rattle.deck_lines.specs.declared.saying.Saying.TheVariants as said
 use Rattle.deck_reader.specs.declared.step.Stage.{Stage}
 use Rattle.deck_reader.specs.declared.step.Stage.TheVariants as at
 use Rattle.deck_reader.specs.declared.step.Step.{Step}

@@ -6,7 +6,7 @@ use Rattle.tal_tree.specs.declared.site.Kind.{Kind}
 use Rattle.tal_tree.specs.declared.site.Kind.TheVariants as kind
 use Rattle.tal_tree.specs.declared.site.ProcessSpec.{ProcessSpec}
 use Rattle.tal_tree.specs.declared.site.TerminalSpec.{TerminalSpec}
-use Rattle.deck_reader.specs.Lines.{lines_of}
+use Rattle.deck_lines.specs.Lines.{lines_of}
 use Rattle.deck_reader.specs.Names.{misnamed_in}
 use Rattle.deck_reader.specs.Outlined.{told_by}
 use Rattle.deck_reader.specs.declared.deck.Deck.{Deck}

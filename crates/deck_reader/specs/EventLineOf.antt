@@ -4,8 +4,8 @@ use Rattle.name_table.specs.Entries.{place_of}
 use Rattle.schedule.specs.declared.event.Event.TheVariants as event
 use Rattle.schedule.specs.declared.line.Line.{Line}
 use Rattle.schedule.specs.declared.line.Line.TheVariants as line
-use Rattle.deck_reader.specs.declared.event_saying.EventSaying.{EventSaying}
-use Rattle.deck_reader.specs.declared.event_saying.EventSaying.TheVariants as said
+use Rattle.deck_lines.specs.declared.event_saying.EventSaying.{EventSaying}
+use Rattle.deck_lines.specs.declared.event_saying.EventSaying.TheVariants as said
 use Rattle.deck_reader.specs.declared.outline.Outline.{Outline}
 
 -- a step of a process that is there

@@ -1,16 +1,11 @@
-pub mod Cuts
 pub mod Decks
 pub mod EventLineOf
-pub mod EventSayingOf
 pub mod Few
 pub mod Fresh
 pub mod Limits
 pub mod LineFaults
-pub mod Lines
 pub mod Names
-pub mod Numbers
 pub mod Outlined
 pub mod Refusals
-pub mod SayingOf
 pub mod Schedules
 pub mod Sizes

@@ -4,8 +4,8 @@
 -- 8 processors (2 to 16).
 use Rattle.std.specs.Prelude.{ℕ, ◌+◌, Bool, not, ◌&&◌, ◌||◌, ◌==◌, nat_lt, nat_le, List, [], length, Result, Ok, Err, None, if◌then◌else◌}
 use Rattle.name_table.specs.Entries.{Named, has_name}
-use Rattle.deck_reader.specs.declared.event_saying.EventSaying.{EventSaying}
-use Rattle.deck_reader.specs.declared.event_saying.EventSaying.TheVariants as said
+use Rattle.deck_lines.specs.declared.event_saying.EventSaying.{EventSaying}
+use Rattle.deck_lines.specs.declared.event_saying.EventSaying.TheVariants as said
 use Rattle.deck_reader.specs.declared.line_fault.LineFault.{LineFault}
 use Rattle.deck_reader.specs.declared.line_fault.LineFault.TheVariants as fault
 use Rattle.deck_reader.specs.declared.outline.Body.{Body}
@@ -15,7 +15,7 @@ use Rattle.deck_reader.specs.declared.outline.Outline.{Outline}
 use Rattle.deck_reader.specs.declared.outline.ProcessLines.{ProcessLines}
 use Rattle.deck_reader.specs.declared.outline.Sums.{Sums}
 use Rattle.deck_reader.specs.declared.outline.TerminalLines.{TerminalLines}
-use Rattle.deck_reader.specs.declared.saying.Placing.{Placing}
+use Rattle.deck_lines.specs.declared.saying.Placing.{Placing}
 
 -- `processors N`: a site of 2 to 16 processors, with nothing else yet
 abbrev pub outline_with : ℕ → Outline

@@ -5,8 +5,8 @@ use Rattle.name_table.specs.Entries.{Named}
 use Rattle.schedule.specs.declared.line.Line.{Line}
 use Rattle.deck_reader.specs.EventLineOf.{event_line}
 use Rattle.deck_reader.specs.LineFaults.{processors_of, heading_of, disc_of, process_with, terminal_of, asks}
-use Rattle.deck_reader.specs.SayingOf.{saying_of}
-use Rattle.deck_reader.specs.declared.event_saying.EventSaying.{EventSaying}
+use Rattle.deck_lines.specs.SayingOf.{saying_of}
+use Rattle.deck_lines.specs.declared.event_saying.EventSaying.{EventSaying}
 use Rattle.deck_reader.specs.declared.line_fault.LineFault.{LineFault}
 use Rattle.deck_reader.specs.declared.line_fault.LineFault.TheVariants as fault
 use Rattle.deck_reader.specs.declared.outline.Body.TheVariants as body
@@ -17,8 +17,8 @@ use Rattle.deck_reader.specs.declared.outline.ProcessLines.{ProcessLines}
 use Rattle.deck_reader.specs.declared.outline.ProgramLines.{ProgramLines}
 use Rattle.deck_reader.specs.declared.outline.Sums.{Sums}
 use Rattle.deck_reader.specs.declared.outline.TerminalLines.{TerminalLines}
-use Rattle.deck_reader.specs.declared.saying.Saying.{Saying}
-use Rattle.deck_reader.specs.declared.saying.Saying.TheVariants as said
+use Rattle.deck_lines.specs.declared.saying.Saying.{Saying}
+use Rattle.deck_lines.specs.declared.saying.Saying.TheVariants as said
 use Rattle.deck_reader.specs.declared.step.Breach.{Breach}
 use Rattle.deck_reader.specs.declared.step.Stage.{Stage}
 use Rattle.deck_reader.specs.declared.step.Stage.TheVariants as at

@@ -11,7 +11,7 @@ use Rattle.tal_tree.specs.declared.program.Program.{Program}
 use Rattle.tal_tree.specs.declared.site.Kind.{Kind}
 use Rattle.tal_tree.specs.declared.site.ProcessSpec.{ProcessSpec}
 use Rattle.deck_reader.specs.Decks.{IsKindOf, AreProcessesOf}
-use Rattle.deck_reader.specs.Lines.{lines_of}
+use Rattle.deck_lines.specs.Lines.{lines_of}
 use Rattle.deck_reader.specs.Names.{misnamed_in}
 use Rattle.deck_reader.specs.Outlined.{told_by}
 use Rattle.deck_reader.specs.declared.line_fault.LineFault.{LineFault}

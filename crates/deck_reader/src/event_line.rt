@@ -4,8 +4,8 @@ ghost use Rattle.schedule.specs.declared.line.Line.TheVariants as line;
 ghost use Rattle.deck_reader.specs.EventLineOf.{run_line, run_times_line, enter_line, tick_line, fail_line, mute_line, event_line};
 ghost use Rattle.deck_reader.specs.Few.{AreFew};
 
-use crate::event_saying::{EventSaying, PacketPlace};
 use crate::outline::{Outline, place_of};
+use deck_lines::{EventSaying, PacketPlace};
 use gd_words::Name;
 use schedule::{Event, Line};
 

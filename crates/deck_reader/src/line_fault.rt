@@ -1,11 +1,10 @@
 ghost use Rattle.std.specs.Prelude.{◌≡◌};
 ghost use Rattle.deck_reader.specs.LineFaults.{heading_of, disc_of, terminal_of, more_singles, more_rounds, tick_asks, fail_asks, mute_asks, run_times_asks, asks};
 
-use crate::event_saying::EventSaying;
 use crate::outline::{
     Body, Heading, Outline, ProcessLines, Sums, TerminalLines, is_new, process_with,
 };
-use crate::saying::Placing;
+use deck_lines::{EventSaying, Placing};
 use gd_words::{List, Name};
 use std::alloc::Global;
 

@@ -13,7 +13,7 @@ use crate::outline::{
     Body, EventLines, Heading, Outline, ProcessLines, ProgramLines, Sums, TerminalLines,
     process_with,
 };
-use crate::saying::{Placing, Saying, saying_of};
+use deck_lines::{Placing, Saying, saying_of};
 use gd_words::{List, Name, NoMemory, Words};
 use name_table::NameTable;
 use schedule::Line;

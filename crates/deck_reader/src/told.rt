@@ -1,11 +1,11 @@
 ghost use Rattle.std.specs.Prelude.{◌≡◌, ◌≤◌, length, IfOk};
-ghost use Rattle.deck_reader.specs.Lines.{lines_of};
+ghost use Rattle.deck_lines.specs.Lines.{lines_of};
 ghost use Rattle.deck_reader.specs.Outlined.{unended, at_end, told_by};
 
 use crate::line_fault::LineFault;
-use crate::lines::next_line;
 use crate::outline::{Heading, Outline};
 use crate::step::{Breach, Stage, Step, broken, broken_at_start, next_stage};
+use deck_lines::next_line;
 use gd_words::NoMemory;
 use std::alloc::Global;
 

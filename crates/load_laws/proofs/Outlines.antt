@@ -4,7 +4,7 @@ use Rattle.std.specs.Fmt.{digits}
 use Rattle.load_deck.specs.LoadText.{heading, bank_text, banks, requests, terminal_text, terminals, schedule, load_text}
 use Rattle.std.proofs.lemmas.List.{append_assoc}
 use Rattle.name_table.specs.Entries.{Named}
-use Rattle.deck_reader.specs.Lines.{lines_of}
+use Rattle.deck_lines.specs.Lines.{lines_of}
 use Rattle.deck_reader.specs.Outlined.{told_by, told_after}
 use Rattle.deck_reader.specs.declared.outline.Body.TheVariants as body
 use Rattle.deck_reader.specs.declared.outline.Outline.{Outline}

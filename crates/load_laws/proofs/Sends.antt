@@ -5,13 +5,13 @@ use Rattle.std.specs.Fmt.{decimal, digits}
 use Rattle.std.proofs.lemmas.Bool.{not-true, eqb-true, lt-leb}
 use Rattle.std.proofs.lemmas.List.{append_assoc, length-append}
 use Rattle.load_deck.specs.LoadText.{request_text, requests}
-use Rattle.deck_reader.specs.Lines.{lines_of, before_first}
-use Rattle.deck_reader.specs.SayingOf.{saying_of}
+use Rattle.deck_lines.specs.Lines.{lines_of, before_first}
+use Rattle.deck_lines.specs.SayingOf.{saying_of}
 use Rattle.deck_reader.specs.Outlined.{told_after, led_on, in_requests, broken}
 use Rattle.deck_reader.specs.declared.outline.Outline.{Outline}
 use Rattle.deck_reader.specs.declared.outline.TerminalLines.{TerminalLines}
-use Rattle.deck_reader.specs.declared.saying.Saying.{Saying}
-use Rattle.deck_reader.specs.declared.saying.Saying.TheVariants as said
+use Rattle.deck_lines.specs.declared.saying.Saying.{Saying}
+use Rattle.deck_lines.specs.declared.saying.Saying.TheVariants as said
 use Rattle.deck_reader.specs.declared.step.Stage.{Stage}
 use Rattle.deck_reader.specs.declared.step.Stage.TheVariants as at
 use Rattle.deck_reader.specs.declared.step.Step.TheVariants as step

@@ -7,7 +7,7 @@
 //! told there. Else it answers by a line `DIFFERS` with status 1, or by a line `FORM` with status 2 where the input is no deck
 //! with a report; of these nothing is promised.
 //!
-//! Below stand `deck_reader`, `plain_machine`, `shown_sectors` and `trace_print`, and nothing of the machine of copies.
+//! Below stand `deck_lines` and `deck_reader`, `plain_machine`, `shown_sectors` and `trace_print`, and nothing of the machine of copies.
 #![tactic(auto)]
 
 mod difference;

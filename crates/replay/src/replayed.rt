@@ -11,7 +11,7 @@ ghost use Rattle.replay.specs.Replays.{GoesOn, IsBegun, IsMade, IsReplayed, Repl
 use crate::difference::Difference;
 use crate::parts::{first_difference, parts_of};
 use crate::report_line::{ReportLine, report_line};
-use deck_reader::lines::next_line;
+use deck_lines::next_line;
 use deck_reader::read_deck;
 use gd_io::{MemorySink, WriteFault};
 use gd_words::{List, NoMemory};

@@ -2,8 +2,7 @@
 ghost use Rattle.plain_semantics.specs.SiteLimits.{KeepsSiteLimits};
 
 use crate::names::{opener_named, process_named, terminal_named};
-use deck_reader::lines::{next_word, one_word, two_words};
-use deck_reader::numbers::number_of;
+use deck_lines::{next_word, number_of, one_word, two_words};
 use tal_tree::{Act, Site};
 use trace_print::End;
 

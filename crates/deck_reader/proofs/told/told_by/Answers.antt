@@ -1,5 +1,5 @@
 use Rattle.std.proofs.Common.{sym, ◌∙◌, ◌+◌, arith}
-use Rattle.deck_reader.specs.Lines.{lines_of}
+use Rattle.deck_lines.specs.Lines.{lines_of}
 use Rattle.deck_reader.proofs.StageLemmas.{one_line_on, stage_kept}
 use Rattle.deck_reader.proofs.told.told_by.Goals as goal
 

@@ -1,5 +1,5 @@
 use Rattle.std.proofs.Common.{◌≡◌, ◌+◌, ◌≤◌, length}
-use Rattle.deck_reader.specs.Lines.{lines_of}
+use Rattle.deck_lines.specs.Lines.{lines_of}
 use Rattle.deck_reader.specs.Outlined.{told_after, told_by}
 use Rattle.deck_reader.proofs.StageLemmas.{StageKeeps}
 use Rattle.deck_reader.proofs.told.told_by.Given as goal

@@ -1,8 +1,8 @@
 use Rattle.std.proofs.Common.{◌≡◌, ◌∷◌, ◌<◌, length, ap, ap₂, ◌∙◌, sym, arith}
 use Rattle.std.proofs.lemmas.Bool.Decides.{nat_tests}
-use Rattle.deck_reader.specs.Lines.{words_of}
-use Rattle.deck_reader.proofs.LineLemmas.{no_words, a_word}
-use Rattle.deck_reader.proofs.lines.next_word.Goals as goal
+use Rattle.deck_lines.specs.Lines.{words_of}
+use Rattle.deck_lines.proofs.LineLemmas.{no_words, a_word}
+use Rattle.deck_lines.proofs.lines.next_word.Goals as goal
 
 pub returns-then-is_empty : goal.returns-then-is_empty
 returns-then-is_empty c =

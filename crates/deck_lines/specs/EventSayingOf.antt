@@ -2,13 +2,13 @@
 use Rattle.std.specs.Prelude.{ℕ, Bool, true, false, List, [], ◌∷◌, codes, Option, Some, None, option_map, option_and_then, if◌then◌else◌}
 use Rattle.std.specs.Str.{bytes_eq}
 use Rattle.gd_words.specs.Spelling.{name_of}
-use Rattle.deck_reader.specs.Lines.{is_blank, one_word, two_words, three_words}
-use Rattle.deck_reader.specs.Numbers.{number_of}
-use Rattle.deck_reader.specs.declared.event_saying.EventKeyword.{EventKeyword}
-use Rattle.deck_reader.specs.declared.event_saying.EventKeyword.TheVariants as key
-use Rattle.deck_reader.specs.declared.event_saying.EventSaying.{EventSaying}
-use Rattle.deck_reader.specs.declared.event_saying.EventSaying.TheVariants as said
-use Rattle.deck_reader.specs.declared.event_saying.PacketPlace.{PacketPlace}
+use Rattle.deck_lines.specs.Lines.{is_blank, one_word, two_words, three_words}
+use Rattle.deck_lines.specs.Numbers.{number_of}
+use Rattle.deck_lines.specs.declared.event_saying.EventKeyword.{EventKeyword}
+use Rattle.deck_lines.specs.declared.event_saying.EventKeyword.TheVariants as key
+use Rattle.deck_lines.specs.declared.event_saying.EventSaying.{EventSaying}
+use Rattle.deck_lines.specs.declared.event_saying.EventSaying.TheVariants as said
+use Rattle.deck_lines.specs.declared.event_saying.PacketPlace.{PacketPlace}
 
 -- how often a process runs: once, or TIMES times
 abbrev pub run_of : List ℕ → List (List ℕ) → Option EventSaying

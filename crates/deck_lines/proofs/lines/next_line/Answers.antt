@@ -1,8 +1,8 @@
 use Rattle.std.proofs.Common.{◌≡◌, ◌∷◌, ◌<◌, length, nat_eq, ap, ap₂, ◌∙◌, sym, arith}
 use Rattle.std.proofs.lemmas.Bool.Decides.{nat_tests}
-use Rattle.deck_reader.proofs.CutLemmas.{length-back_of}
-use Rattle.deck_reader.proofs.LineLemmas.{first_line, lines_after, lines_after-empty}
-use Rattle.deck_reader.proofs.lines.next_line.Goals as goal
+use Rattle.deck_lines.proofs.CutLemmas.{length-back_of}
+use Rattle.deck_lines.proofs.LineLemmas.{first_line, lines_after, lines_after-empty}
+use Rattle.deck_lines.proofs.lines.next_line.Goals as goal
 
 pub returns-in-None : goal.returns-in-None
 returns-in-None c =

@@ -1,8 +1,8 @@
 -- The first line of a text and the first word of a line.
 use Rattle.std.proofs.Common.{◌≡◌, ◌<◌, ℕ, length, arith, sym, Bool, true, false, not, nat_eq, cond, List, [], ◌∷◌, refl, ap, ◌∙◌}
-use Rattle.deck_reader.specs.Cuts.{front_of, back_of}
-use Rattle.deck_reader.proofs.CutLemmas.{length-back_of, length-back_of-lt, back_of-head}
-use Rattle.deck_reader.specs.Lines.{lines_of, words_of, before_first, onto}
+use Rattle.deck_lines.specs.Cuts.{front_of, back_of}
+use Rattle.deck_lines.proofs.CutLemmas.{length-back_of, length-back_of-lt, back_of-head}
+use Rattle.deck_lines.specs.Lines.{lines_of, words_of, before_first, onto}
 
 abbrev feed : ℕ → Bool
 feed c = nat_eq c 10

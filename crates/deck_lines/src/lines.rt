@@ -1,6 +1,6 @@
 ghost use Rattle.std.specs.Prelude.{◌≡◌, ◌<◌, ◌==◌, not, [], ◌∷◌, length, MatchOption, option_map};
-ghost use Rattle.deck_reader.specs.Lines.{lines_of, words_of, is_printable, is_blank, one_word, two_words, three_words, four_words};
-ghost use Rattle.deck_reader.specs.Cuts.{front_of, back_of};
+ghost use Rattle.deck_lines.specs.Lines.{lines_of, words_of, is_printable, is_blank, one_word, two_words, three_words, four_words};
+ghost use Rattle.deck_lines.specs.Cuts.{front_of, back_of};
 
 /// The first line and what follows its line feed; none where the text is at its end.
 pub fn next_line(text: &[u8]) -> Option<(&[u8], &[u8])>

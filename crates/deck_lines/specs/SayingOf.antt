@@ -3,16 +3,16 @@ use Rattle.std.specs.Prelude.{ℕ, Bool, false, ◌==◌, nat_le, List, [], ◌�
 use Rattle.std.specs.List.{list_all}
 use Rattle.std.specs.Str.{bytes_eq}
 use Rattle.gd_words.specs.Spelling.{name_of}
-use Rattle.deck_reader.specs.Lines.{words_of, is_blank, is_printable, one_word, two_words, three_words, four_words}
-use Rattle.deck_reader.specs.Numbers.{number_of, word_of}
-use Rattle.deck_reader.specs.EventSayingOf.{event_said}
-use Rattle.deck_reader.specs.declared.event_saying.EventKeyword.{EventKeyword}
-use Rattle.deck_reader.specs.declared.event_saying.EventKeyword.TheVariants as event
-use Rattle.deck_reader.specs.declared.saying.Keyword.{Keyword}
-use Rattle.deck_reader.specs.declared.saying.Keyword.TheVariants as key
-use Rattle.deck_reader.specs.declared.saying.Placing.{Placing}
-use Rattle.deck_reader.specs.declared.saying.Saying.{Saying}
-use Rattle.deck_reader.specs.declared.saying.Saying.TheVariants as said
+use Rattle.deck_lines.specs.Lines.{words_of, is_blank, is_printable, one_word, two_words, three_words, four_words}
+use Rattle.deck_lines.specs.Numbers.{number_of, word_of}
+use Rattle.deck_lines.specs.EventSayingOf.{event_said}
+use Rattle.deck_lines.specs.declared.event_saying.EventKeyword.{EventKeyword}
+use Rattle.deck_lines.specs.declared.event_saying.EventKeyword.TheVariants as event
+use Rattle.deck_lines.specs.declared.saying.Keyword.{Keyword}
+use Rattle.deck_lines.specs.declared.saying.Keyword.TheVariants as key
+use Rattle.deck_lines.specs.declared.saying.Placing.{Placing}
+use Rattle.deck_lines.specs.declared.saying.Saying.{Saying}
+use Rattle.deck_lines.specs.declared.saying.Saying.TheVariants as said
 
 -- the word with which an event line begins
 abbrev pub event_keyword_of : List ℕ → Option EventKeyword

@@ -1,6 +1,6 @@
 use Rattle.std.proofs.Common.{arith}
-use Rattle.deck_reader.proofs.NumberLemmas.{eight_digits}
-use Rattle.deck_reader.proofs.numbers.digits_value.Goals as goal
+use Rattle.deck_lines.proofs.NumberLemmas.{eight_digits}
+use Rattle.deck_lines.proofs.numbers.digits_value.Goals as goal
 
 pub overflow_mul-value : goal.overflow_mul-value
 overflow_mul-value c = omega (arith, eight_digits c.loop-c.c-index c.loop-c.value (omega arith) c.loop-c.invariant.1)

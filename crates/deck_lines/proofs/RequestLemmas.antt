@@ -1,8 +1,8 @@
 -- A request is read word by word.
 use Rattle.std.proofs.Common.{◌≡◌, ℕ, ◌+◌, ◌<◌, ◌≤◌, Bool, true, false, cond, nat_le, List, [], ◌∷◌, ◌++◌, length, Option, Some, None, option_map, option_and_then, refl, sym, ap, ap₂, ◌∙◌, arith, append_assoc, append-nil, length-append, ℤ}
 use borrow.Author.Tests.{le-leb, lt-leb}
-use Rattle.deck_reader.specs.Numbers.{word_of}
-use Rattle.deck_reader.specs.SayingOf.{request_words, request_of}
+use Rattle.deck_lines.specs.Numbers.{word_of}
+use Rattle.deck_lines.specs.SayingOf.{request_words, request_of}
 
 -- the request of which these words are read and this is left
 abbrev pub request_from : List ℤ → List (List ℕ) → Option (List ℤ)

@@ -1,6 +1,6 @@
 ghost use Rattle.std.specs.Prelude.{◌≡◌, ◌≤◌, length};
-ghost use Rattle.deck_reader.specs.Lines.{words_of};
-ghost use Rattle.deck_reader.specs.SayingOf.{keyword_of, processors_said, event_keyword_of, placing_of, disc_said, pair_said, terminal_said, are_words, send_said, schedule_said, event_line_said, end_said, is_remark, said_by, or_formless, saying_of, request_of};
+ghost use Rattle.deck_lines.specs.Lines.{words_of};
+ghost use Rattle.deck_lines.specs.SayingOf.{keyword_of, processors_said, event_keyword_of, placing_of, disc_said, pair_said, terminal_said, are_words, send_said, schedule_said, event_line_said, end_said, is_remark, said_by, or_formless, saying_of, request_of};
 
 use crate::event_saying::{EventKeyword, EventSaying, event_said};
 use crate::lines::{

@@ -2,7 +2,7 @@
 use Rattle.std.proofs.Common.{◌≡◌, ℕ, ◌+◌, ◌<◌, ◌≤◌, suc, Bool, true, false, cond, List, [], ◌∷◌, ◌++◌, length, take, drop, get_or, refl, sym, ap, ◌∙◌, arith, append_assoc, drop-cons, add-one, append-nil}
 use Rattle.std.proofs.Math.Seq.{drop-length}
 use Rattle.std.proofs.lemmas.List.{take_more}
-use Rattle.deck_reader.specs.Cuts.{front_of, back_of}
+use Rattle.deck_lines.specs.Cuts.{front_of, back_of}
 
 -- no sign before place k passes
 pub record IsCutFrom (passes : ℕ → Bool) (text : List ℕ) (k : ℕ) : Type 0 where

@@ -1,0 +1,4 @@
+pub mod CutLemmas
+pub mod LineLemmas
+pub mod NumberLemmas
+pub mod RequestLemmas

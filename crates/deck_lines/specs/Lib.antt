@@ -1,0 +1,5 @@
+pub mod Cuts
+pub mod EventSayingOf
+pub mod Lines
+pub mod Numbers
+pub mod SayingOf
