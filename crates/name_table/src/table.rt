@@ -1,4 +1,4 @@
-ghost use Rattle.std.specs.Prelude.{◌≡◌, ◌<◌, [], ◌∷◌, ◌++◌, false, length, IfSome, OnOk};
+ghost use Rattle.std.specs.Prelude.{◌≡◌, ◌<◌, [], ◌∷◌, ◌++◌, false, length, IfSome, OnErr, OnOk};
 ghost use Rattle.name_table.specs.Entries.{has_name, place_of};
 
 use gd_words::{Name, NoMemory};
@@ -66,7 +66,8 @@ impl<T: Drop> NameTable<T> {
     /// Puts a new name after the last.
     pub fn push(&mut self, name: Name, value: T) -> Result<(), NoMemory>
         requires new { has_name self.old name ≡ false }
-        ensures { OnOk result (self.new ≡ self.old ++ (name, value) ∷ []) }
+        ensures ok { OnOk result (self.new ≡ self.old ++ (name, value) ∷ []) }
+        ensures err { OnErr result (self.new ≡ self.old) }
     {
         self.entries.insert(name, value)?;
         Ok(())

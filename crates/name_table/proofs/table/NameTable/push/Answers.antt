@@ -5,8 +5,8 @@ use Rattle.name_table.specs.Entries.{has_name}
 use Rattle.name_table.proofs.Found.{not_found}
 use Rattle.name_table.proofs.table.NameTable.push.Goals as goal
 
-pub returns : goal.returns
-returns g c =
+pub returns-clause-ok : goal.returns-clause-ok
+returns-clause-ok g c =
     let name = c.args.name in
     let new : has_name c.self.inside.entries.entries name ≡ false = ap (λ entries. has_name entries name) c.self.view_is ∙ c.requires.new in
     c.in_ok-insert.ensures.entries
