@@ -1,10 +1,8 @@
 use gd_io::{MemorySink, MemorySource};
 use gd_words::List;
-use path_semantics::{Reason, Refusal};
-use runner::{RunEnd, Status, command, exit_number};
+use runner::exit_number;
 use std::alloc::{AllocError, Global};
 use std::test::Fail;
-use tal_tree::Act;
 
 const HEAD: &[u8] =
     b"processors 2\npair $ADD 0 1\nINT total, got, rcv;\nINT buf[0:0];\nPROC add MAIN;\nBEGIN\n  CALL CHECKMONITOR;\n  CALL OPEN(\"$RECEIVE\", rcv, 1);\n  WHILE 1 DO\n  BEGIN\n    CALL READUPDATE(rcv, buf, 1, got);\n    total := total + buf[0]";
@@ -35,11 +33,10 @@ fn called(alloc: Global, words: &[&str]) -> Result<Vec<String>, AllocError> {
     Ok(called)
 }
 
-/// What a command ended with and wrote.
+/// The number with which a command ended, and what it wrote.
 #[derive(Drop)]
 struct Ended {
-    status: Status,
-    run: Option<RunEnd>,
+    number: u8,
     text: Vec<u8>,
 }
 
@@ -55,16 +52,24 @@ fn run_words(
     let mut source = MemorySource::new(deck, List::from_vec(Vec::from_slice(alloc, reads)?));
     let failing = List::from_vec(Vec::from_slice(alloc, writes)?);
     let mut sink = MemorySink::new(alloc, 100_000, failing)?;
-    let outcome = command(alloc, called.as_slice(), &mut source, &mut sink);
+    let number = exit_number(alloc, called.as_slice(), &mut source, &mut sink);
     let text = Vec::from_slice(alloc, sink.bytes())?;
-    if matches!(outcome.status, Status::NoMemory) && text.is_empty() {
+    if number == 8 && text.is_empty() {
         return Err(Fail::from(AllocError));
     }
-    Ok(Ended {
-        status: outcome.status,
-        run: outcome.run,
-        text,
-    })
+    Ok(Ended { number, text })
+}
+
+/// Whether a command of these words, over ends that don't fail, ends with the number and has written the text.
+fn ends_with(
+    alloc: Global,
+    words: &[&str],
+    deck: List<u8>,
+    number: u8,
+    text: &[u8],
+) -> Result<bool, Fail> {
+    let end = run_words(alloc, words, deck, &[], &[])?;
+    Ok(end.number == number && end.text.as_slice() == text)
 }
 
 #[test]
@@ -81,100 +86,95 @@ fn ends_as_the_ends_allow(rt: HostRuntime) -> Result<(), Fail> {
     for (reads, writes, number, text) in cases {
         let deck = deck(rt.alloc(), 0, BOTH)?;
         let end = run_words(rt.alloc(), &["run"], deck, reads, writes)?;
-        assert!(rt; end.status.number() == number);
+        assert!(rt; end.number == number);
         assert!(rt; end.text.as_slice() == text);
     }
     Ok(())
 }
 
+const USAGE: &[u8] = b"USAGE guardian MODE [N] [--acts] [--fail P:K]\n";
+
+/// Words that are no command, and stops of processors that the deck hasn't.
+const REFUSED_WORDS: &[&[&str]] = &[
+    &[],
+    &["run", "3"],
+    &["check", "--acts"],
+    &["load", "201"],
+    &["run", "--fail", "2:0"],
+    &["run", "--fail", "16:0"],
+];
+
 #[test]
 fn refuses_words_and_processors(rt: HostRuntime) -> Result<(), Fail> {
-    let usage = b"USAGE guardian MODE [N] [--acts] [--fail P:K]\n".as_slice();
-    let words: [&[&str]; 6] = [
-        &[],
-        &["run", "3"],
-        &["check", "--acts"],
-        &["load", "201"],
-        &["run", "--fail", "2:0"],
-        &["run", "--fail", "16:0"],
-    ];
-    for given in words {
-        let end = run_words(rt.alloc(), given, deck(rt.alloc(), 0, BOTH)?, &[], &[])?;
-        assert!(rt; matches!(end.status, Status::Usage));
-        assert!(rt; end.text.as_slice() == usage);
+    for given in REFUSED_WORDS {
+        let deck = deck(rt.alloc(), 0, BOTH)?;
+        let refused = ends_with(rt.alloc(), given, deck, 1, USAGE)?;
+        assert!(rt; refused);
     }
     Ok(())
 }
 
+/// The words that stop the processor 0 before the first event.
+const STOPPING: &[&str] = &["run", "--fail", "0:0"];
+
 #[test]
-fn tells_stops(rt: HostRuntime) -> Result<(), Fail> {
-    let given: [&str; 3] = ["run", "--fail", "0:0"];
-    let end = run_words(rt.alloc(), &given, deck(rt.alloc(), 0, BOTH)?, &[], &[])?;
-    assert!(rt; matches!(end.status, Status::Done));
-    assert!(rt; end.text.as_slice() == b"R $T1 1: 5\nR $T1 2: 12\nS 0\nEND idle\n".as_slice());
+fn tells_a_stop(rt: HostRuntime) -> Result<(), Fail> {
+    let told = b"R $T1 1: 5\nR $T1 2: 12\nS 0\nEND idle\n".as_slice();
+    let deck = deck(rt.alloc(), 0, BOTH)?;
+    let tells = ends_with(rt.alloc(), STOPPING, deck, 0, told)?;
+    assert!(rt; tells);
+    Ok(())
+}
+
+#[test]
+fn ends_before_a_second_stop(rt: HostRuntime) -> Result<(), Fail> {
     let second = b"send 5\nsend 7\nschedule\nfail 1\ndrain 4000\nEND\n".as_slice();
-    let end = run_words(rt.alloc(), &given, deck(rt.alloc(), 0, second)?, &[], &[])?;
-    assert!(rt; matches!(end.status, Status::SecondStop(1)));
-    assert!(rt; end.text.as_slice() == b"S 0\nEND second 1\n".as_slice());
+    let deck = deck(rt.alloc(), 0, second)?;
+    let ends = ends_with(rt.alloc(), STOPPING, deck, 5, b"S 0\nEND second 1\n")?;
+    assert!(rt; ends);
     Ok(())
 }
 
-#[test]
-fn ends_with_the_number_of_its_status(rt: HostRuntime) -> Result<(), Fail> {
-    let mut source = MemorySource::new(deck(rt.alloc(), 0, BOTH)?, List::new(rt.alloc()));
-    let mut sink = MemorySink::new(rt.alloc(), 100, List::new(rt.alloc()))?;
-    let words = called(rt.alloc(), &["run"])?;
-    let number = exit_number(rt.alloc(), words.as_slice(), &mut source, &mut sink);
-    assert!(rt; number == 0);
-    assert!(rt; sink.bytes() == b"R $T1 1: 5\nR $T1 2: 12\nEND idle\n".as_slice());
-    Ok(())
-}
+/// What a run tells with its acts that serves one request.
+const ACTS: &[u8] =
+    b"R $T1 1: 5\nA enter $T1\nA step $ADD\nA step $ADD\nA step $ADD\nA take $ADD $T1\nA step $ADD\nA step $ADD\nA step $ADD\nA step $ADD\nA print $T1\nA step $ADD\nEND idle\n";
 
 #[test]
-fn keeps_the_acts_of_one_request(rt: HostRuntime) -> Result<(), Fail> {
+fn tells_the_acts_of_one_request(rt: HostRuntime) -> Result<(), Fail> {
     let one = b"send 5\nschedule\ndrain 4000\nEND".as_slice();
-    let end = run_words(rt.alloc(), &["run"], deck(rt.alloc(), 0, one)?, &[], &[])?;
-    let run = end.run.ok_or("no run")?;
-    for (act, times) in [(Act::Enter(0), 1), (Act::Print(0), 1), (Act::Step(0), 8)] {
-        assert!(rt; run.acts().iter().filter(|kept| **kept == act).count() == times);
-    }
-    assert!(rt; run.shown().len() == 1);
+    let deck = deck(rt.alloc(), 0, one)?;
+    let tells = ends_with(rt.alloc(), &["run", "--acts"], deck, 0, ACTS)?;
+    assert!(rt; tells);
     Ok(())
 }
 
-/// A refused program has its process, its reason and its path in the outcome, and no run; `run` makes no act of it.
+/// A deck whose program changes its total before a CHECKPOINT that doesn't name it.
+const UNNAMED: &[u8] =
+    b"processors 2\npair $P 0 1\nINT total, got, rcv; INT buf[0:0]; PROC p MAIN; BEGIN CALL CHECKMONITOR; CALL OPEN(\"$RECEIVE\", rcv, 1); total := 1;\nCALL CHECKPOINT(got) END;\n.\nschedule\ndrain 1\nEND\n";
+
+/// Its process, the reason and a path.
+const REFUSAL: &[u8] = b"REFUSED $P Data TOTAL\nP 1 1\nP 2 1\nP 3 1\nP 4 2\nEND refused\n";
+
+/// Whether the deck is refused where this is asked.
+fn refuses(alloc: Global, mode: &str) -> Result<bool, Fail> {
+    let deck = List::from_vec(Vec::from_slice(alloc, UNNAMED)?);
+    ends_with(alloc, &[mode], deck, 3, REFUSAL)
+}
+
 #[test]
 fn refuses_what_the_discipline_refuses(rt: HostRuntime) -> Result<(), Fail> {
-    let program =
-        b"INT total, got, rcv; INT buf[0:0]; PROC p MAIN; BEGIN CALL CHECKMONITOR; CALL OPEN(\"$RECEIVE\", rcv, 1); total := 1;\nCALL CHECKPOINT(got) END;\n".as_slice();
-    for mode in ["run", "check"] {
-        let mut deck = List::new(rt.alloc());
-        deck.extend_from_slice(b"processors 2\npair $P 0 1\n")?;
-        deck.extend_from_slice(program)?;
-        deck.extend_from_slice(b".\nschedule\ndrain 1\nEND\n")?;
-        let Ended { status, run, text } = run_words(rt.alloc(), &[mode], deck, &[], &[])?;
-        assert!(rt;
-            text.as_slice()
-                == b"REFUSED $P Data TOTAL\nP 1 1\nP 2 1\nP 3 1\nP 4 2\nEND refused\n".as_slice()
-        );
-        assert!(rt; run.is_none());
-        let Status::Refused {
-            process: 0,
-            refusal: Refusal::Broken { reason, path },
-        } = status
-        else {
-            return Err(Fail::from("another end"));
-        };
-        assert!(rt; reason == Reason::Data(0));
-        assert!(rt; path.as_slice() == [1, 2, 3, 4].as_slice());
-    }
+    let runs = refuses(rt.alloc(), "run")?;
+    assert!(rt; runs);
+    let checks = refuses(rt.alloc(), "check")?;
+    assert!(rt; checks);
     Ok(())
 }
 
 #[test]
 fn goes_along_long_chains(rt: HostRuntime) -> Result<(), Fail> {
-    let long = deck(rt.alloc(), 300_000, BOTH)?;
-    let end = run_words(rt.alloc(), &["run"], long, &[], &[])?;
-    assert!(rt; end.text.as_slice() == b"R $T1 1: -27675\nR $T1 2: 10188\nEND idle\n".as_slice());
+    let told = b"R $T1 1: -27675\nR $T1 2: 10188\nEND idle\n".as_slice();
+    let deck = deck(rt.alloc(), 300_000, BOTH)?;
+    let goes = ends_with(rt.alloc(), &["run"], deck, 0, told)?;
+    assert!(rt; goes);
     Ok(())
 }
