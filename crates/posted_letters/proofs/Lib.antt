@@ -1,1 +1,4 @@
+pub mod Marks
 pub mod Numbers
+pub mod Places
+pub mod Rising

@@ -1,8 +1,10 @@
-ghost use Rattle.std.specs.Prelude.{◌≡◌, ◌≤◌, if◌then◌else◌, [], length, slice_get, OnOk};
+ghost use Rattle.std.specs.Prelude.{◌≡◌, ◌≤◌, if◌then◌else◌, [], length, map, slice_get, IfOk, OnOk};
 ghost use Rattle.std.specs.List.{remove};
 ghost use Rattle.std.specs.Option.{option_copied};
 ghost use Rattle.message_wires.specs.Wires.{is_due, is_on, put_again, put_on};
+ghost use Rattle.posted_letters.specs.Rising.{Rises};
 
+use crate::owed::place_of;
 use crate::running::is_running;
 use crate::sent::Sent;
 use gd_words::NoMemory;
@@ -12,6 +14,9 @@ use std::marker::Model;
 
 /// Most packets on a bus.
 const ROOM: usize = 4_096;
+
+/// For so many letters at most the bus is looked along letter by letter, which takes no memory.
+const FEW: usize = 8;
 
 /// The packets on the bus, in order.
 #[derive(Drop)]
@@ -83,6 +88,62 @@ impl Bus {
         Ok(())
     }
 
+    /// Puts those of a few letters that are due on the bus again: the bus is looked along for each of them.
+    fn put_few(&mut self, stopped: &[bool], node: u8, owed: &[Sent]) -> Result<(), NoMemory>
+        ensures { OnOk result (self.new ≡ put_again stopped.now node owed.now self.old) }
+    {
+        for one in owed {
+            self.put_due(stopped, node, one)?;
+        }
+        Ok(())
+    }
+
+    /// For each of these letters whether a packet of it is on the bus.
+    fn marks(&self, owed: &[Sent]) -> Result<Vec<bool>, NoMemory>
+        requires { Rises owed.now }
+        ensures { IfOk result (λ marks. marks.items ≡ map (λ one. is_on self.now one.number) owed.now) }
+    {
+        let mut marks = vec![in *self.packets.allocator(); false; owed.len()]?;
+        for k in 0..self.len() {
+            if let Some(packet) = self.get(k) {
+                if let Some(place) = place_of(owed, packet.number()) {
+                    marks[place] = true;
+                }
+            }
+        }
+        Ok(marks)
+    }
+
+    /// Puts a letter at the end once more, if it is due: whether a packet of it is there is told.
+    fn put_marked(
+        &mut self,
+        stopped: &[bool],
+        node: u8,
+        one: &Sent,
+        there: bool,
+    ) -> Result<(), NoMemory>
+        requires { there ≡ is_on self.old one.now.number }
+        ensures { OnOk result (self.new ≡ (if is_due stopped.now node self.old one.now then put_on one.now self.old else self.old)) }
+    {
+        if one.sender() == node && is_running(stopped, one.receiver()) && !there {
+            let packet = one.copy()?;
+            self.put(packet)?;
+        }
+        Ok(())
+    }
+
+    /// Puts those of the letters that are due on the bus again: the bus is looked along once for all of them.
+    fn put_many(&mut self, stopped: &[bool], node: u8, owed: &[Sent]) -> Result<(), NoMemory>
+        requires { Rises owed.now }
+        ensures { OnOk result (self.new ≡ put_again stopped.now node owed.now self.old) }
+    {
+        let marks = self.marks(owed)?;
+        for k in 0..owed.len() {
+            self.put_marked(stopped, node, &owed[k], marks[k])?;
+        }
+        Ok(())
+    }
+
     /// Puts those of the letters that are due on the bus again, the oldest first.
     pub(crate) fn put_again(
         &mut self,
@@ -90,10 +151,13 @@ impl Bus {
         node: u8,
         owed: &[Sent],
     ) -> Result<(), NoMemory>
+        requires { Rises owed.now }
         ensures { OnOk result (self.new ≡ put_again stopped.now node owed.now self.old) }
     {
-        for one in owed {
-            self.put_due(stopped, node, one)?;
+        if owed.len() <= FEW {
+            self.put_few(stopped, node, owed)?;
+        } else {
+            self.put_many(stopped, node, owed)?;
         }
         Ok(())
     }

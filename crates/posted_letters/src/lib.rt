@@ -9,6 +9,7 @@
 mod bus;
 pub mod letter;
 pub mod message;
+mod owed;
 pub mod posted;
 pub mod running;
 pub mod sending;

@@ -1,12 +1,12 @@
-ghost use Rattle.std.specs.Prelude.{◌≡◌, ◌<◌, length, slice_get, IfOk, OnOk};
-ghost use Rattle.std.specs.List.{position};
-ghost use Rattle.std.specs.Option.{option_map, IfSome};
+ghost use Rattle.std.specs.Prelude.{◌≡◌, length, slice_get, IfOk, OnOk};
+ghost use Rattle.std.specs.Option.{option_map};
 ghost use Rattle.message_wires.specs.Idle.{none_owed};
-ghost use Rattle.message_wires.specs.Wires.{is_of, paid, paid_between, posted, wires_again, wires_at_boot, without_packet};
+ghost use Rattle.message_wires.specs.Wires.{paid, paid_between, posted, wires_again, wires_at_boot, without_packet};
 ghost use Rattle.posted_letters.specs.Repeats.{IsRepeated};
 
 use crate::bus::Bus;
 use crate::letter::Letter;
+use crate::owed::place_of;
 use crate::running::is_running;
 use crate::sent::Sent;
 use gd_words::NoMemory;
@@ -24,12 +24,15 @@ pub struct PostedLetters {
 impl Model for PostedLetters {
     ghost use Rattle.std.specs.Coded.{codes};
     ghost use Rattle.message_wires.specs.Wires as wires;
+    ghost use Rattle.posted_letters.specs.Rising.{RisesWithin};
 
     ghost Value = { wires.Wires };
 
     ghost coded = { Prim.hlevel codes };
 
     ghost view = { λ all. record { count = all.count; bus = all.bus; owed = all.owed.items } };
+
+    ghost invariant = { λ all. RisesWithin 0 all.count all.owed.items };
 }
 
 impl PostedLetters {
@@ -126,12 +129,4 @@ impl PostedLetters {
     {
         self.owed.iter().all(|one| !one.is_open(stopped))
     }
-}
-
-/// Where the letter of a sending stands.
-fn place_of(owed: &[Sent], number: u64) -> Option<usize>
-    ensures value { result ≡ position (is_of number) owed.now }
-    ensures there { IfSome result (λ place. place < length owed.now) }
-{
-    owed.iter().position(|one| one.is_of(number))
 }

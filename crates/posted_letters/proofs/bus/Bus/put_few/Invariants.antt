@@ -1,6 +1,6 @@
 use Rattle.std.proofs.Common.{◌≡◌, drop}
 use Rattle.message_wires.specs.Wires.{put_again}
-use Rattle.posted_letters.proofs.bus.Bus.put_again.Given as goal
+use Rattle.posted_letters.proofs.bus.Bus.put_few.Given as goal
 
 -- what is left to be put again leads to the same bus
 abbrev pub invariant-loop-one : goal.invariant-loop-one
