@@ -4,6 +4,7 @@ ghost use Rattle.process_semantics.specs.Process.{asked_file, asked_words, point
 ghost use Rattle.checkpoint_image.specs.Receive.{repeated};
 ghost use Rattle.file_calls.specs.Queue.{sent_again};
 ghost use Rattle.kept_acts.specs.Shares.{closing, covered, covering, share_of, with_share};
+ghost use Rattle.sync_ids.specs.Tables.{IsSound};
 ghost use Rattle.world_semantics.specs.declared.role.Role.TheVariants.{Watching};
 ghost use Rattle.world_semantics.specs.Core.{next_on};
 ghost use Rattle.world_semantics.specs.Rules.{stopped_copy, taken_over, told_again};
@@ -155,8 +156,10 @@ impl NodeCopy {
 
     /// Its receive table.
     pub fn kept_table(&self, alloc: Global) -> Result<ReceiveBlock, NoMemory>
-        ensures { IfOk result (λ block. block ≡ self.now.copy.core.receive) }
+        ensures table { IfOk result (λ block. block ≡ self.now.copy.core.receive) }
+        ensures sound { IfOk result (λ block. IsSound (record { table = block; depths = self.now.depths })) }
     {
-        self.control.receive().block(alloc)
+        let block = self.control.receive().block(alloc)?;
+        Ok(block)
     }
 }

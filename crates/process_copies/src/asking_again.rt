@@ -3,9 +3,11 @@ ghost use Rattle.tal_tree.specs.declared.site.Who.TheVariants as who;
 ghost use Rattle.process_semantics.specs.declared.point.Point.TheVariants.{Await};
 ghost use Rattle.process_semantics.specs.Process as process;
 ghost use Rattle.plain_semantics.specs.Openers.{opener_of};
+ghost use Rattle.computed_changes.specs.Fitting.{depths_of};
 ghost use Rattle.computed_changes.specs.Handed.{is_to};
 ghost use Rattle.letters.specs.Again.{awaited_at, awaited_by};
 ghost use Rattle.message_wires.specs.Idle.{waits_as, waits_at_mark};
+ghost use Rattle.sync_ids.specs.Tables.{IsSound};
 ghost use Rattle.world_semantics.specs.Core.{next_on};
 ghost use Rattle.world_semantics.specs.World.{copy_of};
 ghost use Rattle.process_copies.specs.Receiving.{acts_at};
@@ -43,7 +45,8 @@ impl ProcessCopies {
 
     /// A copy's receive table, with the replies that it keeps.
     pub fn kept_table(&self, alloc: Global, which: Which) -> Result<ReceiveBlock, NoMemory>
-        ensures { IfOk result (λ block. block ≡ (copy_of which self.now.pair).core.receive) }
+        ensures table { IfOk result (λ block. block ≡ (copy_of which self.now.pair).core.receive) }
+        ensures sound { IfOk result (λ block. IsSound (record { table = block; depths = depths_of self.now.site self.now.number })) }
     {
         match which {
             Which::First => self.first.kept_table(alloc),
