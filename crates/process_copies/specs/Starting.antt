@@ -1,10 +1,11 @@
 -- The sites on which the machines of copies start.
-use Rattle.std.specs.Prelude.{◌≤◌}
+use Rattle.std.specs.Prelude.{◌<◌, ◌≤◌}
 use Rattle.std.specs.List.{All}
 use Rattle.tal_tree.specs.declared.program.FileUse.{FileUse}
 use Rattle.tal_tree.specs.declared.site.Kind.{Kind}
 use Rattle.tal_tree.specs.declared.site.Kind.TheVariants as kind
 use Rattle.tal_tree.specs.declared.site.Site.{Site}
+use Rattle.plain_semantics.specs.declared.slot.Opener.{Opener}
 use Rattle.plain_semantics.specs.Openers.{files_of}
 use Rattle.plain_semantics.specs.SiteLimits.{KeepsSiteLimits}
 use Rattle.processes.specs.Seen.{IsLoadableKind}
@@ -18,6 +19,10 @@ HasSectors (kind.Pair program) = Unit {0}
 -- the files of a process are of depths from 1 to 4
 abbrev pub HasDepths : Kind → Type 0
 HasDepths what = All (λ (file : FileUse). IsDepth file.depth) (files_of what)
+
+-- the numbers of an opener are within those by which requests and replies name it
+abbrev pub HasAddress : Opener → Type 0
+HasAddress opener = (opener.server < 256) × (opener.place < 65536)
 
 -- the site keeps the limits, each of its processes can be loaded, discs have their sectors, and files their depths
 pub record IsStartable (site : Site) : Type 0 where

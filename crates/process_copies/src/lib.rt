@@ -16,3 +16,4 @@ mod starting;
 mod telling;
 
 pub use copies::ProcessCopies;
+pub use starting::address_of;

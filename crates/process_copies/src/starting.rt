@@ -1,11 +1,12 @@
 ghost use Rattle.std.specs.Prelude.{◌≡◌, ◌≤◌, All, Some, length, slice_get, IfOk};
+ghost use Rattle.std.specs.Option.{IfSome};
 ghost use Rattle.plain_semantics.specs.Openers.{files_of, openers_of};
 ghost use Rattle.plain_semantics.specs.SiteLimits.{KeepsSiteLimits};
 ghost use Rattle.processes.specs.Seen.{IsLoadableKind};
 ghost use Rattle.sync_ids.specs.Tables.{IsDepth};
 ghost use Rattle.world_semantics.specs.World.{device_at_boot, pair_at_boot};
 ghost use Rattle.node_copies.specs.Seen.{file_row, sectors_on};
-ghost use Rattle.process_copies.specs.Starting.{HasSectors, IsStartable};
+ghost use Rattle.process_copies.specs.Starting.{HasAddress, HasSectors, IsStartable};
 
 use crate::copies::ProcessCopies;
 use disc_device::Disc;
@@ -69,7 +70,7 @@ fn start_in(
     })
 }
 
-/// Where each of these files of a process stands. A place that no address has answers want of memory.
+/// Where each of these files of a process stands.
 fn addresses(
     alloc: Global,
     site: &Site,
@@ -87,21 +88,19 @@ fn addresses(
             file: file as u8,
         };
         let opener = opener_of(alloc, site, who)?;
-        let address = address_of(opener)?;
-        files.push(address)?;
+        files.push(address_of(opener))?;
     }
     Ok(files)
 }
 
-fn address_of(opener: Option<Opener>) -> Result<Option<Address>, NoMemory>
-    ensures { IfOk result (λ address. address ≡ opener) }
+/// The address of an opener, which its numbers fit.
+pub fn address_of(opener: Option<Opener>) -> Option<Address>
+    requires { IfSome opener HasAddress }
+    ensures { result ≡ opener }
 {
     match opener {
-        None => Ok(None),
-        Some(opener) => match Address::of(opener) {
-            None => Err(NoMemory),
-            Some(address) => Ok(Some(address)),
-        },
+        None => None,
+        Some(opener) => Address::of(opener),
     }
 }
 
