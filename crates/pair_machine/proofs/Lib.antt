@@ -3,6 +3,7 @@ pub mod Beginning
 pub mod Changed
 pub mod Closes
 pub mod Handing
+pub mod Kept
 pub mod Lookups
 pub mod Marks
 pub mod PacketKinds

@@ -66,9 +66,9 @@ impl Pairs {
         }
         match self.whole.event(event) {
             Ok(effect) => Ok(effect),
-            Err(NoMemory) => {
+            Err(error) => {
                 self.is_broken = true;
-                Err(NoMemory)
+                Err(error)
             }
         }
     }

@@ -16,7 +16,7 @@ use logs::Shared;
 use node_copies::{Address, Marks, Records};
 use plain_semantics::opener_of;
 use posted_letters::PostedLetters;
-use process_copies::ProcessCopies;
+use process_copies::{ProcessCopies, address_of};
 use std::alloc::Global;
 use tal_tree::{Site, TerminalSpec, Who};
 
@@ -27,7 +27,7 @@ impl Whole {
         ensures { IfOk result (λ whole. whole ≡ whole_at_boot site.now) }
     {
         let places = terminal_places(alloc, site.get())?;
-        let stopped = Processors::new(alloc, usize::from(site.get().processors))?;
+        let stopped = Processors::new(alloc, site.get().processors)?;
         let processes = first_processes(alloc, site.get())?;
         let terminals = first_terminals(alloc, site.get().terminals.as_slice())?;
         let records = Records::new(alloc)?;
@@ -83,16 +83,11 @@ fn terminal_places(alloc: Global, site: &Site) -> Result<List<Option<Address>>, 
     Ok(places)
 }
 
-/// Where a terminal stands. No process has so many openers that its place wouldn't fit.
+/// Where a terminal stands.
 fn place_of(alloc: Global, site: &Site, terminal: u8) -> Result<Option<Address>, NoMemory>
     requires { KeepsSiteLimits site.now }
     ensures { IfOk result (λ place. place ≡ opener_of site.now (who.Terminal terminal)) }
 {
-    match opener_of(alloc, site, Who::Terminal(terminal))? {
-        None => Ok(None),
-        Some(opener) => match Address::of(opener) {
-            None => Err(NoMemory),
-            Some(address) => Ok(Some(address)),
-        },
-    }
+    let opener = opener_of(alloc, site, Who::Terminal(terminal))?;
+    Ok(address_of(opener))
 }

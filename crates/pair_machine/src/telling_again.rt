@@ -1,9 +1,9 @@
-ghost use Rattle.std.specs.Prelude.{◌≡◌, ◌+◌, ◌-◌, ◌++◌, IfOk, OnOk, length, map, slice_get};
+ghost use Rattle.std.specs.Prelude.{◌≡◌, ◌≤◌, ◌+◌, ◌-◌, ◌++◌, OnOk, length, map, slice_get};
 ghost use Rattle.checkpoint_image.specs.Receive.{answered, holds};
 ghost use Rattle.world_semantics.specs.Messages.{Replying, sent_at};
 ghost use Rattle.world_semantics.specs.World.{copy_of};
 ghost use Rattle.letters.specs.Again.{is_moved, kept_for, kept_from, numbered, of_copies, tells_again};
-ghost use Rattle.pair_machine.specs.Again.{of_copy};
+ghost use Rattle.pair_machine.specs.Again.{IsKeptTable, of_copy};
 
 use crate::whole::Whole;
 use checkpoint_image::{OpenerBlock, ReceiveBlock};
@@ -85,6 +85,7 @@ impl Whole {
         openers: &[OpenerSpec],
         again: &mut List<Sending>,
     ) -> Result<(), NoMemory>
+        requires { IsKeptTable table.now }
         ensures { OnOk result (again.new
             ≡ again.old ++ sent_at node (map Replying (kept_from self.now.world node processor number table.now 0 openers.now))) }
     {
@@ -115,30 +116,18 @@ fn tell_kept(
     place: usize,
     again: &mut List<Sending>,
 ) -> Result<(), NoMemory>
+    requires { IsKeptTable table.now }
     ensures { OnOk result (again.new ≡ again.old ++ sent_at node (map Replying (kept_for process table.now place))) }
 {
     match table.openers.get(place) {
         None => Ok(()),
         Some(block) => {
-            let first = first_kept(table, place, block)?;
-            tell_numbered(node, process, place, first, block.kept.as_slice(), again)?;
+            let last = answered(holds(table, place), block);
+            let opener = place as u16;
+            tell_numbered(node, process, opener, last, block.kept.as_slice(), again)?;
             Ok(())
         }
     }
-}
-
-/// The number of the oldest reply that the block at a place keeps. Where the last number answered has no successor memory is wanting.
-fn first_kept(table: &ReceiveBlock, place: usize, block: &OpenerBlock) -> Result<u32, NoMemory>
-    ensures { IfOk result (λ first. first ≡ answered (holds table.now place) block.now + 1 - length block.now.kept) }
-{
-    let Some(next) = answered(holds(table, place), block).checked_add(1) else {
-        return Err(NoMemory);
-    };
-    let kept = block.kept.len();
-    if kept > next as usize {
-        return Ok(0);
-    }
-    Ok(next - kept as u32)
 }
 
 /// The number last answered to an opener, by its block and whether its request is in hand.
@@ -162,23 +151,22 @@ fn holds(table: &ReceiveBlock, place: usize) -> bool
     }
 }
 
-/// Replies of these words to the opener at a place, numbered from a number on, are added to `again`. Where a number has no successor, or
-/// the place is none that an opener can have, memory is wanting.
+/// Replies of these words to the opener at a place, of which the last has this number, are added to `again`.
 fn tell_numbered(
     node: u8,
     process: u8,
-    place: usize,
-    first: u32,
+    opener: u16,
+    last: u32,
     kept: &[Words],
     again: &mut List<Sending>,
 ) -> Result<(), NoMemory>
-    ensures { OnOk result (again.new ≡ again.old ++ sent_at node (map Replying (numbered process place first kept.now))) }
+    requires { length kept.now ≤ last }
+    ensures { OnOk result (again.new
+        ≡ again.old ++ sent_at node (map Replying (numbered process opener (last + 1 - length kept.now) kept.now))) }
 {
-    let Ok(opener) = u16::try_from(place) else {
-        return Err(NoMemory);
-    };
-    let mut number = first;
+    let mut number = last - kept.len() as u32;
     for words in kept {
+        number += 1;
         let reply = Reply {
             process,
             opener,
@@ -186,10 +174,6 @@ fn tell_numbered(
             words: words.copy(),
         };
         again.push(Sending::new(node, Message::Replying(reply)))?;
-        let Some(next) = number.checked_add(1) else {
-            return Err(NoMemory);
-        };
-        number = next;
     }
     Ok(())
 }

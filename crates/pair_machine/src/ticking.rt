@@ -50,23 +50,10 @@ impl Whole {
     fn mark_each(&mut self, node: u8) -> Result<(), NoMemory>
         ensures { OnOk result (self.new ≡ marks_from node 0 (length self.old.world.stopped) self.old) }
     {
-        for place in 0..self.stopped.len() {
-            self.mark_at(node, place)?;
+        for processor in 0..self.stopped.count() {
+            self.mark(node, processor)?;
         }
         Ok(())
-    }
-
-    /// A site has few processors: where there were one whose number is no byte, memory would be wanting.
-    fn mark_at(&mut self, node: u8, place: usize) -> Result<(), NoMemory>
-        ensures { OnOk result (self.new ≡ marked_by node place self.old (marked_done node place self.old.world)) }
-    {
-        match u8::try_from(place) {
-            Err(_) => Err(NoMemory),
-            Ok(processor) => {
-                self.mark(node, processor)?;
-                Ok(())
-            }
-        }
     }
 
     fn mark(&mut self, node: u8, processor: u8) -> Result<(), NoMemory>
