@@ -48,7 +48,7 @@ impl Whole {
         }
         let terminal = self.terminals[place];
         if self.awaits_at(number, terminal, &reply) {
-            let printed = terminal.after_printing()?;
+            let printed = terminal.after_printing();
             self.records.print(number, reply)?;
             self.terminals[place] = printed;
         }
