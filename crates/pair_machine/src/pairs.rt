@@ -124,6 +124,7 @@ impl Pairs {
     /// The run is closed: what copies still hold is kept.
     pub fn close(&mut self) -> Result<(), NoMemory>
         ensures closed { OnOk result (self.new ≡ record self.old { state = closed_state self.old.state }) }
+        ensures whole { OnOk result (self.old.is_broken ≡ false) }
         ensures broken { OnErr result (self.new.is_broken ≡ true) }
     {
         if self.is_broken {
