@@ -109,8 +109,10 @@ reads_deck (Some (command.Run acts stop)) = true
 reads_deck (Some command.Check) = true
 reads_deck (Some (command.Load requests)) = false
 
--- what is due only once the deck was read to its end: a report or a verdict, or a refusal for what the deck says
+-- what is due only once the deck was read to its end: a report or a verdict, a refusal for what the deck says, or the usage, where the deck hasn't the processor
+-- that is to stop
 abbrev pub IsOfWholeDeck : Due → Type 0
+IsOfWholeDeck due.Usage = Unit {0}
 IsOfWholeDeck (due.Report report) = Unit {0}
 IsOfWholeDeck (due.ProgramRefused refused) = Unit {0}
 IsOfWholeDeck (due.Accepted site) = Unit {0}
