@@ -4,6 +4,7 @@ pub mod Closed
 pub mod Closing
 pub mod Doing
 pub mod Ends
+pub mod Held
 pub mod Lacking
 pub mod Owned
 pub mod Quiet

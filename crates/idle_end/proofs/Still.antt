@@ -71,7 +71,7 @@ module _ {site : Site} {events : ℕ} {post : Post} (end : IsEnd site events pos
 
   -- No process makes an act
 
-  none-stepped : (number : ℕ) (m : Made) → made site all.plain (act.Step number) ≡ Some m → ⊥
+  pub none-stepped : (number : ℕ) (m : Made) → made site all.plain (act.Step number) ≡ Some m → ⊥
   none-stepped number m is = by (slice_get all.plain.processes number) refl is
     where
       by : (one : Option PlainProcess) → slice_get all.plain.processes number ≡ one → step_made site number all.plain one ≡ Some m → ⊥

@@ -1,7 +1,9 @@
 //! Laws of what machines play.
-ghost use Rattle.std.specs.Prelude.{◌≡◌, ◌<◌, ℕ, List, length, reverse, slice_get, Some};
+ghost use Rattle.std.specs.Prelude.{◌≡◌, ◌≢◌, ◌<◌, ℕ, List, [], length, reverse, slice_get, Some};
 ghost use Rattle.tal_tree.specs.declared.site.Site.{Site};
 ghost use Rattle.schedule.specs.declared.event.Event.{Event};
+ghost use Rattle.process_semantics.specs.declared.point.Point.TheVariants.{Ended};
+ghost use Rattle.process_semantics.specs.Process.{point};
 ghost use Rattle.plain_semantics.specs.Machine.{Made, PlainProcess, made_all, plain_start, IsNoneLeft, shown_by};
 ghost use Rattle.world_semantics.specs.Kept.{closed};
 ghost use Rattle.world_semantics.specs.World.{Pair, copy_of};
@@ -17,7 +19,7 @@ ghost use Rattle.idle_end.specs.Ends.{IsAsCopy};
 /// Where each pair of a site runs a program that was read and is accepted, and its processes are laid out over its processors, then whatever the events are,
 /// with any losses, repeats, delays, one stop and takeovers: once nothing is left to do, the kept acts and then the held ones are possible on the machine of
 /// single unfailing processes, and leave no act possible there. They show what was shown; and each process is in the state of its copy that acts, with the
-/// sectors of its device.
+/// sectors of its device. A copy that holds acts has ended, so those that are added are of processes that do no more.
 pub fn an_idle_end_leaves_none()
     ensures none { (site : Site) (events : List Event) (post : Post) → IsAcceptedSite site → IsLaidOut site → length events < 4294967295
         → HasPlayed site events post → OneStops post.world → IsIdle site post → IsNoneLeft site (closed post.world) }
@@ -27,6 +29,9 @@ pub fn an_idle_end_leaves_none()
         → IsLaidOut site → length events < 4294967295 → HasPlayed site events post → OneStops post.world → IsIdle site post
         → made_all site (plain_start site) (closed post.world) ≡ Some made → slice_get post.world.processes number ≡ Some pair → (copy_of k pair).role ≡ Acting
         → slice_get made.plain.processes number ≡ Some one → IsAsCopy one (copy_of k pair) pair }
+    ensures ended { (site : Site) (events : List Event) (post : Post) (number : ℕ) (pair : Pair) (k : Which) → IsAcceptedSite site → IsLaidOut site
+        → length events < 4294967295 → HasPlayed site events post → OneStops post.world → IsIdle site post
+        → slice_get post.world.processes number ≡ Some pair → (copy_of k pair).held ≢ [] → point (copy_of k pair).core.state ≡ Ended }
 {}
 
 /// All the while, every request whose reply is awaited is served: the processor to which it goes has stopped, or it is on its way there, or the copy there has

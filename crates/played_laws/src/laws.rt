@@ -1,7 +1,9 @@
 //! Laws of what is played over whole messages.
-ghost use Rattle.std.specs.Prelude.{◌≡◌, ◌<◌, ℕ, true, List, length, reverse, slice_get, Some};
+ghost use Rattle.std.specs.Prelude.{◌≡◌, ◌≢◌, ◌<◌, ℕ, true, List, [], length, reverse, slice_get, Some};
 ghost use Rattle.tal_tree.specs.declared.site.Site.{Site};
 ghost use Rattle.schedule.specs.declared.event.Event.{Event};
+ghost use Rattle.process_semantics.specs.declared.point.Point.TheVariants.{Ended};
+ghost use Rattle.process_semantics.specs.Process.{point};
 ghost use Rattle.plain_semantics.specs.Machine.{Made, PlainProcess, made_all, plain_start, IsNoneLeft, IsPossible, shown_by};
 ghost use Rattle.world_semantics.specs.declared.role.Role.TheVariants.{Acting};
 ghost use Rattle.world_semantics.specs.declared.which.Which.{Which};
@@ -24,7 +26,7 @@ pub fn what_is_played_is_possible()
 {}
 
 /// Where the state that they lead to is idle, the kept acts and then the held ones leave no act possible there, and show what was shown; and each process is in
-/// the state of its copy that acts, with the sectors of its device.
+/// the state of its copy that acts, with the sectors of its device. A copy that holds acts has ended, so those that are added are of processes that do no more.
 pub fn an_idle_end_that_is_played_leaves_none()
     ensures none { (site : Site) (events : List Event) (s : Whole) → IsAcceptedSite site → IsLaidOut site → length events < 4294967295 → IsPlayed site events s
         → is_idle s ≡ true → IsNoneLeft site (closed s.world) }
@@ -34,4 +36,7 @@ pub fn an_idle_end_that_is_played_leaves_none()
         → IsLaidOut site → length events < 4294967295 → IsPlayed site events s → is_idle s ≡ true → made_all site (plain_start site) (closed s.world) ≡ Some made
         → slice_get s.world.processes number ≡ Some pair → (copy_of k pair).role ≡ Acting → slice_get made.plain.processes number ≡ Some one
         → IsAsCopy one (copy_of k pair) pair }
+    ensures ended { (site : Site) (events : List Event) (s : Whole) (number : ℕ) (pair : Pair) (k : Which) → IsAcceptedSite site → IsLaidOut site
+        → length events < 4294967295 → IsPlayed site events s → is_idle s ≡ true → slice_get s.world.processes number ≡ Some pair → (copy_of k pair).held ≢ []
+        → point (copy_of k pair).core.state ≡ Ended }
 {}

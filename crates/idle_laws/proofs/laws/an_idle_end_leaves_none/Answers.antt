@@ -1,3 +1,4 @@
+use Rattle.idle_end.proofs.Held.{held-ended}
 use Rattle.idle_end.proofs.Reached.{end-of}
 use Rattle.idle_end.proofs.Still.{none-left, closed-shows-nothing, same-state}
 use Rattle.idle_laws.proofs.Ended.{played-ends}
@@ -9,4 +10,6 @@ returns c = record {
   shown = λ site events post accepted out few played one idle. closed-shows-nothing (end-of (played-ends site events post accepted out few played one idle));
   state = λ site events post made number pair k one accepted out few played one_stops idle.
       same-state (end-of (played-ends site events post accepted out few played one_stops idle)) made number pair k one;
+  ended = λ site events post number pair k accepted out few played one idle.
+      held-ended (end-of (played-ends site events post accepted out few played one idle)) number pair k;
 }
