@@ -1,3 +1,4 @@
 pub mod Joined
+pub mod Leaving
 pub mod Played
 pub mod Takeover
