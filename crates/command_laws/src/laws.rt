@@ -1,16 +1,19 @@
-ghost use Rattle.std.specs.Prelude.{◌≡◌, ◌≢◌, ◌⊎◌, ℕ, Bool, true, List, Option, Some, None};
+ghost use Rattle.std.specs.Prelude.{◌≡◌, ◌≢◌, ◌⊎◌, ℕ, Bool, true, List, Option, Some, None, length};
 ghost use Rattle.command_words.specs.Asked.{asked_by};
 ghost use Rattle.command_words.specs.declared.asked.Command.TheVariants.{Check, Load, Run};
 ghost use Rattle.deck_reader.specs.Decks.{Decks};
 ghost use Rattle.deck_reader.specs.declared.deck.Deck.{Deck};
+ghost use Rattle.gd_io.specs.Faults.{HasRisen};
 ghost use Rattle.load_laws.specs.LoadDeck.{load_deck};
 ghost use Rattle.player.specs.declared.stop.Stop.{Stop};
 ghost use Rattle.runner.specs.Decided.{IsDue, IsDueOfRun};
 ghost use Rattle.runner.specs.Ends.{Ends};
 ghost use Rattle.runner.specs.Tasks.{can_stop};
+ghost use Rattle.runner.specs.Written.{text_of};
 ghost use Rattle.runner.specs.declared.due.Due.{Due};
 ghost use Rattle.runner.specs.declared.due.Due.TheVariants as due;
 ghost use Rattle.runner.specs.declared.outcome.Outcome.{Outcome};
+ghost use Rattle.runner.specs.declared.outcome.Status.TheVariants as status;
 ghost use Rattle.runner.specs.declared.task.Task.TheVariants as task;
 ghost use Rattle.runner.specs.declared.task.Telling.TheVariants.{Counts, Lines};
 ghost use Rattle.command_laws.specs.RunStatus.{IsStatusOfCheck, IsStatusOfLoad, IsStatusOfRun};
@@ -64,4 +67,18 @@ pub fn a_load_is_never_refused<S: Source, K: Sink>()
     ensures { (words : List (List ℕ)) (source source_now : S) (sink sink_now : K) (outcome : Outcome) (count : ℕ)
         → Ends S.left S.faults S.sure K.held K.faults K.sure words source source_now sink sink_now outcome → asked_by words ≡ Some (Load count)
         → IsStatusOfLoad outcome.status }
+{}
+
+/// A command ends with a read fault only where the source counted one, and with a write fault only where the sink did; and with no write
+/// fault where the sink is sure of the text that is due.
+pub fn faults_were_counted<S: Source, K: Sink>()
+    ensures read { (words : List (List ℕ)) (source source_now : S) (sink sink_now : K) (outcome : Outcome)
+        → Ends S.left S.faults S.sure K.held K.faults K.sure words source source_now sink sink_now outcome → outcome.status ≡ status.ReadFault
+        → HasRisen (S.faults source) (S.faults source_now) }
+    ensures written { (words : List (List ℕ)) (source source_now : S) (sink sink_now : K) (outcome : Outcome)
+        → Ends S.left S.faults S.sure K.held K.faults K.sure words source source_now sink sink_now outcome → outcome.status ≡ status.WriteFault
+        → HasRisen (K.faults sink) (K.faults sink_now) }
+    ensures sure { (words : List (List ℕ)) (source source_now : S) (sink sink_now : K) (outcome : Outcome)
+        → (ends : Ends S.left S.faults S.sure K.held K.faults K.sure words source source_now sink sink_now outcome)
+        → K.sure sink (length (text_of ends.decided)) → outcome.status ≢ status.WriteFault }
 {}

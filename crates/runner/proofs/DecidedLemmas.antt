@@ -1,6 +1,6 @@
 -- What is decided, and what the outcome tells of it.
 use Rattle.std.proofs.Common.{◌≡◌, ℕ, true, List, Option, Some, None, Result, Ok, Err, sym, subst, ap, ◌∙◌, refl}
-use Rattle.std.specs.Prelude.{◌≢◌, ⊤, IsErr}
+use Rattle.std.specs.Prelude.{◌≢◌, ⊤}
 use Rattle.deck_reader.specs.Decks.{Decks}
 use Rattle.deck_reader.specs.Refusals.{IsRefusalOf}
 use Rattle.deck_reader.specs.declared.deck.Deck.{Deck}
@@ -71,27 +71,6 @@ read_fault_only decided (Err fault) e = absurd (cc)
 pub read_fault_is_due : (decided : Due) (result : Result ⊤ WriteFault) (outcome : Outcome) → outcome ≡ outcome_of decided result
     → outcome.status ≡ status.ReadFault → decided ≡ due.ReadFault
 read_fault_is_due decided result outcome is e = read_fault_only decided result (sym (ap (λ o. o.status) is) ∙ e)
-
--- nor is a write fault
-run_written : (ending : Ending) → status_of_run ending ≡ status.WriteFault → ⊥
-run_written Idle e = cc
-run_written Cut e = cc
-run_written (Second processor) e = cc
-
--- a write fault is the status where writing failed, and nowhere else
-write_fault_only : (decided : Due) (result : Result ⊤ WriteFault) → (outcome_of decided result).status ≡ status.WriteFault → IsErr result
-write_fault_only due.Usage (Ok done) e = absurd (cc)
-write_fault_only due.ReadFault (Ok done) e = absurd (cc)
-write_fault_only due.NoMemory (Ok done) e = absurd (cc)
-write_fault_only (due.DeckRefused fault) (Ok done) e = absurd (cc)
-write_fault_only (due.ProgramRefused refused) (Ok done) e = absurd (cc)
-write_fault_only (due.Accepted site) (Ok done) e = absurd (cc)
-write_fault_only (due.Report report) (Ok done) e = absurd (run_written report.run.ran.ending e)
-write_fault_only decided (Err fault) e = refl
-
-pub writing_failed : (decided : Due) (result : Result ⊤ WriteFault) (outcome : Outcome) → outcome ≡ outcome_of decided result
-    → outcome.status ≡ status.WriteFault → IsErr result
-writing_failed decided result outcome is e = write_fault_only decided result (sym (ap (λ o. o.status) is) ∙ e)
 
 -- what is due of a deck whose programs are all accepted
 pub accepted_is_due : (task : Task) (deck : Deck) (decided : Due) → AreAccepted deck.site.processes → IsDueOfAccepted task deck decided

@@ -1,7 +1,6 @@
 ghost use Rattle.std.specs.Prelude.{◌≡◌, ◌≢◌, ◌≤◌, true, false, IfOk, Some, map, string_bytes};
 ghost use Rattle.std.specs.Io.KnownBytes.{IsAtEnd};
 ghost use Rattle.command_words.specs.Asked.{asked_by, IsInRange};
-ghost use Rattle.gd_io.specs.Faults.{HasRisen};
 ghost use Rattle.load_deck.specs.LoadText.{load_text};
 ghost use Rattle.plain_semantics.specs.SiteLimits.{KeepsSiteLimits};
 ghost use Rattle.verdicts.specs.Refused.{AreAccepted};
@@ -37,7 +36,6 @@ const MOST_BYTES: usize = 1_048_576;
 pub fn decide<S: Source>(alloc: Global, words: &[String], source: &mut S) -> Due
     ensures due { IsDue (map string_bytes words.entry.now) (S.left source.old) (S.faults source.old) (S.faults source.new) result }
     ensures written { CanBeWritten result }
-    ensures cause { result ≡ Due.ReadFault → HasRisen (S.faults source.old) (S.faults source.new) }
     ensures unfailing { S.sure source.old → result ≢ Due.ReadFault }
     ensures unread { reads_deck (asked_by (map string_bytes words.entry.now)) ≡ false → source.new ≡ source.old }
     ensures read_whole { reads_deck (asked_by (map string_bytes words.entry.now)) ≡ true → IsOfWholeDeck result → IsAtEnd (S.left source.new) }
@@ -53,7 +51,6 @@ fn due_of_command<S: Source>(alloc: Global, command: Command, source: &mut S) ->
     requires { IsInRange command }
     ensures due { IsDueOfCommand command (S.left source.old) (S.faults source.old) (S.faults source.new) result }
     ensures written { CanBeWritten result }
-    ensures cause { result ≡ Due.ReadFault → HasRisen (S.faults source.old) (S.faults source.new) }
     ensures unfailing { S.sure source.old → result ≢ Due.ReadFault }
     ensures unread { reads_deck (Some command) ≡ false → source.new ≡ source.old }
     ensures read_whole { reads_deck (Some command) ≡ true → IsOfWholeDeck result → IsAtEnd (S.left source.new) }
@@ -84,7 +81,6 @@ fn due_of_load(alloc: Global, requests: u32) -> Due
 fn due_of_source<S: Source>(alloc: Global, task: Task, source: &mut S) -> Due
     ensures due { IsDueOfSource task (S.left source.old) (S.faults source.old) (S.faults source.new) result }
     ensures written { CanBeWritten result }
-    ensures cause { result ≡ Due.ReadFault → HasRisen (S.faults source.old) (S.faults source.new) }
     ensures unfailing { S.sure source.old → result ≢ Due.ReadFault }
     ensures read_whole { IsOfWholeDeck result → IsAtEnd (S.left source.new) }
 {
