@@ -16,7 +16,7 @@ use Rattle.runner.specs.declared.due.Due.{Due}
 use Rattle.runner.specs.declared.due.Due.TheVariants as due
 use Rattle.runner.specs.declared.task.Task.{Task}
 
-only-wanting : (refusal : Refusal) → (◌≡◌ {A = Result ⊤ Refusal} (Err refusal) (Ok tt)) ⊎ (◌≡◌ {A = Result ⊤ Refusal} (Err refusal) (Err NoMemory)) → refusal ≡ NoMemory
+pub only-wanting : (refusal : Refusal) → (◌≡◌ {A = Result ⊤ Refusal} (Err refusal) (Ok tt)) ⊎ (◌≡◌ {A = Result ⊤ Refusal} (Err refusal) (Err NoMemory)) → refusal ≡ NoMemory
 only-wanting refusal (inl fine) = absurd (cc)
 only-wanting refusal (inr wanting) = cc
 

@@ -1,3 +1,4 @@
 pub mod Accepted
 pub mod Commands
 pub mod Faults
+pub mod OneDue

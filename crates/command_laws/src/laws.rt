@@ -6,16 +6,18 @@ ghost use Rattle.deck_reader.specs.declared.deck.Deck.{Deck};
 ghost use Rattle.gd_io.specs.Faults.{HasRisen};
 ghost use Rattle.load_laws.specs.LoadDeck.{load_deck};
 ghost use Rattle.player.specs.declared.stop.Stop.{Stop};
-ghost use Rattle.runner.specs.Decided.{IsDue, IsDueOfRun};
+ghost use Rattle.runner.specs.Decided.{IsDue, IsDueOfRun, IsReportOf};
 ghost use Rattle.runner.specs.Ends.{Ends};
 ghost use Rattle.runner.specs.Tasks.{can_stop};
 ghost use Rattle.runner.specs.Written.{text_of};
 ghost use Rattle.runner.specs.declared.due.Due.{Due};
 ghost use Rattle.runner.specs.declared.due.Due.TheVariants as due;
+ghost use Rattle.runner.specs.declared.due.Report.{Report};
 ghost use Rattle.runner.specs.declared.outcome.Outcome.{Outcome};
 ghost use Rattle.runner.specs.declared.outcome.Status.TheVariants as status;
 ghost use Rattle.runner.specs.declared.task.Task.TheVariants as task;
 ghost use Rattle.runner.specs.declared.task.Telling.TheVariants.{Counts, Lines};
+ghost use Rattle.command_laws.specs.OneDue.{IsSameDue};
 ghost use Rattle.command_laws.specs.RunStatus.{IsStatusOfCheck, IsStatusOfLoad, IsStatusOfRun};
 ghost use Rattle.verdicts.specs.Refused.{AreAccepted};
 
@@ -81,4 +83,19 @@ pub fn faults_were_counted<S: Source, K: Sink>()
     ensures sure { (words : List (List ℕ)) (source source_now : S) (sink sink_now : K) (outcome : Outcome)
         → (ends : Ends S.left S.faults S.sure K.held K.faults K.sure words source source_now sink sink_now outcome)
         → K.sure sink (length (text_of ends.decided)) → outcome.status ≢ status.WriteFault }
+{}
+
+/// A deck with a stop has one report, by what is to be told of it.
+pub fn a_deck_has_one_report()
+    ensures { (deck : Deck) (stop : Option Stop) (report other : Report) → IsReportOf deck stop report → IsReportOf deck stop other
+        → report.tells ≡ other.tells → report ≡ other }
+{}
+
+/// The same words over the same bytes have the same due: the same report or verdict, or the same refusal, unless a read fails or memory runs out. Of a
+/// program that is refused two shortest paths may be told, where there are two. What is due of a load is the same over all sources.
+pub fn what_is_due_is_one()
+    ensures told { (words : List (List ℕ)) (bytes : List ℕ) (before now earlier later : ℕ) (one other : Due) → IsDue words (Some bytes) before now one
+        → IsDue words (Some bytes) earlier later other → IsSameDue one other }
+    ensures load { (words : List (List ℕ)) (count : ℕ) (left told : Option (List ℕ)) (before now earlier later : ℕ) (one other : Due)
+        → asked_by words ≡ Some (Load count) → IsDue words left before now one → IsDue words told earlier later other → IsSameDue one other }
 {}

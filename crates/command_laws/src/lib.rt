@@ -1,5 +1,5 @@
 //! A command whose words, deck and programs are good is never refused: it ends with a run or a verdict, unless memory runs out or a
-//! read or a write fails; and a load is such a command. And a fault with which a command ends was counted.
+//! read or a write fails; and a load is such a command. A fault with which a command ends was counted, and what is due of a command is one.
 //!
 //! Below stand `runner`, whose definitions say what is due and how a command ends, `deck_reader`, `verdicts` and `discipline` with the
 //! laws that decks and verdicts are one, `load_laws`, which says what deck the load text is, and `single_stops`, by which its run has no
@@ -9,6 +9,7 @@
 pub mod laws;
 
 pub use laws::{
-    a_load_is_never_refused, a_load_is_run, an_accepted_deck_is_checked, an_accepted_deck_is_run,
-    faults_were_counted, no_accepted_deck_is_refused, no_accepted_deck_is_refused_a_check,
+    a_deck_has_one_report, a_load_is_never_refused, a_load_is_run, an_accepted_deck_is_checked,
+    an_accepted_deck_is_run, faults_were_counted, no_accepted_deck_is_refused,
+    no_accepted_deck_is_refused_a_check, what_is_due_is_one,
 };
