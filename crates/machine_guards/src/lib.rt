@@ -7,3 +7,5 @@
 #![tactic(auto)]
 
 pub mod machines;
+pub mod packets;
+pub mod ticks;
