@@ -1,5 +1,5 @@
 -- A small world that the guards name: a bank that awaits a disc's reply, a user of the bank, and a terminal of each of both.
-use Rattle.std.specs.Prelude.{ℕ, pos, true, false, List, [], ◌∷◌, codes, None}
+use Rattle.std.specs.Prelude.{ℕ, ℤ, pos, true, false, List, [], ◌∷◌, codes, Option, None}
 use Rattle.gd_words.specs.declared.message.Request.{Request}
 use Rattle.tal_tree.specs.declared.expression.Expr.{Number}
 use Rattle.tal_tree.specs.declared.expression.Variable.TheVariants as variable
@@ -11,6 +11,7 @@ use Rattle.tal_tree.specs.declared.site.ProcessSpec.{ProcessSpec}
 use Rattle.tal_tree.specs.declared.site.Site.{Site}
 use Rattle.tal_tree.specs.declared.statement.What as what
 use Rattle.process_semantics.specs.Process as process
+use Rattle.checkpoint_image.specs.declared.receive.ReceiveBlock.{ReceiveBlock}
 use Rattle.checkpoint_image.specs.declared.message.ImageMessage.{ImageMessage}
 use Rattle.world_semantics.specs.declared.role.Role.TheVariants.{Gone}
 use Rattle.world_semantics.specs.Core.{Core}
@@ -149,3 +150,43 @@ owing = record {
   owed = letter 3 0 (Asking next_request) ∷ [];
   sent = letter 3 0 (Asking next_request) ∷ [];
 }
+
+-- a receive table that keeps two replies of one opener, of whose requests the fifth was taken last
+abbrev pub two_kept : Option ℕ → ReceiveBlock
+two_kept in_hand = record {
+  openers = record { taken = 5; kept = (pos 7 ∷ []) ∷ (pos 6 ∷ []) ∷ [] } ∷ record { taken = 1; kept = (pos 8 ∷ []) ∷ [] } ∷ [];
+  in_hand = in_hand;
+}
+
+-- the world in which the bank keeps two replies for the user
+abbrev pub keeping_two : World
+keeping_two = record world {
+  processes =
+      lost (pair_at_boot site 0 disc) ∷ record (bank_at 0) { first = record (first_copy 0) { core = record awaiting { receive = two_kept None } } }
+      ∷ lost (pair_at_boot site 2 user) ∷ [];
+}
+
+-- the reply of the bank to the user's request of a number, and that of the disc to its terminal's first one
+abbrev pub user_is_told_of : ℕ → ℤ → Message
+user_is_told_of number word = Replying (record { process = 1; opener = 0; number = number; words = word ∷ [] })
+
+abbrev pub disc_tells : Message
+disc_tells = Replying (record { process = 0; opener = 1; number = 1; words = pos 0 ∷ [] })
+
+-- the disc's second copy, that keeps the reply to its terminal's request, which waits at it
+abbrev pub kept_and_waiting : Pair
+kept_and_waiting = record (lost (pair_at_boot site 0 disc)) {
+  second = record (pair_at_boot site 0 disc).second {
+    core = record (pair_at_boot site 0 disc).second.core {
+      receive = record { openers = record { taken = 0; kept = [] } ∷ record { taken = 1; kept = (pos 0 ∷ []) ∷ [] } ∷ []; in_hand = None };
+    };
+    waiting = record { process = 0; opener = 1; number = 1; words = pos 2 ∷ pos 1 ∷ pos 5 ∷ [] } ∷ [];
+  };
+}
+
+-- the world with that copy on the bank's node 3, and its post with nothing owed
+abbrev pub taking_over : World
+taking_over = record (world_at 3) { processes = kept_and_waiting ∷ bank_at 3 ∷ lost (pair_at_boot site 2 user) ∷ [] }
+
+abbrev pub before_takeover : Post
+before_takeover = record { world = taking_over; owed = []; sent = [] }

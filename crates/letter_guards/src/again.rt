@@ -1,11 +1,14 @@
-ghost use Rattle.std.specs.Prelude.{◌≡◌, [], ◌∷◌};
+ghost use Rattle.std.specs.Prelude.{◌≡◌, [], ◌∷◌, pos, Some, None};
+ghost use Rattle.std.specs.Option.{option_map};
 ghost use Rattle.process_semantics.specs.Process.{point};
 ghost use Rattle.process_semantics.specs.declared.point.Point.TheVariants.{Await};
+ghost use Rattle.computed_changes.specs.Stopped.{marked_done};
 ghost use Rattle.world_semantics.specs.Messages.{sent_at};
 ghost use Rattle.world_semantics.specs.World.{terminal_node};
-ghost use Rattle.letters.specs.Again.{sent_again};
+ghost use Rattle.letters.specs.Again.{kept_for, sent_again};
 ghost use Rattle.letters.specs.Posts.{after_marking, without_those_between};
-ghost use Rattle.letter_guards.specs.Worlds.{site, awaiting, world_at, world, marked_by, bank_asks, terminal_asks, user_is_told, terminal_is_told, letter, post};
+ghost use Rattle.gd_words.specs.declared.message.Reply.{Reply};
+ghost use Rattle.letter_guards.specs.Worlds.{site, awaiting, world_at, world, keeping_two, two_kept, taking_over, before_takeover, marked_by, bank_asks, terminal_asks, user_is_told, user_is_told_of, terminal_is_told, disc_tells, letter, post};
 
 /// A node that marks a processor sends again the requests that its copies await, those of its terminals, and the replies that its copies keep, in this order.
 /// So where the bank is on the node of the terminals that sends all three, and else each of both nodes its own. A kept reply to a terminal isn't sent again.
@@ -31,4 +34,22 @@ pub fn what_is_lost_at_a_mark_is_owed_anew()
     ensures owed { (after_marking site 0 2 [] (marked_by 0 world) post).owed
         ≡ letter terminal_node 2 terminal_asks ∷ letter 0 terminal_node terminal_is_told ∷ letter 0 1 user_is_told ∷ letter 0 3 bank_asks ∷ letter 0 3 user_is_told ∷ [] }
     ensures sent { (after_marking site 0 2 [] (marked_by 0 world) post).sent ≡ letter 0 3 bank_asks ∷ letter 0 3 user_is_told ∷ [] }
+{}
+
+/// The replies that are kept for one opener are sent again the oldest first, each with its number: the last one is that to the request that was answered last,
+/// the one before it where that taken last is still in hand.
+pub fn kept_replies_are_sent_the_oldest_first()
+    ensures sent { sent_again site keeping_two (marked_by 0 keeping_two) 0 2 ≡ sent_at 0 (bank_asks ∷ user_is_told_of 4 (pos 7) ∷ user_is_told_of 5 (pos 6) ∷ []) }
+    ensures answered { kept_for 1 (two_kept None) 0 ≡ record { process = 1; opener = 0; number = 4; words = pos 7 ∷ [] } ∷ record { process = 1; opener = 0; number = 5; words = pos 6 ∷ [] } ∷ [] }
+    ensures in_hand { kept_for 1 (two_kept (Some 0)) 0 ≡ record { process = 1; opener = 0; number = 3; words = pos 7 ∷ [] } ∷ record { process = 1; opener = 0; number = 4; words = pos 6 ∷ [] } ∷ [] }
+    ensures another_in_hand { kept_for 1 (two_kept (Some 0)) 1 ≡ record { process = 1; opener = 1; number = 1; words = pos 8 ∷ [] } ∷ [] }
+    ensures none { kept_for 1 (two_kept None) 2 ≡ [] }
+{}
+
+/// What a copy that takes over tells those whose requests waited goes before what its node asks and tells again.
+pub fn a_takeover_tells_first()
+    ensures sent { option_map (λ done. (after_marking site 3 2 done.sendings done.world before_takeover).sent) (marked_done 3 2 taking_over)
+        ≡ Some (letter 3 16 disc_tells ∷ letter 3 3 bank_asks ∷ letter 3 3 user_is_told ∷ []) }
+    ensures owed { option_map (λ done. (after_marking site 3 2 done.sendings done.world before_takeover).owed) (marked_done 3 2 taking_over)
+        ≡ Some (letter 3 16 disc_tells ∷ letter 3 3 bank_asks ∷ letter 3 3 user_is_told ∷ []) }
 {}
