@@ -1,28 +1,49 @@
-ghost use Rattle.std.specs.Prelude.{◌≡◌, [], ◌∷◌, ◌++◌, codes};
+ghost use Rattle.std.specs.Prelude.{◌≡◌, [], ◌∷◌, ◌++◌, codes, ℕ, List};
 ghost use Rattle.std.specs.Fmt.{decimal};
 ghost use Rattle.tal_tree.specs.declared.fault.DeckFault.TheVariants as deck;
 ghost use Rattle.tal_tree.specs.declared.fault.TalFault.TheVariants as tal;
-ghost use Rattle.trace_print.specs.declared.closing.End.TheVariants.{Idle, Cut, Second, Checked, Swept};
+ghost use Rattle.trace_print.specs.declared.closing.End.TheVariants.{Idle, Cut, Second, Checked, Refused, Swept};
 ghost use Rattle.trace_print.specs.EndLine.{end_line, usage_line};
-ghost use Rattle.trace_print.specs.FaultLine.{fault_numbers};
+ghost use Rattle.trace_print.specs.FaultLine.{fault_line, fault_numbers};
 ghost use Rattle.trace_print.specs.LoadLines.{load_lines};
+ghost use Rattle.trace_print.specs.NumbersText.{numbers_text};
 ghost use Rattle.trace_print.specs.StopLine.{stop_lines};
 
-/// A fault is told by its line in the deck, 0 for none, and its number; a limit has its own number after these.
+/// A fault of the deck is told by its line in the deck, 0 for none, and its number; a limit has its own number after these.
 pub fn a_fault_has_its_numbers()
+    ensures of_no_form { (line : ℕ) → fault_numbers (deck.Line line) ≡ line ∷ 1 ∷ [] }
+    ensures name_twice { (line : ℕ) → fault_numbers (deck.NameTwice line) ≡ line ∷ 3 ∷ [] }
+    ensures unknown_name { (line : ℕ) → fault_numbers (deck.UnknownName line) ≡ line ∷ 4 ∷ [] }
+    ensures same_processor { (line : ℕ) → fault_numbers (deck.SameProcessor line) ≡ line ∷ 5 ∷ [] }
+    ensures no_processor { (line : ℕ) → fault_numbers (deck.NoProcessor line) ≡ line ∷ 6 ∷ [] }
+    ensures limit { (line which : ℕ) → fault_numbers (deck.Limit line which) ≡ line ∷ 7 ∷ which ∷ [] }
+    ensures no_end { (line : ℕ) → fault_numbers (deck.NoEnd line) ≡ line ∷ 8 ∷ [] }
+    ensures opens_itself { (line : ℕ) → fault_numbers (deck.OpensItself line) ≡ line ∷ 9 ∷ [] }
     ensures too_long { fault_numbers deck.TooLong ≡ 0 ∷ 10 ∷ [] }
-    ensures of_no_form { fault_numbers (deck.Line 3) ≡ 3 ∷ 1 ∷ [] }
-    ensures no_processor { fault_numbers (deck.NoProcessor 5) ≡ 5 ∷ 6 ∷ [] }
-    ensures limit { fault_numbers (deck.Limit 4 2) ≡ 4 ∷ 7 ∷ 2 ∷ [] }
-    ensures no_end { fault_numbers (deck.NoEnd 9) ≡ 9 ∷ 8 ∷ [] }
 {}
 
-/// A program's fault has its own number, line and column after the deck's line and number.
+/// A program's fault has its own number, line and column after the deck's line and the number 2.
 pub fn a_fault_of_a_program_has_its_place()
-    ensures first { fault_numbers (deck.Program 2 (tal.BadCharacter (record { line = 3; column = 24 }))) ≡ 2 ∷ 2 ∷ 1 ∷ 3 ∷ 24 ∷ [] }
-    ensures twice { fault_numbers (deck.Program 2 (tal.Twice (record { line = 3; column = 24 }))) ≡ 2 ∷ 2 ∷ 7 ∷ 3 ∷ 24 ∷ [] }
-    ensures limit { fault_numbers (deck.Program 2 (tal.Limit 6 (record { line = 3; column = 1 }))) ≡ 2 ∷ 2 ∷ 11 ∷ 3 ∷ 1 ∷ 6 ∷ [] }
-    ensures last { fault_numbers (deck.Program 2 (tal.NoMain (record { line = 1; column = 1 }))) ≡ 2 ∷ 2 ∷ 12 ∷ 1 ∷ 1 ∷ [] }
+    ensures bad_character { (n line column : ℕ) → fault_numbers (deck.Program n (tal.BadCharacter (record { line = line; column = column }))) ≡ n ∷ 2 ∷ 1 ∷ line ∷ column ∷ [] }
+    ensures number_too_large { (n line column : ℕ) → fault_numbers (deck.Program n (tal.NumberTooLarge (record { line = line; column = column }))) ≡ n ∷ 2 ∷ 2 ∷ line ∷ column ∷ [] }
+    ensures open_string { (n line column : ℕ) → fault_numbers (deck.Program n (tal.OpenString (record { line = line; column = column }))) ≡ n ∷ 2 ∷ 3 ∷ line ∷ column ∷ [] }
+    ensures name_too_long { (n line column : ℕ) → fault_numbers (deck.Program n (tal.NameTooLong (record { line = line; column = column }))) ≡ n ∷ 2 ∷ 4 ∷ line ∷ column ∷ [] }
+    ensures expected { (n line column : ℕ) → fault_numbers (deck.Program n (tal.Expected (record { line = line; column = column }))) ≡ n ∷ 2 ∷ 5 ∷ line ∷ column ∷ [] }
+    ensures unknown { (n line column : ℕ) → fault_numbers (deck.Program n (tal.Unknown (record { line = line; column = column }))) ≡ n ∷ 2 ∷ 6 ∷ line ∷ column ∷ [] }
+    ensures twice { (n line column : ℕ) → fault_numbers (deck.Program n (tal.Twice (record { line = line; column = column }))) ≡ n ∷ 2 ∷ 7 ∷ line ∷ column ∷ [] }
+    ensures wrong_kind { (n line column : ℕ) → fault_numbers (deck.Program n (tal.WrongKind (record { line = line; column = column }))) ≡ n ∷ 2 ∷ 8 ∷ line ∷ column ∷ [] }
+    ensures not_before { (n line column : ℕ) → fault_numbers (deck.Program n (tal.NotBefore (record { line = line; column = column }))) ≡ n ∷ 2 ∷ 9 ∷ line ∷ column ∷ [] }
+    ensures prologue { (n line column : ℕ) → fault_numbers (deck.Program n (tal.Prologue (record { line = line; column = column }))) ≡ n ∷ 2 ∷ 10 ∷ line ∷ column ∷ [] }
+    ensures limit { (n which line column : ℕ) → fault_numbers (deck.Program n (tal.Limit which (record { line = line; column = column }))) ≡ n ∷ 2 ∷ 11 ∷ line ∷ column ∷ which ∷ [] }
+    ensures no_main { (n line column : ℕ) → fault_numbers (deck.Program n (tal.NoMain (record { line = line; column = column }))) ≡ n ∷ 2 ∷ 12 ∷ line ∷ column ∷ [] }
+{}
+
+/// These numbers stand behind `DECK`, each after a space.
+pub fn a_fault_has_its_line()
+    ensures limit { fault_line (deck.Limit 4 2) ≡ codes "DECK" ++ numbers_text (4 ∷ 7 ∷ 2 ∷ []) ++ 10 ∷ [] }
+    ensures too_long { fault_line deck.TooLong ≡ codes "DECK" ++ numbers_text (0 ∷ 10 ∷ []) ++ 10 ∷ [] }
+    ensures numbers { (number : ℕ) (rest : List ℕ) → numbers_text (number ∷ rest) ≡ codes " " ++ decimal number ++ numbers_text rest }
+    ensures no_number { numbers_text [] ≡ [] }
 {}
 
 /// A load is told by the number of requests of each terminal, and how much it shows.
@@ -43,6 +64,7 @@ pub fn an_end_has_its_line()
     ensures cut { end_line Cut ≡ codes "END cut" ++ 10 ∷ [] }
     ensures second { end_line (Second 15) ≡ codes "END second " ++ decimal 15 ++ 10 ∷ [] }
     ensures checked { end_line Checked ≡ codes "END checked" ++ 10 ∷ [] }
+    ensures refused { end_line Refused ≡ codes "END refused" ++ 10 ∷ [] }
     ensures swept { end_line Swept ≡ codes "END swept" ++ 10 ∷ [] }
     ensures usage { usage_line ≡ codes "USAGE guardian MODE [N] [--acts] [--fail P:K]" ++ 10 ∷ [] }
 {}
