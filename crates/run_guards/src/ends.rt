@@ -1,0 +1,23 @@
+ghost use Rattle.std.specs.Prelude.{◌≡◌, ◌+◌, ℕ, List, Option, length, true, false};
+ghost use Rattle.tal_tree.specs.declared.site.Site.{Site};
+ghost use Rattle.schedule.specs.declared.event.Event.{Event};
+ghost use Rattle.schedule.specs.declared.line.Line.{Line};
+ghost use Rattle.player.specs.declared.stop.Stop.{Stop};
+ghost use Rattle.message_wires.specs.Idle.{is_idle};
+ghost use Rattle.message_wires.specs.Play.{Whole};
+ghost use Rattle.pair_machine.specs.Seen.{closed_state};
+ghost use Rattle.schedule_runs.specs.Ends.{EndsAs};
+ghost use Rattle.schedule_runs.specs.Runs.{RunsOut, RunsToStop};
+ghost use Rattle.schedule_runs.specs.declared.ran.Ending.TheVariants.{Idle, Cut, Second};
+
+/// A run that is over asked for the events that it played: where nothing is left to do it ended idle and was closed, and else it was cut. One that ends before
+/// a second stop asked for that one too.
+pub fn a_run_ends_as_it_says()
+    ensures idle { (site : Site) (lines : List Line) (stop : Option Stop) (events : List Event) (s left : Whole) (asked : ℕ) → EndsAs site lines stop events s left asked Idle
+        → RunsOut site lines stop events s × (is_idle s ≡ true) × (left ≡ closed_state s) × (asked ≡ length events) }
+    ensures cut { (site : Site) (lines : List Line) (stop : Option Stop) (events : List Event) (s left : Whole) (asked : ℕ) → EndsAs site lines stop events s left asked Cut
+        → RunsOut site lines stop events s × (is_idle s ≡ false) × (left ≡ s) × (asked ≡ length events) }
+    ensures second { (site : Site) (lines : List Line) (stop : Option Stop) (events : List Event) (s left : Whole) (asked processor : ℕ)
+        → EndsAs site lines stop events s left asked (Second processor)
+        → RunsToStop site lines stop events s processor × (left ≡ s) × (asked ≡ length events + 1) }
+{}
