@@ -1,0 +1,218 @@
+-- What a copy does by itself raises each number by one at most.
+use Rattle.std.proofs.Common.{◌≡◌, ◌≤◌, ℕ, ◌+◌, ◌==◌, ◌&&◌, ℤ, pos, Bool, true, false, if◌then◌else◌, List, [], ◌∷◌, length, Option, Some, None, nat_lt, nat_le, slice_get, map, option_map, refl, arith, int_eq}
+use Rattle.std.specs.Option.{unwrap_or}
+use Rattle.gd_words.specs.declared.device.DeviceCall.{DeviceCall}
+use Rattle.gd_words.specs.declared.device.DeviceCall.TheVariants.{Nothing, Read, Write}
+use Rattle.tal_tree.specs.declared.act.Act.{Act}
+use Rattle.tal_tree.specs.declared.site.OpenerSpec.{OpenerSpec}
+use Rattle.tal_tree.specs.declared.site.Site.{Site}
+use Rattle.tal_tree.specs.declared.site.Who.TheVariants as who
+use Rattle.process_semantics.specs.declared.point.Point.{Point}
+use Rattle.process_semantics.specs.declared.point.Point.TheVariants as point
+use Rattle.process_semantics.specs.Disc as disc
+use Rattle.process_semantics.specs.Process as process
+use Rattle.process_semantics.specs.Process.{ProcessState, Runs, Serves}
+use Rattle.plain_semantics.specs.declared.slot.Opener.{Opener}
+use Rattle.plain_semantics.specs.Openers.{openers_of, opener_of}
+use Rattle.checkpoint_image.specs.declared.receive.OpenerBlock.{OpenerBlock}
+use Rattle.checkpoint_image.specs.Receive.{Chosen, chosen}
+use Rattle.world_semantics.specs.Core.{Core, next_on}
+use Rattle.world_semantics.specs.Kept.{is_own, is_take, own_acts}
+use Rattle.world_semantics.specs.Messages.{Asking}
+use Rattle.world_semantics.specs.Own.{Around, request_to, is_new_write}
+use Rattle.world_semantics.specs.Running.{Entered, entered_free, entered_behind, entered, Own, own_took, own_take, own_ask, own_answer_at, own_answer, around_write, own_at}
+use Rattle.world_semantics.specs.World.{Copy}
+use Rattle.number_laws.proofs.Each.{Each, each-get, each-set}
+use Rattle.number_laws.proofs.Within.{StateWithin, AreNext, CoreWithin, MessageWithin, core-more}
+
+-- Steps of a process
+
+pub state-inner : (n : ℕ) (d : Bool) (s : ProcessState) → StateWithin n d s → StateWithin n d (process.after_inner s)
+state-inner n d (Runs code s) is = is
+state-inner n d (Serves sectors s) is = is
+
+pub state-took : (n : ℕ) (d : Bool) (s : ProcessState) (words : List ℤ) → StateWithin n d s → StateWithin n d (process.after_took s words)
+state-took n d (Runs code s) words is = is
+state-took n d (Serves sectors s) words is = is
+
+pub state-asked : (n : ℕ) (d : Bool) (s : ProcessState) → StateWithin n d s → StateWithin n d (process.after_asked s)
+state-asked n d (Runs code s) is = is
+state-asked n d (Serves sectors s) is = is
+
+pub state-got : (n : ℕ) (d : Bool) (s : ProcessState) (words : List ℤ) → StateWithin n d s → StateWithin n d (process.after_got s words)
+state-got n d (Runs code s) words is = is
+state-got n d (Serves sectors s) words is = is
+
+pub state-answered : (n : ℕ) (d : Bool) (s : ProcessState) → StateWithin n d s → StateWithin n d (process.after_answered s)
+state-answered n d (Runs code s) is = is
+state-answered n d (Serves sectors s) is = is
+
+pub state-marked : (n : ℕ) (d : Bool) (s : ProcessState) → StateWithin n d s → StateWithin n d (process.after_mark s)
+state-marked n d (Runs code s) is = is
+state-marked n d (Serves sectors s) is = is
+
+call-at-number : (last number : ℕ) (kind : ℤ) (words : List ℤ) (sector : Option ℕ) → last ≤ number
+    → disc.last_write_after last (disc.call_at number kind words sector) ≤ number
+call-at-number last number kind words None low = low
+call-at-number last number kind words (Some sector) low =
+    by (int_eq kind (pos 1) && (length words == 0)) (int_eq kind (pos 2) && nat_le 1 (length words) && nat_le (length words) 8)
+  where
+    by : (reads writes : Bool)
+        → disc.last_write_after last (if reads then Read sector else if writes then Write sector (disc.filled words) number else Nothing) ≤ number
+    by true writes = low
+    by false true = omega arith
+    by false false = low
+
+-- the number of the last write after an act is the one before it or the next one
+call-number : (sectors last number : ℕ) (words : List ℤ) → last ≤ number → disc.last_write_after last (disc.call_of sectors number words) ≤ number
+call-number sectors last number [] low = low
+call-number sectors last number (kind ∷ []) low = low
+call-number sectors last number (kind ∷ sector ∷ words) low = call-at-number last number kind words (disc.sector_of sectors sector) low
+
+pub state-device : (n : ℕ) (d : Bool) (s : ProcessState) (found : List ℤ) → StateWithin n d s → StateWithin (n + 1) d (process.after_device s found)
+state-device n d (Runs code s) found is = (is.0, omega arith)
+state-device n d (Serves sectors s) found is =
+    let one = call-number sectors s.last_write (s.last_write + 1) (unwrap_or s.request []) (omega arith) in
+    (is.0, let low = is.1 in omega (arith, one, low))
+
+-- Numbers of a core
+
+pub next-low : (n : ℕ) (next : List ℕ) (file : ℕ) → AreNext n next → unwrap_or (slice_get next file) 1 ≤ n + 1
+next-low n next file are = by (slice_get next file) refl
+  where
+    by : (there : Option ℕ) → slice_get next file ≡ there → unwrap_or there 1 ≤ n + 1
+    by None is = omega arith
+    by (Some number) is = each-get _ next file number are is
+
+-- Acts and kept acts
+
+-- how an act enters the kept acts: by one act more at most, and one position more
+pub record EnteredWithin (copy : Copy) (kept : List Act) (e : Entered) : Type 0 where
+  pub number : e.copy.number ≡ copy.number
+  pub role : e.copy.role ≡ copy.role
+  pub era : e.copy.era ≡ copy.era
+  pub position : e.copy.position ≤ copy.position + 1
+  pub acts : length e.kept + length e.copy.held ≤ length kept + length copy.held + 1
+
+pub entered-within : (number : ℕ) (done : Act) (kept : List Act) (copy : Copy) → EnteredWithin copy kept (entered number done kept copy)
+entered-within number done kept copy = by copy.held refl
+  where
+    free : (behind taking : Bool) → EnteredWithin copy kept (entered_free number done kept copy behind taking)
+    free true taking = record { number = refl; role = refl; era = refl; position = omega arith; acts = omega arith }
+    free false true = record { number = refl; role = refl; era = refl; position = omega arith; acts = omega arith }
+    free false false = record { number = refl; role = refl; era = refl; position = omega arith; acts = omega arith }
+
+    by : (held : List Act) → copy.held ≡ held → EnteredWithin copy kept (entered_behind number done kept copy held)
+    by [] is = free (nat_lt copy.position (own_acts number kept)) (is_take done)
+    by (first ∷ rest) is = record { number = refl; role = refl; era = refl; position = omega arith; acts = omega arith }
+
+one-or-none : (own : Bool) → (if own then 1 else 0) ≤ 1
+one-or-none true = omega arith
+one-or-none false = omega arith
+
+pub own-few : (number : ℕ) (acts : List Act) → own_acts number acts ≤ length acts
+own-few number [] = omega arith
+own-few number (act ∷ acts) =
+    let one = one-or-none (is_own number act) in
+    let rest = own-few number acts in
+    omega (arith, one, rest)
+
+-- Acts of a copy
+
+-- an act that a copy can do: its core after it, what it sends, and what was shown then
+pub record OwnWithin (n : ℕ) (kinds : ℕ → Bool) (d : Bool) (own : Own) : Type 0 where
+  pub core : CoreWithin n d own.core
+  pub messages : Each (MessageWithin n kinds) own.messages
+  pub shown : length own.after.shown ≤ n
+
+abbrev pub AnyOwnWithin : ℕ → (ℕ → Bool) → Bool → Option Own → Type 0
+AnyOwnWithin n kinds d None = Unit {0}
+AnyOwnWithin n kinds d (Some own) = OwnWithin n kinds d own
+
+module _ (n : ℕ) (kinds : ℕ → Bool) (d : Bool) (number : ℕ) (core : Core) (before : Around) (is : CoreWithin n d core) (few : length before.shown ≤ n) where
+  later : CoreWithin (n + 1) d core
+  later = core-more (n + 1) n d core (omega arith) is
+
+  few-later : length before.shown ≤ n + 1
+  few-later = omega (arith, few)
+
+  -- the number last taken from an opener rises by one
+  took : (found : Option Chosen) → AnyOwnWithin (n + 1) kinds d (own_take number core before found)
+  took None = tt
+  took (Some found) = by (slice_get core.receive.openers found.request.opener) refl
+    where
+      by : (block : Option OpenerBlock) → slice_get core.receive.openers found.request.opener ≡ block
+          → AnyOwnWithin (n + 1) kinds d (option_map (own_took number core before found) block)
+      by None there = tt
+      by (Some block) there = record {
+        core = record {
+          state = state-took (n + 1) d core.state found.request.words later.state;
+          next = later.next;
+          taken =
+              each-set _ core.receive.openers found.request.opener _ later.taken
+              (let low = each-get _ core.receive.openers found.request.opener block is.taken there in omega (arith, low));
+        };
+        messages = tt;
+        shown = few-later;
+      }
+
+  asking : (words : List ℤ) (next : ℕ) (opener : Option Opener) → Each (MessageWithin (n + 1) kinds) (map Asking (request_to next words opener))
+  asking words next None = tt
+  asking words next (Some opener) = (tt, tt)
+
+  ask : (site : Site) (file : ℕ) (words : List ℤ) → OwnWithin (n + 1) kinds d (own_ask site number core before file words)
+  ask site file words = record {
+    core = record {
+      state = state-asked (n + 1) d core.state later.state;
+      next = each-set _ core.next file _ later.next (let low = next-low n core.next file is.next in omega (arith, low));
+      taken = later.taken;
+    };
+    messages = asking words (next_on core file) (opener_of site (who.File number file));
+    shown = few-later;
+  }
+
+  answer-at : (place : ℕ) (opener : Option OpenerSpec) (block : Option OpenerBlock) → slice_get core.receive.openers place ≡ block
+      → AnyOwnWithin (n + 1) kinds d (own_answer_at number core before place opener block)
+  answer-at place None block there = tt
+  answer-at place (Some opener) None there = tt
+  answer-at place (Some opener) (Some block) there = record {
+    core = record {
+      state = state-answered (n + 1) d core.state later.state;
+      next = later.next;
+      taken =
+          each-set _ core.receive.openers place _ later.taken (let low = each-get _ core.receive.openers place block is.taken there in omega (arith, low));
+    };
+    messages = (tt, tt);
+    shown = few-later;
+  }
+
+  answer : (site : Site) (place : Option ℕ) → AnyOwnWithin (n + 1) kinds d (own_answer site number core before place)
+  answer site None = tt
+  answer site (Some place) = answer-at place (slice_get (openers_of site number) place) (slice_get core.receive.openers place) refl
+
+  around-few : (call : DeviceCall) → length (around_write number before call).shown ≤ n + 1
+  around-few (Write sector words write) = omega (arith, few)
+  around-few Nothing = few-later
+  around-few (Read sector) = few-later
+
+  device-few : (new : Bool) (call : DeviceCall) → length (if new then around_write number before call else before).shown ≤ n + 1
+  device-few true call = around-few call
+  device-few false call = few-later
+
+  pub own-within : (site : Site) (stands : Point) → AnyOwnWithin (n + 1) kinds d (own_at site number core before stands)
+  own-within site point.Inner = record {
+    core = record { state = state-inner (n + 1) d core.state later.state; next = later.next; taken = later.taken };
+    messages = tt;
+    shown = few-later;
+  }
+  own-within site point.Take = took (chosen core.receive before.waiting)
+  own-within site point.Ask = ask site (process.asked_file core.state) (process.asked_words core.state)
+  own-within site point.Answer = answer site core.receive.in_hand
+  own-within site point.Device = record {
+    core = record { state = state-device n d core.state _ is.state; next = later.next; taken = later.taken };
+    messages = tt;
+    shown = device-few (is_new_write before.sectors (process.call_of core.state)) (process.call_of core.state);
+  }
+  own-within site point.Await = tt
+  own-within site point.Mark = tt
+  own-within site point.Ended = tt

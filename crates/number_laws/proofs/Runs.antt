@@ -1,0 +1,241 @@
+-- Where a process runs, each number is raised by one at most.
+use Rattle.std.proofs.Common.{◌≡◌, ◌≤◌, ◌<◌, ℕ, ◌+◌, Bool, true, false, List, [], ◌∷◌, length, Option, Some, None, nat_lt, slice_get, slice_set, option_map, refl, sym, ◌∙◌, arith, length-append}
+use Rattle.tal_tree.specs.declared.act.Act.{Act}
+use Rattle.tal_tree.specs.declared.site.Site.{Site}
+use Rattle.process_semantics.specs.declared.disc.DiscState.{DiscState}
+use Rattle.process_semantics.specs.declared.point.Point.{Point}
+use Rattle.process_semantics.specs.declared.point.Point.TheVariants as point
+use Rattle.process_semantics.specs.Image.{disc_words, image_of, imaged_at, state_words, listed_items, listed_files, restored_disc}
+use Rattle.process_semantics.specs.Process as process
+use Rattle.process_semantics.specs.Process.{ProcessState, Runs, Serves}
+use Rattle.checkpoint_image.specs.declared.message.FileNumber.{FileNumber}
+use Rattle.world_semantics.specs.declared.role.Role.{Role}
+use Rattle.world_semantics.specs.declared.role.Role.TheVariants.{Acting, Watching, Gone}
+use Rattle.world_semantics.specs.declared.which.Which.{Which}
+use Rattle.world_semantics.specs.declared.which.Which.TheVariants.{First, Second}
+use Rattle.world_semantics.specs.Core.{Core, carried, next_on}
+use Rattle.world_semantics.specs.Kept.{own_acts}
+use Rattle.world_semantics.specs.Messages.{Message, sent_at}
+use Rattle.world_semantics.specs.Own.{around}
+use Rattle.world_semantics.specs.Passes.{after_sending, after_mark, checkpoint_of, kept_at_mark}
+use Rattle.world_semantics.specs.Running.{Done, Own, own_at, own_done, sent_done, passed_done, mark_done, run_at, run_as, run_copy, first_of_two, run_pair, run_done, entered}
+use Rattle.world_semantics.specs.World.{Copy, Pair, World, copy_of, with_copy, may_pass}
+use Rattle.world_semantics.proofs.Lists.{set-all}
+use Rattle.number_laws.proofs.Each.{Each, each-more, each-always, each-map}
+use Rattle.number_laws.proofs.Within.{StateWithin, CoreWithin, CopyWithin, PairWithin, PairsWithin, ImageWithin, MessageWithin, AreSendings, WorldWithin, DoneWithin, AnyWithin, core-more, pair-more, terminals-more, held_in, held-with, held-set, held-there, held-one}
+use Rattle.number_laws.proofs.Images.{restored-number}
+use Rattle.number_laws.proofs.Acts.{entered-within, own-few, OwnWithin, AnyOwnWithin, own-within, next-low, state-marked}
+
+-- Images
+
+image-number : (n : ℕ) (items : List ℕ) (s : ProcessState) (d : Bool) → n < 4294967295 → StateWithin n d s → d ≡ true → (hand : Bool) (t : DiscState)
+    → restored_disc hand (image_of items s) ≡ Some t → t.last_write ≤ n
+image-number n items (Runs code s) d low is disc hand t restores = absurd (cc)
+image-number n items (Serves sectors s) d low is disc hand t restores = by s.label restores
+  where
+    known : restored_disc hand (disc_words s) ≡ Some t → t.last_write ≤ n
+    known given = let number = restored-number hand s t (let few = is.1 in omega (arith, few, low)) given in let few = is.1 in omega (arith, number, few)
+
+    by : (label : Point) → restored_disc hand (state_words items (imaged_at (Serves sectors s) label)) ≡ Some t → t.last_write ≤ n
+    by point.Mark given = known given
+    by point.Inner given = known given
+    by point.Take given = known given
+    by point.Ask given = known given
+    by point.Answer given = known given
+    by point.Device given = known given
+    by point.Await given = known given
+    by point.Ended given = known given
+
+-- what a core's checkpoint carries
+pub carried-within : (n : ℕ) (d : Bool) (core : Core) → n < 4294967295 → CoreWithin n d core → ImageWithin n d (carried core)
+carried-within n d core low is = record {
+  files = each-map _ (λ file. record { file = file; next = next_on core file }) (listed_files core.state)
+      (each-always _ (λ file. next-low n core.next file is.next) (listed_files core.state));
+  taken = is.taken;
+  write = λ disc hand t restores. image-number n (listed_items core.state) core.state d low is.state disc hand t restores;
+}
+
+-- Copies of pairs
+
+pub copy-there : (n : ℕ) (d : Bool) (k : Which) (pair : Pair) → PairWithin n d pair → CopyWithin n d (copy_of k pair)
+copy-there n d First pair is = is.0
+copy-there n d Second pair is = is.1
+
+pub pair-with : (n : ℕ) (d : Bool) (k : Which) (copy : Copy) (pair : Pair) → PairWithin n d pair → CopyWithin n d copy → PairWithin n d (with_copy k copy pair)
+pair-with n d First copy pair is one = (one, is.1, is.2)
+pair-with n d Second copy pair is one = (is.0, one, is.2)
+
+module _ (n : ℕ) (kinds : ℕ → Bool) (w : World) (within : WorldWithin n kinds w) where
+  -- a process is changed
+  pub pairs-set : (number : ℕ) (next : Pair) → PairWithin (n + 1) (kinds number) next → PairsWithin (n + 1) kinds (slice_set w.processes number next)
+  pairs-set number next is =
+      set-all (λ j. PairWithin (n + 1) (kinds j)) w.processes number next (λ j pair there. pair-more (n + 1) n (kinds j) pair (omega arith) (within.pairs j pair there)) is
+
+  pub pair-there : (number : ℕ) (pair : Pair) → slice_get w.processes number ≡ Some pair → PairWithin (n + 1) (kinds number) pair
+  pair-there number pair there = pair-more (n + 1) n (kinds number) pair (omega arith) (within.pairs number pair there)
+
+  -- one copy of it is, and the kept acts with it
+  pub acts-set : (number : ℕ) (k : Which) (pair other : Pair) (copy : Copy) (kept : List Act) → slice_get w.processes number ≡ Some pair → other.first ≡ pair.first
+      → other.second ≡ pair.second → length kept + length copy.held ≤ length w.kept + length (copy_of k pair).held + 1
+      → length kept + held_in (slice_set w.processes number (with_copy k copy other)) ≤ n + 1
+  acts-set number k pair other copy kept there first second few =
+      let one = held-with k copy pair other first second in
+      let all = held-set w.processes number pair (with_copy k copy other) there in
+      let acts = within.acts in
+      omega (arith, one, all, acts, few)
+
+  module _ (low : n < 4294967295) (number : ℕ) (k : Which) (pair : Pair) (there : slice_get w.processes number ≡ Some pair) where
+    whole : PairWithin (n + 1) (kinds number) pair
+    whole = pair-there number pair there
+
+    own : CopyWithin n (kinds number) (copy_of k pair)
+    own = copy-there n (kinds number) k pair (within.pairs number pair there)
+
+    -- an act of its own
+    sent-messages : (node : ℕ) (messages : List Message) → Each (MessageWithin (n + 1) kinds) messages → AreSendings (n + 1) kinds (sent_at node messages)
+    sent-messages node messages each = each-map _ (λ message. record { node = node; message = message }) messages each
+
+    pub own-done : (o : Own) → OwnWithin (n + 1) kinds (kinds number) o → DoneWithin (n + 1) kinds (own_done number k pair w o)
+    own-done o o-is =
+        let e = entered-within number o.done w.kept (copy_of k pair) in
+        record {
+          world = record {
+            pairs =
+                pairs-set number _
+                (pair-with (n + 1) (kinds number) k _ (record pair { sectors = o.after.sectors }) whole (
+                  o-is.core,
+                  (let same = e.number in let few = own.1 in omega (arith, same, few)),
+                  (λ watches. e.era ∙ own.2 (sym e.role ∙ watches)),
+                  (let up = e.position in let few = own.3 in omega (arith, up, few)),
+                ));
+            acts =
+                acts-set number k pair (record pair { sectors = o.after.sectors })
+                (record (entered number o.done w.kept (copy_of k pair)).copy { core = o.core; waiting = o.after.waiting })
+                (entered number o.done w.kept (copy_of k pair)).kept there refl refl e.acts;
+            shown = o-is.shown;
+            terminals = terminals-more (n + 1) n w.terminals (omega arith) within.terminals;
+          };
+          sendings = sent-messages (copy_of k pair).processor o.messages o-is.messages;
+        }
+
+    any-own : (o : Option Own) → AnyOwnWithin (n + 1) kinds (kinds number) o → AnyWithin (n + 1) kinds (option_map (own_done number k pair w) o)
+    any-own None o-is = tt
+    any-own (Some o) o-is = own-done o o-is
+
+    -- its mark
+    marked-core : CoreWithin (n + 1) (kinds number) (after_mark (copy_of k pair)).core
+    marked-core =
+        let core = core-more (n + 1) n (kinds number) (copy_of k pair).core (omega arith) own.0 in
+        record { state = state-marked (n + 1) (kinds number) (copy_of k pair).core.state core.state; next = core.next; taken = core.taken }
+
+    number-low : (copy_of k pair).number ≤ n + 1
+    number-low = let few = own.1 in omega (arith, few)
+
+    mark-few : length (kept_at_mark number (copy_of k pair) w.kept) ≤ length w.kept + length (copy_of k pair).held + 1
+    mark-few = let sum = length-append (copy_of k pair).held w.kept in omega (arith, sum)
+
+    held-low : length (copy_of k pair).held ≤ held_in w.processes
+    held-low = let one = held-one k pair in let all = held-there w.processes number pair there in omega (arith, one, all)
+
+    passed : (again : Bool) → DoneWithin (n + 1) kinds (passed_done number k pair w again)
+    passed true = record {
+      world = record {
+        pairs = pairs-set number _ (pair-with (n + 1) (kinds number) k _ pair whole (marked-core, number-low, own.2, (let few = own.3 in omega (arith, few))));
+        acts =
+            acts-set number k pair pair (record (after_mark (copy_of k pair)) { position = (copy_of k pair).position + 1 }) w.kept there refl refl (omega arith);
+        shown = let few = within.shown in omega (arith, few);
+        terminals = terminals-more (n + 1) n w.terminals (omega arith) within.terminals;
+      };
+      sendings = tt;
+    }
+    passed false = record {
+      world = record {
+        pairs =
+            pairs-set number _
+            (pair-with (n + 1) (kinds number) k _ pair whole (
+              marked-core,
+              number-low,
+              own.2,
+              (let own_few = own-few number (kept_at_mark number (copy_of k pair) w.kept) in
+                  let acts = within.acts in
+                  omega (arith, own_few, mark-few, held-low, acts)),
+            ));
+        acts =
+            acts-set number k pair pair
+            (record (after_mark (copy_of k pair)) { position = own_acts number (kept_at_mark number (copy_of k pair) w.kept); held = [] })
+            (kept_at_mark number (copy_of k pair) w.kept) there refl refl (omega (arith, mark-few));
+        shown = let few = within.shown in omega (arith, few);
+        terminals = terminals-more (n + 1) n w.terminals (omega arith) within.terminals;
+      };
+      sendings = tt;
+    }
+
+    sent : DoneWithin (n + 1) kinds (sent_done number k pair w)
+    sent = record {
+      world = record {
+        pairs =
+            pairs-set number _
+            (pair-with (n + 1) (kinds number) k (after_sending (copy_of k pair))
+            (record pair { checkpoints = checkpoint_of number (copy_of k pair) ∷ pair.checkpoints }) whole (
+              core-more (n + 1) n (kinds number) (copy_of k pair).core (omega arith) own.0,
+              (let few = own.1 in omega (arith, few)),
+              own.2,
+              (let few = own.3 in omega (arith, few)),
+            ));
+        acts =
+            acts-set number k pair (record pair { checkpoints = checkpoint_of number (copy_of k pair) ∷ pair.checkpoints }) (after_sending (copy_of k pair)) w.kept
+            there refl refl (omega arith);
+        shown = let few = within.shown in omega (arith, few);
+        terminals = terminals-more (n + 1) n w.terminals (omega arith) within.terminals;
+      };
+      sendings = (image-later, tt);
+    }
+      where
+        image-later : ImageWithin (n + 1) (kinds number) (carried (copy_of k pair).core)
+        image-later =
+            let image = carried-within n (kinds number) (copy_of k pair).core low own.0 in
+            record {
+              files = each-more _ _ (λ (named : FileNumber) few. omega (arith, few)) (carried (copy_of k pair).core).files image.files;
+              taken = each-more _ _ (λ block few. omega (arith, few)) (copy_of k pair).core.receive.openers image.taken;
+              write = λ disc hand t restores. let few = image.write disc hand t restores in omega (arith, few);
+            }
+
+    marks : (passes was_sent : Bool) → AnyWithin (n + 1) kinds (mark_done number k pair w passes was_sent)
+    marks true was_sent = passed (nat_lt (copy_of k pair).position (own_acts number w.kept))
+    marks false true = tt
+    marks false false = sent
+
+    -- where it runs
+    acts-at : (site : Site) (stands : Point)
+        → AnyWithin (n + 1) kinds (option_map (own_done number k pair w) (own_at site number (copy_of k pair).core (around (copy_of k pair) pair w) stands))
+    acts-at site stands =
+        any-own (own_at site number (copy_of k pair).core (around (copy_of k pair) pair w) stands)
+        (own-within n kinds (kinds number) number (copy_of k pair).core (around (copy_of k pair) pair w) own.0 within.shown site stands)
+
+    run-point : (site : Site) (stands : Point) → AnyWithin (n + 1) kinds (run_at site number k pair w stands)
+    run-point site point.Mark = marks (may_pass w.marks k pair) (copy_of k pair).sent
+    run-point site point.Inner = acts-at site point.Inner
+    run-point site point.Take = acts-at site point.Take
+    run-point site point.Ask = acts-at site point.Ask
+    run-point site point.Answer = acts-at site point.Answer
+    run-point site point.Device = acts-at site point.Device
+    run-point site point.Await = tt
+    run-point site point.Ended = tt
+
+    pub run-role : (site : Site) (role : Role) → AnyWithin (n + 1) kinds (run_as site number k pair w role)
+    run-role site Acting = run-point site (process.point (copy_of k pair).core.state)
+    run-role site Watching = tt
+    run-role site Gone = tt
+
+  either-within : (one other : Option Done) → AnyWithin (n + 1) kinds one → AnyWithin (n + 1) kinds other → AnyWithin (n + 1) kinds (first_of_two one other)
+  either-within None other first second = second
+  either-within (Some done) other first second = first
+
+  pub run-within : n < 4294967295 → (site : Site) (number : ℕ) → AnyWithin (n + 1) kinds (run_done site number w)
+  run-within low site number = by (slice_get w.processes number) refl
+    where
+      by : (there : Option Pair) → slice_get w.processes number ≡ there → AnyWithin (n + 1) kinds (run_pair site number w there)
+      by None there = tt
+      by (Some pair) there =
+          either-within (run_copy site number pair w First) (run_copy site number pair w Second) (run-role low number First pair there site pair.first.role)
+          (run-role low number Second pair there site pair.second.role)

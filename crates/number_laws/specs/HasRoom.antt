@@ -1,0 +1,38 @@
+-- That the numbers of a state have successors, so that the next event can raise them. Request numbers, checkpoint numbers, eras, the numbers of writes, what
+-- is counted of terminals and what was shown have 32 bits, and positions 64. The ranges are our own.
+use Rattle.std.specs.Prelude.{◌≡◌, ◌<◌, ℕ, length, slice_get, Some}
+use Rattle.std.specs.List.{All}
+use Rattle.checkpoint_image.specs.declared.receive.OpenerBlock.{OpenerBlock}
+use Rattle.checkpoint_image.specs.Behaving.{last_write_of}
+use Rattle.world_semantics.specs.declared.role.Role.TheVariants.{Watching}
+use Rattle.world_semantics.specs.declared.which.Which.{Which}
+use Rattle.world_semantics.specs.World.{Copy, Pair, Terminal, copy_of}
+use Rattle.message_wires.specs.Play.{Whole}
+
+-- a number of 32 bits, or of 64, that isn't the last one
+abbrev pub HasNext : ℕ → Type 0
+HasNext number = number < 4294967295
+
+abbrev pub HasNextLong : ℕ → Type 0
+HasNextLong number = number < 18446744073709551615
+
+-- of a copy: the number of the next request on each file, the number last taken from each opener, that of a disc's last write, that of the last checkpoint,
+-- the era if it watches, since only then it may take over, and its position
+pub record CopyHasRoom (copy : Copy) : Type 0 where
+  pub next : All HasNext copy.core.next
+  pub taken : All (λ (block : OpenerBlock). HasNext block.taken) copy.core.receive.openers
+  pub write : HasNext (last_write_of copy.core.state)
+  pub number : HasNext copy.number
+  pub era : copy.role ≡ Watching → HasNext copy.era
+  pub position : HasNextLong copy.position
+
+-- of a terminal: how many requests it has entered, and how many replies it has printed
+pub record TerminalHasRoom (terminal : Terminal) : Type 0 where
+  pub entered : HasNext terminal.entered
+  pub printed : HasNext terminal.printed
+
+-- of a state: each copy of each process, each terminal, and how many writes and replies were shown together
+pub record HasRoom (s : Whole) : Type 0 where
+  pub copies : (number : ℕ) (pair : Pair) (k : Which) → slice_get s.world.processes number ≡ Some pair → CopyHasRoom (copy_of k pair)
+  pub terminals : All TerminalHasRoom s.world.terminals
+  pub shown : HasNext (length s.world.shown)

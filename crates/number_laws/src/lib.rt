@@ -1,0 +1,11 @@
+//! That numbers have successors: before each event of what is played over whole messages, while there are fewer events than numbers of
+//! 32 bits, each number that the event may raise is below the last one of its range. So a machine of that range never lacks a number.
+//! No code runs here.
+//!
+//! Below stands `message_wires` with what each event makes of a state. The layer above takes `HasRoom`, of `specs/HasRoom.antt`, as
+//! what its machine requires, and gets it from `numbers_have_successors`.
+#![tactic(auto)]
+
+pub mod laws;
+
+pub use laws::numbers_have_successors;
