@@ -1,5 +1,5 @@
 -- What a copy does by itself raises each number by one at most.
-use Rattle.std.proofs.Common.{◌≡◌, ◌≤◌, ℕ, ◌+◌, ◌==◌, ◌&&◌, ℤ, pos, Bool, true, false, if◌then◌else◌, List, [], ◌∷◌, length, Option, Some, None, nat_lt, nat_le, slice_get, map, option_map, refl, arith, int_eq}
+use Rattle.std.proofs.Common.{◌≡◌, ◌≤◌, ℕ, ◌+◌, ◌-◌, ◌==◌, ◌&&◌, ℤ, pos, Bool, true, false, if◌then◌else◌, List, [], ◌∷◌, ◌++◌, length, Option, Some, None, nat_lt, nat_le, slice_get, map, option_map, refl, arith, length-append, length-drop, int_eq}
 use Rattle.std.specs.Option.{unwrap_or}
 use Rattle.gd_words.specs.declared.device.DeviceCall.{DeviceCall}
 use Rattle.gd_words.specs.declared.device.DeviceCall.TheVariants.{Nothing, Read, Write}
@@ -15,7 +15,9 @@ use Rattle.process_semantics.specs.Process.{ProcessState, Runs, Serves}
 use Rattle.plain_semantics.specs.declared.slot.Opener.{Opener}
 use Rattle.plain_semantics.specs.Openers.{openers_of, opener_of}
 use Rattle.checkpoint_image.specs.declared.receive.OpenerBlock.{OpenerBlock}
-use Rattle.checkpoint_image.specs.Receive.{Chosen, chosen}
+use Rattle.checkpoint_image.specs.declared.receive.ReceiveBlock.{ReceiveBlock}
+use Rattle.checkpoint_image.specs.Receive.{Chosen, chosen, chosen_by, is_next, last_ones, standing}
+use Rattle.gd_words.specs.declared.message.Request.{Request}
 use Rattle.world_semantics.specs.Core.{Core, next_on}
 use Rattle.world_semantics.specs.Kept.{is_own, is_take, own_acts}
 use Rattle.world_semantics.specs.Messages.{Asking}
@@ -23,7 +25,7 @@ use Rattle.world_semantics.specs.Own.{Around, request_to, is_new_write}
 use Rattle.world_semantics.specs.Running.{Entered, entered_free, entered_behind, entered, Own, own_took, own_take, own_ask, own_answer_at, own_answer, around_write, own_at}
 use Rattle.world_semantics.specs.World.{Copy}
 use Rattle.number_laws.proofs.Each.{Each, each-get, each-set}
-use Rattle.number_laws.proofs.Within.{StateWithin, AreNext, CoreWithin, MessageWithin, core-more}
+use Rattle.number_laws.proofs.Within.{StateWithin, AreNext, CoreWithin, MessageWithin, core-more, kept-set}
 
 -- Steps of a process
 
@@ -119,27 +121,45 @@ own-few number (act ∷ acts) =
 
 -- Acts of a copy
 
--- an act that a copy can do: its core after it, what it sends, and what was shown then
+-- of the waiting requests no more wait on than did
+abbrev ChosenFew : ℕ → Option Chosen → Type 0
+ChosenFew before None = Unit {0}
+ChosenFew before (Some found) = length found.rest ≤ before
+
+chosen-few : (table : ReceiveBlock) (waiting : List Request) → ChosenFew (length waiting) (chosen table waiting)
+chosen-few table [] = tt
+chosen-few table (request ∷ rest) = by (is_next (standing table request)) (chosen table rest) (chosen-few table rest)
+  where
+    by : (next : Bool) (later : Option Chosen) → ChosenFew (length rest) later → ChosenFew (length (request ∷ rest)) (chosen_by next request rest later)
+    by true later few = omega arith
+    by false None few = tt
+    by false (Some found) few = omega (arith, few)
+
+-- an act that a copy can do: its core after it, what it sends, what was shown then, and how many requests wait
 pub record OwnWithin (n : ℕ) (kinds : ℕ → Bool) (d : Bool) (own : Own) : Type 0 where
   pub core : CoreWithin n d own.core
   pub messages : Each (MessageWithin n kinds) own.messages
   pub shown : length own.after.shown ≤ n
+  pub waiting : length own.after.waiting ≤ n
 
 abbrev pub AnyOwnWithin : ℕ → (ℕ → Bool) → Bool → Option Own → Type 0
 AnyOwnWithin n kinds d None = Unit {0}
 AnyOwnWithin n kinds d (Some own) = OwnWithin n kinds d own
 
-module _ (n : ℕ) (kinds : ℕ → Bool) (d : Bool) (number : ℕ) (core : Core) (before : Around) (is : CoreWithin n d core) (few : length before.shown ≤ n) where
+module _ (n : ℕ) (kinds : ℕ → Bool) (d : Bool) (number : ℕ) (core : Core) (before : Around) (is : CoreWithin n d core) (few : length before.shown ≤ n) (wait : length before.waiting ≤ n) where
   later : CoreWithin (n + 1) d core
   later = core-more (n + 1) n d core (omega arith) is
 
   few-later : length before.shown ≤ n + 1
   few-later = omega (arith, few)
 
+  wait-later : length before.waiting ≤ n + 1
+  wait-later = omega (arith, wait)
+
   -- the number last taken from an opener rises by one
-  took : (found : Option Chosen) → AnyOwnWithin (n + 1) kinds d (own_take number core before found)
-  took None = tt
-  took (Some found) = by (slice_get core.receive.openers found.request.opener) refl
+  took : (found : Option Chosen) → ChosenFew (length before.waiting) found → AnyOwnWithin (n + 1) kinds d (own_take number core before found)
+  took None rest = tt
+  took (Some found) rest = by (slice_get core.receive.openers found.request.opener) refl
     where
       by : (block : Option OpenerBlock) → slice_get core.receive.openers found.request.opener ≡ block
           → AnyOwnWithin (n + 1) kinds d (option_map (own_took number core before found) block)
@@ -151,9 +171,14 @@ module _ (n : ℕ) (kinds : ℕ → Bool) (d : Bool) (number : ℕ) (core : Core
           taken =
               each-set _ core.receive.openers found.request.opener _ later.taken
               (let low = each-get _ core.receive.openers found.request.opener block is.taken there in omega (arith, low));
+          kept =
+              let same = kept-set core.receive.openers found.request.opener block (record block { taken = block.taken + 1 }) there in
+              let low = is.kept in
+              omega (arith, same, low);
         };
         messages = tt;
         shown = few-later;
+        waiting = omega (arith, rest, wait);
       }
 
   asking : (words : List ℤ) (next : ℕ) (opener : Option Opener) → Each (MessageWithin (n + 1) kinds) (map Asking (request_to next words opener))
@@ -166,9 +191,11 @@ module _ (n : ℕ) (kinds : ℕ → Bool) (d : Bool) (number : ℕ) (core : Core
       state = state-asked (n + 1) d core.state later.state;
       next = each-set _ core.next file _ later.next (let low = next-low n core.next file is.next in omega (arith, low));
       taken = later.taken;
+      kept = later.kept;
     };
     messages = asking words (next_on core file) (opener_of site (who.File number file));
     shown = few-later;
+    waiting = wait-later;
   }
 
   answer-at : (place : ℕ) (opener : Option OpenerSpec) (block : Option OpenerBlock) → slice_get core.receive.openers place ≡ block
@@ -181,37 +208,51 @@ module _ (n : ℕ) (kinds : ℕ → Bool) (d : Bool) (number : ℕ) (core : Core
       next = later.next;
       taken =
           each-set _ core.receive.openers place _ later.taken (let low = each-get _ core.receive.openers place block is.taken there in omega (arith, low));
+      kept =
+          let next = last_ones opener.depth (block.kept ++ process.answer_of core.state ∷ []) in
+          let sum = length-append block.kept (process.answer_of core.state ∷ []) in
+          let last = length-drop (length (block.kept ++ process.answer_of core.state ∷ []) - opener.depth) (block.kept ++ process.answer_of core.state ∷ []) in
+          let same = kept-set core.receive.openers place block (record block { kept = next }) there in
+          let low = is.kept in
+          omega (arith, sum, last, same, low);
     };
     messages = (tt, tt);
     shown = few-later;
+    waiting = wait-later;
   }
 
   answer : (site : Site) (place : Option ℕ) → AnyOwnWithin (n + 1) kinds d (own_answer site number core before place)
   answer site None = tt
   answer site (Some place) = answer-at place (slice_get (openers_of site number) place) (slice_get core.receive.openers place) refl
 
-  around-few : (call : DeviceCall) → length (around_write number before call).shown ≤ n + 1
-  around-few (Write sector words write) = omega (arith, few)
-  around-few Nothing = few-later
-  around-few (Read sector) = few-later
+  -- what a call of the device leaves around
+  abbrev CallFew : Around → Type 0
+  CallFew after = (length after.shown ≤ n + 1) × (length after.waiting ≤ n + 1)
 
-  device-few : (new : Bool) (call : DeviceCall) → length (if new then around_write number before call else before).shown ≤ n + 1
+  around-few : (call : DeviceCall) → CallFew (around_write number before call)
+  around-few (Write sector words write) = (omega (arith, few), wait-later)
+  around-few Nothing = (few-later, wait-later)
+  around-few (Read sector) = (few-later, wait-later)
+
+  device-few : (new : Bool) (call : DeviceCall) → CallFew (if new then around_write number before call else before)
   device-few true call = around-few call
-  device-few false call = few-later
+  device-few false call = (few-later, wait-later)
 
   pub own-within : (site : Site) (stands : Point) → AnyOwnWithin (n + 1) kinds d (own_at site number core before stands)
   own-within site point.Inner = record {
-    core = record { state = state-inner (n + 1) d core.state later.state; next = later.next; taken = later.taken };
+    core = record { state = state-inner (n + 1) d core.state later.state; next = later.next; taken = later.taken; kept = later.kept };
     messages = tt;
     shown = few-later;
+    waiting = wait-later;
   }
-  own-within site point.Take = took (chosen core.receive before.waiting)
+  own-within site point.Take = took (chosen core.receive before.waiting) (chosen-few core.receive before.waiting)
   own-within site point.Ask = ask site (process.asked_file core.state) (process.asked_words core.state)
   own-within site point.Answer = answer site core.receive.in_hand
   own-within site point.Device = record {
-    core = record { state = state-device n d core.state _ is.state; next = later.next; taken = later.taken };
+    core = record { state = state-device n d core.state _ is.state; next = later.next; taken = later.taken; kept = later.kept };
     messages = tt;
-    shown = device-few (is_new_write before.sectors (process.call_of core.state)) (process.call_of core.state);
+    shown = (device-few (is_new_write before.sectors (process.call_of core.state)) (process.call_of core.state)).0;
+    waiting = (device-few (is_new_write before.sectors (process.call_of core.state)) (process.call_of core.state)).1;
   }
   own-within site point.Await = tt
   own-within site point.Mark = tt

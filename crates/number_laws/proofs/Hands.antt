@@ -1,5 +1,6 @@
 -- Where a message is handed over or a terminal enters, each number is raised by one at most.
-use Rattle.std.proofs.Common.{◌≡◌, ◌≤◌, ◌<◌, ℕ, ◌+◌, ◌==◌, ◌&&◌, Bool, true, false, List, [], ◌∷◌, ◌++◌, length, Option, Some, None, is_some, slice_get, slice_set, map, option_map, option_and_then, refl, sym, subst, arith, length-append}
+use Rattle.std.specs.List.{filter}
+use Rattle.std.proofs.Common.{◌≡◌, ◌≤◌, ◌<◌, ℕ, ◌+◌, ◌==◌, ◌&&◌, Bool, true, false, List, [], ◌∷◌, ◌++◌, length, Option, Some, None, is_some, slice_get, slice_set, map, option_map, option_and_then, refl, sym, subst, arith, length-append, not, if◌then◌else◌}
 use Rattle.std.proofs.lemmas.Bool.{eqb-true}
 use Rattle.gd_words.specs.declared.message.Request.{Request}
 use Rattle.gd_words.specs.declared.message.Reply.{Reply}
@@ -17,7 +18,8 @@ use Rattle.checkpoint_image.specs.declared.message.FileNumber.{FileNumber}
 use Rattle.checkpoint_image.specs.declared.message.Image.{Image}
 use Rattle.checkpoint_image.specs.declared.message.ImageMessage.{ImageMessage}
 use Rattle.checkpoint_image.specs.declared.message.TakenMessage.{TakenMessage}
-use Rattle.checkpoint_image.specs.Receive.{waits, came, repeated}
+use Rattle.checkpoint_image.specs.declared.receive.ReceiveBlock.{ReceiveBlock}
+use Rattle.checkpoint_image.specs.Receive.{is_outdone, is_same_opener, is_waiting, standing, waits, came, repeated}
 use Rattle.world_semantics.specs.declared.role.Role.{Role}
 use Rattle.world_semantics.specs.declared.role.Role.TheVariants.{Acting, Watching, Gone}
 use Rattle.world_semantics.specs.declared.which.Which.{Which}
@@ -32,7 +34,7 @@ use Rattle.computed_changes.specs.Entered.{enter_at, enter_to, enter_where, ente
 use Rattle.computed_changes.specs.Fitting.{depths_of, fits, put_where, put_fitting}
 use Rattle.computed_changes.specs.Handed.{copy_in, at_copy, asked_done, awaits, own_got, got_where, got_done, awaits_at, printed_where, printed_done, printed_at, replied_done, is_next_for, applied_done, applied_where, checkpoint_done, is_of_last, acknowledged_where, taken_done, handed_done}
 use Rattle.number_laws.proofs.Each.{Each, each-get, each-set}
-use Rattle.number_laws.proofs.Within.{StateWithin, AreNext, CoreWithin, CopyWithin, PairWithin, ImageWithin, MessageWithin, AreSendings, WorldWithin, DoneWithin, AnyWithin, TerminalWithin, core-more, terminals-more, held_in, held-set, held-there}
+use Rattle.number_laws.proofs.Within.{StateWithin, AreNext, CoreWithin, CopyWithin, PairWithin, ImageWithin, MessageWithin, AreSendings, WorldWithin, DoneWithin, AnyWithin, TerminalWithin, core-more, terminals-more, held_in, held-set, held-there, filter-few}
 use Rattle.number_laws.proofs.Acts.{own-few, state-got}
 use Rattle.number_laws.proofs.Runs.{copy-there, pair-with, pairs-set, pair-there, acts-set, own-done}
 
@@ -41,6 +43,27 @@ use Rattle.number_laws.proofs.Runs.{copy-there, pair-with, pairs-set, pair-there
 pub replies-within : (n : ℕ) (kinds : ℕ → Bool) (node : ℕ) (replies : List Reply) → AreSendings n kinds (sent_at node (map Replying replies))
 replies-within n kinds node [] = tt
 replies-within n kinds node (reply ∷ replies) = (tt, replies-within n kinds node replies)
+
+-- Requests that wait
+
+-- one more request waits at most
+waits-few : (waiting : List Request) (request : Request) → length (waits waiting request) ≤ length waiting + 1
+waits-few waiting request = by (is_outdone request waiting)
+  where
+    by : (outdone : Bool)
+        → length (if outdone then waiting else filter (λ other. not (is_same_opener request other)) waiting ++ request ∷ []) ≤ length waiting + 1
+    by true = omega arith
+    by false =
+        let less = filter-few (λ other. not (is_same_opener request other)) waiting in
+        let sum = length-append (filter (λ other. not (is_same_opener request other)) waiting) (request ∷ []) in
+        omega (arith, less, sum)
+
+came-few : (table : ReceiveBlock) (waiting : List Request) (request : Request) → length (came table waiting request) ≤ length waiting + 1
+came-few table waiting request = by (is_waiting (standing table request))
+  where
+    by : (test : Bool) → length (if test then waits waiting request else waiting) ≤ length waiting + 1
+    by true = waits-few waiting request
+    by false = omega arith
 
 -- What a checkpoint restores
 
@@ -74,6 +97,7 @@ put-within n d core applied image is few puts = by (restored core.state (is_some
       state = state-restored n d (is_some image.receive.in_hand) core.state state image is.state few same;
       next = files-within n image.files core.next few.files is.next;
       taken = few.taken;
+      kept = few.kept;
     })
 
 module _ (n : ℕ) (kinds : ℕ → Bool) (w : World) (within : WorldWithin n kinds w) (low : n < 4294967295) (site : Site) where
@@ -113,6 +137,13 @@ module _ (n : ℕ) (kinds : ℕ → Bool) (w : World) (within : WorldWithin n ki
       terminals = terminals-later;
     }
 
+    -- the copy before, with other requests waiting
+    with-wait : (waiting : List Request) → length waiting ≤ length (copy_of k pair).waiting + 1
+        → CopyWithin (n + 1) (kinds number) (record (copy_of k pair) { waiting = waiting })
+    with-wait waiting one-more =
+        let before = (copy-there n (kinds number) k pair (within.pairs number pair there)).4 in
+        (own.0, own.1, own.2, own.3, omega (arith, before, one-more))
+
     same-held : length (copy_of k pair).held ≤ length (copy_of k pair).held
     same-held = omega arith
 
@@ -123,9 +154,10 @@ module _ (n : ℕ) (kinds : ℕ → Bool) (w : World) (within : WorldWithin n ki
         by true =
             own-done n kinds w within low number k pair there (own_got number reply k pair w)
             (record {
-              core = record { state = state-got (n + 1) (kinds number) (copy_of k pair).core.state reply.words own.0.state; next = own.0.next; taken = own.0.taken };
+              core = record { state = state-got (n + 1) (kinds number) (copy_of k pair).core.state reply.words own.0.state; next = own.0.next; taken = own.0.taken; kept = own.0.kept };
               messages = tt;
               shown = shown-later;
+              waiting = own.4;
             })
         by false = tt
     got-within reply Watching = tt
@@ -135,12 +167,12 @@ module _ (n : ℕ) (kinds : ℕ → Bool) (w : World) (within : WorldWithin n ki
       → AnyWithin (n + 1) kinds (asked_done request k pair w role)
   asked-within request k pair there Acting = record {
     world = changed request.process k pair there (record (copy_of k pair) { waiting = came (copy_of k pair).core.receive (copy_of k pair).waiting request })
-        (own request.process k pair there) (same-held request.process k pair there);
+        (with-wait request.process k pair there _ (came-few (copy_of k pair).core.receive (copy_of k pair).waiting request)) (same-held request.process k pair there);
     sendings = replies-within (n + 1) kinds (copy_of k pair).processor (repeated (copy_of k pair).core.receive request);
   }
   asked-within request k pair there Watching = record {
     world = changed request.process k pair there (record (copy_of k pair) { waiting = waits (copy_of k pair).waiting request })
-        (own request.process k pair there) (same-held request.process k pair there);
+        (with-wait request.process k pair there _ (waits-few (copy_of k pair).waiting request)) (same-held request.process k pair there);
     sendings = tt;
   }
   asked-within request k pair there Gone = tt
@@ -199,8 +231,8 @@ module _ (n : ℕ) (kinds : ℕ → Bool) (w : World) (within : WorldWithin n ki
         let all = own-few number (kept_at_mark number pair.second w.kept) in
         let sum = sum-of pair.second in
         let acts = within.acts in (
-          (core-is, few, is.0.2, is.0.3),
-          (is.1.0, is.1.1, is.1.2, omega (arith, other, sum, acts, held-two)),
+          (core-is, few, is.0.2, is.0.3, is.0.4),
+          (is.1.0, is.1.1, is.1.2, omega (arith, other, sum, acts, held-two), is.1.4),
           omega (arith, all, sum, acts, held-two),
         )
     applied-pair Second applied core-is few =
@@ -209,8 +241,8 @@ module _ (n : ℕ) (kinds : ℕ → Bool) (w : World) (within : WorldWithin n ki
         let all = own-few number (kept_at_mark number pair.first w.kept) in
         let sum = sum-of pair.first in
         let acts = within.acts in (
-          (is.0.0, is.0.1, is.0.2, omega (arith, other, sum, acts, held-two)),
-          (core-is, few, is.1.2, is.1.3),
+          (is.0.0, is.0.1, is.0.2, omega (arith, other, sum, acts, held-two), is.0.4),
+          (core-is, few, is.1.2, is.1.3, is.1.4),
           omega (arith, all, sum, acts, held-two),
         )
 

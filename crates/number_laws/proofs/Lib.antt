@@ -1,8 +1,12 @@
 pub mod Acts
+pub mod Counts
 pub mod Each
 pub mod Hands
 pub mod Images
+pub mod Letters
 pub mod Marks
 pub mod Played
+pub mod Quiet
 pub mod Runs
+pub mod Unmarked
 pub mod Within

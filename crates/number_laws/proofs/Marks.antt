@@ -1,9 +1,10 @@
 -- A stop and a mark raise no number; what a mark sends are requests and replies.
-use Rattle.std.proofs.Common.{◌≡◌, ◌≤◌, ℕ, ◌+◌, ◌==◌, Bool, true, false, if◌then◌else◌, List, [], ◌∷◌, ◌++◌, Option, Some, None, slice_get, map, arith}
+use Rattle.std.proofs.Common.{◌≡◌, ◌≤◌, ℕ, ◌+◌, ◌==◌, Bool, true, false, if◌then◌else◌, List, [], ◌∷◌, ◌++◌, Option, Some, None, slice_get, map, arith, length}
 use Rattle.std.specs.List.{flat_map}
 use Rattle.gd_words.specs.declared.message.Request.{Request}
 use Rattle.gd_words.specs.declared.message.Reply.{Reply}
 use Rattle.tal_tree.specs.declared.site.Site.{Site}
+use Rattle.checkpoint_image.specs.Receive.{is_waiting, standing, still_waiting}
 use Rattle.world_semantics.specs.declared.role.Role.{Role}
 use Rattle.world_semantics.specs.declared.role.Role.TheVariants.{Acting, Watching, Gone}
 use Rattle.world_semantics.specs.declared.which.Which.{Which}
@@ -15,13 +16,13 @@ use Rattle.world_semantics.proofs.Lists.{map-all}
 use Rattle.computed_changes.specs.Stopped.{stop_where, stop_done, marked_where, mark_where, marked_done}
 use Rattle.letters.specs.Again.{rerouted, awaited_from, if_acts_on, asks_again, tells_again, of_copies, of_terminals, terminals_ask, sent_again}
 use Rattle.number_laws.proofs.Each.{Each, each-append, each-map, each-always}
-use Rattle.number_laws.proofs.Within.{CopyWithin, PairWithin, MessageWithin, AreSendings, WorldWithin, AnyWithin, held_of, held_in, held-mapped}
+use Rattle.number_laws.proofs.Within.{CopyWithin, PairWithin, MessageWithin, AreSendings, WorldWithin, AnyWithin, held_of, held_in, held-mapped, filter-few}
 use Rattle.number_laws.proofs.Hands.{replies-within}
 
 -- Stops
 
 stopped-era : (n : ℕ) (d : Bool) (processor : ℕ) (copy : Copy) → CopyWithin n d copy → CopyWithin n d (stopped_copy processor copy)
-stopped-era n d processor copy is = (is.0, is.1, by (copy.processor == processor), is.3)
+stopped-era n d processor copy is = (is.0, is.1, by (copy.processor == processor), is.3, is.4)
   where
     by : (gone : Bool) → (if gone then Gone else copy.role) ≡ Watching → copy.era ≡ 0
     by true watches = absurd (cc)
@@ -53,10 +54,13 @@ module _ (n : ℕ) (kinds : ℕ → Bool) (w : World) (within : WorldWithin n ki
 
   -- Marks
 
+  still : (copy : Copy) → length copy.waiting ≤ n → length (still_waiting copy.core.receive copy.waiting) ≤ n
+  still copy few = let less = filter-few (λ request. is_waiting (standing copy.core.receive request)) copy.waiting in omega (arith, less, few)
+
   marked-one : (number : ℕ) (k : Option Which) (pair : Pair) → PairWithin n (kinds number) pair → PairWithin n (kinds number) (after_marking k pair)
   marked-one number None pair is = is
-  marked-one number (Some First) pair is = ((is.0.0, omega arith, (λ watches. absurd (cc)), is.2), is.1, is.2)
-  marked-one number (Some Second) pair is = (is.0, (is.1.0, omega arith, (λ watches. absurd (cc)), is.2), is.2)
+  marked-one number (Some First) pair is = ((is.0.0, omega arith, (λ watches. absurd (cc)), is.2, still pair.first is.0.4), is.1, is.2)
+  marked-one number (Some Second) pair is = (is.0, (is.1.0, omega arith, (λ watches. absurd (cc)), is.2, still pair.second is.1.4), is.2)
 
   marked-falls : (k : Option Which) (pair : Pair) → held_of (after_marking k pair) ≤ held_of pair
   marked-falls None pair = omega arith

@@ -1,6 +1,7 @@
 -- After so many events no number of what is played is greater.
-use Rattle.std.proofs.Common.{◌≡◌, ◌≤◌, ◌<◌, ℕ, zero, suc, ◌+◌, Bool, true, false, if◌then◌else◌, List, [], ◌∷◌, ◌++◌, length, Option, Some, None, slice_get, option_map, refl, sym, subst, arith, length-append}
+use Rattle.std.proofs.Common.{◌≡◌, ◌≤◌, ◌<◌, ℕ, zero, suc, ◌+◌, Bool, true, false, if◌then◌else◌, List, [], ◌∷◌, ◌++◌, length, Option, Some, None, slice_get, option_map, refl, sym, subst, arith, length-append, map}
 use Rattle.std.specs.List.{cons_option}
+use Rattle.tal_tree.specs.declared.site.OpenerSpec.{OpenerSpec}
 use Rattle.tal_tree.specs.declared.site.Site.{Site}
 use Rattle.tal_tree.specs.declared.site.ProcessSpec.{ProcessSpec}
 use Rattle.tal_tree.specs.declared.site.Kind.{Kind}
@@ -28,7 +29,7 @@ use Rattle.message_wires.specs.Play.{Whole, whole_at_boot, after_done, made_by, 
 use Rattle.message_wires.specs.Runs.{IsPlayed, played_none, played_more, skipped}
 use Rattle.number_laws.specs.HasRoom.{HasNext, CopyHasRoom, TerminalHasRoom, HasRoom}
 use Rattle.number_laws.proofs.Each.{Each, each-all, each-more, each-get, each-append, each-map, each-always, each-filter, each-remove}
-use Rattle.number_laws.proofs.Within.{serves, CoreWithin, CopyWithin, PairWithin, MessageWithin, AreSendings, AreSent, WiresWithin, WorldWithin, DoneWithin, AnyWithin, TerminalWithin, wires-more, world-more, held_in}
+use Rattle.number_laws.proofs.Within.{serves, CoreWithin, CopyWithin, PairWithin, MessageWithin, AreSendings, AreSent, WiresWithin, WorldWithin, DoneWithin, AnyWithin, TerminalWithin, wires-more, world-more, held_in, kept_in}
 use Rattle.number_laws.proofs.Runs.{run-within}
 use Rattle.number_laws.proofs.Hands.{handed-within, enter-within}
 use Rattle.number_laws.proofs.Marks.{stop-within, mark-within, again-within}
@@ -81,7 +82,7 @@ module _ (n : ℕ) (kinds : ℕ → Bool) where
 -- States
 
 -- a state: its world and its wires
-abbrev WholeWithin : ℕ → (ℕ → Bool) → Whole → Type 0
+abbrev pub WholeWithin : ℕ → (ℕ → Bool) → Whole → Type 0
 WholeWithin n kinds s = WorldWithin n kinds s.world × WiresWithin n kinds s.wires
 
 abbrev PlayedWithin : ℕ → (ℕ → Bool) → Played Wires → Type 0
@@ -102,7 +103,7 @@ module _ (n : ℕ) (kinds : ℕ → Bool) where
   any-within s None within is = within
   any-within s (Some done) within is = done-within s done within.1 is
 
-  marked-within : (node processor : ℕ) (s : Whole) (done : Option Done) → WholeWithin n kinds s → AnyWithin n kinds done → WholeWithin n kinds (marked_by node processor s done)
+  pub marked-within : (node processor : ℕ) (s : Whole) (done : Option Done) → WholeWithin n kinds s → AnyWithin n kinds done → WholeWithin n kinds (marked_by node processor s done)
   marked-within node processor s None within is = within
   marked-within node processor s (Some done) within is = (
     is.world,
@@ -138,7 +139,7 @@ module _ (n : ℕ) (kinds : ℕ → Bool) where
       by false = done-within s done wires is
 
 module _ (n : ℕ) (kinds : ℕ → Bool) (low : n < 4294967295) (s : Whole) (within : WholeWithin n kinds s) where
-  later : WholeWithin (n + 1) kinds s
+  pub later : WholeWithin (n + 1) kinds s
   later = (world-more (n + 1) n kinds s.world (omega arith) within.0, wires-more (n + 1) n kinds s.wires (omega arith) within.1)
 
   without : (k : ℕ) → WiresWithin (n + 1) kinds (without_packet k s.wires)
@@ -180,23 +181,28 @@ module _ (n : ℕ) (kinds : ℕ → Bool) (low : n < 4294967295) (s : Whole) (wi
 
 -- The beginning
 
-abbrev serves_at : Option Pair → Bool
+abbrev pub serves_at : Option Pair → Bool
 serves_at None = false
 serves_at (Some pair) = serves pair.first.core.state
 
 -- which processes of a site are discs
-abbrev kinds_of : Site → ℕ → Bool
+abbrev pub kinds_of : Site → ℕ → Bool
 kinds_of site number = serves_at (slice_get (pairs_at_boot site 0 site.processes) number)
 
 first-write : (what : Kind) → last_write_of (start_of what) ≤ 0
 first-write (kind.Disc sectors) = omega arith
 first-write (kind.Pair program) = omega arith
 
+none-kept : (openers : List OpenerSpec) → kept_in (map (λ opener. record { taken = 0; kept = [] }) openers) ≡ 0
+none-kept [] = refl
+none-kept (opener ∷ openers) = let rest = none-kept openers in omega (arith, rest)
+
 boot-core : (site : Site) (number : ℕ) (spec : ProcessSpec) → CoreWithin 0 (serves (start_of spec.what)) (core_at_boot site number spec)
 boot-core site number spec = record {
   state = (refl, first-write spec.what);
   next = each-map _ (λ file. 1) (files_of spec.what) (each-always _ (λ file. omega arith) (files_of spec.what));
   taken = each-map _ _ (openers_of site number) (each-always _ (λ opener. omega arith) (openers_of site number));
+  kept = let none = none-kept (openers_of site number) in omega (arith, none);
 }
 
 boot-pairs : (site : Site) (number : ℕ) (pair : Pair) → slice_get (pairs_at_boot site 0 site.processes) number ≡ Some pair
@@ -205,7 +211,7 @@ boot-pairs site number pair there =
     all-begin (λ j one. PairWithin 0 (serves one.first.core.state) one) site
     (λ j from spec.
     let core = boot-core site from spec in
-    ((core, omega arith, (λ watches. refl), omega arith), (core, omega arith, (λ watches. refl), omega arith), omega arith))
+    ((core, omega arith, (λ watches. refl), omega arith, omega arith), (core, omega arith, (λ watches. refl), omega arith, omega arith), omega arith))
     number pair there
 
 boot-held : (site : Site) (from : ℕ) (specs : List ProcessSpec) → held_in (pairs_at_boot site from specs) ≡ 0
@@ -225,7 +231,7 @@ boot-within site = (
 
 -- What is played
 
-played-within : (site : Site) (events : List Event) (s : Whole) → IsPlayed site events s → length events < 4294967295 → WholeWithin (length events) (kinds_of site) s
+pub played-within : (site : Site) (events : List Event) (s : Whole) → IsPlayed site events s → length events < 4294967295 → WholeWithin (length events) (kinds_of site) s
 played-within site _ _ played_none few = boot-within site
 played-within site _ _ (played_more {events = events} {s = s} {next = next} event before makes) few =
     let count : length (events ++ event ∷ []) ≡ length events + 1 = length-append events (event ∷ []) in

@@ -52,6 +52,7 @@ carried-within n d core low is = record {
   files = each-map _ (λ file. record { file = file; next = next_on core file }) (listed_files core.state)
       (each-always _ (λ file. next-low n core.next file is.next) (listed_files core.state));
   taken = is.taken;
+  kept = is.kept;
   write = λ disc hand t restores. image-number n (listed_items core.state) core.state d low is.state disc hand t restores;
 }
 
@@ -107,6 +108,7 @@ module _ (n : ℕ) (kinds : ℕ → Bool) (w : World) (within : WorldWithin n ki
                   (let same = e.number in let few = own.1 in omega (arith, same, few)),
                   (λ watches. e.era ∙ own.2 (sym e.role ∙ watches)),
                   (let up = e.position in let few = own.3 in omega (arith, up, few)),
+                  o-is.waiting,
                 ));
             acts =
                 acts-set number k pair (record pair { sectors = o.after.sectors })
@@ -126,7 +128,10 @@ module _ (n : ℕ) (kinds : ℕ → Bool) (w : World) (within : WorldWithin n ki
     marked-core : CoreWithin (n + 1) (kinds number) (after_mark (copy_of k pair)).core
     marked-core =
         let core = core-more (n + 1) n (kinds number) (copy_of k pair).core (omega arith) own.0 in
-        record { state = state-marked (n + 1) (kinds number) (copy_of k pair).core.state core.state; next = core.next; taken = core.taken }
+        record { state = state-marked (n + 1) (kinds number) (copy_of k pair).core.state core.state; next = core.next; taken = core.taken; kept = core.kept }
+
+    waiting-low : length (copy_of k pair).waiting ≤ n + 1
+    waiting-low = let few = own.4 in omega (arith, few)
 
     number-low : (copy_of k pair).number ≤ n + 1
     number-low = let few = own.1 in omega (arith, few)
@@ -140,7 +145,7 @@ module _ (n : ℕ) (kinds : ℕ → Bool) (w : World) (within : WorldWithin n ki
     passed : (again : Bool) → DoneWithin (n + 1) kinds (passed_done number k pair w again)
     passed true = record {
       world = record {
-        pairs = pairs-set number _ (pair-with (n + 1) (kinds number) k _ pair whole (marked-core, number-low, own.2, (let few = own.3 in omega (arith, few))));
+        pairs = pairs-set number _ (pair-with (n + 1) (kinds number) k _ pair whole (marked-core, number-low, own.2, (let few = own.3 in omega (arith, few)), waiting-low));
         acts =
             acts-set number k pair pair (record (after_mark (copy_of k pair)) { position = (copy_of k pair).position + 1 }) w.kept there refl refl (omega arith);
         shown = let few = within.shown in omega (arith, few);
@@ -159,6 +164,7 @@ module _ (n : ℕ) (kinds : ℕ → Bool) (w : World) (within : WorldWithin n ki
               (let own_few = own-few number (kept_at_mark number (copy_of k pair) w.kept) in
                   let acts = within.acts in
                   omega (arith, own_few, mark-few, held-low, acts)),
+              waiting-low,
             ));
         acts =
             acts-set number k pair pair
@@ -181,6 +187,7 @@ module _ (n : ℕ) (kinds : ℕ → Bool) (w : World) (within : WorldWithin n ki
               (let few = own.1 in omega (arith, few)),
               own.2,
               (let few = own.3 in omega (arith, few)),
+              waiting-low,
             ));
         acts =
             acts-set number k pair (record pair { checkpoints = checkpoint_of number (copy_of k pair) ∷ pair.checkpoints }) (after_sending (copy_of k pair)) w.kept
@@ -197,6 +204,7 @@ module _ (n : ℕ) (kinds : ℕ → Bool) (w : World) (within : WorldWithin n ki
             record {
               files = each-more _ _ (λ (named : FileNumber) few. omega (arith, few)) (carried (copy_of k pair).core).files image.files;
               taken = each-more _ _ (λ block few. omega (arith, few)) (copy_of k pair).core.receive.openers image.taken;
+              kept = let few = image.kept in omega (arith, few);
               write = λ disc hand t restores. let few = image.write disc hand t restores in omega (arith, few);
             }
 
@@ -210,7 +218,7 @@ module _ (n : ℕ) (kinds : ℕ → Bool) (w : World) (within : WorldWithin n ki
         → AnyWithin (n + 1) kinds (option_map (own_done number k pair w) (own_at site number (copy_of k pair).core (around (copy_of k pair) pair w) stands))
     acts-at site stands =
         any-own (own_at site number (copy_of k pair).core (around (copy_of k pair) pair w) stands)
-        (own-within n kinds (kinds number) number (copy_of k pair).core (around (copy_of k pair) pair w) own.0 within.shown site stands)
+        (own-within n kinds (kinds number) number (copy_of k pair).core (around (copy_of k pair) pair w) own.0 within.shown own.4 site stands)
 
     run-point : (site : Site) (stands : Point) → AnyWithin (n + 1) kinds (run_at site number k pair w stands)
     run-point site point.Mark = marks (may_pass w.marks k pair) (copy_of k pair).sent

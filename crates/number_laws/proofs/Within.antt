@@ -1,5 +1,6 @@
 -- How great the numbers of a state are at most after so many events.
-use Rattle.std.proofs.Common.{◌≡◌, ◌≤◌, ℕ, ◌+◌, Bool, true, false, List, [], ◌∷◌, length, Option, Some, None, slice_get, slice_set, map, ap, arith, zero, suc}
+use Rattle.std.proofs.Common.{◌≡◌, ◌≤◌, ℕ, ◌+◌, Bool, true, false, cond, List, [], ◌∷◌, length, Option, Some, None, slice_get, slice_set, map, ap, arith, zero, suc}
+use Rattle.std.specs.List.{filter}
 use Rattle.process_semantics.specs.declared.disc.DiscState.{DiscState}
 use Rattle.process_semantics.specs.Process.{ProcessState, Runs, Serves}
 use Rattle.process_semantics.specs.Image.{restored_disc}
@@ -34,14 +35,21 @@ AreNext n next = Each (λ number. number ≤ n + 1) next
 abbrev pub AreTaken : ℕ → List OpenerBlock → Type 0
 AreTaken n openers = Each (λ (block : OpenerBlock). block.taken ≤ n) openers
 
+-- how many replies are kept to openers
+abbrev pub kept_in : List OpenerBlock → ℕ
+kept_in [] = 0
+kept_in (block ∷ blocks) = length block.kept + kept_in blocks
+
 pub record CoreWithin (n : ℕ) (disc : Bool) (core : Core) : Type 0 where
   pub state : StateWithin n disc core.state
   pub next : AreNext n core.next
   pub taken : AreTaken n core.receive.openers
+  pub kept : kept_in core.receive.openers ≤ n
 
--- of a copy: its core, its number, its era if it watches, and its position
+-- of a copy: its core, its number, its era if it watches, its position, and how many requests wait
 abbrev pub CopyWithin : ℕ → Bool → Copy → Type 0
-CopyWithin n disc copy = CoreWithin n disc copy.core × (copy.number ≤ n) × (copy.role ≡ Watching → copy.era ≡ 0) × (copy.position ≤ n)
+CopyWithin n disc copy =
+    CoreWithin n disc copy.core × (copy.number ≤ n) × (copy.role ≡ Watching → copy.era ≡ 0) × (copy.position ≤ n) × (length copy.waiting ≤ n)
 
 abbrev pub PairWithin : ℕ → Bool → Pair → Type 0
 PairWithin n disc pair = CopyWithin n disc pair.first × CopyWithin n disc pair.second × (pair.base ≤ n)
@@ -52,6 +60,7 @@ PairWithin n disc pair = CopyWithin n disc pair.first × CopyWithin n disc pair.
 pub record ImageWithin (n : ℕ) (disc : Bool) (image : Image) : Type 0 where
   pub files : Each (λ (named : FileNumber). named.next ≤ n + 1) image.files
   pub taken : AreTaken n image.receive.openers
+  pub kept : kept_in image.receive.openers ≤ n
   pub write : disc ≡ true → (hand : Bool) (t : DiscState) → restored_disc hand image.body ≡ Some t → t.last_write ≤ n
 
 -- which processes are discs is told by their numbers
@@ -110,10 +119,12 @@ core-more m n disc core less is = record {
   state = (is.state.0, more m n _ less is.state.1);
   next = each-more _ _ (λ number low. more (m + 1) (n + 1) number (omega (arith, less)) low) core.next is.next;
   taken = each-more _ _ (λ block low. more m n _ less low) core.receive.openers is.taken;
+  kept = more m n _ less is.kept;
 }
 
 pub copy-more : (m n : ℕ) (disc : Bool) (copy : Copy) → n ≤ m → CopyWithin n disc copy → CopyWithin m disc copy
-copy-more m n disc copy less is = (core-more m n disc copy.core less is.0, more m n _ less is.1, is.2, more m n _ less is.3)
+copy-more m n disc copy less is =
+    (core-more m n disc copy.core less is.0, more m n _ less is.1, is.2, more m n _ less is.3, more m n _ less is.4)
 
 pub pair-more : (m n : ℕ) (disc : Bool) (pair : Pair) → n ≤ m → PairWithin n disc pair → PairWithin m disc pair
 pair-more m n disc pair less is = (copy-more m n disc pair.first less is.0, copy-more m n disc pair.second less is.1, more m n _ less is.2)
@@ -122,6 +133,7 @@ pub message-more : (m n : ℕ) (kinds : ℕ → Bool) → n ≤ m → (message :
 message-more m n kinds less (Checkpointing message) is = record {
   files = each-more _ _ (λ named low. more (m + 1) (n + 1) _ (omega (arith, less)) low) message.image.files is.files;
   taken = each-more _ _ (λ block low. more m n _ less low) message.image.receive.openers is.taken;
+  kept = more m n _ less is.kept;
   write = λ disc hand t restores. more m n _ less (is.write disc hand t restores);
 }
 message-more m n kinds less (Asking request) is = tt
@@ -170,3 +182,19 @@ held-one Second pair = omega arith
 pub held-mapped : (f : Pair → Pair) → ((pair : Pair) → held_of (f pair) ≤ held_of pair) → (pairs : List Pair) → held_in (map f pairs) ≤ held_in pairs
 held-mapped f falls [] = omega arith
 held-mapped f falls (pair ∷ pairs) = let one = falls pair in let rest = held-mapped f falls pairs in omega (arith, one, rest)
+
+-- Kept replies and waiting requests
+
+pub kept-set : (blocks : List OpenerBlock) (place : ℕ) (block next : OpenerBlock) → slice_get blocks place ≡ Some block
+    → kept_in (slice_set blocks place next) + length block.kept ≡ kept_in blocks + length next.kept
+kept-set [] place block next there = absurd (cc)
+kept-set (one ∷ blocks) zero block next there = let same = ap (λ (b : OpenerBlock). length b.kept) (some-same there) in omega (arith, same)
+kept-set (one ∷ blocks) (suc place) block next there = let rest = kept-set blocks place block next there in omega (arith, rest)
+
+pub filter-few : {A : Type 0} (test : A → Bool) (xs : List A) → length (filter test xs) ≤ length xs
+filter-few test [] = omega arith
+filter-few test (x ∷ xs) = by (test x) (filter-few test xs)
+  where
+    by : (passes : Bool) → length (filter test xs) ≤ length xs → length (cond passes (x ∷ filter test xs) (filter test xs)) ≤ length (x ∷ xs)
+    by true rest = omega (arith, rest)
+    by false rest = omega (arith, rest)

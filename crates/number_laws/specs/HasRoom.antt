@@ -1,13 +1,15 @@
 -- That the numbers of a state have successors, so that the next event can raise them. Request numbers, checkpoint numbers, eras, the numbers of writes, what
--- is counted of terminals and what was shown have 32 bits, and positions 64. The ranges are our own.
-use Rattle.std.specs.Prelude.{◌≡◌, ◌<◌, ℕ, length, slice_get, Some}
+-- is counted of terminals and what was shown have 32 bits, and positions and the count of letters 64. The ranges are our own.
+use Rattle.std.specs.Prelude.{◌≡◌, ◌<◌, ℕ, ◌^◌, length, slice_get, Some}
 use Rattle.std.specs.List.{All}
+use Rattle.schedule.specs.declared.event.Event.{Event}
 use Rattle.checkpoint_image.specs.declared.receive.OpenerBlock.{OpenerBlock}
 use Rattle.checkpoint_image.specs.Behaving.{last_write_of}
 use Rattle.world_semantics.specs.declared.role.Role.TheVariants.{Watching}
 use Rattle.world_semantics.specs.declared.which.Which.{Which}
 use Rattle.world_semantics.specs.World.{Copy, Pair, Terminal, copy_of}
-use Rattle.message_wires.specs.Play.{Whole}
+use Rattle.machine_states.specs.States.{Makes}
+use Rattle.message_wires.specs.Play.{Whole, play}
 
 -- a number of 32 bits, or of 64, that isn't the last one
 abbrev pub HasNext : ℕ → Type 0
@@ -36,3 +38,7 @@ pub record HasRoom (s : Whole) : Type 0 where
   pub copies : (number : ℕ) (pair : Pair) (k : Which) → slice_get s.world.processes number ≡ Some pair → CopyHasRoom (copy_of k pair)
   pub terminals : All TerminalHasRoom s.world.terminals
   pub shown : HasNext (length s.world.shown)
+
+-- whatever event comes next, the count of the letters that were sent has 64 bits after it
+abbrev pub HasRoomForLetters : Whole → Type 0
+HasRoomForLetters s = (event : Event) (next : Whole) → play s event ≡ Makes next → next.wires.count < 2 ^ 64

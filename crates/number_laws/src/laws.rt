@@ -1,12 +1,20 @@
-ghost use Rattle.std.specs.Prelude.{◌<◌, List, length};
+ghost use Rattle.std.specs.Prelude.{◌<◌, ◌≤◌, List, length};
 ghost use Rattle.tal_tree.specs.declared.site.Site.{Site};
 ghost use Rattle.schedule.specs.declared.event.Event.{Event};
 ghost use Rattle.message_wires.specs.Play.{Whole};
 ghost use Rattle.message_wires.specs.Runs.{IsPlayed};
-ghost use Rattle.number_laws.specs.HasRoom.{HasRoom};
+ghost use Rattle.plain_semantics.specs.SiteLimits.{KeepsSiteLimits};
+ghost use Rattle.number_laws.specs.HasRoom.{HasRoom, HasRoomForLetters};
 
 /// After fewer than 4,294,967,294 events each number has a successor. Request numbers begin with 1, so after so many events the next one
 /// on a file is at most one more; the other numbers are at most as many as the events.
 pub fn numbers_have_successors()
     ensures { (site : Site) (events : List Event) (s : Whole) → IsPlayed site events s → length events < 4294967294 → HasRoom s }
+{}
+
+/// On a site within the limits the count of letters keeps within 64 bits too. Each event sends one letter at most, but for marks: a node
+/// marks each processor once, and what it sends then is bounded by what waits and what is kept.
+pub fn letters_have_numbers()
+    ensures { (site : Site) (events : List Event) (s : Whole) → KeepsSiteLimits site → site.processors ≤ 255 → IsPlayed site events s
+        → length events < 4294967294 → HasRoomForLetters s }
 {}

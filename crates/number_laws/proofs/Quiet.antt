@@ -1,0 +1,273 @@
+-- A change that isn't a mark sends one message at most, and leaves what there is and the marks as they were.
+use Rattle.std.proofs.Common.{◌≡◌, ◌≤◌, ℕ, Bool, true, false, List, length, Option, Some, None, option_map, option_and_then, slice_get, slice_set, map, refl, arith}
+use Rattle.std.proofs.lemmas.List.{length-map, length-set}
+use Rattle.gd_words.specs.declared.message.Request.{Request}
+use Rattle.gd_words.specs.declared.message.Reply.{Reply}
+use Rattle.tal_tree.specs.declared.site.OpenerSpec.{OpenerSpec}
+use Rattle.tal_tree.specs.declared.site.Site.{Site}
+use Rattle.tal_tree.specs.declared.site.Who.{Who}
+use Rattle.tal_tree.specs.declared.site.Who.TheVariants as who
+use Rattle.process_semantics.specs.declared.point.Point.{Point}
+use Rattle.process_semantics.specs.declared.point.Point.TheVariants as point
+use Rattle.process_semantics.specs.Process as process
+use Rattle.plain_semantics.specs.declared.slot.Opener.{Opener}
+use Rattle.plain_semantics.specs.Openers.{openers_of, opener_of}
+use Rattle.plain_semantics.specs.Machine.{next_request}
+use Rattle.checkpoint_image.specs.declared.message.ImageMessage.{ImageMessage}
+use Rattle.checkpoint_image.specs.declared.message.TakenMessage.{TakenMessage}
+use Rattle.checkpoint_image.specs.declared.receive.OpenerBlock.{OpenerBlock}
+use Rattle.checkpoint_image.specs.declared.receive.Standing.{Standing}
+use Rattle.checkpoint_image.specs.declared.receive.Standing.TheVariants.{Next, InHand, Kept, Old, Ahead}
+use Rattle.checkpoint_image.specs.Receive.{Chosen, chosen, repeated, repeated_by, standing}
+use Rattle.world_semantics.specs.declared.role.Role.{Role}
+use Rattle.world_semantics.specs.declared.role.Role.TheVariants.{Acting, Watching, Gone}
+use Rattle.world_semantics.specs.declared.which.Which.{Which}
+use Rattle.world_semantics.specs.declared.which.Which.TheVariants.{First, Second}
+use Rattle.world_semantics.specs.Core.{Core, next_on}
+use Rattle.world_semantics.specs.Messages.{Message, Asking, Replying, Checkpointing, Taking, sent_at}
+use Rattle.world_semantics.specs.Own.{Around, around, request_to}
+use Rattle.world_semantics.specs.Running.{Done, Own, own_took, own_take, own_answer_at, own_answer, own_done, own_at, mark_done, run_at, run_as, run_copy, first_of_two, run_pair, run_done, passed_done}
+use Rattle.world_semantics.specs.World.{Pair, Terminal, World, copy_of, may_pass}
+use Rattle.computed_changes.specs.Entered.{enter_at, enter_to, enter_where, enter_done, entered_done}
+use Rattle.computed_changes.specs.Fitting.{depths_of, put_fitting}
+use Rattle.computed_changes.specs.Handed.{copy_in, at_copy, asked_done, awaits, own_got, got_where, got_done, awaits_at, printed_where, printed_done, printed_at, replied_done, is_next_for, applied_done, applied_where, checkpoint_done, is_of_last, acknowledged_where, taken_done, handed_done}
+use Rattle.computed_changes.specs.Stopped.{stop_where, stop_done}
+
+-- two worlds have as many processors, processes and terminals
+pub record IsOfSize (w next : World) : Type 0 where
+  pub stopped : length next.stopped ≡ length w.stopped
+  pub processes : length next.processes ≡ length w.processes
+  pub terminals : length next.terminals ≡ length w.terminals
+
+pub record IsQuiet (w : World) (done : Done) : Type 0 where
+  pub size : IsOfSize w done.world
+  pub marks : done.world.marks ≡ w.marks
+  pub few : length done.sendings ≤ 1
+
+abbrev pub IsQuietAny : World → Option Done → Type 0
+IsQuietAny w None = Unit {0}
+IsQuietAny w (Some done) = IsQuiet w done
+
+sent-few : (node : ℕ) (messages : List Message) → length messages ≤ 1 → length (sent_at node messages) ≤ 1
+sent-few node messages few =
+    let same : length (sent_at node messages) ≡ length messages = length-map messages (λ message. record { node = node; message = message }) in
+    omega (arith, same, few)
+
+pub repeated-few : (request : Request) (stands : Standing) → length (repeated_by request stands) ≤ 1
+repeated-few request Next = omega arith
+repeated-few request InHand = omega arith
+repeated-few request (Kept words) = omega arith
+repeated-few request Old = omega arith
+repeated-few request Ahead = omega arith
+
+at-copy-quiet : (w : World) (node : ℕ) (does : Which → Pair → Option Done) → ((k : Which) (pair : Pair) → IsQuietAny w (does k pair)) → (one : Option Pair)
+    → IsQuietAny w (at_copy node does one)
+at-copy-quiet w node does all None = tt
+at-copy-quiet w node does all (Some pair) = by (copy_in node pair)
+  where
+    by : (k : Option Which) → IsQuietAny w (option_and_then (λ k. does k pair) k)
+    by None = tt
+    by (Some k) = all k pair
+
+-- Acts
+
+abbrev FewOwn : Option Own → Type 0
+FewOwn None = Unit {0}
+FewOwn (Some own) = length own.messages ≤ 1
+
+module _ (number : ℕ) (core : Core) (before : Around) where
+  take-few : (found : Option Chosen) → FewOwn (own_take number core before found)
+  take-few None = tt
+  take-few (Some found) = by (slice_get core.receive.openers found.request.opener)
+    where
+      by : (block : Option OpenerBlock) → FewOwn (option_map (own_took number core before found) block)
+      by None = tt
+      by (Some block) = omega arith
+
+  asking-few : (next : ℕ) (words : List _) (opener : Option Opener) → length (map Asking (request_to next words opener)) ≤ 1
+  asking-few next words None = omega arith
+  asking-few next words (Some opener) = omega arith
+
+  answer-few : (place : ℕ) (opener : Option OpenerSpec) (block : Option OpenerBlock) → FewOwn (own_answer_at number core before place opener block)
+  answer-few place None block = tt
+  answer-few place (Some opener) None = tt
+  answer-few place (Some opener) (Some block) = omega arith
+
+  answering-few : (site : Site) (place : Option ℕ) → FewOwn (own_answer site number core before place)
+  answering-few site None = tt
+  answering-few site (Some place) = answer-few place (slice_get (openers_of site number) place) (slice_get core.receive.openers place)
+
+  own-few : (site : Site) (stands : Point) → FewOwn (own_at site number core before stands)
+  own-few site point.Inner = omega arith
+  own-few site point.Take = take-few (chosen core.receive before.waiting)
+  own-few site point.Ask =
+      asking-few (next_on core (process.asked_file core.state)) (process.asked_words core.state)
+      (opener_of site (who.File number (process.asked_file core.state)))
+  own-few site point.Answer = answering-few site core.receive.in_hand
+  own-few site point.Device = omega arith
+  own-few site point.Await = tt
+  own-few site point.Mark = tt
+  own-few site point.Ended = tt
+
+module _ (site : Site) (w : World) where
+  -- a change of one process
+  one-set : (number : ℕ) (pair : Pair) → length (slice_set w.processes number pair) ≡ length w.processes
+  one-set number pair = length-set w.processes number pair
+
+  own-quiet : (number : ℕ) (k : Which) (pair : Pair) (own : Own) → length own.messages ≤ 1 → IsQuiet w (own_done number k pair w own)
+  own-quiet number k pair own few = record {
+    size = record { stopped = refl; processes = one-set number _; terminals = refl };
+    marks = refl;
+    few = sent-few (copy_of k pair).processor own.messages few;
+  }
+
+  any-own : (number : ℕ) (k : Which) (pair : Pair) (own : Option Own) → FewOwn own → IsQuietAny w (option_map (own_done number k pair w) own)
+  any-own number k pair None few = tt
+  any-own number k pair (Some own) few = own-quiet number k pair own few
+
+  acts-quiet : (number : ℕ) (k : Which) (pair : Pair) (stands : Point)
+      → IsQuietAny w (option_map (own_done number k pair w) (own_at site number (copy_of k pair).core (around (copy_of k pair) pair w) stands))
+  acts-quiet number k pair stands =
+      any-own number k pair (own_at site number (copy_of k pair).core (around (copy_of k pair) pair w) stands)
+      (own-few number (copy_of k pair).core (around (copy_of k pair) pair w) site stands)
+
+  run-point : (number : ℕ) (k : Which) (pair : Pair) (stands : Point) → IsQuietAny w (run_at site number k pair w stands)
+  run-point number k pair point.Mark = by (may_pass w.marks k pair) (copy_of k pair).sent
+    where
+      passed : (again : Bool) → IsQuiet w (passed_done number k pair w again)
+      passed true = record { size = record { stopped = refl; processes = one-set number _; terminals = refl }; marks = refl; few = omega arith }
+      passed false = record { size = record { stopped = refl; processes = one-set number _; terminals = refl }; marks = refl; few = omega arith }
+
+      by : (passes sent : Bool) → IsQuietAny w (mark_done number k pair w passes sent)
+      by true sent = passed _
+      by false true = tt
+      by false false = record { size = record { stopped = refl; processes = one-set number _; terminals = refl }; marks = refl; few = omega arith }
+  run-point number k pair point.Inner = acts-quiet number k pair point.Inner
+  run-point number k pair point.Take = acts-quiet number k pair point.Take
+  run-point number k pair point.Ask = acts-quiet number k pair point.Ask
+  run-point number k pair point.Answer = acts-quiet number k pair point.Answer
+  run-point number k pair point.Device = acts-quiet number k pair point.Device
+  run-point number k pair point.Await = tt
+  run-point number k pair point.Ended = tt
+
+  run-role : (number : ℕ) (k : Which) (pair : Pair) (role : Role) → IsQuietAny w (run_as site number k pair w role)
+  run-role number k pair Acting = run-point number k pair (process.point (copy_of k pair).core.state)
+  run-role number k pair Watching = tt
+  run-role number k pair Gone = tt
+
+  either-quiet : (one other : Option Done) → IsQuietAny w one → IsQuietAny w other → IsQuietAny w (first_of_two one other)
+  either-quiet None other first second = second
+  either-quiet (Some done) other first second = first
+
+  pub run-quiet : (number : ℕ) → IsQuietAny w (run_done site number w)
+  run-quiet number = by (slice_get w.processes number)
+    where
+      by : (pair : Option Pair) → IsQuietAny w (run_pair site number w pair)
+      by None = tt
+      by (Some pair) =
+          either-quiet (run_copy site number pair w First) (run_copy site number pair w Second) (run-role number First pair pair.first.role)
+          (run-role number Second pair pair.second.role)
+
+  pub enter-quiet : (number : ℕ) → IsQuietAny w (enter_done site number w)
+  enter-quiet number = by (slice_get w.terminals number)
+    where
+      entered : (terminal : Terminal) (opener : Opener) (words : Option (List _)) → IsQuietAny w (option_map (entered_done number terminal w opener) words)
+      entered terminal opener None = tt
+      entered terminal opener (Some words) =
+          record { size = record { stopped = refl; processes = refl; terminals = length-set w.terminals number _ }; marks = refl; few = omega arith }
+
+      to : (terminal : Terminal) → (test : Bool) → IsQuietAny w (enter_where site number terminal w test)
+      to terminal false = tt
+      to terminal true = opened (opener_of site (who.Terminal number))
+        where
+          opened : (opener : Option Opener) → IsQuietAny w (enter_to number terminal w (next_request site number terminal.entered) opener)
+          opened None = tt
+          opened (Some opener) = entered terminal opener (next_request site number terminal.entered)
+
+      by : (terminal : Option Terminal) → IsQuietAny w (enter_at site number w terminal)
+      by None = tt
+      by (Some terminal) = to terminal _
+
+  asked-quiet : (request : Request) (k : Which) (pair : Pair) (role : Role) → IsQuietAny w (asked_done request k pair w role)
+  asked-quiet request k pair Acting = record {
+    size = record { stopped = refl; processes = one-set request.process _; terminals = refl };
+    marks = refl;
+    few = sent-few (copy_of k pair).processor (map Replying (repeated (copy_of k pair).core.receive request))
+        (let same = length-map (repeated (copy_of k pair).core.receive request) Replying in
+        let one = repeated-few request (standing (copy_of k pair).core.receive request) in
+        omega (arith, same, one));
+  }
+  asked-quiet request k pair Watching =
+      record { size = record { stopped = refl; processes = one-set request.process _; terminals = refl }; marks = refl; few = omega arith }
+  asked-quiet request k pair Gone = tt
+
+  got-quiet : (number : ℕ) (reply : Reply) (k : Which) (pair : Pair) (role : Role) → IsQuietAny w (got_done site number reply k pair w role)
+  got-quiet number reply k pair Acting = by (awaits site number (copy_of k pair).core reply (process.point (copy_of k pair).core.state))
+    where
+      by : (test : Bool) → IsQuietAny w (got_where number reply k pair w test)
+      by true = own-quiet number k pair (own_got number reply k pair w) (omega arith)
+      by false = tt
+  got-quiet number reply k pair Watching = tt
+  got-quiet number reply k pair Gone = tt
+
+  printed-quiet : (number : ℕ) (reply : Reply) (test : Bool) → IsQuietAny w (printed_at site number reply w test)
+  printed-quiet number reply false = tt
+  printed-quiet number reply true = by (slice_get w.terminals number)
+    where
+      printed : (terminal : Terminal) (test : Bool) → IsQuietAny w (printed_where number reply terminal w test)
+      printed terminal true = record { size = record { stopped = refl; processes = refl; terminals = length-set w.terminals number _ }; marks = refl; few = omega arith }
+      printed terminal false = tt
+
+      by : (terminal : Option Terminal) → IsQuietAny w (printed_done site number reply w terminal)
+      by None = tt
+      by (Some terminal) = printed terminal (awaits_at site number terminal reply)
+
+  replied-quiet : (node : ℕ) (reply : Reply) (opener : Option Who) → IsQuietAny w (replied_done site node reply w opener)
+  replied-quiet node reply None = tt
+  replied-quiet node reply (Some (who.File number file)) =
+      at-copy-quiet w node _ (λ k pair. got-quiet number reply k pair (copy_of k pair).role) (slice_get w.processes number)
+  replied-quiet node reply (Some (who.Terminal number)) = printed-quiet number reply _
+
+  checkpoint-quiet : (message : ImageMessage) (k : Which) (pair : Pair) (role : Role) → IsQuietAny w (checkpoint_done site message k pair w role)
+  checkpoint-quiet message k pair Watching = by (is_next_for (copy_of k pair) message)
+    where
+      applied : (core : Option Core) → IsQuietAny w (option_map (applied_done message k pair w) core)
+      applied None = tt
+      applied (Some core) =
+          record { size = record { stopped = refl; processes = one-set message.process _; terminals = refl }; marks = refl; few = omega arith }
+
+      by : (test : Bool) → IsQuietAny w (applied_where site message k pair w test)
+      by true = applied (put_fitting (depths_of site message.process) (copy_of k pair).core message.image)
+      by false = tt
+  checkpoint-quiet message k pair Acting = tt
+  checkpoint-quiet message k pair Gone = tt
+
+  taken-quiet : (taken : TakenMessage) (k : Which) (pair : Pair) (role : Role) → IsQuietAny w (taken_done taken k pair w role)
+  taken-quiet taken k pair Acting = by (is_of_last (copy_of k pair) taken)
+    where
+      by : (test : Bool) → IsQuietAny w (acknowledged_where taken k pair w test)
+      by true = record { size = record { stopped = refl; processes = one-set taken.process _; terminals = refl }; marks = refl; few = omega arith }
+      by false = tt
+  taken-quiet taken k pair Watching = tt
+  taken-quiet taken k pair Gone = tt
+
+  pub handed-quiet : (node : ℕ) (message : Message) → IsQuietAny w (handed_done site node message w)
+  handed-quiet node (Asking request) =
+      at-copy-quiet w node _ (λ k pair. asked-quiet request k pair (copy_of k pair).role) (slice_get w.processes request.process)
+  handed-quiet node (Replying reply) = replied-quiet node reply _
+  handed-quiet node (Checkpointing message) =
+      at-copy-quiet w node _ (λ k pair. checkpoint-quiet message k pair (copy_of k pair).role) (slice_get w.processes message.process)
+  handed-quiet node (Taking taken) =
+      at-copy-quiet w node _ (λ k pair. taken-quiet taken k pair (copy_of k pair).role) (slice_get w.processes taken.process)
+
+  pub stop-quiet : (processor : ℕ) → IsQuietAny w (stop_done processor w)
+  stop-quiet processor = by (slice_get w.stopped processor)
+    where
+      by : (stopped : Option Bool) → IsQuietAny w (stop_where processor w stopped)
+      by None = tt
+      by (Some true) = tt
+      by (Some false) = record {
+        size = record { stopped = length-set w.stopped processor true; processes = length-map w.processes _; terminals = refl };
+        marks = refl;
+        few = omega arith;
+      }
