@@ -1,4 +1,4 @@
--- How many letters were posted at most after so many events: each event sends one, and each mark a number of them.
+-- How many letters were posted at most after so many events: each event sends one at most, but for marks, which are few.
 use Rattle.std.proofs.Common.{◌≡◌, ◌≤◌, ◌<◌, ℕ, zero, suc, ◌+◌, ◌*◌, ◌^◌, Bool, true, false, not, if◌then◌else◌, List, [], ◌∷◌, ◌++◌, length, Option, Some, None, slice_get, refl, ap, sym, subst, arith, length-append}
 use Rattle.std.proofs.lemmas.Bool.{eqb-true}
 use Rattle.std.proofs.lemmas.List.{length-map, length-replicate}
@@ -29,6 +29,20 @@ use Rattle.number_laws.proofs.Played.{WholeWithin, kinds_of, later, marked-withi
 posted-count : (letters : List Letter) (wires : Wires) → (all_posted letters wires).count ≡ wires.count + length letters
 posted-count [] wires = omega arith
 posted-count (letter ∷ letters) wires = let rest = posted-count letters (posted letter wires) in omega (arith, rest)
+
+-- a mark only adds to the count
+pub marked-grows : (node processor : ℕ) (s : Whole) (done : Option Done) → s.wires.count ≤ (marked_by node processor s done).wires.count
+marked-grows node processor s None = omega arith
+marked-grows node processor s (Some done) =
+    let posted = posted-count (letters_of s.site done.world (done.sendings ++ sent_again s.site s.world done.world node processor)) (paid_between node processor s.wires) in
+    omega (arith, posted)
+
+pub marks-grow : (node processor left : ℕ) (s : Whole) → s.wires.count ≤ (marks_from node processor left s).wires.count
+marks-grow node processor zero s = omega arith
+marks-grow node processor (suc left) s =
+    let one = marked-grows node processor s (marked_done node processor s.world) in
+    let rest = marks-grow node (processor + 1) left (marked_by node processor s (marked_done node processor s.world)) in
+    omega (arith, one, rest)
 
 -- the world is of a size within the limits
 record IsSmall (w : World) : Type 0 where
@@ -138,7 +152,8 @@ module _ (n : ℕ) (kinds : ℕ → Bool) (low : n ≤ 4294967295) where
           let down = there-low s.world.stopped processor true there in
           let few = is.small.stopped in
           let left = left-less (record { node = node; down = processor }) s.world.marks node_low (omega (arith, down, few)) (not-marked _ both.1) in
-          let processes : length (marked_world node processor s.world).world.processes ≡ length s.world.processes = length-map s.world.processes (marked_pair node processor) in
+          let processes : length (marked_world node processor s.world).world.processes ≡ length s.world.processes =
+          length-map s.world.processes (marked_pair node processor) in
           let few_processes = is.small.processes in
           let letters = mark-few n kinds s.site s.world (marked_world node processor s.world).world node processor low within.0.pairs done.world.pairs few_processes
           (omega (arith, processes, few_processes)) is.small.terminals in
@@ -200,7 +215,10 @@ boot-counted site processes terminals processors = record {
   small = record {
     stopped = let same = length-replicate site.processors false in omega (arith, same, processors);
     processes = let same = boot-length site 0 site.processes in omega (arith, same, processes);
-    terminals = let same : length (whole_at_boot site).world.terminals ≡ length site.terminals = length-map site.terminals (λ (terminal : TerminalSpec). record { entered = 0; printed = 0 }) in omega (arith, same, terminals);
+    terminals =
+        let same : length (whole_at_boot site).world.terminals ≡ length site.terminals =
+        length-map site.terminals (λ (terminal : TerminalSpec). record { entered = 0; printed = 0 }) in
+        omega (arith, same, terminals);
   };
   count = let most = left-most [] in omega (arith, most);
 }

@@ -1,7 +1,8 @@
-ghost use Rattle.std.specs.Prelude.{◌<◌, ◌≤◌, List, length};
+ghost use Rattle.std.specs.Prelude.{◌<◌, ◌≤◌, ℕ, List, Option, length};
 ghost use Rattle.tal_tree.specs.declared.site.Site.{Site};
 ghost use Rattle.schedule.specs.declared.event.Event.{Event};
-ghost use Rattle.message_wires.specs.Play.{Whole};
+ghost use Rattle.message_wires.specs.Play.{Whole, marked_by, marks_from};
+ghost use Rattle.world_semantics.specs.Running.{Done};
 ghost use Rattle.message_wires.specs.Runs.{IsPlayed};
 ghost use Rattle.plain_semantics.specs.SiteLimits.{KeepsSiteLimits};
 ghost use Rattle.number_laws.specs.HasRoom.{HasRoom, HasRoomForLetters};
@@ -17,4 +18,10 @@ pub fn numbers_have_successors()
 pub fn letters_have_numbers()
     ensures { (site : Site) (events : List Event) (s : Whole) → KeepsSiteLimits site → site.processors ≤ 255 → IsPlayed site events s
         → length events < 4294967294 → HasRoomForLetters s }
+{}
+
+/// Within a tick the count of letters only grows, so each letter that is sent in it has a number below the count after the event.
+pub fn a_tick_only_adds_letters()
+    ensures one { (node processor : ℕ) (s : Whole) (done : Option Done) → s.wires.count ≤ (marked_by node processor s done).wires.count }
+    ensures all { (node processor left : ℕ) (s : Whole) → s.wires.count ≤ (marks_from node processor left s).wires.count }
 {}

@@ -8,4 +8,4 @@
 
 pub mod laws;
 
-pub use laws::{letters_have_numbers, numbers_have_successors};
+pub use laws::{a_tick_only_adds_letters, letters_have_numbers, numbers_have_successors};
