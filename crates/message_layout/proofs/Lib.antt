@@ -1,0 +1,4 @@
+pub mod Again
+pub mod Exact
+pub mod Readers
+pub mod Sets
