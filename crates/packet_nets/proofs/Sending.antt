@@ -1,0 +1,473 @@
+-- All that nodes send and take in keeps what the net owes.
+use Rattle.std.proofs.Common.{◌≡◌, ◌≤◌, ◌<◌, inl, inr, ℕ, ℤ, Bool, true, false, if◌then◌else◌, List, [], ◌∷◌, ◌++◌, length, Option, Some, None, slice_get, refl, ap, sym, subst, ◌∙◌, arith}
+use Rattle.std.specs.Option.{option_to_list, option_and_then, option_map}
+use Rattle.std.proofs.lemmas.List.{append-nil, append_assoc}
+use Rattle.gd_words.specs.Members.{IsAmong}
+use Rattle.gd_words.proofs.Among.{among-left, among-right}
+use Rattle.tal_tree.specs.declared.site.Site.{Site}
+use Rattle.wire.specs.declared.bus_name.BusName.{BusName}
+use Rattle.wire.specs.declared.bus_name.BusName.TheVariants as bus
+use Rattle.wire.specs.declared.packet.Packet.{Packet}
+use Rattle.wire.specs.declared.packet.PacketKind.{PacketKind}
+use Rattle.wire.specs.declared.packet.PacketKind.TheVariants as kind
+use Rattle.link_control.specs.declared.channel.Resent.{Resent}
+use Rattle.link_control.specs.Ends.{End, packet_of, after_push, sent_by_push, pushed, after_packet, after_kind, sent_by_packet, handed_by_packet, handed_by_kind, handed, after_tick, ticked, sent_by_tick, after_down}
+use Rattle.channel_laws.specs.Net.{Net, IsWhole, Runs, put, packet_in, pushed_net, arrived_net, ticked_net, alive_net, marked_net, ways_by, pushes, ticks, lives}
+use Rattle.channel_laws.specs.Net as net
+use Rattle.channel_laws.specs.Way.{Way, ticking, coming, telling}
+use Rattle.channel_laws.proofs.Nets.{put-same, put-all, put-own, whole-goes, when-up}
+use Rattle.alive_regroup.specs.Watching as watching
+use Rattle.alive_regroup.specs.Watching.{Watching, changed_at}
+use Rattle.world_semantics.specs.Messages.{Asking, Replying, Checkpointing, Taking}
+use Rattle.world_semantics.specs.World.{is_running}
+use Rattle.letters.specs.Posts.{without_those_between}
+use Rattle.letters.specs.Routes.{Letter}
+use Rattle.message_layout.specs.Messages.{NodeMessage, Carrying, Reporting, Declaring}
+use Rattle.message_layout.specs.Layout.{Fits, words_of}
+use Rattle.packet_wires.specs.Nodes.{Node, end_at}
+use Rattle.packet_wires.specs.Wires.{Wires, on_bus, put_on, put_any, put_again, at_node, at_end_of, at_end, end_changed, learns, for_each, push_at, sends, posted, all_posted, bus_of_answer, heard_of, arrive_at, arrived, alive_at, tick_at, down_at, cut_off}
+use Rattle.packet_wires.specs.Play.{completed}
+use Rattle.packet_nets.specs.Tied.{IsTied, IsWatch, AreWatches}
+use Rattle.packet_nets.specs.Owing.{IsTrueOf, IsOpen, Owes, Ties}
+use Rattle.packet_nets.proofs.Watches.{changed-watch, ends-watches, watched-watches}
+use Rattle.packet_nets.proofs.Between.{letters_by}
+use Rattle.packet_nets.proofs.Owing.{calm-owes, more-owes, push-owes, closed-owes, without-owes}
+use Rattle.packet_nets.proofs.Arriving.{Arrives, arrives, hands_none, ways-pushes, ways-out}
+use Rattle.packet_nets.proofs.Tied as tied
+use Rattle.packet_nets.proofs.Tied.{end-is, end-tied, fewer-tied, watched-tied, down-tied, running-stands, stopped-stands, bus-put}
+
+-- No message is without words
+filled : (told : NodeMessage) → 0 < length (words_of told)
+filled (Carrying (Asking request)) = omega arith
+filled (Carrying (Replying reply)) = omega arith
+filled (Carrying (Checkpointing message)) = omega arith
+filled (Carrying (Taking taken)) = omega arith
+filled (Reporting node set) = omega arith
+filled (Declaring processor) = omega arith
+
+-- What is done at one end
+
+module _ {stopped : List Bool} {wires : Wires} {n : Net} (t : IsTied stopped wires n) (x y : ℕ) (node : Node) (e : End)
+    (at : slice_get wires.nodes x ≡ Some node) (has : slice_get node.ends y ≡ Some e) (runs : is_running stopped x ≡ true) where
+  -- the net has the same end
+  is-net : n.ends x y ≡ e
+  is-net = end-is t x y node e e at has runs
+
+  -- the end stays the same, and sends nothing
+  still-tied : (name : BusName) (sent : Option Packet) (same : End) → same ≡ e → sent ≡ None → IsTied stopped (put_any name sent (end_changed x y node same wires)) n
+  still-tied name sent same is none =
+      end-tied t x y node e same at has runs name sent n t.whole refl
+      (sym (put-own x y n.ends) ∙ ap (λ d. put x y d n.ends) (is-net ∙ sym is)) (sym (append-nil n.flight) ∙ ap (λ o. n.flight ++ option_to_list o) (sym none)) (ap (λ (d : End). d.down) is)
+
+  -- an end that isn't down, of a node that runs
+  up : e.down ≡ false → Runs n x y
+  up d = (t.stood x ∙ running-stands stopped x runs, ap (λ (d : End). d.down) is-net ∙ d)
+
+  push-tied : (words : List ℤ) → 0 < length words → e.down ≡ false
+      → IsTied stopped (put_any bus.X (sent_by_push words e) (end_changed x y node (after_push words e) wires)) (pushed_net x y words n)
+  push-tied words some d =
+      end-tied t x y node e (after_push words e) at has runs bus.X (sent_by_push words e) (pushed_net x y words n) (whole-goes (pushes x y words some (up d)) t.whole) refl
+      (ap (λ d. put x y (after_push words d) n.ends) is-net) (ap (λ d. n.flight ++ option_to_list (sent_by_push words d)) is-net)
+      (ap (λ (d : End). d.down) (when-up e (record e { sending = pushed words e.sending }) d))
+
+  tick-tied : (sent : Option Resent) → sent_by_tick e ≡ sent → e.down ≡ false → IsTied stopped (put_again sent (end_changed x y node (after_tick e) wires)) (ticked_net x y n)
+  tick-tied sent is d = by sent is
+    where
+      with_packet : (name : BusName) (packet : Option Packet) → option_map packet_in (sent_by_tick e) ≡ packet
+          → IsTied stopped (put_any name packet (end_changed x y node (after_tick e) wires)) (ticked_net x y n)
+      with_packet name packet is =
+          end-tied t x y node e (after_tick e) at has runs name packet (ticked_net x y n) (whole-goes (ticks x y (up d)) t.whole) refl
+          (ap (λ d. put x y (after_tick d) n.ends) is-net) (ap (λ d. n.flight ++ option_to_list (option_map packet_in (sent_by_tick d))) is-net ∙ ap (λ o. n.flight ++ option_to_list o) is)
+          (ap (λ (d : End). d.down) (when-up e (record e { sending = ticked e.sending }) d))
+
+      by : (sent : Option Resent) → sent_by_tick e ≡ sent → IsTied stopped (put_again sent (end_changed x y node (after_tick e) wires)) (ticked_net x y n)
+      by None is = with_packet bus.X None (ap (option_map packet_in) is)
+      by (Some resent) is = with_packet resent.bus (Some resent.packet) (ap (option_map packet_in) is)
+
+  live-tied : e.down ≡ false → IsTied stopped (put_on bus.Y (packet_of e kind.Alive) (put_on bus.X (packet_of e kind.Alive) wires)) (alive_net x y n)
+  live-tied d = fewer-tied {next = put_on bus.Y packet (put_on bus.X packet wires)} refl from later
+    where
+      packet : Packet
+      packet = packet_of e kind.Alive
+
+      next : Net
+      next = alive_net x y n
+
+      later : IsTied stopped wires (alive_net x y n)
+      later = record {
+        shape = t.shape;
+        whole = whole-goes (lives x y (up d)) t.whole;
+        stood = t.stood;
+        ends = t.ends;
+        flight = λ name p among. among-left p n.flight (packet_of (n.ends x y) kind.Alive ∷ []) (t.flight name p among);
+        down = t.down;
+      }
+
+      from : (name : BusName) (p : Packet) → IsAmong p (on_bus name (put_on bus.Y (packet_of e kind.Alive) (put_on bus.X (packet_of e kind.Alive) wires)))
+          → IsAmong p (n.flight ++ packet_of (n.ends x y) kind.Alive ∷ [])
+      from name p among = elim (bus-put bus.Y name (packet_of e kind.Alive) p (put_on bus.X (packet_of e kind.Alive) wires) among) [
+        | inl before ↦ elim (bus-put bus.X name (packet_of e kind.Alive) p wires before) [
+          | inl first ↦ among-left p n.flight (packet_of (n.ends x y) kind.Alive ∷ []) (t.flight name p first)
+          | inr new ↦ among-right p n.flight (packet_of (n.ends x y) kind.Alive ∷ []) (inl (new ∙ ap (λ d. packet_of d kind.Alive) (sym is-net)))
+        ]
+        | inr new ↦ among-right p n.flight (packet_of (n.ends x y) kind.Alive ∷ []) (inl (new ∙ ap (λ d. packet_of d kind.Alive) (sym is-net)))
+      ]
+
+  arrive-tied : (name : BusName) (p : Packet) → p.receiver ≡ x → p.sender ≡ y → IsAmong p n.flight → e.down ≡ false
+      → IsTied stopped (put_any name (sent_by_packet p e) (end_changed x y node (after_packet p e) wires)) (arrived_net x y p n)
+  arrive-tied name p r s among d =
+      end-tied t x y node e (after_packet p e) at has runs name (sent_by_packet p e) (arrived_net x y p n)
+      (subst (λ a. IsWhole (arrived_net a y p n)) r (subst (λ b. IsWhole (arrived_net p.receiver b p n)) s (whole-goes (net.arrives p among
+      (subst (λ a. Runs n a p.sender) (sym r) (subst (λ b. Runs n x b) (sym s) (up d)))) t.whole))) refl
+      (ap (λ d. put x y (after_packet p d) n.ends) is-net) (ap (λ d. n.flight ++ option_to_list (sent_by_packet p d)) is-net)
+      (ap (λ (d : End). d.down) (when-up e (after_kind p.kind e) d) ∙ kind_down p.kind)
+    where
+      kind_down : (k : PacketKind) → (after_kind k e).down ≡ e.down
+      kind_down kind.Alive = refl
+      kind_down (kind.Piece number piece) = refl
+      kind_down (kind.Acknowledgement number) = refl
+
+-- What is tied and owed, together
+
+-- nodes that there may be have their ends
+absent : {stopped : List Bool} {wires : Wires} {n : Net} (t : IsTied stopped wires n) (x y : ℕ) → end_at wires.nodes x y ≡ None → x ≤ 16 → y ≤ 16 → ⊥
+absent t x y e low few = let one = t.shape x y low few in let bad : None ≡ Some one.0 = sym e ∙ one.1 in absurd cc
+
+no-node : (wires : Wires) (x y : ℕ) → slice_get wires.nodes x ≡ None → end_at wires.nodes x y ≡ None
+no-node wires x y e = ap (option_and_then (λ (node : Node). slice_get node.ends y)) e
+
+no-end : (wires : Wires) (x y : ℕ) (node : Node) → slice_get wires.nodes x ≡ Some node → slice_get node.ends y ≡ None → end_at wires.nodes x y ≡ None
+no-end wires x y node at e = ap (option_and_then (λ (node : Node). slice_get node.ends y)) at ∙ e
+
+is-end : (wires : Wires) (x y : ℕ) (node : Node) (e : End) → slice_get wires.nodes x ≡ Some node → slice_get node.ends y ≡ Some e → end_at wires.nodes x y ≡ Some e
+is-end wires x y node e at has = ap (option_and_then (λ (node : Node). slice_get node.ends y)) at ∙ has
+
+push-down : (words : List ℤ) (e : End) → (after_push words e).down ≡ e.down
+push-down words e = by e.down
+  where
+    by : (test : Bool) → (if test then e else record e { sending = pushed words e.sending }).down ≡ e.down
+    by true = refl
+    by false = refl
+
+tick-down : (e : End) → (after_tick e).down ≡ e.down
+tick-down e = by e.down
+  where
+    by : (test : Bool) → (if test then e else record e { sending = ticked e.sending }).down ≡ e.down
+    by true = refl
+    by false = refl
+
+down-put : (x y : ℕ) (e : End) (ends : ℕ → ℕ → End) → e.down ≡ (ends x y).down → (a b : ℕ) → (put x y e ends a b).down ≡ (ends a b).down
+down-put x y e ends is a b = put-all (λ a b (d : End). d.down ≡ (ends a b).down) x y e ends is (λ a b. refl) a b
+
+module _ {site : Site} {stopped : List Bool} {owed sent : List Letter} where
+  -- one message goes
+  pub sends-ties : (wires : Wires) (x y : ℕ) (told : NodeMessage) → is_running stopped x ≡ true → Fits site told → IsTrueOf stopped sent x y told
+      → Ties site stopped wires owed sent → Ties site stopped (sends x y told wires) (owed ++ letters_by x y told) sent
+  sends-ties wires x y told runs fits right T = by_node (slice_get wires.nodes x) refl
+    where
+      closed : (IsOpen stopped T.net x y → ⊥) → Ties site stopped wires (owed ++ letters_by x y told) sent
+      closed not_open = record { net = T.net; tied = T.tied; owes = closed-owes T.owes x y told not_open; watches = T.watches; places = T.places }
+
+      end-there : (node : Node) (e : End) → slice_get wires.nodes x ≡ Some node → slice_get node.ends y ≡ Some e → (d : Bool) → e.down ≡ d
+          → Ties site stopped (push_at x y (words_of told) node e wires) (owed ++ letters_by x y told) sent
+      end-there node e at has true d = record {
+        net = T.net;
+        tied = still-tied T.tied x y node e at has runs bus.X (sent_by_push (words_of told) e) (after_push (words_of told) e) (rw d refl) (rw d refl);
+        owes = closed-owes T.owes x y told (λ o. let up : e.down ≡ false = ap (λ (d : End). d.down) (sym (is-net T.tied x y node e at has runs)) ∙ o.there in absurd cc);
+        watches = subst (AreWatches site.processors) (sym (tied.put-nodes bus.X (sent_by_push (words_of told) e) (end_changed x y node (after_push (words_of told) e) wires)))
+            (ends-watches wires.nodes x y node (after_push (words_of told) e) at T.watches);
+        places = T.places;
+      }
+      end-there node e at has false d = record {
+        net = pushed_net x y (words_of told) T.net;
+        tied = push-tied T.tied x y node e at has runs (words_of told) (filled told) d;
+        owes = push-owes T.owes x y told fits right (pushed_net x y (words_of told) T.net) refl
+            (down-put x y (after_push (words_of told) (T.net.ends x y)) T.net.ends (push-down (words_of told) (T.net.ends x y)));
+        watches = subst (AreWatches site.processors) (sym (tied.put-nodes bus.X (sent_by_push (words_of told) e) (end_changed x y node (after_push (words_of told) e) wires)))
+            (ends-watches wires.nodes x y node (after_push (words_of told) e) at T.watches);
+        places = T.places;
+      }
+
+      by_end : (node : Node) → slice_get wires.nodes x ≡ Some node → (one : Option End) → slice_get node.ends y ≡ one
+          → Ties site stopped (at_end_of (push_at x y (words_of told) node) one wires) (owed ++ letters_by x y told) sent
+      by_end node at None e = closed (λ o. absent T.tied x y (no-end wires x y node at e) o.sender o.receiver)
+      by_end node at (Some e) has = end-there node e at has e.down refl
+
+      by_node : (one : Option Node) → slice_get wires.nodes x ≡ one
+          → Ties site stopped (at_node (λ node. at_end_of (push_at x y (words_of told) node) (slice_get node.ends y)) one wires) (owed ++ letters_by x y told) sent
+      by_node None e = closed (λ o. absent T.tied x y (no-node wires x y e) o.sender o.receiver)
+      by_node (Some node) at = by_end node at (slice_get node.ends y) refl
+
+  -- a tick of one end
+  pub tick-ties : (wires : Wires) (x y : ℕ) → is_running stopped x ≡ true → Ties site stopped wires owed sent → Ties site stopped (at_end x y (tick_at x y) wires) owed sent
+  tick-ties wires x y runs T = by_node (slice_get wires.nodes x) refl
+    where
+      nodes : (o : Option Resent) (w : Wires) → (put_again o w).nodes ≡ w.nodes
+      nodes None w = refl
+      nodes (Some resent) w = tied.put-nodes resent.bus (Some resent.packet) w
+
+      end-there : (node : Node) (e : End) → slice_get wires.nodes x ≡ Some node → slice_get node.ends y ≡ Some e → (d : Bool) → e.down ≡ d
+          → Ties site stopped (tick_at x y node e wires) owed sent
+      end-there node e at has true d = record {
+        net = T.net;
+        tied = subst (λ (o : Option Resent). IsTied stopped (put_again o (end_changed x y node (after_tick e) wires)) T.net) (sym none)
+            (still-tied T.tied x y node e at has runs bus.X None (after_tick e) (rw d refl) refl);
+        owes = T.owes;
+        watches = subst (AreWatches site.processors) (sym (nodes (sent_by_tick e) (end_changed x y node (after_tick e) wires))) (ends-watches wires.nodes x y node (after_tick e) at T.watches);
+        places = T.places;
+      }
+        where
+          none : sent_by_tick e ≡ None
+          none = rw d refl
+      end-there node e at has false d = record {
+        net = ticked_net x y T.net;
+        tied = tick-tied T.tied x y node e at has runs (sent_by_tick e) refl d;
+        owes = calm-owes T.owes (ticked_net x y T.net)
+            (λ a b. put-all (λ a b (w : Way). w.pushes ≡ (T.net.ways a b).pushes) x y (ticking (T.net.ways x y)) T.net.ways refl (λ a b. refl) a b)
+            (λ a b. put-all (λ a b (w : Way). w.out ≡ (T.net.ways a b).out) x y (ticking (T.net.ways x y)) T.net.ways refl (λ a b. refl) a b)
+            (down-put x y (after_tick (T.net.ends x y)) T.net.ends (tick-down (T.net.ends x y)));
+        watches = subst (AreWatches site.processors) (sym (nodes (sent_by_tick e) (end_changed x y node (after_tick e) wires))) (ends-watches wires.nodes x y node (after_tick e) at T.watches);
+        places = T.places;
+      }
+
+      by_end : (node : Node) → slice_get wires.nodes x ≡ Some node → (one : Option End) → slice_get node.ends y ≡ one
+          → Ties site stopped (at_end_of (tick_at x y node) one wires) owed sent
+      by_end node at None e = T
+      by_end node at (Some e) has = end-there node e at has e.down refl
+
+      by_node : (one : Option Node) → slice_get wires.nodes x ≡ one
+          → Ties site stopped (at_node (λ node. at_end_of (tick_at x y node) (slice_get node.ends y)) one wires) owed sent
+      by_node None e = T
+      by_node (Some node) at = by_end node at (slice_get node.ends y) refl
+
+  -- I'm-alive packets go out at one end
+  pub live-ties : (wires : Wires) (x y : ℕ) → is_running stopped x ≡ true → Ties site stopped wires owed sent → Ties site stopped (at_end x y alive_at wires) owed sent
+  live-ties wires x y runs T = by_node (slice_get wires.nodes x) refl
+    where
+      by_down : (node : Node) (e : End) → slice_get wires.nodes x ≡ Some node → slice_get node.ends y ≡ Some e → (d : Bool) → e.down ≡ d
+          → Ties site stopped (if d then wires else put_on bus.Y (packet_of e kind.Alive) (put_on bus.X (packet_of e kind.Alive) wires)) owed sent
+      by_down node e at has true d = T
+      by_down node e at has false d = record {
+        net = alive_net x y T.net;
+        tied = live-tied T.tied x y node e at has runs d;
+        owes = calm-owes T.owes (alive_net x y T.net) (λ a b. refl) (λ a b. refl) (λ a b. refl);
+        watches = T.watches;
+        places = T.places;
+      }
+
+      by_end : (node : Node) → slice_get wires.nodes x ≡ Some node → (one : Option End) → slice_get node.ends y ≡ one → Ties site stopped (at_end_of (alive_at node) one wires) owed sent
+      by_end node at None e = T
+      by_end node at (Some e) has = by_down node e at has e.down refl
+
+      by_node : (one : Option Node) → slice_get wires.nodes x ≡ one → Ties site stopped (at_node (λ node. at_end_of (alive_at node) (slice_get node.ends y)) one wires) owed sent
+      by_node None e = T
+      by_node (Some node) at = by_end node at (slice_get node.ends y) refl
+
+  -- the same at each of some nodes
+  pub each-ties : (does : ℕ → Wires → Wires) → ((y : ℕ) (wires : Wires) → Ties site stopped wires owed sent → Ties site stopped (does y wires) owed sent)
+      → (ys : List ℕ) (wires : Wires) → Ties site stopped wires owed sent → Ties site stopped (for_each does ys wires) owed sent
+  each-ties does keeps [] wires T = T
+  each-ties does keeps (y ∷ ys) wires T = each-ties does keeps ys (does y wires) (keeps y wires T)
+
+  -- a node learns something
+  pub watched-ties : (wires : Wires) (x : ℕ) (change : Watching → Watching) → ((watch : Watching) → IsWatch site.processors x watch → IsWatch site.processors x (change watch))
+      → Ties site stopped wires owed sent → Ties site stopped (learns x change wires) owed sent
+  watched-ties wires x change keeps T = record {
+    net = T.net;
+    tied = watched-tied x change T.tied;
+    owes = T.owes;
+    watches = watched-watches wires x change keeps T.watches;
+    places = T.places;
+  }
+
+  -- as many are owed when more letters were sent
+  pub more-ties : (wires : Wires) (more : List Letter) → ((letter : Letter) → IsAmong letter sent → IsAmong letter more) → Ties site stopped wires owed sent
+      → Ties site stopped wires owed more
+  more-ties wires more up T = record { net = T.net; tied = T.tied; owes = more-owes T.owes more up; watches = T.watches; places = T.places }
+
+  -- a node cuts off a processor that has stopped
+  pub cut-ties : (wires : Wires) (x y : ℕ) → is_running stopped x ≡ true → slice_get stopped y ≡ Some true → Ties site stopped wires owed sent
+      → Ties site stopped (cut_off x y wires) (without_those_between x y owed) sent
+  cut-ties wires x y runs gone T = later (by_node (slice_get wires.nodes x) refl)
+    where
+      -- both channels are closed
+      closed : (next : Net) → next.ways ≡ T.net.ways → ((a b : ℕ) → IsOpen stopped next a b → IsOpen stopped T.net a b) → (IsOpen stopped next x y → ⊥) → (IsOpen stopped next y x → ⊥)
+          → Owes site stopped (without_those_between x y owed) sent next
+      closed next ways was one other = without-owes T.owes x y next ways was one other
+
+      missing : end_at wires.nodes x y ≡ None → Ties site stopped wires (without_those_between x y owed) sent
+      missing e = record {
+        net = T.net;
+        tied = T.tied;
+        owes = closed T.net refl (λ a b o. o) (λ o. absent T.tied x y e o.sender o.receiver) (λ o. absent T.tied x y e o.receiver o.sender);
+        watches = T.watches;
+        places = T.places;
+      }
+
+      marked : (node : Node) (e : End) → slice_get wires.nodes x ≡ Some node → slice_get node.ends y ≡ Some e
+          → Ties site stopped (down_at x y node e wires) (without_those_between x y owed) sent
+      marked node e at has = record {
+        net = marked_net x y T.net;
+        tied = down-tied T.tied x y node e at has runs gone;
+        owes = closed (marked_net x y T.net) refl was
+            (λ o. let down : true ≡ false = sym (ap (λ (d : End). d.down) (put-same x y (after_down (T.net.ends x y)) T.net.ends)) ∙ o.there in absurd cc)
+            (λ o. let down : true ≡ false = sym (ap (λ (d : End). d.down) (put-same x y (after_down (T.net.ends x y)) T.net.ends)) ∙ o.back in absurd cc);
+        watches = ends-watches wires.nodes x y node (after_down e) at T.watches;
+        places = T.places;
+      }
+        where
+          up : (a b : ℕ) → (put x y (after_down (T.net.ends x y)) T.net.ends a b).down ≡ false → (T.net.ends a b).down ≡ false
+          up a b is = put-all (λ a b (d : End). d.down ≡ false → (T.net.ends a b).down ≡ false) x y (after_down (T.net.ends x y)) T.net.ends (λ d. absurd cc) (λ a b d. d) a b is
+
+          was : (a b : ℕ) → IsOpen stopped (marked_net x y T.net) a b → IsOpen stopped T.net a b
+          was a b o = record { sender = o.sender; receiver = o.receiver; runs = o.runs; there = up a b o.there; back = up b a o.back }
+
+      by_end : (node : Node) → slice_get wires.nodes x ≡ Some node → (one : Option End) → slice_get node.ends y ≡ one
+          → Ties site stopped (at_end_of (down_at x y node) one wires) (without_those_between x y owed) sent
+      by_end node at None e = missing (no-end wires x y node at e)
+      by_end node at (Some e) has = marked node e at has
+
+      by_node : (one : Option Node) → slice_get wires.nodes x ≡ one
+          → Ties site stopped (at_node (λ node. at_end_of (down_at x y node) (slice_get node.ends y)) one wires) (without_those_between x y owed) sent
+      by_node None e = missing (no-node wires x y e)
+      by_node (Some node) at = by_end node at (slice_get node.ends y) refl
+
+      later : Ties site stopped (at_end x y (down_at x y) wires) (without_those_between x y owed) sent → Ties site stopped (cut_off x y wires) (without_those_between x y owed) sent
+      later L = record {
+        net = L.net;
+        tied = watched-tied x (changed_at y watching.marked) L.tied;
+        owes = L.owes;
+        watches = watched-watches (at_end x y (down_at x y) wires) x (changed_at y watching.marked) (λ watch is. changed-watch y watching.marked refl is) L.watches;
+        places = L.places;
+      }
+
+-- Letters that are posted
+
+-- letters that were sent and fit the site
+abbrev pub AreFit : Site → List Letter → List Letter → Type 0
+AreFit site sent letters = (letter : Letter) → IsAmong letter letters → Fits site (Carrying letter.message) × IsAmong letter sent
+
+pub posted-ties : {site : Site} {stopped : List Bool} {owed sent : List Letter} (wires : Wires) (letter : Letter) → Fits site (Carrying letter.message) → IsAmong letter sent
+    → Ties site stopped wires owed sent → Ties site stopped (posted stopped letter wires) (owed ++ letter ∷ []) sent
+posted-ties {site = site} {stopped = stopped} {owed = owed} {sent = sent} wires letter fits among T = by (is_running stopped letter.sender) refl
+  where
+    by : (test : Bool) → is_running stopped letter.sender ≡ test
+        → Ties site stopped (if test then sends letter.sender letter.receiver (Carrying letter.message) wires else wires) (owed ++ letter ∷ []) sent
+    by true runs = sends-ties wires letter.sender letter.receiver (Carrying letter.message) runs fits among T
+    by false rests = record {
+      net = T.net;
+      tied = T.tied;
+      owes = closed-owes T.owes letter.sender letter.receiver (Carrying letter.message) (λ o. let is : true ≡ false = sym o.runs ∙ rests in absurd cc);
+      watches = T.watches;
+      places = T.places;
+    }
+
+pub all-posted-ties : {site : Site} {stopped : List Bool} {owed sent : List Letter} (letters : List Letter) (wires : Wires) → AreFit site sent letters
+    → Ties site stopped wires owed sent → Ties site stopped (all_posted stopped letters wires) (owed ++ letters) sent
+all-posted-ties {site = site} {stopped = stopped} {owed = owed} {sent = sent} [] wires fit T = subst (λ o. Ties site stopped wires o sent) (sym (append-nil owed)) T
+all-posted-ties {site = site} {stopped = stopped} {owed = owed} {sent = sent} (letter ∷ letters) wires fit T =
+    let here = fit letter (inl refl) in
+    subst (λ o. Ties site stopped (all_posted stopped (letter ∷ letters) wires) o sent) (append_assoc owed (letter ∷ []) letters)
+    (all-posted-ties letters (posted stopped letter wires) (λ other among. fit other (inr among)) (posted-ties wires letter here.0 here.1 T))
+
+-- A packet that comes
+
+-- the state of wires between a packet's arrival and the hand-over
+pub record Came (site : Site) (stopped : List Bool) (wires : Wires) (owed sent : List Letter) (s r : ℕ) (h : Option (List ℤ)) : Type 0 where
+  pub net : Net
+  pub tied : IsTied stopped wires net
+  pub arrived : Arrives site stopped owed sent net s r h
+  pub watches : AreWatches site.processors wires.nodes
+  pub places : length stopped ≡ site.processors
+
+-- a way's output grows by what the end completes
+gained : (n : Net) (a b : ℕ) (p : Packet) (e : End) → IsWhole n → Runs n b a → n.ends b a ≡ e → e.down ≡ false
+    → (ways_by b a p.kind n.ways a b).out ≡ (n.ways a b).out ++ option_to_list (handed_by_packet p e)
+gained n a b p e w live is up = by p.kind ∙ ap (λ o. (n.ways a b).out ++ option_to_list o) (sym (when-up None (handed_by_kind p.kind e) up))
+  where
+    receiving : (n.ways a b).receiver ≡ e.receiving
+    receiving = sym (w.tied b a live).receiving ∙ ap (λ (d : End). d.receiving) is
+
+    by : (k : PacketKind) → (ways_by b a k n.ways a b).out ≡ (n.ways a b).out ++ option_to_list (handed_by_kind k e)
+    by kind.Alive = sym (append-nil (n.ways a b).out)
+    by (kind.Piece number piece) =
+        ap (λ (w : Way). w.out) (put-same a b (coming number piece (n.ways a b)) n.ways) ∙ ap (λ r. (n.ways a b).out ++ option_to_list (handed number piece r)) receiving
+    by (kind.Acknowledgement number) =
+        put-all (λ c d (w : Way). w.out ≡ (n.ways c d).out) b a (telling number (n.ways b a)) n.ways refl (λ c d. refl) a b ∙ sym (append-nil (n.ways a b).out)
+
+pub came : {site : Site} {stopped : List Bool} {owed sent : List Letter} (wires : Wires) (T : Ties site stopped wires owed sent) (name : BusName) (p : Packet)
+    → IsAmong p T.net.flight → is_running stopped p.receiver ≡ true
+    → Came site stopped (arrived name p wires) owed sent p.sender p.receiver (completed p (end_at wires.nodes p.receiver p.sender))
+came {site = site} {stopped = stopped} {owed = owed} {sent = sent} wires T name p among runs = later (by_node (slice_get wires.nodes p.receiver) refl)
+  where
+    r : ℕ
+    r = p.receiver
+
+    Here : Wires → Option End → Type 0
+    Here next e = Came site stopped next owed sent p.sender p.receiver (completed p e)
+
+    nothing : Here wires None
+    nothing = record { net = T.net; tied = T.tied; arrived = hands_none T.owes; watches = T.watches; places = T.places }
+
+    at_it : (node : Node) (e : End) → slice_get wires.nodes p.receiver ≡ Some node → slice_get node.ends p.sender ≡ Some e → (d : Bool) → e.down ≡ d
+        → Here (arrive_at name p node e wires) (Some e)
+    at_it node e at has true d = record {
+      net = T.net;
+      tied = still-tied T.tied p.receiver p.sender node e at has runs (bus_of_answer name p.kind) (sent_by_packet p e) (after_packet p e) (rw d refl) (rw d refl);
+      arrived = subst (Arrives site stopped owed sent T.net p.sender p.receiver) (sym none) (hands_none T.owes);
+      watches = subst (AreWatches site.processors) (sym (tied.put-nodes (bus_of_answer name p.kind) (sent_by_packet p e) (end_changed p.receiver p.sender node (after_packet p e) wires)))
+          (ends-watches wires.nodes p.receiver p.sender node (after_packet p e) at T.watches);
+      places = T.places;
+    }
+      where
+        none : handed_by_packet p e ≡ None
+        none = rw d refl
+    at_it node e at has false d = record {
+      net = arrived_net p.receiver p.sender p T.net;
+      tied = here_tied;
+      arrived = arrives T.owes (arrived_net p.receiver p.sender p T.net) here_tied.whole p.sender p.receiver
+          (ways-pushes p.receiver p.sender p.kind T.net.ways) (ways-out p.receiver p.sender p.kind T.net.ways)
+          (down-put p.receiver p.sender (after_packet p (T.net.ends p.receiver p.sender)) T.net.ends (packet_down (T.net.ends p.receiver p.sender)))
+          (handed_by_packet p e)
+          (gained T.net p.sender p.receiver p e T.tied.whole (up T.tied p.receiver p.sender node e at has runs d) (is-net T.tied p.receiver p.sender node e at has runs) d);
+      watches = subst (AreWatches site.processors) (sym (tied.put-nodes (bus_of_answer name p.kind) (sent_by_packet p e) (end_changed p.receiver p.sender node (after_packet p e) wires)))
+          (ends-watches wires.nodes p.receiver p.sender node (after_packet p e) at T.watches);
+      places = T.places;
+    }
+      where
+        here_tied : IsTied stopped (arrive_at name p node e wires) (arrived_net p.receiver p.sender p T.net)
+        here_tied = arrive-tied T.tied p.receiver p.sender node e at has runs (bus_of_answer name p.kind) p refl refl among d
+
+        packet_down : (e : End) → (after_packet p e).down ≡ e.down
+        packet_down e = by e.down p.kind
+          where
+            by : (test : Bool) (k : PacketKind) → (if test then e else after_kind k e).down ≡ e.down
+            by true k = refl
+            by false kind.Alive = refl
+            by false (kind.Piece number piece) = refl
+            by false (kind.Acknowledgement number) = refl
+
+    by_end : (node : Node) → slice_get wires.nodes p.receiver ≡ Some node → (one : Option End) → slice_get node.ends p.sender ≡ one
+        → Here (at_end_of (arrive_at name p node) one wires) one
+    by_end node at None e = nothing
+    by_end node at (Some e) has = at_it node e at has e.down refl
+
+    by_node : (one : Option Node) → slice_get wires.nodes p.receiver ≡ one
+        → Here (at_node (λ node. at_end_of (arrive_at name p node) (slice_get node.ends p.sender)) one wires) (option_and_then (λ (node : Node). slice_get node.ends p.sender) one)
+    by_node None e = nothing
+    by_node (Some node) at = by_end node at (slice_get node.ends p.sender) refl
+
+    note : (k : PacketKind) (watch : Watching) → IsWatch site.processors p.receiver watch → IsWatch site.processors p.receiver (heard_of p.sender k watch)
+    note kind.Alive watch is = changed-watch p.sender watching.heard refl is
+    note (kind.Piece number piece) watch is = is
+    note (kind.Acknowledgement number) watch is = is
+
+    later : Here (at_end p.receiver p.sender (arrive_at name p) wires) (end_at wires.nodes p.receiver p.sender)
+        → Here (arrived name p wires) (end_at wires.nodes p.receiver p.sender)
+    later L = record {
+      net = L.net;
+      tied = watched-tied p.receiver (heard_of p.sender p.kind) L.tied;
+      arrived = L.arrived;
+      watches = watched-watches (at_end p.receiver p.sender (arrive_at name p) wires) p.receiver (heard_of p.sender p.kind) (note p.kind) L.watches;
+      places = L.places;
+    }

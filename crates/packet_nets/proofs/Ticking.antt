@@ -1,0 +1,213 @@
+-- Ticks, declarations and the beginning.
+use Rattle.std.proofs.Common.{◌≡◌, ◌≢◌, ◌≤◌, ◌<◌, ℕ, zero, suc, ◌+◌, Bool, true, false, not, if◌then◌else◌, ◌&&◌, ◌==◌, nat_lt, List, [], ◌∷◌, ◌++◌, length, map, drop, replicate, Option, Some, None, slice_get, refl, ap, sym, subst, ◌∙◌, arith}
+use Rattle.std.specs.List.{list_all}
+use Rattle.std.specs.Option.{option_and_then}
+use Rattle.std.specs.Cmp.Lexicographic.{pointwise}
+use Rattle.std.specs.Bool.{beq}
+use Rattle.std.proofs.lemmas.Bool.{leb-true, le-leb, eqb-true, eq-eqb}
+use Rattle.std.proofs.lemmas.List.{append-nil}
+use Rattle.std.proofs.lemmas.Option.{slice_get_within}
+use Rattle.gd_words.specs.Members.{IsAmong}
+use Rattle.tal_tree.specs.declared.site.Site.{Site}
+use Rattle.wire.specs.declared.bus_name.BusName.{BusName}
+use Rattle.wire.specs.declared.bus_name.BusName.TheVariants as bus
+use Rattle.wire.specs.declared.packet.Packet.{Packet}
+use Rattle.link_control.specs.Ends.{End, new_end}
+use Rattle.channel_laws.specs.Net.{quiet_net}
+use Rattle.channel_laws.proofs.Nets.{whole-quiet}
+use Rattle.alive_regroup.specs.declared.neighbour.Neighbour.{Neighbour}
+use Rattle.alive_regroup.specs.declared.neighbour.Neighbour.TheVariants.{Absent}
+use Rattle.alive_regroup.specs.declared.set.ProcessorSet.{ProcessorSet}
+use Rattle.alive_regroup.specs.Watching.{Watching, checked, is_silent, silent_set, set_to_tell, told_by_tick, does_check, after_tick, is_held, at_first, begun}
+use Rattle.world_semantics.specs.World.{is_running, runs_by, terminal_node}
+use Rattle.world_semantics.proofs.Lists.{some-same}
+use Rattle.letters.specs.Routes.{Letter}
+use Rattle.message_layout.specs.Messages.{NodeMessage, Reporting, Declaring}
+use Rattle.packet_wires.specs.Nodes.{Node, end_at, numbers, all_nodes, others, never_reloaded, node_at_boot, nodes_at_boot}
+use Rattle.packet_wires.specs.Lines.{first_held}
+use Rattle.packet_wires.specs.Wires.{Wires, wires_at_boot, on_bus, at_node, at_end, watch_changed, for_each, sends, sends_all, alive_at, tells_alive, reports, check_at, checks, tick_at, ticked, declares}
+use Rattle.message_layout.specs.Layout.{Fits}
+use Rattle.packet_nets.specs.Tied.{stands, IsWatch}
+use Rattle.packet_nets.specs.Owing.{Ties}
+use Rattle.packet_nets.proofs.Sending.{sends-ties, tick-ties, live-ties, each-ties, watched-ties}
+use Rattle.packet_nets.proofs.Watches.{ticked-watch, size-map}
+
+-- whoever stands in the list of stops is a processor of the site
+pub place-within : (site : Site) (stopped : List Bool) (x : ℕ) (one : Bool) → length stopped ≡ site.processors → slice_get stopped x ≡ Some one → nat_lt x site.processors ≡ true
+place-within site stopped x one places at = le-leb (suc x) site.processors (let low = slice_get_within stopped x one at in omega (arith, low, places))
+
+-- What is reported
+
+none-past : (processors : ℕ) (all : List Neighbour) → ((k : ℕ) (one : Neighbour) → slice_get all k ≡ Some one → processors ≤ k → one ≡ Absent)
+    → list_all not (drop processors (map is_silent (map checked all))) ≡ true
+none-past zero [] past = refl
+none-past (suc processors) [] past = refl
+none-past zero (one ∷ all) past =
+    subst (λ (n : Neighbour). (not (is_silent (checked n)) && list_all not (map is_silent (map checked all))) ≡ true) (sym (past 0 one refl (omega arith)))
+    (none-past zero all (λ k other there far. past (suc k) other there (omega arith)))
+none-past (suc processors) (one ∷ all) past = none-past processors all (λ k other there far. past (suc k) other there (omega (arith, far)))
+
+running-place : (stopped : List Bool) (x : ℕ) → is_running stopped x ≡ true → x < 16 → (one : Bool) × (slice_get stopped x ≡ Some one)
+running-place stopped x runs low = by (slice_get stopped x) refl runs
+  where
+    by : (one : Option Bool) → slice_get stopped x ≡ one → runs_by x one ≡ true → (one : Bool) × (slice_get stopped x ≡ Some one)
+    by (Some one) e r = (one, e)
+    by None e r = let same = eqb-true x terminal_node r in absurd (omega (arith, same, low))
+
+report-fits : (site : Site) (stopped : List Bool) (x : ℕ) (watch : Watching) (set : ProcessorSet) → length stopped ≡ site.processors → is_running stopped x ≡ true
+    → IsWatch site.processors x watch → told_by_tick watch ≡ Some set → Fits site (Reporting x set)
+report-fits site stopped x watch set places runs is told = by (does_check watch) refl told
+  where
+    now : ProcessorSet
+    now = silent_set (map checked watch.neighbours)
+
+    known : does_check watch ≡ true → set ≡ silent_set (map checked watch.neighbours) → Fits site (Reporting x set)
+    known does same =
+        let low : watch.me < 16 = leb-true (suc watch.me) 16 (first does) in
+        let here : x < 16 = subst (λ c. c < 16) is.me low in
+        let at = running-place stopped x runs here in record {
+          within = (omega (arith, here), ap (λ (s : ProcessorSet). length s.members) same ∙ size-map is_silent (map checked watch.neighbours) ∙ size-map checked watch.neighbours ∙ is.size);
+          known = both (place-within site stopped x at.0 places at.1)
+              (ap (λ (s : ProcessorSet). list_all not (drop site.processors s.members)) same ∙ none-past site.processors watch.neighbours is.past);
+        }
+      where
+        first : does_check watch ≡ true → nat_lt watch.me 16 ≡ true
+        first e = by (nat_lt watch.me 16) refl e
+          where
+            by : (test : Bool) → nat_lt watch.me 16 ≡ test → (test && watch.checks) ≡ true → nat_lt watch.me 16 ≡ true
+            by true e h = e
+            by false e h = absurd cc
+
+        both : {a b : Bool} → a ≡ true → b ≡ true → (a && b) ≡ true
+        both {a = a} {b = b} e h = rw (e, h) refl
+
+    by : (test : Bool) → does_check watch ≡ test → (if test then set_to_tell watch.told (silent_set (map checked watch.neighbours)) else None) ≡ Some set → Fits site (Reporting x set)
+    by false e is = absurd cc
+    by true e is = changed (pointwise beq watch.told.members (silent_set (map checked watch.neighbours)).members) is
+      where
+        changed : (test : Bool) → (if test then None else Some (silent_set (map checked watch.neighbours))) ≡ Some set → Fits site (Reporting x set)
+        changed true is = absurd cc
+        changed false is = known e (sym (some-same is))
+
+module _ {site : Site} {stopped : List Bool} {owed sent : List Letter} (x : ℕ) (runs : is_running stopped x ≡ true) where
+  -- nodes tell each other something that is no letter
+  pub other-ties : (told : NodeMessage) (wires : Wires) (ys : List ℕ) → ((y : ℕ) (wires : Wires) → Ties site stopped wires owed sent → Ties site stopped (sends x y told wires) owed sent)
+      → Ties site stopped wires owed sent → Ties site stopped (sends_all x told ys wires) owed sent
+  other-ties told wires ys keeps T = each-ties (λ y. sends x y told) keeps ys wires T
+
+  report-ties : (wires : Wires) (set : Option ProcessorSet) → ((one : ProcessorSet) → set ≡ Some one → Fits site (Reporting x one)) → Ties site stopped wires owed sent
+      → Ties site stopped (reports site.processors x set wires) owed sent
+  report-ties wires None fits T = T
+  report-ties wires (Some set) fits T =
+      other-ties (Reporting x set) wires (others site.processors x)
+      (λ y wires T. subst (λ o. Ties site stopped (sends x y (Reporting x set) wires) o sent) (append-nil owed) (sends-ties wires x y (Reporting x set) runs (fits set refl) tt T)) T
+
+  pub ticked-ties : (wires : Wires) → Ties site stopped wires owed sent → Ties site stopped (ticked site.processors x wires) owed sent
+  ticked-ties wires T =
+      each-ties (λ y. at_end x y (tick_at x y)) (λ y wires T. tick-ties wires x y runs T) all_nodes (checks site.processors x (tells_alive site.processors x wires))
+      (checked_too (tells_alive site.processors x wires) (alive (x == terminal_node)))
+    where
+      alive : (test : Bool) → Ties site stopped (if test then wires else for_each (λ y. at_end x y alive_at) (others site.processors x) wires) owed sent
+      alive true = T
+      alive false = each-ties (λ y. at_end x y alive_at) (λ y wires T. live-ties wires x y runs T) (others site.processors x) wires T
+
+      checked_too : (wires : Wires) → Ties site stopped wires owed sent → Ties site stopped (checks site.processors x wires) owed sent
+      checked_too wires T = by (slice_get wires.nodes x) refl
+        where
+          by : (one : Option Node) → slice_get wires.nodes x ≡ one → Ties site stopped (at_node (check_at site.processors x) one wires) owed sent
+          by None e = T
+          by (Some node) e =
+              report-ties (watch_changed x after_tick node wires) (told_by_tick node.watch)
+              (λ one told. report-fits site stopped x node.watch one T.places runs (T.watches x node e) told)
+              (subst (λ (o : Option Node). Ties site stopped (at_node (watch_changed x after_tick) o wires) owed sent) e
+              (watched-ties wires x after_tick (λ watch is. ticked-watch is) T))
+
+  -- a stopped processor is declared down to all others
+  pub down-ties : (wires : Wires) (processor : ℕ) → processor ≤ 15 → slice_get stopped processor ≡ Some true → Ties site stopped wires owed sent
+      → Ties site stopped (declares site.processors x processor wires) owed sent
+  down-ties wires processor few gone T =
+      other-ties (Declaring processor) wires (others site.processors x ++ terminal_node ∷ [])
+      (λ y wires T. subst (λ o. Ties site stopped (sends x y (Declaring processor) wires) o sent) (append-nil owed)
+      (sends-ties wires x y (Declaring processor) runs (record { within = few; known = place-within site stopped processor true T.places gone }) gone T)) T
+
+-- no node pulls its own line, and each line is a processor's
+pub held-other : (node : ℕ) (watch : Watching) (from more processor : ℕ) → from + more ≤ 16 → first_held node watch from more ≡ Some processor → (processor ≢ node) × (processor ≤ 15)
+held-other node watch from zero processor few is = absurd cc
+held-other node watch from (suc more) processor few is = by (from == node) (is_held from watch) refl is (held-other node watch (from + 1) more processor (omega (arith, few)))
+  where
+    by : (here held : Bool) → (from == node) ≡ here
+        → (if here then first_held node watch (from + 1) more else if held then Some from else first_held node watch (from + 1) more) ≡ Some processor
+        → (first_held node watch (from + 1) more ≡ Some processor → (processor ≢ node) × (processor ≤ 15)) → (processor ≢ node) × (processor ≤ 15)
+    by true held e is rest = rest is
+    by false true e is rest =
+        let same : from ≡ processor = some-same is in
+        (λ s. let here : (from == node) ≡ true = eq-eqb from node (same ∙ s) in absurd cc, omega (arith, few, same))
+    by false false e is rest = rest is
+
+-- At boot
+
+numbered : {A : Type 0} (f : ℕ → A) (from many k : ℕ) → k < many → slice_get (map f (numbers from many)) k ≡ Some (f (from + k))
+numbered f from zero k low = absurd (omega (arith, low))
+numbered f from (suc many) zero low = ap (λ n. Some (f n)) (omega arith)
+numbered f from (suc many) (suc k) low = numbered f (from + 1) many k (omega (arith, low)) ∙ ap (λ n. Some (f n)) (omega arith)
+
+numbered-is : {A : Type 0} (f : ℕ → A) (from many k : ℕ) (v : A) → slice_get (map f (numbers from many)) k ≡ Some v → v ≡ f (from + k)
+numbered-is f from zero k v e = absurd cc
+numbered-is f from (suc many) zero v e = sym (some-same e) ∙ ap f (omega arith)
+numbered-is f from (suc many) (suc k) v e = numbered-is f (from + 1) many k v e ∙ ap f (omega arith)
+
+first-is : {A : Type 0} (f : ℕ → A) (many k : ℕ) (v : A) → slice_get (map f (numbers 0 many)) k ≡ Some v → v ≡ f k
+first-is f many k v e = numbered-is f 0 many k v e ∙ ap f (omega arith)
+
+size-numbers : (b : Bool) (n : ℕ) → length (replicate n b) ≡ n
+size-numbers b zero = refl
+size-numbers b (suc n) = ap suc (size-numbers b n)
+
+pub begins : (site : Site) → Ties site (replicate site.processors false) (wires_at_boot site.processors) [] []
+begins site = record {
+  net = quiet_net (λ x. 0);
+  tied = record {
+    shape = λ x y low few. (
+      new_end x y never_reloaded,
+      ap (option_and_then (λ (node : Node). slice_get node.ends y)) (numbered (node_at_boot site.processors) 0 17 x (omega (arith, low)) ∙ ap (λ k. Some (node_at_boot site.processors k)) (omega arith))
+          ∙ numbered (λ other. new_end x other never_reloaded) 0 17 y (omega (arith, few)) ∙ ap (λ k. Some (new_end x k never_reloaded)) (omega arith),
+    );
+    whole = whole-quiet (λ x. 0);
+    stood = λ x. sym (none site.processors x);
+    ends = λ x y e runs is. has_end x y e is;
+    flight = λ name p among. no_packet name p among;
+    down = λ x y is. absurd cc;
+  };
+  owes = record { pushed = λ x y words among. absurd among; owes = λ x y open_too. refl };
+  watches = λ x node at. subst (λ (w : Watching). IsWatch site.processors x w) (sym (ap (λ (m : Node). m.watch) (first-is (node_at_boot site.processors) 17 x node at))) (watch x);
+  places = size-numbers false site.processors;
+}
+  where
+    none : (n x : ℕ) → stands (replicate n false) x ≡ false
+    none zero x = refl
+    none (suc n) zero = refl
+    none (suc n) (suc x) = none n x
+
+    has_end : (x y : ℕ) (e : End) → end_at (nodes_at_boot site.processors) x y ≡ Some e → new_end x y never_reloaded ≡ e
+    has_end x y e is = by (slice_get (nodes_at_boot site.processors) x) refl is
+      where
+        by : (one : Option Node) → slice_get (nodes_at_boot site.processors) x ≡ one → option_and_then (λ (node : Node). slice_get node.ends y) one ≡ Some e → new_end x y never_reloaded ≡ e
+        by None at is = absurd cc
+        by (Some node) at is =
+            sym (first-is (λ other. new_end x other never_reloaded) 17 y e
+            (sym (ap (λ (m : Node). slice_get m.ends y) (first-is (node_at_boot site.processors) 17 x node at)) ∙ is))
+
+    no_packet : (name : BusName) (p : Packet) → IsAmong p (on_bus name (wires_at_boot site.processors)) → IsAmong p []
+    no_packet bus.X p among = among
+    no_packet bus.Y p among = among
+
+    watch : (x : ℕ) → IsWatch site.processors x (begun x site.processors)
+    watch x = record {
+      me = refl;
+      size = refl;
+      past = λ k one at far. first-is (at_first x site.processors) 16 k one at ∙ first k (nat_lt k site.processors) refl far;
+    }
+      where
+        first : (k : ℕ) (test : Bool) → nat_lt k site.processors ≡ test → site.processors ≤ k → at_first x site.processors k ≡ Absent
+        first k true e far = let low = leb-true (suc k) site.processors e in absurd (omega (arith, low, far))
+        first k false e far = rw e refl

@@ -1,0 +1,39 @@
+//! What wires owe, change by change.
+ghost use Rattle.std.specs.Prelude.{◌≡◌, ◌≤◌, ℕ, Bool, true, false, List, [], ◌++◌, replicate, slice_get, Some};
+ghost use Rattle.gd_words.specs.Members.{IsAmong};
+ghost use Rattle.tal_tree.specs.declared.site.Site.{Site};
+ghost use Rattle.world_semantics.specs.World.{is_running};
+ghost use Rattle.letters.specs.Posts.{without_those_between};
+ghost use Rattle.letters.specs.Routes.{Letter};
+ghost use Rattle.message_layout.specs.Layout.{Fits};
+ghost use Rattle.message_layout.specs.Messages.{Carrying};
+ghost use Rattle.packet_wires.specs.Wires.{Wires, all_posted, cut_off, declares, ticked, wires_at_boot};
+ghost use Rattle.packet_nets.specs.Owing.{Ties};
+
+/// At the beginning nothing is owed.
+pub fn wires_begin_owing_nothing()
+    ensures { (site : Site) → Ties site (replicate site.processors false) (wires_at_boot site.processors) [] [] }
+{}
+
+/// Letters that are posted are owed behind those that were.
+pub fn what_is_posted_is_owed()
+    ensures { (site : Site) (stopped : List Bool) (wires : Wires) (owed : List Letter) (sent : List Letter) (letters : List Letter) → Ties site stopped wires owed sent
+        → ((letter : Letter) → IsAmong letter letters → Fits site (Carrying letter.message) × IsAmong letter sent)
+        → Ties site stopped (all_posted stopped letters wires) (owed ++ letters) sent }
+{}
+
+/// What a node sends at its ticks, and by which it declares a stopped processor down, changes nothing that is owed.
+pub fn ticks_owe_nothing_more()
+    ensures tick { (site : Site) (stopped : List Bool) (wires : Wires) (owed : List Letter) (sent : List Letter) (node : ℕ) → is_running stopped node ≡ true
+        → Ties site stopped wires owed sent → Ties site stopped (ticked site.processors node wires) owed sent }
+    ensures declare { (site : Site) (stopped : List Bool) (wires : Wires) (owed : List Letter) (sent : List Letter) (node processor : ℕ) → is_running stopped node ≡ true
+        → processor ≤ 15 → slice_get stopped processor ≡ Some true → Ties site stopped wires owed sent
+        → Ties site stopped (declares site.processors node processor wires) owed sent }
+{}
+
+/// When a node cuts a stopped processor off, what was owed between both is owed no more.
+pub fn what_is_cut_off_is_struck_off()
+    ensures { (site : Site) (stopped : List Bool) (wires : Wires) (owed : List Letter) (sent : List Letter) (node processor : ℕ) → is_running stopped node ≡ true
+        → slice_get stopped processor ≡ Some true → Ties site stopped wires owed sent
+        → Ties site stopped (cut_off node processor wires) (without_those_between node processor owed) sent }
+{}
