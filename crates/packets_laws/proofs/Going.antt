@@ -1,0 +1,178 @@
+-- Which processors an event stops: at most one in a run.
+use Rattle.std.proofs.Common.{◌≡◌, ℕ, zero, suc, ℤ, Bool, true, false, if◌then◌else◌, List, [], ◌∷◌, replicate, Option, Some, None, slice_get, slice_set, refl, sym, subst, ◌∙◌}
+use Rattle.tal_tree.specs.declared.site.Site.{Site}
+use Rattle.schedule.specs.declared.event.Event.{Event}
+use Rattle.schedule.specs.declared.event.Event.TheVariants.{Run, Enter, Deliver, Lose, Repeat, Tick, Fail}
+use Rattle.wire.specs.declared.bus_name.BusName.{BusName}
+use Rattle.wire.specs.declared.packet.Packet.{Packet}
+use Rattle.world_semantics.specs.Running.{Done, run_done}
+use Rattle.world_semantics.specs.World.{boot, is_running}
+use Rattle.computed_changes.specs.Entered.{enter_done}
+use Rattle.computed_changes.specs.Handed.{handed_done}
+use Rattle.computed_changes.specs.Stopped.{marked_done, stopped_world, stop_where, stop_done}
+use Rattle.letters.specs.Idle.{OneStops}
+use Rattle.machine_states.specs.States.{Played, Makes, Skips, WouldStop}
+use Rattle.message_wires.specs.Play.{has_stopped}
+use Rattle.world_semantics.proofs.Lists.{Changed, is_new, is_same, changed}
+use Rattle.wires_laws.proofs.Stopping.{StopsNone, run-none, enter-none, handed-none, mark-none}
+use Rattle.message_layout.specs.Messages.{NodeMessage, Carrying, Reporting, Declaring}
+use Rattle.message_layout.specs.Reading.{understood}
+use Rattle.packet_wires.specs.Play.{Packeted, made_by, after_any, marked_by, marks, handed, handed_any, handed_words, completed, received, deliver_played, lose_played, repeat_played, fail_played, marks_and_declares, pulled, pulls, line_of, pulls_its, tick_played, packet_at, play}
+use Rattle.packet_wires.specs.Nodes.{end_at}
+use Rattle.packet_wires.specs.Runs.{IsPlayed, played_none, played_more, skipped}
+use Rattle.packet_wires.specs.Wires.{Wires, bus_named, without_packet, arrived, ticked}
+
+-- the site is the same, and so is who has stopped
+pub record Stays (s next : Packeted) : Type 0 where
+  pub site : next.site ≡ s.site
+  pub stopped : next.world.stopped ≡ s.world.stopped
+
+-- an event stops no processor, or it stops one and none had stopped before
+pub data Goes (s : Packeted) : Played Wires → Type 0 where
+  skips : Goes s Skips
+  would_stop : (processor : ℕ) → Goes s (WouldStop processor)
+  stops_none : {next : Packeted} → Stays s next → Goes s (Makes next)
+  stops_one : {next : Packeted} (processor : ℕ) → next.site ≡ s.site → has_stopped s.world.stopped ≡ false → next.world.stopped ≡ slice_set s.world.stopped processor true
+      → Goes s (Makes next)
+
+made-goes : (s : Packeted) (done : Option Done) → StopsNone s.world done → Goes s (made_by s done)
+made-goes s None none = skips
+made-goes s (Some done) none = stops_none (record { site = refl; stopped = none })
+
+marks-stay : (node processor : ℕ) (s : Packeted) → Stays s (marks node processor s)
+marks-stay node processor s = by (marked_done node processor s.world) (mark-none s.site s.world node processor)
+  where
+    by : (done : Option Done) → StopsNone s.world done → Stays s (marked_by node processor s done)
+    by None none = record { site = refl; stopped = refl }
+    by (Some done) none = record { site = refl; stopped = none }
+
+handed-stay : (node : ℕ) (told : NodeMessage) (s : Packeted) → Stays s (handed node told s)
+handed-stay node (Carrying message) s = by (handed_done s.site node message s.world) (handed-none s.site s.world node message)
+  where
+    by : (done : Option Done) → StopsNone s.world done → Stays s (after_any s done)
+    by None none = record { site = refl; stopped = refl }
+    by (Some done) none = record { site = refl; stopped = none }
+handed-stay node (Reporting from set) s = record { site = refl; stopped = refl }
+handed-stay node (Declaring processor) s = marks-stay node processor s
+
+words-stay : (node : ℕ) (words : Option (List ℤ)) (s : Packeted) → Stays s (handed_words node words s)
+words-stay node None s = record { site = refl; stopped = refl }
+words-stay node (Some words) s = by (understood s.site words)
+  where
+    by : (told : Option NodeMessage) → Stays s (handed_any node told s)
+    by None = record { site = refl; stopped = refl }
+    by (Some told) = handed-stay node told s
+
+deliver-goes : (name : BusName) (k : ℕ) (s : Packeted) (packet : Option Packet) → Goes s (deliver_played name k s packet)
+deliver-goes name k s None = skips
+deliver-goes name k s (Some p) = by (is_running s.world.stopped p.receiver)
+  where
+    by : (test : Bool) → Goes s (Makes (if test then received name p (record s { wires = without_packet name k s.wires }) else record s { wires = without_packet name k s.wires }))
+    by true =
+        let stay = words-stay p.receiver (completed p (end_at (without_packet name k s.wires).nodes p.receiver p.sender)) (record s { wires = arrived name p (without_packet name k s.wires) }) in
+        stops_none (record { site = stay.site; stopped = stay.stopped })
+    by false = stops_none (record { site = refl; stopped = refl })
+
+fail-goes : (processor : ℕ) (s : Packeted) → Goes s (fail_played processor s (stop_done processor s.world))
+fail-goes processor s = by (slice_get s.world.stopped processor)
+  where
+    first : (test : Bool) → has_stopped s.world.stopped ≡ test → Goes s (if test then WouldStop processor else Makes (record s { world = stopped_world processor s.world }))
+    first true e = would_stop processor
+    first false e = stops_one processor refl e refl
+
+    by : (stopped : Option Bool) → Goes s (fail_played processor s (stop_where processor s.world stopped))
+    by None = skips
+    by (Some true) = skips
+    by (Some false) = first (has_stopped s.world.stopped) refl
+
+tick-goes : (node : ℕ) (s : Packeted) → Goes s (tick_played node s)
+tick-goes node s = by (is_running s.world.stopped node)
+  where
+    line : (wires : Wires) (line : Option ℕ) → Goes s (pulls node (record s { wires = wires }) line)
+    line wires None = stops_none (record { site = refl; stopped = refl })
+    line wires (Some processor) = at (slice_get s.world.stopped processor)
+      where
+        first : (test : Bool) → has_stopped s.world.stopped ≡ test
+            → Goes s (if test then WouldStop processor else Makes (marks_and_declares node processor (record s { world = stopped_world processor s.world; wires = wires })))
+        first true e = would_stop processor
+        first false e =
+            let stay = marks-stay node processor (record s { world = stopped_world processor s.world; wires = wires }) in
+            stops_one processor stay.site e stay.stopped
+
+        at : (stopped : Option Bool) → Goes s (pulled node processor (record s { wires = wires }) stopped)
+        at None = stops_none (record { site = refl; stopped = refl })
+        at (Some true) = let stay = marks-stay node processor (record s { wires = wires }) in stops_none (record { site = stay.site; stopped = stay.stopped })
+        at (Some false) = first (has_stopped s.world.stopped) refl
+
+    by : (test : Bool) → Goes s (if test then pulls_its node (record s { wires = ticked s.site.processors node s.wires }) else Skips)
+    by true = line (ticked s.site.processors node s.wires) (line_of node (record s { wires = ticked s.site.processors node s.wires }))
+    by false = skips
+
+pub play-goes : (s : Packeted) (event : Event) → Goes s (play s event)
+play-goes s (Run number) = made-goes s (run_done s.site number s.world) (run-none s.site s.world number)
+play-goes s (Enter number) = made-goes s (enter_done s.site number s.world) (enter-none s.site s.world number)
+play-goes s (Deliver y k) = deliver-goes (bus_named y) k s (packet_at s (bus_named y) k)
+play-goes s (Lose y k) = by (packet_at s (bus_named y) k)
+  where
+    by : (packet : Option Packet) → Goes s (lose_played (bus_named y) k s packet)
+    by None = skips
+    by (Some packet) = stops_none (record { site = refl; stopped = refl })
+play-goes s (Repeat y k) = by (packet_at s (bus_named y) k)
+  where
+    by : (packet : Option Packet) → Goes s (repeat_played (bus_named y) s packet)
+    by None = skips
+    by (Some packet) = stops_none (record { site = refl; stopped = refl })
+play-goes s (Tick node) = tick-goes node s
+play-goes s (Fail processor) = fail-goes processor s
+
+-- Over whole runs
+
+pub played-site : {site : Site} {events : List Event} {s : Packeted} → IsPlayed site events s → s.site ≡ site
+played-site played_none = refl
+played-site {site = site} (played_more {s = s} {next = next} event before e) = subst OfSite e (by (play s event) (play-goes s event) (played-site before))
+  where
+    OfSite : Played Wires → Type 0
+    OfSite (Makes next) = next.site ≡ site
+    OfSite Skips = Unit {0}
+    OfSite (WouldStop processor) = Unit {0}
+
+    by : (played : Played Wires) → Goes s played → s.site ≡ site → OfSite played
+    by Skips skips was = tt
+    by (WouldStop _) (would_stop processor) was = tt
+    by (Makes made) (stops_none stay) was = stay.site ∙ was
+    by (Makes made) (stops_one processor same first one) was = same ∙ was
+played-site (skipped event before e) = played-site before
+
+none-stopped : (stopped : List Bool) (k : ℕ) → has_stopped stopped ≡ false → slice_get stopped k ≡ Some true → ⊥
+none-stopped [] k none at = cc
+none-stopped (true ∷ stopped) k none at = cc
+none-stopped (false ∷ stopped) zero none at = cc
+none-stopped (false ∷ stopped) (suc k) none at = none-stopped stopped k none at
+
+first-stopped : (stopped : List Bool) (processor one : ℕ) → has_stopped stopped ≡ false → slice_get (slice_set stopped processor true) one ≡ Some true → processor ≡ one
+first-stopped stopped processor one none at = of (changed stopped processor true one true at)
+  where
+    of : Changed stopped processor true one true → processor ≡ one
+    of (is_new here is) = here
+    of (is_same other was) = absurd (none-stopped stopped one none was)
+
+none-at-boot : (processors : ℕ) → has_stopped (replicate processors false) ≡ false
+none-at-boot zero = refl
+none-at-boot (suc processors) = none-at-boot processors
+
+pub played-one : {site : Site} {events : List Event} {s : Packeted} → IsPlayed site events s → OneStops s.world
+played-one {site = site} played_none = λ one other at there. absurd (none-stopped (boot site).stopped one (none-at-boot site.processors) at)
+played-one (played_more {s = s} {next = next} event before e) = subst IsOne e (by (play s event) (play-goes s event) (played-one before))
+  where
+    IsOne : Played Wires → Type 0
+    IsOne (Makes next) = OneStops next.world
+    IsOne Skips = Unit {0}
+    IsOne (WouldStop processor) = Unit {0}
+
+    by : (played : Played Wires) → Goes s played → OneStops s.world → IsOne played
+    by Skips skips was = tt
+    by (WouldStop _) (would_stop processor) was = tt
+    by (Makes made) (stops_none stay) was = subst (λ (stopped : List Bool). (one other : ℕ) → slice_get stopped one ≡ Some true → slice_get stopped other ≡ Some true → one ≡ other) (sym stay.stopped) was
+    by (Makes made) (stops_one processor same first one) was =
+        rw one (λ a b at there. sym (first-stopped s.world.stopped processor a first at) ∙ first-stopped s.world.stopped processor b first there)
+played-one (skipped event before e) = played-one before

@@ -1,0 +1,7 @@
+pub mod Coming
+pub mod Going
+pub mod Idle
+pub mod Marks
+pub mod Pieces
+pub mod Playing
+pub mod Runs

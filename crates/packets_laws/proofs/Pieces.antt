@@ -1,0 +1,95 @@
+-- Only the last piece of a message hands anything over.
+use Rattle.std.proofs.Common.{◌≡◌, ◌⊎◌, inl, inr, ℕ, ℤ, Bool, true, false, if◌then◌else◌, List, Option, Some, None, refl, sym, subst, ◌∙◌}
+use Rattle.schedule.specs.declared.event.Event.TheVariants.{Deliver, Lose, Repeat}
+use Rattle.wire.specs.declared.bus_name.BusName.{BusName}
+use Rattle.wire.specs.declared.packet.Packet.{Packet}
+use Rattle.wire.specs.declared.packet.PacketKind.{PacketKind}
+use Rattle.wire.specs.declared.packet.PacketKind.TheVariants as kind
+use Rattle.wire.specs.declared.piece.Piece.{Piece}
+use Rattle.wire.specs.Pieces as pieces
+use Rattle.link_control.specs.Ends as ends
+use Rattle.link_control.specs.Ends.{End, handed_by_packet, handed_by_kind}
+use Rattle.world_semantics.specs.World.{is_running}
+use Rattle.machine_states.specs.States.{Played, Makes, Skips, WouldStop}
+use Rattle.packet_wires.specs.Nodes.{end_at}
+use Rattle.packet_wires.specs.Play.{Packeted, completed, handed_words, received, deliver_played, lose_played, repeat_played, packet_at, play}
+use Rattle.packet_wires.specs.Wires.{Wires, bus_named, without_packet, arrived}
+use Rattle.packets_laws.specs.Pieces.{HandsOver}
+
+-- a packet that completes a message is a last piece
+pub record IsLast (packet : Packet) : Type 0 where
+  pub number : ℕ
+  pub piece : Piece
+  pub kind : packet.kind ≡ kind.Piece number piece
+  pub last : piece.last ≡ true
+
+last-piece : (packet : Packet) (e : End) (words : List ℤ) → handed_by_packet packet e ≡ Some words → IsLast packet
+last-piece packet e words is = by e.down is
+  where
+    whole : (number : ℕ) (piece : Piece) → packet.kind ≡ kind.Piece number piece → (last : Bool) → piece.last ≡ last → pieces.completed piece e.receiving.part ≡ Some words → IsLast packet
+    whole number piece same true last is = record { number = number; piece = piece; kind = same; last = last }
+    whole number piece same false last is = absurd (let none : None ≡ Some words = sym (rw last refl) ∙ is in cc)
+
+    next : (number : ℕ) (piece : Piece) → packet.kind ≡ kind.Piece number piece → (test : Bool)
+        → (if test then pieces.completed piece e.receiving.part else None) ≡ Some words → IsLast packet
+    next number piece same true is = whole number piece same piece.last refl is
+    next number piece same false is = absurd cc
+
+    by_kind : (k : PacketKind) → packet.kind ≡ k → handed_by_kind k e ≡ Some words → IsLast packet
+    by_kind kind.Alive same is = absurd cc
+    by_kind (kind.Piece number piece) same is = next number piece same (ends.is_next number e.receiving) is
+    by_kind (kind.Acknowledgement number) same is = absurd cc
+
+    by : (down : Bool) → (if down then None else handed_by_kind packet.kind e) ≡ Some words → IsLast packet
+    by true is = absurd cc
+    by false is = by_kind packet.kind refl is
+
+completed-last : (packet : Packet) (e : Option End) (words : List ℤ) → completed packet e ≡ Some words → IsLast packet
+completed-last packet None words is = absurd cc
+completed-last packet (Some e) words is = last-piece packet e words is
+
+-- what an event makes, if it makes a state, has the world of before, or the packet hands over
+abbrev Stays : Packeted → Type 0 → Played Wires → Type 0
+Stays s Or (Makes next) = (next.world ≡ s.world) ⊎ Or
+Stays s Or Skips = Unit {0}
+Stays s Or (WouldStop processor) = Unit {0}
+
+deliver-stays : (s : Packeted) (name : BusName) (k : ℕ) (found : Option Packet) → packet_at s name k ≡ found → Stays s (HandsOver s name k) (deliver_played name k s found)
+deliver-stays s name k None there = tt
+deliver-stays s name k (Some packet) there = by (is_running s.world.stopped packet.receiver) refl
+  where
+    handing : (runs : is_running s.world.stopped packet.receiver ≡ true) → (found : Option (List ℤ))
+        → completed packet (end_at (without_packet name k s.wires).nodes packet.receiver packet.sender) ≡ found
+        → Stays s (HandsOver s name k) (Makes (handed_words packet.receiver found (record s { wires = arrived name packet (without_packet name k s.wires) })))
+    handing runs None whole = inl refl
+    handing runs (Some words) whole =
+        let is = completed-last packet (end_at (without_packet name k s.wires).nodes packet.receiver packet.sender) words whole in
+        inr (record { packet = packet; number = is.number; piece = is.piece; there = there; kind = is.kind; last = is.last; runs = runs })
+
+    by : (test : Bool) → is_running s.world.stopped packet.receiver ≡ test
+        → Stays s (HandsOver s name k) (Makes (if test then received name packet (record s { wires = without_packet name k s.wires })
+        else record s { wires = without_packet name k s.wires }))
+    by true runs = handing runs (completed packet (end_at (without_packet name k s.wires).nodes packet.receiver packet.sender)) refl
+    by false rests = inl refl
+
+pub deliver-hands : (s next : Packeted) (y : Bool) (k : ℕ) → play s (Deliver y k) ≡ Makes next → (next.world ≡ s.world) ⊎ HandsOver s (bus_named y) k
+deliver-hands s next y k e = subst (Stays s (HandsOver s (bus_named y) k)) e (deliver-stays s (bus_named y) k (packet_at s (bus_named y) k) refl)
+
+abbrev Keeps : Packeted → Played Wires → Type 0
+Keeps s (Makes next) = next.world ≡ s.world
+Keeps s Skips = Unit {0}
+Keeps s (WouldStop processor) = Unit {0}
+
+pub lose-keeps : (s next : Packeted) (y : Bool) (k : ℕ) → play s (Lose y k) ≡ Makes next → next.world ≡ s.world
+lose-keeps s next y k e = subst (Keeps s) e (by (packet_at s (bus_named y) k))
+  where
+    by : (found : Option Packet) → Keeps s (lose_played (bus_named y) k s found)
+    by None = tt
+    by (Some packet) = refl
+
+pub repeat-keeps : (s next : Packeted) (y : Bool) (k : ℕ) → play s (Repeat y k) ≡ Makes next → next.world ≡ s.world
+repeat-keeps s next y k e = subst (Keeps s) e (by (packet_at s (bus_named y) k))
+  where
+    by : (found : Option Packet) → Keeps s (repeat_played (bus_named y) s found)
+    by None = tt
+    by (Some packet) = refl

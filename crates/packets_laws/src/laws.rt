@@ -1,0 +1,65 @@
+//! Laws of what is played over packets.
+ghost use Rattle.std.specs.Prelude.{◌≡◌, ◌⊎◌, ◌<◌, ℕ, ℤ, Bool, true, List, length, slice_get, Some};
+ghost use Rattle.gd_words.specs.Members.{IsAmong};
+ghost use Rattle.wire.specs.declared.bus_name.BusName.{BusName};
+ghost use Rattle.wire.specs.declared.packet.Packet.{Packet};
+ghost use Rattle.tal_tree.specs.declared.site.Site.{Site};
+ghost use Rattle.schedule.specs.declared.event.Event.{Event};
+ghost use Rattle.schedule.specs.declared.event.Event.TheVariants.{Deliver, Lose, Repeat};
+ghost use Rattle.world_semantics.specs.Follows.{IsRun};
+ghost use Rattle.world_semantics.specs.World.{Mark, is_running};
+ghost use Rattle.headline.specs.Fit.{IsFit};
+ghost use Rattle.awaited_requests.specs.Seats.{IsLaidOut};
+ghost use Rattle.letters.specs.Idle.{IsIdle, OneStops};
+ghost use Rattle.letters.specs.Posts.{HasPlayed};
+ghost use Rattle.letters.specs.Routes.{Letter};
+ghost use Rattle.machine_states.specs.States.{Makes};
+ghost use Rattle.letters_layout.specs.Fitting.{IsSmall};
+ghost use Rattle.packet_wires.specs.Idle.{is_idle};
+ghost use Rattle.packet_wires.specs.Nodes.{end_at};
+ghost use Rattle.packet_wires.specs.Play.{Packeted, completed, packet_at, play};
+ghost use Rattle.packet_wires.specs.Runs.{IsPlayed};
+ghost use Rattle.packet_wires.specs.Wires.{bus_named};
+ghost use Rattle.packet_nets.specs.Owing.{WasPushed};
+ghost use Rattle.packets_laws.specs.Pieces.{HandsOver};
+
+/// Whatever fewer than 4,294,967,296 events play over packets, they do to a post of the same world; so it is a run of the world.
+/// Where the state is idle, nothing is left to do for that post.
+pub fn what_is_played_follows()
+    ensures letters { (site : Site) (events : List Event) (s : Packeted) → IsFit site → IsSmall site → IsLaidOut site → length events < 4294967296
+        → IsPlayed site events s → (owed : List Letter) × (sent : List Letter) × HasPlayed site events (record { world = s.world; owed = owed; sent = sent })
+        × (is_idle s ≡ true → IsIdle site (record { world = s.world; owed = owed; sent = sent })) }
+    ensures run { (site : Site) (events : List Event) (s : Packeted) → IsFit site → IsSmall site → IsLaidOut site → length events < 4294967296
+        → IsPlayed site events s → IsRun site events s.world }
+{}
+
+/// The message that is whole as a packet comes was pushed by the node that the packet names, to the node where it comes: the site
+/// understands it; if it carries one of the world, that is of a letter that the post of the state has sent between the two; and a
+/// processor that it declares down has stopped.
+pub fn what_comes_was_sent()
+    ensures { (site : Site) (events : List Event) (s : Packeted) → IsFit site → IsSmall site → IsLaidOut site → length events < 4294967296
+        → IsPlayed site events s → (owed : List Letter) × (sent : List Letter) × HasPlayed site events (record { world = s.world; owed = owed; sent = sent })
+        × ((name : BusName) (k : ℕ) (p : Packet) (words : List ℤ) → packet_at s name k ≡ Some p → is_running s.world.stopped p.receiver ≡ true
+        → completed p (end_at s.wires.nodes p.receiver p.sender) ≡ Some words → WasPushed site s.world.stopped sent p.sender p.receiver words) }
+{}
+
+/// A delivery leaves the world as it was, or the packet was the last piece of a message, and its receiver runs. What is lost or
+/// repeated leaves the world as it was.
+pub fn only_a_last_piece_hands_over()
+    ensures deliver { (s next : Packeted) (y : Bool) (k : ℕ) → play s (Deliver y k) ≡ Makes next → (next.world ≡ s.world) ⊎ HandsOver s (bus_named y) k }
+    ensures lose { (s next : Packeted) (y : Bool) (k : ℕ) → play s (Lose y k) ≡ Makes next → next.world ≡ s.world }
+    ensures repeat { (s next : Packeted) (y : Bool) (k : ℕ) → play s (Repeat y k) ≡ Makes next → next.world ≡ s.world }
+{}
+
+/// A node has marked only what has stopped, and all marks of a run name one processor.
+pub fn only_what_has_stopped_is_marked()
+    ensures stopped { (site : Site) (events : List Event) (s : Packeted) (mark : Mark) → IsFit site → IsSmall site → IsLaidOut site → length events < 4294967296
+        → IsPlayed site events s → IsAmong mark s.world.marks → slice_get s.world.stopped mark.down ≡ Some true }
+    ensures one { (site : Site) (events : List Event) (s : Packeted) (one : Mark) (other : Mark) → IsFit site → IsSmall site → IsLaidOut site
+        → length events < 4294967296 → IsPlayed site events s → IsAmong one s.world.marks → IsAmong other s.world.marks → one.down ≡ other.down }
+{}
+
+/// Whatever is played, no second processor stops.
+pub fn a_second_processor_never_stops()
+    ensures { (site : Site) (events : List Event) (s : Packeted) → IsPlayed site events s → OneStops s.world }
+{}
