@@ -1,0 +1,31 @@
+-- The laws of runs, at what was played.
+use Rattle.std.proofs.Common.{◌≡◌, ◌<◌, true, List, length, arith}
+use Rattle.tal_tree.specs.declared.site.Site.{Site}
+use Rattle.schedule.specs.declared.event.Event.{Event}
+use Rattle.plain_semantics.specs.SiteLimits.{KeepsSiteLimits}
+use Rattle.letters.specs.Routes.{Letter}
+use Rattle.world_semantics.specs.Follows.{IsRun}
+use Rattle.awaited_requests.specs.Seats.{IsLaidOut}
+use Rattle.headline_laws.proofs.Accepted.{accepted-fit}
+use Rattle.headline_laws.specs.Premises.{IsAcceptedSite}
+use Rattle.idle_end.specs.Ends.{IsIdleEnd}
+use Rattle.idle_laws.proofs.Ended.{played-ends}
+use Rattle.packet_wires.specs.Idle.{is_idle}
+use Rattle.packet_wires.specs.Play.{Packeted}
+use Rattle.packet_wires.specs.Runs.{IsPlayed}
+use Rattle.packets_laws.proofs.Going.{played-one}
+use Rattle.packets_laws.proofs.Runs.{played-post, played-world}
+use Rattle.packets_played.proofs.Small.{small-of}
+
+module _ (site : Site) (accepted : IsAcceptedSite site) (keeps : KeepsSiteLimits site) (out : IsLaidOut site) (events : List Event) (s : Packeted)
+    (few : length events < 4294967295) (played : IsPlayed site events s) where
+  pub runs : IsRun site events s.world
+  runs = played-world site (accepted-fit site accepted) (small-of site accepted keeps) out events s (omega (arith, few)) played
+
+  pub ends : is_idle s ≡ true → (owed : List Letter) × (sent : List Letter) × IsIdleEnd site events (record { world = s.world; owed = owed; sent = sent })
+  ends idle =
+      let post = played-post site (accepted-fit site accepted) (small-of site accepted keeps) out events s (omega (arith, few)) played in (
+        post.0,
+        post.1,
+        played-ends site events (record { world = s.world; owed = post.0; sent = post.1 }) accepted out few post.2 (played-one played) (post.3 idle),
+      )

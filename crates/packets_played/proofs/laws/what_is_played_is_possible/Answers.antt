@@ -1,0 +1,13 @@
+use Rattle.std.proofs.Common.{arith}
+use Rattle.headline.proofs.Kept.{kept-possible, kept-shown}
+use Rattle.headline_laws.proofs.Accepted.{accepted-fit}
+use Rattle.packets_played.proofs.Joined.{runs}
+use Rattle.packets_played.proofs.laws.what_is_played_is_possible.Goals as goal
+
+pub returns : goal.returns
+returns c = record {
+  possible = λ site events s accepted keeps out few played.
+      kept-possible site (accepted-fit site accepted) events s.world (omega (arith, few)) (runs site accepted keeps out events s few played);
+  shown = λ site events s accepted keeps out few played.
+      kept-shown site (accepted-fit site accepted) events s.world (omega (arith, few)) (runs site accepted keeps out events s few played);
+}
