@@ -1,0 +1,6 @@
+pub mod Buses
+pub mod Lines
+pub mod Marks
+pub mod Rooms
+pub mod Twice
+pub mod Words

@@ -1,0 +1,61 @@
+-- States of the machine over packets at which its rules are seen.
+use Rattle.std.specs.Prelude.{ℕ, true, false, List, [], ◌∷◌}
+use Rattle.schedule.specs.declared.event.Event.{Event}
+use Rattle.schedule.specs.declared.event.Event.TheVariants as event
+use Rattle.wire.specs.declared.packet.Packet.{Packet}
+use Rattle.wire.specs.declared.packet.PacketKind.{PacketKind}
+use Rattle.wire.specs.declared.packet.PacketKind.TheVariants as kind
+use Rattle.alive_regroup.specs.declared.neighbour.Missed.TheVariants as missed
+use Rattle.alive_regroup.specs.declared.neighbour.Neighbour.TheVariants.{Up}
+use Rattle.alive_regroup.specs.Sets.{nobody}
+use Rattle.alive_regroup.specs.Watching as watching
+use Rattle.alive_regroup.specs.Watching.{changed_at}
+use Rattle.packet_wires.specs.Nodes.{never_reloaded}
+use Rattle.packet_wires.specs.Wires.{Wires, learns}
+use Rattle.packet_wires.specs.Play.{Packeted}
+use Rattle.packet_wires.specs.Sights.{end_of}
+use Rattle.packet_wires.specs.Examples.{adder_at_boot, rounds, taken_over, three_at_boot, times, up_to_checkpoint}
+
+abbrev pub packet : ℕ → ℕ → PacketKind → Packet
+packet sender receiver kind = record { sender = sender; receiver = receiver; incarnation = never_reloaded; kind = kind }
+
+-- acknowledgements of pieces that nobody sent: what they come to changes nothing
+abbrev pub stray : ℕ → Packet
+stray number = packet 0 1 (kind.Acknowledgement number)
+
+-- the adder with three packets on bus X and one on bus Y
+abbrev pub laden : Packeted
+laden = record adder_at_boot { wires = record adder_at_boot.wires { x = stray 5 ∷ stray 6 ∷ stray 7 ∷ []; y = packet 1 0 kind.Alive ∷ [] } }
+
+abbrev pub ticks : ℕ → ℕ → List Event
+ticks node many = times many (event.Tick node ∷ [])
+
+-- the first piece of the checkpoint is lost, and its sender ticks twice
+abbrev pub first_piece_again : Packeted
+first_piece_again = end_of (end_of adder_at_boot up_to_checkpoint) (event.Lose false 0 ∷ ticks 0 2)
+
+-- processor 0 has stopped
+abbrev pub one_gone : Packeted
+one_gone = end_of adder_at_boot (event.Fail 0 ∷ [])
+
+-- three processors, in three rounds of which one was muted; and in four in which processor 0 was
+abbrev pub after_three : Packeted
+after_three = rounds 1 3 three_at_boot
+
+abbrev pub first_muted : Packeted
+first_muted = rounds 0 4 three_at_boot
+
+-- to processor 0, processor 1 is down and processor 2 silent
+abbrev pub two_lost : Wires
+two_lost = learns 0 (changed_at 2 (λ one. Up false missed.More nobody)) (learns 0 (changed_at 1 watching.marked) three_at_boot.wires)
+
+-- so it is after processor 1 stopped, and while all run
+abbrev pub second_silent : Packeted
+second_silent = record three_at_boot { world = record three_at_boot.world { stopped = false ∷ true ∷ false ∷ [] }; wires = two_lost }
+
+abbrev pub none_stopped : Packeted
+none_stopped = record three_at_boot { wires = two_lost }
+
+-- the node of the terminals was told that processor 0 is down
+abbrev pub told : Packeted
+told = end_of taken_over (event.Deliver false 6 ∷ [])

@@ -1,0 +1,137 @@
+//! What is played, at telling points.
+ghost use Rattle.std.specs.Prelude.{◌≡◌, ◌<◌, ℕ, pos, true, false, [], ◌∷◌, ◌++◌, length, Some, None};
+ghost use Rattle.schedule.specs.declared.event.Event.TheVariants as event;
+ghost use Rattle.wire.specs.declared.bus_name.BusName.{BusName};
+ghost use Rattle.wire.specs.declared.bus_name.BusName.TheVariants.{X, Y};
+ghost use Rattle.wire.specs.declared.packet.Packet.{Packet};
+ghost use Rattle.wire.specs.declared.packet.PacketKind.TheVariants as kind;
+ghost use Rattle.machine_states.specs.States.{Skips, WouldStop};
+ghost use Rattle.message_layout.specs.Messages.{Declaring};
+ghost use Rattle.message_layout.specs.Reading.{understood};
+ghost use Rattle.packet_wires.specs.Idle.{is_idle, holds_nothing};
+ghost use Rattle.packet_wires.specs.Nodes.{end_at};
+ghost use Rattle.world_semantics.specs.World.{has_marked};
+ghost use Rattle.packet_wires.specs.Play.{Packeted, count_on, handed, kind_at, play, sender_at};
+ghost use Rattle.packet_wires.specs.Sights.{acknowledged, alive, end_of, last, piece, seen};
+ghost use Rattle.packet_wires.specs.Wires.{Wires, on_bus, put_on};
+ghost use Rattle.packet_wires.specs.Examples.{adder_at_boot, after_four, held, served, taken_over, up_to_checkpoint};
+ghost use Rattle.packet_guards.specs.States.{after_three, first_muted, first_piece_again, laden, none_stopped, one_gone, second_silent, stray, ticks, told};
+
+/// An event names a packet by its position on its bus from 0, and takes that one alone; a repeat puts it at the end. Past the last
+/// position nothing is done.
+pub fn events_name_positions()
+    ensures deliver { (end_of laden (event.Deliver false 1 ∷ [])).wires.x ≡ stray 5 ∷ stray 7 ∷ [] }
+    ensures lose { (end_of laden (event.Lose false 1 ∷ [])).wires.x ≡ stray 5 ∷ stray 7 ∷ [] }
+    ensures repeat { (end_of laden (event.Repeat false 1 ∷ [])).wires.x ≡ stray 5 ∷ stray 6 ∷ stray 7 ∷ stray 6 ∷ [] }
+    ensures other_bus { (end_of laden (event.Lose true 0 ∷ [])).wires.y ≡ [] }
+    ensures past { play laden (event.Deliver false 3) ≡ Skips }
+    ensures past_lose { play laden (event.Lose true 1) ≡ Skips }
+    ensures past_repeat { play laden (event.Repeat true 1) ≡ Skips }
+{}
+
+/// What stands at a position is told: its kind and its sender, and how many packets there are.
+pub fn positions_are_told()
+    ensures count { count_on laden X ≡ 3 }
+    ensures count_y { count_on laden Y ≡ 1 }
+    ensures kind { kind_at laden X 1 ≡ Some (kind.Acknowledgement 6) }
+    ensures kind_y { kind_at laden Y 0 ≡ Some kind.Alive }
+    ensures sender { sender_at laden Y 0 ≡ Some 1 }
+    ensures past { sender_at laden X 3 ≡ None }
+{}
+
+/// A bus has room for 4,096 packets, and what finds it full is lost.
+pub fn a_bus_has_room_for_4096()
+    ensures room { (name : BusName) (packet : Packet) (wires : Wires) → length (on_bus name wires) < 4096
+        → on_bus name (put_on name packet wires) ≡ on_bus name wires ++ packet ∷ [] }
+    ensures full { (name : BusName) (packet : Packet) (wires : Wires) → length (on_bus name wires) ≡ 4096 → on_bus name (put_on name packet wires) ≡ on_bus name wires }
+{}
+
+/// A tick sends I'm-alive packets in rising order of receivers, then its report in the same order, and at last what is outstanding.
+pub fn a_tick_sends_in_order()
+    ensures report { (seen (end_of after_three (event.Tick 0 ∷ []))).x ≡ alive 0 1 ∷ alive 0 2 ∷ last 0 1 1 ∷ last 0 2 1 ∷ [] }
+    ensures alive_y { (seen (end_of after_three (event.Tick 0 ∷ []))).y ≡ alive 0 1 ∷ alive 0 2 ∷ [] }
+    ensures again { (seen first_piece_again).y ≡ alive 0 1 ∷ alive 0 1 ∷ piece 0 1 1 ∷ [] }
+    ensures terminals { seen (end_of adder_at_boot (ticks 16 4)) ≡ record { x = []; y = [] } }
+{}
+
+/// An acknowledgement goes by the bus on which its piece came, and the piece that it lets go takes bus X.
+pub fn answers_take_their_bus()
+    ensures acknowledgement { (seen (end_of first_piece_again (event.Deliver true 2 ∷ []))).y ≡ alive 0 1 ∷ alive 0 1 ∷ acknowledged 1 0 1 ∷ [] }
+    ensures next { (seen (end_of first_piece_again (event.Deliver true 2 ∷ event.Deliver true 2 ∷ []))).x ≡ alive 0 1 ∷ alive 0 1 ∷ piece 0 1 2 ∷ [] }
+{}
+
+/// Two checks that a processor is missed make it silent, one isn't enough; checks are every second tick.
+pub fn two_checks_make_silent()
+    ensures three { (end_of one_gone (ticks 1 3)).world.marks ≡ [] }
+    ensures four { (end_of one_gone (ticks 1 4)).world.marks ≡ record { node = 1; down = 0 } ∷ [] }
+    ensures heard { (end_of (end_of laden (ticks 0 3)) (event.Deliver true 0 ∷ event.Tick 0 ∷ [])).world.marks ≡ [] }
+    ensures unheard { (end_of (end_of laden (ticks 0 3)) (event.Lose true 0 ∷ event.Tick 0 ∷ [])).world.marks ≡ record { node = 0; down = 1 } ∷ [] }
+{}
+
+/// The line is pulled by the lowest processor other than the silent one, and when the last reports of all others have it.
+pub fn the_coordinator_pulls()
+    ensures unreported { (end_of after_three (event.Tick 0 ∷ [])).world.stopped ≡ false ∷ false ∷ false ∷ [] }
+    ensures other { (end_of after_four (event.Tick 2 ∷ event.Tick 1 ∷ [])).world.stopped ≡ false ∷ false ∷ false ∷ [] }
+    ensures lowest { (end_of after_four (event.Tick 0 ∷ [])).world.stopped ≡ false ∷ true ∷ false ∷ [] }
+    ensures next_lowest { (end_of first_muted (event.Tick 2 ∷ [])).world.stopped ≡ false ∷ false ∷ false ∷ [] }
+    ensures pulls { (end_of first_muted (event.Tick 1 ∷ [])).world.stopped ≡ true ∷ false ∷ false ∷ [] }
+{}
+
+/// The node that pulled a line marks before it tells the others; the node of the terminals is told last, and is told.
+pub fn all_others_are_told()
+    ensures marks { held.world.marks ≡ record { node = 0; down = 1 } ∷ [] }
+    ensures buses { (seen held).x ≡ alive 0 1 ∷ alive 0 2 ∷ last 0 2 2 ∷ last 0 16 1 ∷ [] }
+    ensures terminals { told.world.marks ≡ record { node = 16; down = 0 } ∷ record { node = 1; down = 0 } ∷ [] }
+{}
+
+/// The acknowledgement goes before what the hand-over sends: told that processor 0 is down, the node of the terminals asks processor 1.
+pub fn an_acknowledgement_goes_first()
+    ensures { (seen told).x ≡ last 0 1 3 ∷ alive 1 0 ∷ alive 1 0 ∷ alive 1 0 ∷ alive 1 0 ∷ last 1 0 1 ∷ acknowledged 16 1 1 ∷ last 16 1 1 ∷ [] }
+{}
+
+/// A mark throws the channel away, and packets of the marked node are dropped: no acknowledgement goes.
+pub fn a_mark_closes_the_channel()
+    ensures thrown { holds_nothing (end_at taken_over.wires.nodes 1 0) ≡ true }
+    ensures dropped { (seen (end_of taken_over (event.Deliver false 0 ∷ []))).x ≡ alive 1 0 ∷ alive 1 0 ∷ alive 1 0 ∷ alive 1 0 ∷ last 1 0 1 ∷ last 1 16 1 ∷ [] }
+    ensures no_more_alive { (seen (end_of taken_over (event.Tick 1 ∷ []))).y ≡ alive 1 0 ∷ alive 1 0 ∷ alive 1 0 ∷ alive 1 0 ∷ [] }
+{}
+
+/// A line doesn't stop a second processor, and neither does a failure.
+pub fn no_second_stop()
+    ensures line { play second_silent (event.Tick 0) ≡ WouldStop 2 }
+    ensures first { (end_of none_stopped (event.Tick 0 ∷ [])).world.stopped ≡ false ∷ false ∷ true ∷ [] }
+    ensures fails { play one_gone (event.Fail 1) ≡ WouldStop 1 }
+    ensures again { play one_gone (event.Fail 0) ≡ Skips }
+{}
+
+/// A processor that has stopped does nothing, and drops what comes to it.
+pub fn who_has_stopped_does_nothing()
+    ensures ticks { play one_gone (event.Tick 0) ≡ Skips }
+    ensures drops { (end_of one_gone (event.Enter 0 ∷ event.Deliver false 0 ∷ [])).wires.x ≡ [] }
+    ensures runs { (seen (end_of one_gone (event.Enter 0 ∷ []))).x ≡ last 16 0 1 ∷ [] }
+{}
+
+/// A node marks only what has stopped, and no processor twice.
+pub fn no_mark_on_suspicion()
+    ensures runs { handed 1 (Declaring 0) adder_at_boot ≡ adder_at_boot }
+    ensures twice { (node processor : ℕ) (s : Packeted) → has_marked s.world.marks node processor ≡ true → handed node (Declaring processor) s ≡ s }
+{}
+
+/// Words of no message are dropped, and messages that name what the site hasn't: here two processors, one process and one opener.
+pub fn what_is_not_there_is_dropped()
+    ensures none { understood adder_at_boot.site (pos 7 ∷ pos 0 ∷ []) ≡ None }
+    ensures more { understood adder_at_boot.site (pos 6 ∷ pos 0 ∷ pos 0 ∷ []) ≡ None }
+    ensures down { understood adder_at_boot.site (pos 6 ∷ pos 1 ∷ []) ≡ Some (Declaring 1) }
+    ensures processor { understood adder_at_boot.site (pos 6 ∷ pos 2 ∷ []) ≡ None }
+    ensures terminals { understood adder_at_boot.site (pos 6 ∷ pos 16 ∷ []) ≡ None }
+    ensures member { understood adder_at_boot.site (pos 5 ∷ pos 0 ∷ pos 4 ∷ []) ≡ None }
+    ensures process { understood adder_at_boot.site (pos 1 ∷ pos 1 ∷ pos 0 ∷ pos 0 ∷ pos 1 ∷ pos 0 ∷ []) ≡ None }
+    ensures opener { understood adder_at_boot.site (pos 1 ∷ pos 0 ∷ pos 1 ∷ pos 0 ∷ pos 1 ∷ pos 0 ∷ []) ≡ None }
+{}
+
+/// A state isn't idle while a piece is outstanding, or before every node that runs has marked what stopped.
+pub fn what_is_left_is_not_idle()
+    ensures outstanding { is_idle (end_of adder_at_boot up_to_checkpoint) ≡ false }
+    ensures unmarked { is_idle (end_of served (event.Fail 1 ∷ [])) ≡ false }
+    ensures idle { is_idle served ≡ true }
+{}
