@@ -1,0 +1,333 @@
+-- What changes of the world are computed changes copies in one processor alone, and sends from there.
+use Rattle.std.proofs.Common.{◌≡◌, ◌≢◌, ℕ, ℤ, Bool, true, false, if◌then◌else◌, nat_lt, ◌==◌, List, [], ◌∷◌, ◌++◌, map, Option, Some, None, slice_get, slice_set, option_map, option_and_then, refl, sym, ap, subst, ◌∙◌}
+use Rattle.std.proofs.lemmas.Bool.{eqb-true}
+use Rattle.gd_words.specs.Members.{IsAmong}
+use Rattle.gd_words.specs.declared.message.Request.{Request}
+use Rattle.gd_words.specs.declared.message.Reply.{Reply}
+use Rattle.tal_tree.specs.declared.site.Site.{Site}
+use Rattle.tal_tree.specs.declared.site.OpenerSpec.{OpenerSpec}
+use Rattle.tal_tree.specs.declared.site.Who.{Who}
+use Rattle.tal_tree.specs.declared.site.Who.TheVariants as who
+use Rattle.process_semantics.specs.declared.point.Point.{Point}
+use Rattle.process_semantics.specs.declared.point.Point.TheVariants as point
+use Rattle.process_semantics.specs.Process as process
+use Rattle.plain_semantics.specs.Openers.{openers_of, opener_of}
+use Rattle.plain_semantics.specs.declared.slot.Opener.{Opener}
+use Rattle.plain_semantics.specs.Machine.{next_request}
+use Rattle.checkpoint_image.specs.declared.message.ImageMessage.{ImageMessage}
+use Rattle.checkpoint_image.specs.declared.message.TakenMessage.{TakenMessage}
+use Rattle.world_semantics.specs.declared.role.Role.{Role}
+use Rattle.world_semantics.specs.declared.role.Role.TheVariants.{Acting, Watching, Gone}
+use Rattle.world_semantics.specs.declared.which.Which.{Which}
+use Rattle.world_semantics.specs.declared.which.Which.TheVariants.{First, Second}
+use Rattle.world_semantics.specs.Core.{Core}
+use Rattle.world_semantics.specs.World.{Copy, Pair, Terminal, World, terminal_node, other_of, copy_of, with_copy, with_pair, may_pass}
+use Rattle.world_semantics.specs.Kept.{own_acts}
+use Rattle.world_semantics.specs.Messages.{Message, Asking, Replying, Checkpointing, Taking, Sending, sent_at}
+use Rattle.world_semantics.specs.Own.{around}
+use Rattle.checkpoint_image.specs.Receive.{waits, came, repeated, all_repeated}
+use Rattle.world_semantics.specs.Passes.{checkpoint_of, after_sending, taken_of, kept_at_mark}
+use Rattle.world_semantics.specs.Rules.{entered_request, taker, after_marking, marked_pair, told_at_mark, told_by}
+use Rattle.world_semantics.specs.Running.{Done, Own, own_at, own_done, mark_done, sent_done, passed_done, run_at, run_as, run_copy, run_pair, first_of_two, run_done}
+use Rattle.world_semantics.proofs.Lists.{Changed, is_new, is_same, changed, mapped, some-same}
+use Rattle.world_semantics.proofs.Members.{among-map, among-flat_map}
+use Rattle.world_semantics.proofs.Roles.{taker-is}
+use Rattle.computed_changes.specs.Entered.{enter_done, enter_at, enter_where, enter_to, entered_done}
+use Rattle.computed_changes.specs.Fitting.{depths_of, put_fitting}
+use Rattle.computed_changes.specs.Handed.{quietly, own_got, applied_done, at_copy, asked_done, got_where, got_done, awaits, printed_where, printed_done, printed_at, awaits_at, replied_done, is_next_for, applied_where, checkpoint_done, is_of_last, acknowledged_where, taken_done, handed_done}
+use Rattle.computed_changes.specs.Stopped.{marked_world}
+use Rattle.packet_places.specs.Places.{KeepsItsOwn}
+
+-- a change at a node: it sends from there, and each copy elsewhere keeps its own
+pub record IsDoneAt (node : ℕ) (w : World) (done : Done) : Type 0 where
+  pub sendings : (sending : Sending) → IsAmong sending done.sendings → sending.node ≡ node
+  pub copies : (number : ℕ) (k : Which) (before after : Pair) → slice_get w.processes number ≡ Some before → slice_get done.world.processes number ≡ Some after
+      → (copy_of k before).processor ≢ node → KeepsItsOwn (copy_of k before) (copy_of k after)
+
+-- a change that may be made
+abbrev pub AnyAt : ℕ → World → Option Done → Type 0
+AnyAt node w None = Unit {0}
+AnyAt node w (Some done) = IsDoneAt node w done
+
+pub keeps-same : (copy : Copy) → KeepsItsOwn copy copy
+keeps-same copy = record { processor = refl; role = refl; era = refl; number = refl; sent = refl; acknowledged = refl; core = refl; waiting = refl }
+
+sent-from : (node : ℕ) (messages : List Message) (sending : Sending) → IsAmong sending (sent_at node messages) → sending.node ≡ node
+sent-from node messages sending among = ap (λ (s : Sending). s.node) (among-map (λ (message : Message). record { node = node; message = message }) messages sending among).same
+
+-- nothing is sent, and the processes stay
+quiet-at : (node : ℕ) (w : World) (done : Done) → done.world.processes ≡ w.processes → ((sending : Sending) → IsAmong sending done.sendings → sending.node ≡ node) → IsDoneAt node w done
+quiet-at node w done same from = record {
+  sendings = from;
+  copies = λ number k before after there now away.
+      subst (λ (one : Pair). KeepsItsOwn (copy_of k before) (copy_of k one)) (some-same (sym there ∙ ap (λ (ps : List Pair). slice_get ps number) (sym same) ∙ now))
+      (keeps-same (copy_of k before));
+}
+
+-- one copy of one process becomes another, and the rest of the process holds what the other copy had
+module _ (w : World) (number : ℕ) (k : Which) (pair : Pair) (there : slice_get w.processes number ≡ Some pair) where
+  one-changed : (copy : Copy) (rest : Pair) → KeepsItsOwn (copy_of (other_of k) pair) (copy_of (other_of k) rest) → (done : Done)
+      → done.world.processes ≡ slice_set w.processes number (with_copy k copy rest)
+      → ((sending : Sending) → IsAmong sending done.sendings → sending.node ≡ (copy_of k pair).processor) → IsDoneAt (copy_of k pair).processor w done
+  one-changed copy rest keeps done same from = record {
+    sendings = from;
+    copies = λ n j before after was now away.
+        by n j before after was away (changed w.processes number (with_copy k copy rest) n after (ap (λ (ps : List Pair). slice_get ps n) (sym same) ∙ now));
+  }
+    where
+      which : (k j : Which) (before : Pair) → KeepsItsOwn (copy_of (other_of k) before) (copy_of (other_of k) rest) → (copy_of j before).processor ≢ (copy_of k before).processor
+          → KeepsItsOwn (copy_of j before) (copy_of j (with_copy k copy rest))
+      which First First before keeps away = absurd (away refl)
+      which First Second before keeps away = keeps
+      which Second First before keeps away = keeps
+      which Second Second before keeps away = absurd (away refl)
+
+      by : (n : ℕ) (j : Which) (before after : Pair) → slice_get w.processes n ≡ Some before → (copy_of j before).processor ≢ (copy_of k pair).processor
+          → Changed w.processes number (with_copy k copy rest) n after → KeepsItsOwn (copy_of j before) (copy_of j after)
+      by n j before after was away (is_new here new) =
+          let one : pair ≡ before = some-same (sym there ∙ ap (slice_get w.processes) here ∙ was) in
+          subst (λ (p : Pair). KeepsItsOwn (copy_of j before) (copy_of j p)) (sym new)
+          (subst (λ (p : Pair). KeepsItsOwn (copy_of j p) (copy_of j (with_copy k copy rest))) one
+          (which k j pair keeps (subst (λ (p : Pair). (copy_of j p).processor ≢ (copy_of k pair).processor) (sym one) away)))
+      by n j before after was away (is_same other now) =
+          subst (λ (p : Pair). KeepsItsOwn (copy_of j before) (copy_of j p)) (some-same (sym was ∙ now)) (keeps-same (copy_of j before))
+
+  alone : (copy : Copy) (done : Done) → done.world.processes ≡ slice_set w.processes number (with_copy k copy pair)
+      → ((sending : Sending) → IsAmong sending done.sendings → sending.node ≡ (copy_of k pair).processor) → IsDoneAt (copy_of k pair).processor w done
+  alone copy done same from = one-changed copy pair (keeps-same (copy_of (other_of k) pair)) done same from
+
+  -- an act of the copy
+  own-at-it : (o : Own) → IsDoneAt (copy_of k pair).processor w (own_done number k pair w o)
+  own-at-it o = one-changed _ (record pair { sectors = o.after.sectors }) (others k) (own_done number k pair w o) refl (sent-from (copy_of k pair).processor o.messages)
+    where
+      others : (k : Which) → KeepsItsOwn (copy_of (other_of k) pair) (copy_of (other_of k) (record pair { sectors = o.after.sectors }))
+      others First = keeps-same pair.second
+      others Second = keeps-same pair.first
+
+  own-any : (own : Option Own) → AnyAt (copy_of k pair).processor w (option_map (own_done number k pair w) own)
+  own-any None = tt
+  own-any (Some o) = own-at-it o
+
+  passed-at : (again : Bool) → IsDoneAt (copy_of k pair).processor w (passed_done number k pair w again)
+  passed-at true = alone _ _ refl (λ sending among. absurd among)
+  passed-at false = alone _ _ refl (λ sending among. absurd among)
+
+  mark-at : (pass sent : Bool) → AnyAt (copy_of k pair).processor w (mark_done number k pair w pass sent)
+  mark-at true sent = passed-at (nat_lt (copy_of k pair).position (own_acts number w.kept))
+  mark-at false true = tt
+  mark-at false false =
+      one-changed (after_sending (copy_of k pair)) (record pair { checkpoints = checkpoint_of number (copy_of k pair) ∷ pair.checkpoints })
+      (others k (checkpoint_of number (copy_of k pair) ∷ pair.checkpoints)) (sent_done number k pair w) refl
+      (sent-from (copy_of k pair).processor (Checkpointing (checkpoint_of number (copy_of k pair)) ∷ []))
+    where
+      others : (k : Which) (all : List ImageMessage) → KeepsItsOwn (copy_of (other_of k) pair) (copy_of (other_of k) (record pair { checkpoints = all }))
+      others First all = keeps-same pair.second
+      others Second all = keeps-same pair.first
+
+  run-at-point : (site : Site) (stands : Point) → AnyAt (copy_of k pair).processor w (run_at site number k pair w stands)
+  run-at-point site point.Mark = mark-at (may_pass w.marks k pair) (copy_of k pair).sent
+  run-at-point site point.Inner = own-any (own_at site number (copy_of k pair).core (around (copy_of k pair) pair w) point.Inner)
+  run-at-point site point.Take = own-any (own_at site number (copy_of k pair).core (around (copy_of k pair) pair w) point.Take)
+  run-at-point site point.Ask = own-any (own_at site number (copy_of k pair).core (around (copy_of k pair) pair w) point.Ask)
+  run-at-point site point.Await = own-any (own_at site number (copy_of k pair).core (around (copy_of k pair) pair w) point.Await)
+  run-at-point site point.Answer = own-any (own_at site number (copy_of k pair).core (around (copy_of k pair) pair w) point.Answer)
+  run-at-point site point.Device = own-any (own_at site number (copy_of k pair).core (around (copy_of k pair) pair w) point.Device)
+  run-at-point site point.Ended = own-any (own_at site number (copy_of k pair).core (around (copy_of k pair) pair w) point.Ended)
+
+  run-role : (site : Site) (role : Role) → AnyAt (copy_of k pair).processor w (run_as site number k pair w role)
+  run-role site Acting = run-at-point site (process.point (copy_of k pair).core.state)
+  run-role site Watching = tt
+  run-role site Gone = tt
+
+  -- a reply that comes to the copy
+  got-at : (site : Site) (reply : Reply) (role : Role) → AnyAt (copy_of k pair).processor w (got_done site number reply k pair w role)
+  got-at site reply Acting = by (awaits site number (copy_of k pair).core reply (process.point (copy_of k pair).core.state))
+    where
+      by : (test : Bool) → AnyAt (copy_of k pair).processor w (got_where number reply k pair w test)
+      by true = own-at-it (own_got number reply k pair w)
+      by false = tt
+  got-at site reply Watching = tt
+  got-at site reply Gone = tt
+
+-- A request, a checkpoint, or that one was taken, at a copy of the process that it names
+
+asked-at : (w : World) (request : Request) (k : Which) (pair : Pair) → slice_get w.processes request.process ≡ Some pair → (role : Role)
+    → AnyAt (copy_of k pair).processor w (asked_done request k pair w role)
+asked-at w request k pair there Acting =
+    alone w request.process k pair there (record (copy_of k pair) { waiting = came (copy_of k pair).core.receive (copy_of k pair).waiting request }) _ refl
+    (sent-from (copy_of k pair).processor (map Replying (repeated (copy_of k pair).core.receive request)))
+asked-at w request k pair there Watching =
+    alone w request.process k pair there (record (copy_of k pair) { waiting = waits (copy_of k pair).waiting request }) _ refl (λ sending among. absurd among)
+asked-at w request k pair there Gone = tt
+
+others-freed : (pair : Pair) (k : Which) (position base : ℕ) (takens : List TakenMessage)
+    → KeepsItsOwn (copy_of (other_of k) pair)
+    (copy_of (other_of k) (with_copy (other_of k) (record (copy_of (other_of k) pair) { position = position; held = [] }) (record pair { base = base; takens = takens })))
+others-freed pair First position base takens = record { processor = refl; role = refl; era = refl; number = refl; sent = refl; acknowledged = refl; core = refl; waiting = refl }
+others-freed pair Second position base takens = record { processor = refl; role = refl; era = refl; number = refl; sent = refl; acknowledged = refl; core = refl; waiting = refl }
+
+applied-core : (w : World) (message : ImageMessage) (k : Which) (pair : Pair) → slice_get w.processes message.process ≡ Some pair → (core : Core)
+    → IsDoneAt (copy_of k pair).processor w (applied_done message k pair w core)
+applied-core w message k pair there core =
+    one-changed w message.process k pair there (record (copy_of k pair) { core = core; number = message.number })
+    (with_copy (other_of k)
+    (record (copy_of (other_of k) pair) { position = own_acts message.process ((copy_of (other_of k) pair).held ++ w.kept); held = [] })
+    (record pair { base = own_acts message.process (kept_at_mark message.process (copy_of (other_of k) pair) w.kept); takens = taken_of message ∷ pair.takens }))
+    (others-freed pair k (own_acts message.process ((copy_of (other_of k) pair).held ++ w.kept))
+    (own_acts message.process (kept_at_mark message.process (copy_of (other_of k) pair) w.kept)) (taken_of message ∷ pair.takens))
+    (applied_done message k pair w core) refl (sent-from (copy_of k pair).processor (Taking (taken_of message) ∷ []))
+
+applied-at : (site : Site) (w : World) (message : ImageMessage) (k : Which) (pair : Pair) → slice_get w.processes message.process ≡ Some pair → (role : Role)
+    → AnyAt (copy_of k pair).processor w (checkpoint_done site message k pair w role)
+applied-at site w message k pair there Acting = tt
+applied-at site w message k pair there Gone = tt
+applied-at site w message k pair there Watching = by (is_next_for (copy_of k pair) message)
+  where
+    put : (core : Option Core) → AnyAt (copy_of k pair).processor w (option_map (applied_done message k pair w) core)
+    put None = tt
+    put (Some core) = applied-core w message k pair there core
+
+    by : (test : Bool) → AnyAt (copy_of k pair).processor w (applied_where site message k pair w test)
+    by false = tt
+    by true = put (put_fitting (depths_of site message.process) (copy_of k pair).core message.image)
+
+taken-at : (w : World) (taken : TakenMessage) (k : Which) (pair : Pair) → slice_get w.processes taken.process ≡ Some pair → (role : Role)
+    → AnyAt (copy_of k pair).processor w (taken_done taken k pair w role)
+taken-at w taken k pair there Acting = by (is_of_last (copy_of k pair) taken)
+  where
+    by : (test : Bool) → AnyAt (copy_of k pair).processor w (acknowledged_where taken k pair w test)
+    by false = tt
+    by true =
+        alone w taken.process k pair there (record (copy_of k pair) { acknowledged = true })
+        (quietly (with_pair taken.process (with_copy k (record (copy_of k pair) { acknowledged = true }) pair) w)) refl (λ sending among. absurd among)
+taken-at w taken k pair there Watching = tt
+taken-at w taken k pair there Gone = tt
+
+-- Runs
+
+abbrev pub SomeAt : World → Option Done → Type 0
+SomeAt w None = Unit {0}
+SomeAt w (Some done) = (node : ℕ) × IsDoneAt node w done
+
+pub run-somewhere : (site : Site) (number : ℕ) (w : World) → SomeAt w (run_done site number w)
+run-somewhere site number w = by (slice_get w.processes number) refl
+  where
+    some : (node : ℕ) (made : Option Done) → AnyAt node w made → SomeAt w made
+    some node None at = tt
+    some node (Some done) at = (node, at)
+
+    first : (one other : Option Done) → SomeAt w one → SomeAt w other → SomeAt w (first_of_two one other)
+    first None other at at_other = at_other
+    first (Some done) other at at_other = at
+
+    by : (found : Option Pair) → slice_get w.processes number ≡ found → SomeAt w (run_pair site number w found)
+    by None there = tt
+    by (Some pair) there =
+        first (run_copy site number pair w First) (run_copy site number pair w Second)
+        (some pair.first.processor _ (run-role w number First pair there site pair.first.role))
+        (some pair.second.processor _ (run-role w number Second pair there site pair.second.role))
+
+-- Entries
+
+pub enter-there : (site : Site) (number : ℕ) (w : World) → AnyAt terminal_node w (enter_done site number w)
+enter-there site number w = by (slice_get w.terminals number)
+  where
+    words : (terminal : Terminal) (opener : Opener) (found : Option (List ℤ)) → AnyAt terminal_node w (option_map (entered_done number terminal w opener) found)
+    words terminal opener None = tt
+    words terminal opener (Some asked) = quiet-at terminal_node w (entered_done number terminal w opener asked) refl (sent-from terminal_node (Asking (entered_request opener terminal asked) ∷ []))
+
+    to : (terminal : Terminal) (opener : Option Opener) → AnyAt terminal_node w (enter_to number terminal w (next_request site number terminal.entered) opener)
+    to terminal None = tt
+    to terminal (Some opener) = words terminal opener (next_request site number terminal.entered)
+
+    where_it : (terminal : Terminal) (test : Bool) → AnyAt terminal_node w (enter_where site number terminal w test)
+    where_it terminal false = tt
+    where_it terminal true = to terminal (opener_of site (who.Terminal number))
+
+    by : (found : Option Terminal) → AnyAt terminal_node w (enter_at site number w found)
+    by None = tt
+    by (Some terminal) = where_it terminal (terminal.entered == terminal.printed)
+
+-- Messages that are handed over
+
+module _ (node : ℕ) (w : World) where
+  -- what the copy at the node does
+  at-copy-at : (number : ℕ) (does : Which → Pair → Option Done)
+      → ((k : Which) (pair : Pair) → slice_get w.processes number ≡ Some pair → AnyAt (copy_of k pair).processor w (does k pair))
+      → AnyAt node w (at_copy node does (slice_get w.processes number))
+  at-copy-at number does each = by (slice_get w.processes number) refl
+    where
+      moved : (k : Which) (pair : Pair) → ((copy_of k pair).processor == node) ≡ true → AnyAt (copy_of k pair).processor w (does k pair) → AnyAt node w (does k pair)
+      moved k pair here at = subst (λ n. AnyAt n w (does k pair)) (eqb-true (copy_of k pair).processor node here) at
+
+      two : (pair : Pair) → slice_get w.processes number ≡ Some pair → (first second : Bool) → (pair.first.processor == node) ≡ first → (pair.second.processor == node) ≡ second
+          → AnyAt node w (option_and_then (λ k. does k pair) (if first then Some First else if second then Some Second else None))
+      two pair there true second here too = moved First pair here (each First pair there)
+      two pair there false true here too = moved Second pair too (each Second pair there)
+      two pair there false false here too = tt
+
+      by : (found : Option Pair) → slice_get w.processes number ≡ found → AnyAt node w (at_copy node does found)
+      by None there = tt
+      by (Some pair) there = two pair there (pair.first.processor == node) (pair.second.processor == node) refl refl
+
+  printed-there : (site : Site) (number : ℕ) (reply : Reply) (test : Bool) → AnyAt node w (printed_at site number reply w test)
+  printed-there site number reply false = tt
+  printed-there site number reply true = by (slice_get w.terminals number)
+    where
+      where_it : (terminal : Terminal) (test : Bool) → AnyAt node w (printed_where number reply terminal w test)
+      where_it terminal false = tt
+      where_it terminal true = quiet-at node w _ refl (λ sending among. absurd among)
+
+      by : (found : Option Terminal) → AnyAt node w (printed_done site number reply w found)
+      by None = tt
+      by (Some terminal) = where_it terminal (awaits_at site number terminal reply)
+
+  pub handed-there : (site : Site) (message : Message) → AnyAt node w (handed_done site node message w)
+  handed-there site (Asking request) =
+      at-copy-at request.process (λ k pair. asked_done request k pair w (copy_of k pair).role)
+      (λ k pair there. asked-at w request k pair there (copy_of k pair).role)
+  handed-there site (Replying reply) = by (option_map (λ (opener : OpenerSpec). opener.who) (slice_get (openers_of site reply.process) reply.opener))
+    where
+      by : (found : Option Who) → AnyAt node w (replied_done site node reply w found)
+      by None = tt
+      by (Some (who.File number file)) =
+          at-copy-at number (λ k pair. got_done site number reply k pair w (copy_of k pair).role)
+          (λ k pair there. got-at w number k pair there site reply (copy_of k pair).role)
+      by (Some (who.Terminal number)) = printed-there site number reply (node == terminal_node)
+  handed-there site (Checkpointing message) =
+      at-copy-at message.process (λ k pair. checkpoint_done site message k pair w (copy_of k pair).role)
+      (λ k pair there. applied-at site w message k pair there (copy_of k pair).role)
+  handed-there site (Taking taken) =
+      at-copy-at taken.process (λ k pair. taken_done taken k pair w (copy_of k pair).role)
+      (λ k pair there. taken-at w taken k pair there (copy_of k pair).role)
+
+-- Marks
+
+pub marked-there : (node processor : ℕ) (w : World) → IsDoneAt node w (marked_world node processor w)
+marked-there node processor w = record {
+  sendings = λ sending among. let one = among-flat_map (told_at_mark node processor) w.processes sending among in from sending one.item (taker node processor one.item) refl one.within;
+  copies = λ number k before after there now away. copies number k before after there away (mapped (marked_pair node processor) w.processes number after now);
+}
+  where
+    from : (sending : Sending) (pair : Pair) (who : Option Which) → taker node processor pair ≡ who → IsAmong sending (told_by who pair) → sending.node ≡ node
+    from sending pair None is among = absurd among
+    from sending pair (Some k) is among =
+        sent-from (copy_of k pair).processor (map Replying (all_repeated (copy_of k pair).core.receive (copy_of k pair).waiting)) sending among ∙ (taker-is node processor pair k is).there
+
+    pick : (k j : Which) (pair : Pair) → (copy_of k pair).processor ≡ node → (copy_of j pair).processor ≢ node → KeepsItsOwn (copy_of j pair) (copy_of j (after_marking (Some k) pair))
+    pick First First pair here away = absurd (away here)
+    pick First Second pair here away = record { processor = refl; role = refl; era = refl; number = refl; sent = refl; acknowledged = refl; core = refl; waiting = refl }
+    pick Second First pair here away = record { processor = refl; role = refl; era = refl; number = refl; sent = refl; acknowledged = refl; core = refl; waiting = refl }
+    pick Second Second pair here away = absurd (away here)
+
+    kept : (k : Which) (pair : Pair) → (copy_of k pair).processor ≢ node → (who : Option Which) → taker node processor pair ≡ who
+        → KeepsItsOwn (copy_of k pair) (copy_of k (after_marking who pair))
+    kept k pair away None is = keeps-same (copy_of k pair)
+    kept k pair away (Some j) is = pick j k pair (taker-is node processor pair j is).there away
+
+    copies : (number : ℕ) (k : Which) (before after : Pair) → slice_get w.processes number ≡ Some before → (copy_of k before).processor ≢ node
+        → (pair : Pair) × (slice_get w.processes number ≡ Some pair) × (after ≡ marked_pair node processor pair) → KeepsItsOwn (copy_of k before) (copy_of k after)
+    copies number k before after there away (pair, at, is) =
+        let same : pair ≡ before = some-same (sym at ∙ there) in
+        subst (λ (p : Pair). KeepsItsOwn (copy_of k before) (copy_of k p)) (sym is)
+        (subst (λ (p : Pair). KeepsItsOwn (copy_of k before) (copy_of k (marked_pair node processor p))) (sym same) (kept k before away (taker node processor before) refl))
