@@ -1,12 +1,7 @@
-//! Tests of values and of the steps of programs: outside examples, each trap, calls sixteen deep, chains longer than any stack, and
-//! the parts that other crates use.
+//! Tests of values: chains of operators that are longer than any stack are evaluated and let go.
 //!
 //! Below stand the crates that are tested; nothing stands above.
 #![tactic(auto)]
 
 #[cfg(test)]
-mod parts;
-#[cfg(test)]
-mod steps;
-#[cfg(test)]
-mod values;
+mod chains;
