@@ -3,6 +3,7 @@ use Rattle.std.specs.Prelude.{ℕ, pos, ℤ, List, [], ◌∷◌, Some, None}
 use Rattle.gd_words.specs.declared.message.Request.{Request}
 use Rattle.checkpoint_image.specs.declared.receive.OpenerBlock.{OpenerBlock}
 use Rattle.checkpoint_image.specs.declared.receive.ReceiveBlock.{ReceiveBlock}
+use Rattle.sync_ids.specs.Tables.{Remembered}
 
 -- a reply of one word
 abbrev pub reply : ℕ → List ℤ
@@ -31,6 +32,10 @@ table_in_hand = record { openers = shallow ∷ held ∷ fresh ∷ []; in_hand = 
 -- a process of these three openers, with nothing in hand
 abbrev pub table : ReceiveBlock
 table = record { openers = shallow ∷ deep ∷ fresh ∷ []; in_hand = None }
+
+-- what that process remembers, with the depths of its openers
+abbrev pub remembered : Remembered
+remembered = record { table = table; depths = 1 ∷ 4 ∷ 1 ∷ [] }
 
 -- a request of this number of the opener at a place
 abbrev pub request : ℕ → ℕ → Request
