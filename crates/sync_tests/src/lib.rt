@@ -1,5 +1,5 @@
-//! Tests of what a process remembers: how numbers stand as requests are taken and answered, tables that are put back or refused,
-//! and the numbers of a process that asks.
+//! Tests of what a process remembers: requests are taken and answered, the table is put into a fresh one, and the numbers of a
+//! process that asks. What tables fit, and how a number stands, is guarded in `request_guards`.
 //!
 //! Below stand the crates that are tested; nothing stands above.
 #![tactic(auto)]
@@ -8,5 +8,3 @@
 mod asking;
 #[cfg(test)]
 mod receiving;
-#[cfg(test)]
-mod tables;

@@ -1,5 +1,4 @@
 ghost use Rattle.std.specs.Prelude.{◌≡◌, ◌<◌, length, IfOk};
-ghost use Rattle.sync_ids.specs.Tables.{IsDepth};
 
 use checkpoint_image::Standing;
 use gd_words::{NoMemory, Words};
@@ -9,116 +8,62 @@ use std::test::Fail;
 use sync_ids::Receive;
 use tal_tree::{OpenerSpec, Who};
 
-/// A process that has two openers of the same depth.
-pub fn fresh(alloc: Global, depth: u8) -> Result<Receive, NoMemory>
-    requires { IsDepth depth }
-    ensures { IfOk result (λ receive. length receive.depths ≡ 2) }
+/// A process that has one opener, of which one reply is kept.
+fn fresh(alloc: Global) -> Result<Receive, NoMemory>
+    ensures { IfOk result (λ receive. length receive.depths ≡ 1) }
 {
-    let openers = [
-        OpenerSpec {
-            who: Who::Terminal(0),
-            depth,
-        },
-        OpenerSpec {
-            who: Who::Terminal(1),
-            depth,
-        },
-    ];
-    Receive::new(alloc, &openers)
+    let who = Who::Terminal(0);
+    Receive::new(alloc, &[OpenerSpec { who, depth: 1 }])
 }
 
-/// These words, which are one.
-pub fn word(word: i16) -> Words {
+/// Takes the next request.
+fn take(rt: &impl Abort, receive: &mut Receive)
+    requires { 0 < length receive.old.depths }
+    ensures { receive.new.depths ≡ receive.old.depths }
+{
+    assert!(rt; receive.in_hand() == None && receive.taken(0) < 100);
+    receive.take(0);
+}
+
+/// Answers the request in hand with one word.
+fn answer(rt: &impl Abort, receive: &mut Receive, reply: i16)
+    ensures { receive.new.depths ≡ receive.old.depths }
+{
+    assert!(rt; receive.in_hand() == Some(0));
     let mut words = Words::new();
-    let _full = words.push(word);
-    words
+    let _full = words.push(reply);
+    assert!(rt; receive.reply(&words) == 0);
 }
 
-/// Takes the next request of an opener.
-pub fn take(rt: &impl Abort, receive: &mut Receive, opener: u16)
-    requires { opener < length receive.old.depths }
-    ensures { receive.new.depths ≡ receive.old.depths }
+/// How a number stands: the word that was kept, or -1 to -4 for what is old, in hand, next and ahead.
+fn told(receive: &Receive, number: u32) -> Option<i16>
+    requires { 0 < length receive.now.depths }
 {
-    assert!(rt; receive.in_hand() == None);
-    assert!(rt; receive.taken(opener) < 100);
-    receive.take(opener);
-}
-
-/// Answers the request in hand with one word, and says whose it was.
-pub fn answer(rt: &impl Abort, receive: &mut Receive, reply: i16) -> u16
-    ensures { receive.new.depths ≡ receive.old.depths }
-{
-    assert!(rt; receive.in_hand().is_some());
-    receive.reply(&word(reply))
-}
-
-/// Takes the next request of an opener and answers it with one word.
-pub fn serve(rt: &impl Abort, receive: &mut Receive, opener: u16, reply: i16)
-    requires { opener < length receive.old.depths }
-    ensures { receive.new.depths ≡ receive.old.depths }
-{
-    take(rt, receive, opener);
-    assert_eq!(rt; answer(rt, receive, reply), opener);
-}
-
-/// Whether a standing is that of a kept reply of this word.
-pub fn is_kept(standing: Standing, reply: i16) -> bool {
-    match standing {
-        Standing::Kept(words) => words.as_slice() == [reply].as_slice(),
-        _ => false,
+    match receive.standing(0, number) {
+        Standing::Kept(words) => words.get(0),
+        Standing::Old => Some(-1),
+        Standing::InHand => Some(-2),
+        Standing::Next => Some(-3),
+        Standing::Ahead => Some(-4),
     }
 }
 
 #[test]
-fn the_last_reply_is_kept(rt: HostRuntime) -> Result<(), Fail> {
-    let mut receive = fresh(rt.alloc(), 1)?;
-    assert!(rt; matches!(receive.standing(0, 0), Standing::Old));
-    assert!(rt; matches!(receive.standing(0, 1), Standing::Next));
-    assert!(rt; matches!(receive.standing(0, 2), Standing::Ahead));
-    take(&rt, &mut receive, 0);
-    assert_eq!(rt; receive.in_hand(), Some(0));
-    assert!(rt; matches!(receive.standing(0, 0), Standing::Old));
-    assert!(rt; matches!(receive.standing(0, 1), Standing::InHand));
-    assert!(rt; matches!(receive.standing(0, 2), Standing::Next));
-    assert!(rt; matches!(receive.standing(0, 3), Standing::Ahead));
-    assert!(rt; matches!(receive.standing(1, 1), Standing::Next));
-    assert_eq!(rt; answer(&rt, &mut receive, 7), 0);
-    assert_eq!(rt; receive.in_hand(), None);
-    assert!(rt; is_kept(receive.standing(0, 1), 7));
-    assert!(rt; matches!(receive.standing(0, 2), Standing::Next));
-    take(&rt, &mut receive, 0);
-    assert!(rt; is_kept(receive.standing(0, 1), 7));
-    assert!(rt; matches!(receive.standing(0, 2), Standing::InHand));
-    assert_eq!(rt; answer(&rt, &mut receive, 8), 0);
-    assert!(rt; matches!(receive.standing(0, 1), Standing::Old));
-    assert!(rt; is_kept(receive.standing(0, 2), 8));
-    assert_eq!(rt; receive.taken(0), 2);
-    assert_eq!(rt; receive.taken(1), 0);
-    Ok(())
-}
-
-#[test]
-fn the_fifth_reply_takes_the_first_out(rt: HostRuntime) -> Result<(), Fail> {
-    let mut receive = fresh(rt.alloc(), 4)?;
-    serve(&rt, &mut receive, 1, 11);
-    serve(&rt, &mut receive, 1, 12);
-    serve(&rt, &mut receive, 1, 13);
-    serve(&rt, &mut receive, 1, 14);
-    for (number, reply) in [(1, 11), (2, 12), (3, 13), (4, 14)] {
-        assert!(rt; is_kept(receive.standing(1, number), reply), "{number}");
+fn a_table_is_put_into_a_fresh_one(rt: HostRuntime) -> Result<(), Fail> {
+    let mut first = fresh(rt.alloc())?;
+    take(&rt, &mut first);
+    answer(&rt, &mut first, 7);
+    take(&rt, &mut first);
+    answer(&rt, &mut first, 8);
+    take(&rt, &mut first);
+    let block = first.block(rt.alloc())?;
+    let mut second = fresh(rt.alloc())?;
+    assert!(rt; second.fits(&block) && second.put_block(&block));
+    assert!(rt; second.taken(0) == 3);
+    for (number, wanted) in [(1, -1), (2, 8), (3, -2), (4, -3), (5, -4)] {
+        assert!(rt; told(&second, number) == Some(wanted), "{number}");
     }
-    take(&rt, &mut receive, 1);
-    assert!(rt; is_kept(receive.standing(1, 1), 11));
-    assert!(rt; is_kept(receive.standing(1, 4), 14));
-    assert!(rt; matches!(receive.standing(1, 5), Standing::InHand));
-    assert_eq!(rt; answer(&rt, &mut receive, 15), 1);
-    assert!(rt; matches!(receive.standing(1, 0), Standing::Old));
-    assert!(rt; matches!(receive.standing(1, 1), Standing::Old));
-    for (number, reply) in [(2, 12), (3, 13), (4, 14), (5, 15)] {
-        assert!(rt; is_kept(receive.standing(1, number), reply), "{number}");
-    }
-    assert!(rt; matches!(receive.standing(1, 6), Standing::Next));
-    assert!(rt; matches!(receive.standing(1, 7), Standing::Ahead));
-    assert!(rt; matches!(receive.standing(0, 1), Standing::Next));
+    answer(&rt, &mut second, 9);
+    assert!(rt; told(&second, 3) == Some(9));
     Ok(())
 }
