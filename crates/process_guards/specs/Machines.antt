@@ -1,5 +1,7 @@
--- A disc that a terminal asks, and states of its machine.
+-- A disc that a terminal asks, and states of its machine; and a disc that a program opens.
 use Rattle.std.specs.Prelude.{ℕ, ℤ, pos, List, [], ◌∷◌, Option, Some, None, replicate}
+use Rattle.tal_tree.specs.declared.program.Program.{Program}
+use Rattle.tal_tree.specs.declared.program.Target.TheVariants as target
 use Rattle.tal_tree.specs.declared.site.Site.{Site}
 use Rattle.tal_tree.specs.declared.site.Kind.TheVariants as kind
 use Rattle.process_semantics.specs.declared.disc.DiscState.{DiscState}
@@ -15,6 +17,24 @@ disc_site = record {
   processors = 2;
   processes = record { name = 36 ∷ 68 ∷ []; primary = 0; backup = 1; what = kind.Disc 2 } ∷ [];
   terminals = record { name = 36 ∷ 84 ∷ []; target = 0; requests = (pos 1 ∷ pos 1 ∷ []) ∷ [] } ∷ [];
+}
+
+-- a program that opens `$RECEIVE`, and then a disc to depth 3
+abbrev pub opening : Program
+opening = record {
+  items = [];
+  files = record { item = 0; target = target.Receive; depth = 1 } ∷ record { item = 1; target = target.Process (36 ∷ 68 ∷ []); depth = 3 } ∷ [];
+  procedures = [];
+  main = 0;
+}
+
+-- a disc, a pair that runs that program, a terminal that asks the pair, and one that asks the disc
+abbrev pub opened_site : Site
+opened_site = record {
+  processors = 2;
+  processes = record { name = 36 ∷ 68 ∷ []; primary = 0; backup = 1; what = kind.Disc 4 }
+      ∷ record { name = 36 ∷ 65 ∷ []; primary = 0; backup = 1; what = kind.Pair opening } ∷ [];
+  terminals = record { name = 36 ∷ 84 ∷ []; target = 1; requests = [] } ∷ record { name = 36 ∷ 85 ∷ []; target = 0; requests = [] } ∷ [];
 }
 
 -- a disc that has made three writes, with this request in hand
