@@ -1,50 +1,145 @@
 ghost use Rattle.tal_interp.specs.Sound.{IsLoadable};
 
-use crate::loaded::{Loaded, Told, program_of};
-use crate::texts::serving;
+use crate::programs::{everything, image_of};
+use checkpoint_image::Behaviour;
 use gd_words::{List, NoMemory, Words};
 use plain_program::Execution;
 use process_semantics::Point;
 use std::alloc::Global;
-use std::test::Fail;
+use tal_interp::TalProcess;
 use tal_tree::Program;
 
-/// What comes from outside: requests and replies, of which so many have come.
+/// What stands before the words that are asked.
+pub const ASKS: i16 = 20_001;
+
+/// What stands before the words that are answered.
+pub const ANSWERS: i16 = 20_002;
+
+/// What stands last where a program has ended.
+pub const ENDS: i16 = 20_003;
+
+/// What stands last where a program waits for a request or a reply, and nothing is left to come.
+pub const WAITS: i16 = 20_004;
+
+/// A program that runs by its table, the plain program beside it, and, where its images are looked at, a second process into which
+/// they are put.
 #[derive(Drop)]
-pub struct Script<'a> {
-    requests: &'a [&'a [i16]],
-    taken: usize,
-    replies: &'a [&'a [i16]],
-    got: usize,
+struct Sides<'a> {
+    process: TalProcess,
+    plain: Execution<'a>,
+    second: TalProcess,
+    restores: bool,
 }
 
-impl<'a> Script<'a> {
-    pub fn new(requests: &'a [&'a [i16]], replies: &'a [&'a [i16]]) -> Script<'a> {
-        Script {
-            requests,
-            taken: 0,
-            replies,
-            got: 0,
-        }
+impl<'a> Sides<'a> {
+    fn start(alloc: Global, program: &'a Program, restores: bool) -> Result<Sides<'a>, NoMemory>
+        requires { IsLoadable program.now }
+    {
+        let process = TalProcess::load(alloc, program)?;
+        let plain = Execution::start(alloc, program)?;
+        let second = TalProcess::load(alloc, program)?;
+        Ok(Sides {
+            process,
+            plain,
+            second,
+            restores,
+        })
     }
 
-    /// The words that come at a point, none where nothing is left to come.
-    pub fn given(&mut self, point: Point) -> Option<Words> {
-        match point {
+    /// Whether an image is that of the plain program's state.
+    fn is_plain(&self, alloc: Global, image: &[i16]) -> Result<bool, NoMemory> {
+        let everything = everything(alloc, &self.process)?;
+        let words = self.plain.state_words(alloc, everything.items.as_slice())?;
+        Ok(words.as_slice() == image)
+    }
+
+    /// Puts an image into the second process: each of its words changed in turn, a word too many and a word too few, which are
+    /// refused, and as it is. Says whether the second then stands where the first does; at a mark, after it.
+    fn goes_on(&mut self, alloc: Global, image: &[i16]) -> Result<bool, NoMemory> {
+        let in_hand = self.process.in_hand();
+        let mut words = List::new(alloc);
+        words.extend_from_slice(image)?;
+        for (place, word) in image.iter().enumerate() {
+            for other in [word.wrapping_add(1), -1, 0, 32_767] {
+                words.set(place, other);
+                let _taken = self.second.apply(words.as_slice(), in_hand);
+            }
+            words.set(place, *word);
+        }
+        words.push(0)?;
+        let Some((_last, shorter)) = image.split_last() else {
+            return Ok(false);
+        };
+        let refused = !self.second.apply(words.as_slice(), in_hand)
+            && !self.second.apply(shorter, in_hand);
+        let taken = self.second.apply(image, in_hand);
+        let restored = image_of(alloc, &self.second)?;
+        let stands = self.process.at() == Point::Mark || self.second.at() == self.process.at();
+        Ok(refused && taken && stands && restored.as_slice() == image)
+    }
+
+    /// Whether both programs stand at the same point with the same words, and the image restores them.
+    fn agree(&mut self, alloc: Global) -> Result<bool, NoMemory> {
+        let point = self.process.at();
+        if point != self.plain.point(alloc)? || self.process.in_hand() != self.plain.in_hand() {
+            return Ok(false);
+        }
+        let image = image_of(alloc, &self.process)?;
+        if self.restores && point != Point::Await && !self.goes_on(alloc, image.as_slice())? {
+            return Ok(false);
+        }
+        Ok(point == Point::Mark || self.is_plain(alloc, image.as_slice())?)
+    }
+
+    /// Makes the next step of both, puts down what it tells, and says whether both tell the same.
+    fn step(
+        &mut self,
+        alloc: Global,
+        words: &Words,
+        told: &mut List<i16>,
+    ) -> Result<bool, NoMemory> {
+        match self.process.at() {
+            Point::Inner => {
+                self.process.inner();
+                self.plain.inner(alloc)?;
+            }
             Point::Take => {
-                let words = self.requests.get(self.taken)?;
-                self.taken = self.taken.saturating_add(1);
-                Some(words_of(words))
+                self.process.took(words);
+                self.plain.took(alloc, words)?;
+            }
+            Point::Ask => {
+                let asked = self.process.asked();
+                let plain = self.plain.asked(alloc)?;
+                tell(told, ASKS, asked.words.as_slice())?;
+                return Ok(
+                    asked.file == plain.file && asked.words.as_slice() == plain.words.as_slice(),
+                );
             }
             Point::Await => {
-                let words = self.replies.get(self.got)?;
-                self.got = self.got.saturating_add(1);
-                Some(words_of(words))
+                self.process.got(words);
+                self.plain.got(alloc, words)?;
             }
-            Point::Ended => None,
-            _ => Some(Words::new()),
+            Point::Answer => {
+                let answer = self.process.answered();
+                let plain = self.plain.answered(alloc)?;
+                tell(told, ANSWERS, answer.as_slice())?;
+                return Ok(answer.as_slice() == plain.as_slice());
+            }
+            Point::Mark => {
+                let image = image_of(alloc, &self.process)?;
+                self.process.marked();
+                self.plain.marked();
+                return self.is_plain(alloc, image.as_slice());
+            }
+            _ => {}
         }
+        Ok(true)
     }
+}
+
+fn tell(told: &mut List<i16>, what: i16, words: &[i16]) -> Result<(), NoMemory> {
+    told.push(what)?;
+    told.extend_from_slice(words)
 }
 
 /// The first 16 of these words.
@@ -56,182 +151,44 @@ fn words_of(slice: &[i16]) -> Words {
     words
 }
 
-/// Where a walk ended, after how many steps, and what was asked and answered on it.
-#[derive(Drop)]
-pub struct Walked {
-    pub point: Point,
-    pub steps: u32,
-    pub asked: List<Words>,
-    pub answers: List<Words>,
-}
-
-impl Walked {
-    fn new(alloc: Global) -> Walked {
-        Walked {
-            point: Point::Inner,
-            steps: 0,
-            asked: List::new(alloc),
-            answers: List::new(alloc),
+/// The words that come at a point, none where nothing is left to come; so many have come.
+fn given(point: Point, coming: &[&[i16]], come: &mut usize) -> Option<Words> {
+    match point {
+        Point::Take | Point::Await => {
+            let words = coming.get(*come)?;
+            *come = come.saturating_add(1);
+            Some(words_of(words))
         }
-    }
-
-    /// Whether exactly these were answered.
-    pub fn answered(&self, wanted: &[&[i16]]) -> bool {
-        are_words(self.answers.as_slice(), wanted)
-    }
-
-    /// Whether exactly these were asked.
-    pub fn has_asked(&self, wanted: &[&[i16]]) -> bool {
-        are_words(self.asked.as_slice(), wanted)
+        Point::Ended => None,
+        _ => Some(Words::new()),
     }
 }
 
-fn are_words(all: &[Words], wanted: &[&[i16]]) -> bool {
-    if all.len() != wanted.len() {
-        return false;
-    }
-    for (words, wanted) in all.iter().zip(wanted.iter()) {
-        if words.as_slice() != *wanted {
-            return false;
-        }
-    }
-    true
-}
-
-/// Makes the same step of the plain program.
-fn plain_step(alloc: Global, plain: &mut Execution<'_>, words: &Words) -> Result<Told, NoMemory> {
-    match plain.point(alloc)? {
-        Point::Take => plain.took(alloc, words)?,
-        Point::Ask => return Ok(Told::Asks(plain.asked(alloc)?)),
-        Point::Await => plain.got(alloc, words)?,
-        Point::Answer => return Ok(Told::Answers(plain.answered(alloc)?)),
-        Point::Mark => plain.marked(),
-        _ => plain.inner(alloc)?,
-    }
-    Ok(Told::Nothing)
-}
-
-fn is_same(told: &Told, plain: &Told) -> bool {
-    match (told, plain) {
-        (Told::Nothing, Told::Nothing) => true,
-        (Told::Asks(asked), Told::Asks(plain)) => {
-            asked.file == plain.file && asked.words.as_slice() == plain.words.as_slice()
-        }
-        (Told::Answers(words), Told::Answers(plain)) => words.as_slice() == plain.as_slice(),
-        _ => false,
-    }
-}
-
-/// Whether words are those of the plain program's state, with all items that have words.
-fn are_of(alloc: Global, words: &[i16], sides: &Sides<'_>) -> Result<bool, NoMemory> {
-    let wanted = sides.plain.state_words(alloc, sides.process.items())?;
-    Ok(words == wanted.as_slice())
-}
-
-/// A program that runs by its table, and the plain program beside it.
-#[derive(Drop)]
-struct Sides<'a> {
-    process: Loaded<'a>,
-    plain: Execution<'a>,
-}
-
-/// Compares where the two stand.
-fn compare(alloc: Global, sides: &Sides<'_>) -> Result<Point, Fail> {
-    let point = sides.process.at();
-    if point != sides.plain.point(alloc)? {
-        return Err(Fail::from("another point"));
-    }
-    if sides.process.in_hand() != sides.plain.in_hand() {
-        return Err(Fail::from("another request in hand"));
-    }
-    if point != Point::Mark {
-        let image = sides.process.image(alloc)?;
-        if !are_of(alloc, image.as_slice(), sides)? {
-            return Err(Fail::from("another image"));
-        }
-    }
-    Ok(point)
-}
-
-/// Makes the same step of both, and compares what it tells. An image at a mark is that of the state after it.
-fn step_both(alloc: Global, sides: &mut Sides<'_>, words: &Words) -> Result<Told, Fail> {
-    let image = sides.process.image(alloc)?;
-    let is_marked = sides.process.at() == Point::Mark;
-    let told = sides.process.step(words);
-    let plain_told = plain_step(alloc, &mut sides.plain, words)?;
-    if !is_same(&told, &plain_told) {
-        return Err(Fail::from("something else told"));
-    }
-    if is_marked && !are_of(alloc, image.as_slice(), sides)? {
-        return Err(Fail::from("another image at a mark"));
-    }
-    Ok(told)
-}
-
-/// Goes one step on, and tells whether there was one.
-fn turn(
-    alloc: Global,
-    sides: &mut Sides<'_>,
-    script: &mut Script<'_>,
-    walked: &mut Walked,
-) -> Result<bool, Fail> {
-    walked.point = compare(alloc, sides)?;
-    let Some(words) = script.given(walked.point) else {
-        return Ok(false);
-    };
-    match step_both(alloc, sides, &words)? {
-        Told::Nothing => {}
-        Told::Asks(asked) => walked.asked.push(asked.words)?,
-        Told::Answers(words) => walked.answers.push(words)?,
-    }
-    walked.steps = walked.steps.saturating_add(1);
-    Ok(true)
-}
-
-fn sides_of(alloc: Global, program: &Program) -> Result<Sides<'_>, NoMemory>
-    requires { IsLoadable program.now }
-{
-    let process = Loaded::new(alloc, program)?;
-    let plain = Execution::start(alloc, program)?;
-    Ok(Sides { process, plain })
-}
-
-/// Runs the program of a text and the plain program side by side, and compares them at each turn, until it ends, nothing is left to
-/// come, or so many steps are made.
+/// Runs a program and the plain program side by side, until it ends or nothing is left to come of the requests and replies, and puts
+/// down what it tells. Says whether both agree at each turn.
 pub fn walk(
     alloc: Global,
-    text: &[u8],
-    mut script: Script<'_>,
-    most_steps: u32,
-) -> Result<Walked, Fail> {
-    let program = program_of(alloc, text)?;
-    let mut sides = sides_of(alloc, &program)?;
-    let mut walked = Walked::new(alloc);
-    for _ in 0..most_steps {
-        if !turn(alloc, &mut sides, &mut script, &mut walked)? {
-            break;
+    program: &Program,
+    coming: &[&[i16]],
+    restores: bool,
+    told: &mut List<i16>,
+) -> Result<bool, NoMemory>
+    requires { IsLoadable program.now }
+{
+    let mut come = 0;
+    let mut sides = Sides::start(alloc, program, restores)?;
+    for _ in 0..2_000 {
+        if !sides.agree(alloc)? {
+            return Ok(false);
+        }
+        let point = sides.process.at();
+        let Some(words) = given(point, coming, &mut come) else {
+            told.push(if point == Point::Ended { ENDS } else { WAITS })?;
+            return Ok(true);
+        };
+        if !sides.step(alloc, &words, told)? {
+            return Ok(false);
         }
     }
-    walked.point = compare(alloc, &sides)?;
-    Ok(walked)
-}
-
-/// The walk of a program that serves one request, as `serving` says.
-pub fn serve(alloc: Global, declared: &[u8], body: &[u8], request: &[i16]) -> Result<Walked, Fail> {
-    let text = serving(alloc, declared, body)?;
-    let requests = [request];
-    let script = Script::new(&requests, &[]);
-    walk(alloc, text.as_slice(), script, 10_000)
-}
-
-/// Whether a program that serves one request ends with this answer alone.
-pub fn answers(
-    alloc: Global,
-    declared: &[u8],
-    body: &[u8],
-    request: &[i16],
-    wanted: &[i16],
-) -> Result<bool, Fail> {
-    let walked = serve(alloc, declared, body, request)?;
-    Ok(walked.point == Point::Ended && walked.answered(&[wanted]))
+    Ok(false)
 }
