@@ -1,11 +1,9 @@
-//! Tests of openers and of rounds on the machine of single unfailing processes: worked runs, act by act.
+//! Tests of the machine of single unfailing processes: the bank is played line by line and act by act, and its openers are found.
 //!
 //! Below stand the crates that are tested; nothing stands above.
 #![tactic(auto)]
 
 #[cfg(test)]
-mod openers;
+mod bank;
 #[cfg(test)]
-mod rounds;
-#[cfg(test)]
-mod sites;
+mod played;

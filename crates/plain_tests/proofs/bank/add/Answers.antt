@@ -3,9 +3,9 @@ use Rattle.tal_tree.specs.declared.site.ProcessSpec.{ProcessSpec}
 use Rattle.processes.specs.Seen.{IsLoadableKind}
 use Rattle.plain_machine.specs.Standing.{AreLoadable}
 use Rattle.plain_tests.proofs.Processes.{all-push}
-use Rattle.plain_tests.proofs.sites.add_process.Goals as goal
+use Rattle.plain_tests.proofs.bank.add.Goals as goal
 
 pub returns : goal.returns
 returns c =
     subst AreLoadable (sym c.in_ok-push.ensures.ok)
-    (all-push (λ (spec : ProcessSpec). IsLoadableKind spec.what) c.args.processes.now c.args.spec c.requires.others c.requires.one)
+    (all-push (λ (spec : ProcessSpec). IsLoadableKind spec.what) c.args.processes.now _ c.requires.others c.requires.one)
