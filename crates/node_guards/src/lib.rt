@@ -1,8 +1,9 @@
-//! Guards of the parts of a node: packets and their words, what stands on a bus, silence and agreement, each at telling points.
-//! A wrong definition is refused here.
+//! Guards of the parts of a node: packets and their words, what stands on a bus, channels, silence and agreement, each at telling
+//! points. A wrong definition is refused here.
 //!
-//! Below stand `wire`, `bus_model` and `alive_regroup`, whose definitions are guarded; nothing stands above.
+//! Below stand `wire`, `bus_model`, `link_control` and `alive_regroup`, whose definitions are guarded; nothing stands above.
 #![tactic(auto)]
 
+pub mod channels;
 pub mod packets;
 pub mod silence;

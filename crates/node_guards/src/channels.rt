@@ -1,0 +1,47 @@
+ghost use Rattle.std.specs.Prelude.{◌≡◌, true, false, Some, None};
+ghost use Rattle.std.specs.Option.{option_map};
+ghost use Rattle.wire.specs.declared.bus_name.BusName.TheVariants.{X, Y};
+ghost use Rattle.wire.specs.declared.packet.PacketKind.TheVariants as kind;
+ghost use Rattle.link_control.specs.Ends.{after_down, after_packet, after_push, after_tick, handed_by_packet, is_empty, sent_by_packet, sent_by_push, sent_by_tick};
+ghost use Rattle.node_guards.specs.Channels.{acknowledgement, begun, fresh, full_piece, last_piece};
+ghost use Rattle.node_guards.specs.Packets.{message_of, packet_of};
+
+/// The first piece of a message goes at once, the next one when it is acknowledged, and another message after them.
+pub fn pieces_go_one_by_one()
+    ensures first { sent_by_push (message_of 11) fresh ≡ Some (packet_of 1 2 (kind.Piece 1 (record { last = false; words = message_of 10 }))) }
+    ensures next { sent_by_packet (acknowledgement 1) begun ≡ Some (packet_of 1 2 (kind.Piece 2 (record { last = true; words = message_of 1 }))) }
+    ensures ahead { sent_by_packet (acknowledgement 2) begun ≡ None }
+    ensures again { sent_by_packet (acknowledgement 1) (after_packet (acknowledgement 1) begun) ≡ None }
+    ensures waits { sent_by_push (message_of 2) begun ≡ None }
+    ensures other { sent_by_packet (acknowledgement 2) (after_packet (acknowledgement 1) (after_push (message_of 2) begun)) ≡ Some (packet_of 1 2 (kind.Piece 3 (record { last = true; words = message_of 2 }))) }
+    ensures goes_on { is_empty (after_packet (acknowledgement 1) begun) ≡ false }
+    ensures done { is_empty (after_packet (acknowledgement 2) (after_packet (acknowledgement 1) begun)) ≡ true }
+{}
+
+/// What is outstanding at two ticks is sent again, over bus Y, X and so on.
+pub fn a_piece_is_sent_again_over_either_bus()
+    ensures nothing { sent_by_tick fresh ≡ None }
+    ensures first { sent_by_tick begun ≡ None }
+    ensures second { option_map (λ resent. resent.bus) (sent_by_tick (after_tick begun)) ≡ Some Y }
+    ensures third { option_map (λ resent. resent.bus) (sent_by_tick (after_tick (after_tick begun))) ≡ Some X }
+    ensures fourth { option_map (λ resent. resent.bus) (sent_by_tick (after_tick (after_tick (after_tick begun)))) ≡ Some Y }
+    ensures next { sent_by_tick (after_packet (acknowledgement 1) (after_tick begun)) ≡ None }
+{}
+
+/// A piece is kept once and in order, and acknowledged whenever it comes; the last one hands its message over.
+pub fn a_piece_is_kept_once()
+    ensures ahead { sent_by_packet (full_piece 2) fresh ≡ None }
+    ensures first { sent_by_packet (full_piece 1) fresh ≡ Some (packet_of 1 2 (kind.Acknowledgement 1)) }
+    ensures again { sent_by_packet (full_piece 1) (after_packet (full_piece 1) fresh) ≡ Some (packet_of 1 2 (kind.Acknowledgement 1)) }
+    ensures in_part { handed_by_packet (full_piece 1) fresh ≡ None }
+    ensures whole { handed_by_packet (last_piece 2) (after_packet (full_piece 1) fresh) ≡ Some (message_of 11) }
+    ensures once { handed_by_packet (last_piece 2) (after_packet (last_piece 2) (after_packet (full_piece 1) fresh)) ≡ None }
+{}
+
+/// To a node that is marked down nothing goes, and nothing comes from it.
+pub fn a_node_that_is_down_is_left_alone()
+    ensures push { sent_by_push (message_of 1) (after_down begun) ≡ None }
+    ensures tick { sent_by_tick (after_tick (after_down begun)) ≡ None }
+    ensures packet { sent_by_packet (full_piece 1) (after_down fresh) ≡ None }
+    ensures empty { is_empty (after_down begun) ≡ true }
+{}
