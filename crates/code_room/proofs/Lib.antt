@@ -1,0 +1,4 @@
+pub mod ByParts
+pub mod Layers
+pub mod Loops
+pub mod Low

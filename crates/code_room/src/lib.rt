@@ -1,0 +1,12 @@
+//! Laws of the room that flat code needs below the top of its stack: how many left sides wait while an expression is
+//! computed, and that its code needs one word for each of them and one more.
+//!
+//! Below stands `tal_code`, which says what room there is. No code runs here.
+#![tactic(auto)]
+
+pub mod laws;
+
+pub use laws::{
+    a_loop_waits_for_its_limit, steps_compute_what_they_are_of, there_is_room_above_others,
+    there_is_room_where_few_wait,
+};
