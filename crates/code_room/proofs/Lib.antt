@@ -2,3 +2,6 @@ pub mod ByParts
 pub mod Layers
 pub mod Loops
 pub mod Low
+pub mod Read
+pub mod Statements
+pub mod Values

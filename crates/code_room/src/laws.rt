@@ -1,13 +1,15 @@
-ghost use Rattle.std.specs.Prelude.{◌≡◌, ◌↔◌, ◌+◌, ◌<◌, length, pos};
+ghost use Rattle.std.specs.Prelude.{◌≡◌, ◌↔◌, ℕ, List, ◌+◌, ◌<◌, length, pos};
 ghost use Rattle.tal_tree.specs.declared.expression.Cond.{Cond, Compare};
 ghost use Rattle.tal_tree.specs.declared.expression.Expr.{Expr, Number, Read, Two};
 ghost use Rattle.tal_tree.specs.declared.expression.Op.TheVariants as op;
 ghost use Rattle.tal_tree.specs.declared.expression.Rel.TheVariants as rel;
 ghost use Rattle.tal_tree.specs.declared.expression.Variable.{Variable};
+ghost use Rattle.tal_tree.specs.declared.program.Program.{Program};
 ghost use Rattle.tal_values.specs.Spots.{spot_of};
 ghost use Rattle.tal_code.specs.Parts.{Valued, Tested, PartStack, nothing, built, with_part};
 ghost use Rattle.tal_code.specs.Room.{LowFrom, RoomFrom, IsLow};
-ghost use Rattle.code_room.specs.Waiting.{waiting_of, waiting_for, waiting_of_test};
+ghost use Rattle.tal_reader.specs.Reads.{Reads};
+ghost use Rattle.code_room.specs.Waiting.{waiting_of, waiting_for, waiting_of_test, WaitsBelow};
 ghost use Rattle.code_room.specs.Steps.{steps_of, steps_of_test};
 
 /// The steps of an expression compute it, and those of a condition that.
@@ -34,4 +36,9 @@ pub fn there_is_room_above_others()
 pub fn a_loop_waits_for_its_limit()
     ensures limit { (variable : Variable) (to : Expr) → waiting_of_test (Compare rel.AtMost (Read (spot_of variable)) to) ≡ waiting_for to }
     ensures next { (variable : Variable) → waiting_of (Two op.Add (Read (spot_of variable)) (Number (pos 1))) ≡ 0 }
+{}
+
+/// While a program that a text reads as is run, fewer than 80 left sides wait at one time.
+pub fn what_is_read_has_room()
+    ensures { (text : List ℕ) (program : Program) → Reads text program → WaitsBelow 80 program }
 {}
