@@ -1,4 +1,5 @@
 pub mod ByParts
+pub mod Guarded
 pub mod Layers
 pub mod Loops
 pub mod Low

@@ -6,6 +6,7 @@
 //! program. No code runs here.
 #![tactic(auto)]
 
+pub mod guards;
 pub mod laws;
 
 pub use laws::{
