@@ -32,3 +32,11 @@ sector n = pos n ∷ replicate 7 (pos 0)
 -- writes on the sectors 3, 1 and 3 again, and a reply between them
 abbrev pub shown : List Shown
 shown = Write 0 3 (sector 5) ∷ Write 0 1 (sector 6) ∷ Reply 0 1 (pos 5 ∷ []) ∷ Write 0 3 (sector 7) ∷ []
+
+-- two discs of 4 and of 2 sectors
+abbrev pub discs : Site
+discs = record {
+  processors = 2;
+  processes = record { name = codes "$A"; primary = 0; backup = 1; what = kind.Disc 4 } ∷ record { name = codes "$B"; primary = 0; backup = 1; what = kind.Disc 2 } ∷ [];
+  terminals = [];
+}
