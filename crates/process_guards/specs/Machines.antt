@@ -1,15 +1,17 @@
 -- A disc that a terminal asks, and states of its machine; and a disc that a program opens.
-use Rattle.std.specs.Prelude.{ℕ, ℤ, pos, List, [], ◌∷◌, Option, Some, None, replicate}
+use Rattle.std.specs.Prelude.{ℕ, ℤ, pos, List, [], ◌∷◌, map, Option, Some, None, replicate}
 use Rattle.tal_tree.specs.declared.program.Program.{Program}
 use Rattle.tal_tree.specs.declared.program.Target.TheVariants as target
 use Rattle.tal_tree.specs.declared.site.Site.{Site}
 use Rattle.tal_tree.specs.declared.site.Kind.TheVariants as kind
 use Rattle.process_semantics.specs.declared.disc.DiscState.{DiscState}
 use Rattle.process_semantics.specs.declared.point.Point.{Point}
+use Rattle.process_semantics.specs.declared.point.Point.TheVariants as point
 use Rattle.process_semantics.specs.Process.{Serves}
 use Rattle.process_semantics.specs.State.{zeros}
+use Rattle.plain_semantics.specs.declared.slot.Opener.{Opener}
 use Rattle.plain_semantics.specs.declared.slot.Slot.{Slot}
-use Rattle.plain_semantics.specs.Machine.{Plain}
+use Rattle.plain_semantics.specs.Machine.{Plain, PlainProcess}
 
 -- a disc with two sectors and a terminal that reads sector 1
 abbrev pub disc_site : Site
@@ -47,3 +49,26 @@ with_slot disc hand slot entered = record {
   processes = record { state = Serves 2 disc; hand = hand; slots = slot ∷ []; sectors = zeros 8 ∷ replicate 8 (pos 4) ∷ [] } ∷ [];
   entered = entered ∷ [];
 }
+
+-- a disc with this request in hand whose reply is ready, after so many writes
+abbrev pub served : ℕ → List ℤ → List ℤ → DiscState
+served writes request reply = record { label = point.Answer; request = Some request; reply = Some reply; last_write = writes }
+
+abbrev pub having : List (List ℤ) → PlainProcess → PlainProcess
+having sectors one = record one { sectors = sectors }
+
+-- the machine with these sectors on each disc
+abbrev pub with_sectors : List (List ℤ) → Plain → Plain
+with_sectors sectors plain = record plain { processes = map (having sectors) plain.processes }
+
+-- the second opener of the process at the first place
+abbrev pub asked : Option Opener
+asked = Some (record { server = 0; place = 1 })
+
+-- a server with these slots, and another process
+abbrev pub two_slots : List Slot → PlainProcess → PlainProcess → Plain
+two_slots slots server one = record { processes = record server { slots = slots } ∷ one ∷ []; entered = [] }
+
+-- a disc with two sectors and a terminal that writes 7 on sector 1
+abbrev pub writing_site : Site
+writing_site = record disc_site { terminals = record { name = 36 ∷ 84 ∷ []; target = 0; requests = (pos 2 ∷ pos 1 ∷ pos 7 ∷ []) ∷ [] } ∷ [] }

@@ -5,6 +5,7 @@
 //! Below stand `process_semantics` and `plain_semantics`, whose definitions are guarded; nothing stands above.
 #![tactic(auto)]
 
+pub mod acts;
 pub mod discs;
 pub mod images;
 pub mod openers;
