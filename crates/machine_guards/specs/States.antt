@@ -1,10 +1,12 @@
 -- States that the guards name.
-use Rattle.std.specs.Prelude.{ℕ, pos, List, [], ◌∷◌, codes}
+use Rattle.std.specs.Prelude.{ℕ, pos, Bool, true, List, [], ◌∷◌, map, codes}
 use Rattle.tal_tree.specs.declared.site.Kind.TheVariants as kind
 use Rattle.tal_tree.specs.declared.site.Site.{Site}
+use Rattle.world_semantics.specs.declared.role.Role.{Role}
 use Rattle.world_semantics.specs.Messages.{Message}
+use Rattle.world_semantics.specs.World.{Pair, World}
 use Rattle.message_wires.specs.Play.{Whole, whole_at_boot}
-use Rattle.message_wires.specs.Wires.{Sent}
+use Rattle.message_wires.specs.Wires.{Sent, Wires}
 
 -- a state with these packets on its bus, and with these letters owed
 abbrev pub with_bus : List Sent → Whole → Whole
@@ -31,3 +33,33 @@ discs = record {
 
 abbrev pub discs_at_boot : Whole
 discs_at_boot = whole_at_boot discs
+
+-- a letter that is owed by a node to a node
+abbrev pub between : ℕ → ℕ → Message → Sent
+between sender receiver message = record { number = 0; letter = record { sender = sender; receiver = receiver; message = message } }
+
+-- a state in which nothing is owed
+abbrev pub nothing_owed : Whole → Whole
+nothing_owed s = with_owed [] s
+
+-- a process whose copies have these roles, and have or haven't sent a checkpoint
+abbrev pub standing : Role → Bool → Role → Bool → Pair → Pair
+standing first sent second other_sent pair = record pair {
+  first = record pair.first { role = first; sent = sent };
+  second = record pair.second { role = second; sent = other_sent };
+}
+
+-- a state in which each first copy has sent a checkpoint
+abbrev pub having_sent : Pair → Pair
+having_sent pair = record pair { first = record pair.first { sent = true } }
+
+abbrev pub waiting_at_mark : Whole → Whole
+waiting_at_mark s = record s { world = record s.world { processes = map having_sent s.world.processes } }
+
+-- a world in which these processors have stopped, and these nodes have marked processor 1
+abbrev pub marking : List Bool → List ℕ → World → World
+marking stopped nodes w = record w { stopped = stopped; marks = map (λ node. record { node = node; down = 1 }) nodes }
+
+-- wires on which these letters are owed, and nothing is on the bus
+abbrev pub owing : List Sent → Wires
+owing owed = record { count = 9; bus = []; owed = owed }
