@@ -1,0 +1,33 @@
+ghost use Rattle.std.specs.Prelude.{◌≡◌, ℕ, [], ⊤, Ok, Err, Some, None, true, false};
+ghost use Rattle.tal_tree.specs.declared.fault.DeckFault.{DeckFault};
+ghost use Rattle.tal_tree.specs.declared.site.Site.{Site};
+ghost use Rattle.path_semantics.specs.declared.reason.Refusal.{Refusal};
+ghost use Rattle.gd_io.specs.declared.writing.WriteFault.{WriteFault};
+ghost use Rattle.trace_print.specs.EndLine.{usage_line};
+ghost use Rattle.trace_print.specs.FaultLine.{fault_line};
+ghost use Rattle.trace_print.specs.VerdictText.{accepted_text, refusal_text};
+ghost use Rattle.runner.specs.Written.{outcome_of, run_of, status_of, text_of};
+ghost use Rattle.runner.specs.declared.due.Due.{Due};
+ghost use Rattle.runner.specs.declared.due.Due.TheVariants as due;
+ghost use Rattle.runner.specs.declared.due.RefusedSite.{RefusedSite};
+ghost use Rattle.runner.specs.declared.due.Report.{Report};
+ghost use Rattle.runner.specs.declared.outcome.Status.TheVariants as status;
+
+/// What is due has its text and its status; where reading failed or memory ran out nothing is written.
+pub fn what_is_due_is_written()
+    ensures usage { (text_of due.Usage ≡ usage_line) × (status_of due.Usage ≡ status.Usage) }
+    ensures read_fault { (text_of due.ReadFault ≡ []) × (status_of due.ReadFault ≡ status.ReadFault) }
+    ensures no_memory { (text_of due.NoMemory ≡ []) × (status_of due.NoMemory ≡ status.NoMemory) }
+    ensures deck_refused { (fault : DeckFault) → (text_of (due.DeckRefused fault) ≡ fault_line fault) × (status_of (due.DeckRefused fault) ≡ status.DeckRefused fault) }
+    ensures refused { (refused : RefusedSite) → (text_of (due.ProgramRefused refused) ≡ refusal_text refused.site refused.found.process refused.found.refusal refused.found.lines)
+        × (status_of (due.ProgramRefused refused) ≡ status.Refused refused.found.process refused.found.refusal) }
+    ensures accepted { (site : Site) → (text_of (due.Accepted site) ≡ accepted_text site) × (status_of (due.Accepted site) ≡ status.Done) }
+{}
+
+/// A write fault changes the status and not the run; and only a report has one.
+pub fn a_write_fault_leaves_the_run()
+    ensures whole { (decided : Due) → outcome_of decided (Ok tt) ≡ record { status = status_of decided; run = run_of decided } }
+    ensures fault { (decided : Due) (fault : WriteFault) → outcome_of decided (Err fault) ≡ record { status = status.WriteFault; run = run_of decided } }
+    ensures report { (report : Report) → run_of (due.Report report) ≡ Some report.run }
+    ensures accepted { (site : Site) → run_of (due.Accepted site) ≡ None }
+{}
