@@ -5,5 +5,6 @@
 #![tactic(auto)]
 
 pub mod counts;
+pub mod draws;
 pub mod ends;
 pub mod stops;
