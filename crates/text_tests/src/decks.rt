@@ -1,6 +1,5 @@
 use deck_reader::read_deck;
 use schedule::{Event, Line};
-use std::mem::ManuallyDrop;
 use std::test::Fail;
 
 /// Two processes, of which the terminal before them asks the second one, and each line of a schedule.
@@ -79,8 +78,7 @@ const LINES: [Line; 16] = [
 
 #[test]
 fn reads_a_deck(rt: HostRuntime) -> Result<(), Fail> {
-    // The deck isn't let go: that its trees may be is a proof of its own, longer than all the rest here.
-    let deck = ManuallyDrop::new(read_deck(rt.alloc(), DECK)?);
+    let deck = read_deck(rt.alloc(), DECK)?;
     assert!(rt; deck.site.processors == 3);
     let ([disc, pair], [terminal]) = (
         deck.site.processes.as_slice(),
