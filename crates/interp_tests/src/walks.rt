@@ -21,6 +21,9 @@ pub const ENDS: i16 = 20_003;
 /// What stands last where a program waits for a request or a reply, and nothing is left to come.
 pub const WAITS: i16 = 20_004;
 
+/// What a walk tells: the words that are asked and answered, each time behind which of the two they are, and how it ends.
+pub type Told = List<i16>;
+
 /// A program that runs by its table, the plain program beside it, and, where its images are looked at, a second process into which
 /// they are put.
 #[derive(Drop)]
@@ -92,12 +95,7 @@ impl<'a> Sides<'a> {
     }
 
     /// Makes the next step of both, puts down what it tells, and says whether both tell the same.
-    fn step(
-        &mut self,
-        alloc: Global,
-        words: &Words,
-        told: &mut List<i16>,
-    ) -> Result<bool, NoMemory> {
+    fn step(&mut self, alloc: Global, words: &Words, told: &mut Told) -> Result<bool, NoMemory> {
         match self.process.at() {
             Point::Inner => {
                 self.process.inner();
@@ -111,9 +109,8 @@ impl<'a> Sides<'a> {
                 let asked = self.process.asked();
                 let plain = self.plain.asked(alloc)?;
                 tell(told, ASKS, asked.words.as_slice())?;
-                return Ok(
-                    asked.file == plain.file && asked.words.as_slice() == plain.words.as_slice(),
-                );
+                let is_same = asked.words.as_slice() == plain.words.as_slice();
+                return Ok(asked.file == plain.file && is_same);
             }
             Point::Await => {
                 self.process.got(words);
@@ -137,7 +134,7 @@ impl<'a> Sides<'a> {
     }
 }
 
-fn tell(told: &mut List<i16>, what: i16, words: &[i16]) -> Result<(), NoMemory> {
+fn tell(told: &mut Told, what: i16, words: &[i16]) -> Result<(), NoMemory> {
     told.push(what)?;
     told.extend_from_slice(words)
 }
@@ -171,7 +168,7 @@ pub fn walk(
     program: &Program,
     coming: &[&[i16]],
     restores: bool,
-    told: &mut List<i16>,
+    told: &mut Told,
 ) -> Result<bool, NoMemory>
     requires { IsLoadable program.now }
 {
