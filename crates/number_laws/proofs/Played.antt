@@ -27,7 +27,7 @@ use Rattle.machine_states.specs.States.{Played, Makes, Skips, WouldStop}
 use Rattle.message_wires.specs.Wires.{Sent, Wires, has_room, put_on, posted, all_posted, is_of, without_number, paid, without_packet, is_due, put_again}
 use Rattle.message_wires.specs.Play.{Whole, whole_at_boot, after_done, made_by, after_any, handed, comes_in, deliver_played, lose_played, repeat_played, has_stopped, fail_played, marked_by, marks_from, ticked, tick_played, packet_at, play}
 use Rattle.message_wires.specs.Runs.{IsPlayed, played_none, played_more, skipped}
-use Rattle.number_laws.specs.HasRoom.{HasNext, CopyHasRoom, TerminalHasRoom, HasRoom}
+use Rattle.number_ranges.specs.HasRoom.{HasNext, CopyHasRoom, TerminalHasRoom, HasRoom}
 use Rattle.number_laws.proofs.Each.{Each, each-all, each-more, each-get, each-append, each-map, each-always, each-filter, each-remove}
 use Rattle.number_laws.proofs.Within.{serves, CoreWithin, CopyWithin, PairWithin, MessageWithin, AreSendings, AreSent, WiresWithin, WorldWithin, DoneWithin, AnyWithin, TerminalWithin, wires-more, world-more, held_in, kept_in}
 use Rattle.number_laws.proofs.Runs.{run-within}
@@ -266,7 +266,7 @@ copy-of n d pair Second is = is.1
 -- before the next event each number has a successor
 pub room-within : (site : Site) (events : List Event) (s : Whole) → IsPlayed site events s → length events < 4294967294 → HasRoom s
 room-within site events s played few = record {
-  copies = λ number pair k there.
+  processes = λ number pair there k.
       copy-room (length events) (kinds_of site number) (copy_of k pair) few
       (copy-of (length events) (kinds_of site number) pair k (all.0.pairs number pair there));
   terminals =

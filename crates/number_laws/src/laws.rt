@@ -5,7 +5,7 @@ ghost use Rattle.message_wires.specs.Play.{Whole, marked_by, marks_from};
 ghost use Rattle.world_semantics.specs.Running.{Done};
 ghost use Rattle.message_wires.specs.Runs.{IsPlayed};
 ghost use Rattle.plain_semantics.specs.SiteLimits.{KeepsSiteLimits};
-ghost use Rattle.number_laws.specs.HasRoom.{HasRoom, HasRoomForLetters};
+ghost use Rattle.number_ranges.specs.HasRoom.{HasRoom, HasRoomForLetters};
 
 /// After fewer than 4,294,967,294 events each number has a successor. Request numbers begin with 1, so after so many events the next one
 /// on a file is at most one more; the other numbers are at most as many as the events.

@@ -2,8 +2,8 @@
 //! 32 bits, each number that the event may raise is below the last one of its range. So a machine of that range never lacks a number.
 //! No code runs here.
 //!
-//! Below stands `message_wires` with what each event makes of a state. The layer above takes `HasRoom`, of `specs/HasRoom.antt`, as
-//! what its machine requires, and gets it from `numbers_have_successors`.
+//! Below stand `message_wires` with what each event makes of a state, and `number_ranges` with `HasRoom`, which the machine requires
+//! before each event; the layer above gets it from `numbers_have_successors`.
 #![tactic(auto)]
 
 pub mod laws;

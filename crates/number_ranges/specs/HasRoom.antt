@@ -28,14 +28,18 @@ pub record CopyHasRoom (copy : Copy) : Type 0 where
   pub era : copy.role ≡ Watching → HasNext copy.era
   pub position : HasNextLong copy.position
 
+-- of a process: each of its copies
+abbrev pub PairHasRoom : Pair → Type 0
+PairHasRoom pair = (k : Which) → CopyHasRoom (copy_of k pair)
+
 -- of a terminal: how many requests it has entered, and how many replies it has printed
 pub record TerminalHasRoom (terminal : Terminal) : Type 0 where
   pub entered : HasNext terminal.entered
   pub printed : HasNext terminal.printed
 
--- of a state: each copy of each process, each terminal, and how many writes and replies were shown together
+-- of a state: each process, each terminal, and how many writes and replies were shown together
 pub record HasRoom (s : Whole) : Type 0 where
-  pub copies : (number : ℕ) (pair : Pair) (k : Which) → slice_get s.world.processes number ≡ Some pair → CopyHasRoom (copy_of k pair)
+  pub processes : (number : ℕ) (pair : Pair) → slice_get s.world.processes number ≡ Some pair → PairHasRoom pair
   pub terminals : All TerminalHasRoom s.world.terminals
   pub shown : HasNext (length s.world.shown)
 
