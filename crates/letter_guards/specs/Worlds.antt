@@ -21,15 +21,15 @@ use Rattle.world_semantics.specs.World.{Copy, Pair, World, terminal_node, pair_a
 use Rattle.letters.specs.Posts.{Post}
 use Rattle.letters.specs.Routes.{Letter}
 
--- a program that asks a process of this name one word, once
-abbrev pub asker : List ℕ → Program
-asker server = record {
+-- a program that asks a process of this name one word, once. So many of its replies are kept there
+abbrev pub asker_keeping : List ℕ → ℕ → Program
+asker_keeping server depth = record {
   items =
       record { name = codes "GOT"; shape = shape.Simple }
       ∷ record { name = codes "FILE"; shape = shape.File 0 }
       ∷ record { name = codes "BUF"; shape = shape.Array (pos 0) (pos 0) }
       ∷ [];
-  files = record { item = 1; target = target.Process server; depth = 1 } ∷ [];
+  files = record { item = 1; target = target.Process server; depth = depth } ∷ [];
   procedures =
       record {
         name = codes "ASK";
@@ -45,6 +45,9 @@ asker server = record {
       ∷ [];
   main = 0;
 }
+
+abbrev pub asker : List ℕ → Program
+asker server = asker_keeping server 1
 
 abbrev pub disc : ProcessSpec
 disc = record { name = codes "$DATA"; primary = 2; backup = 3; what = kind.Disc 4 }
@@ -65,6 +68,10 @@ site = record {
       ∷ record { name = codes "$T1"; target = 1; requests = (pos 9 ∷ []) ∷ [] }
       ∷ [];
 }
+
+-- the same site, where the bank keeps three replies of the user
+abbrev pub deeper_site : Site
+deeper_site = record site { processes = disc ∷ bank ∷ record user { what = kind.Pair (asker_keeping (codes "$BANK") 3) } ∷ [] }
 
 -- the bank where it awaits the reply to its first request. It keeps a reply to the first request of the user, and one to that of its terminal
 abbrev pub awaiting : Core
@@ -190,3 +197,7 @@ taking_over = record (world_at 3) { processes = kept_and_waiting ∷ bank_at 3 �
 
 abbrev pub before_takeover : Post
 before_takeover = record { world = taking_over; owed = []; sent = [] }
+
+-- a request that tells which copy of which process sends it
+abbrev pub asked_by : ℕ → ℕ → Message
+asked_by number processor = Asking (record { process = number; opener = processor; number = 1; words = [] })

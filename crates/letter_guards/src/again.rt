@@ -2,13 +2,14 @@ ghost use Rattle.std.specs.Prelude.{◌≡◌, [], ◌∷◌, pos, Some, None};
 ghost use Rattle.std.specs.Option.{option_map};
 ghost use Rattle.process_semantics.specs.Process.{point};
 ghost use Rattle.process_semantics.specs.declared.point.Point.TheVariants.{Await};
+ghost use Rattle.computed_changes.specs.Fitting.{depths_of};
 ghost use Rattle.computed_changes.specs.Stopped.{marked_done};
 ghost use Rattle.world_semantics.specs.Messages.{sent_at};
-ghost use Rattle.world_semantics.specs.World.{terminal_node};
-ghost use Rattle.letters.specs.Again.{kept_for, sent_again};
+ghost use Rattle.world_semantics.specs.World.{pair_at_boot, terminal_node};
+ghost use Rattle.letters.specs.Again.{kept_for, of_copies, sent_again};
 ghost use Rattle.letters.specs.Posts.{after_marking, without_those_between};
 ghost use Rattle.gd_words.specs.declared.message.Reply.{Reply};
-ghost use Rattle.letter_guards.specs.Worlds.{site, awaiting, world_at, world, keeping_two, two_kept, taking_over, before_takeover, marked_by, bank_asks, terminal_asks, user_is_told, user_is_told_of, terminal_is_told, disc_tells, letter, post};
+ghost use Rattle.letter_guards.specs.Worlds.{asked_by, bank, deeper_site, site, user, awaiting, world_at, world, keeping_two, two_kept, taking_over, before_takeover, marked_by, bank_asks, terminal_asks, user_is_told, user_is_told_of, terminal_is_told, disc_tells, letter, post};
 
 /// A node that marks a processor sends again the requests that its copies await, those of its terminals, and the replies that its copies keep, in this order.
 /// So where the bank is on the node of the terminals that sends all three, and else each of both nodes its own. A kept reply to a terminal isn't sent again.
@@ -52,4 +53,18 @@ pub fn a_takeover_tells_first()
         ≡ Some (letter 3 16 disc_tells ∷ letter 3 3 bank_asks ∷ letter 3 3 user_is_told ∷ []) }
     ensures owed { option_map (λ done. (after_marking site 3 2 done.sendings done.world before_takeover).owed) (marked_done 3 2 taking_over)
         ≡ Some (letter 3 16 disc_tells ∷ letter 3 3 bank_asks ∷ letter 3 3 user_is_told ∷ []) }
+{}
+
+/// What the copies of several processes send again goes by the processes' numbers, and of one process its first copy goes before its
+/// second.
+pub fn copies_send_again_in_their_order()
+    ensures { of_copies (λ number copy. asked_by number copy.processor ∷ []) 1 (pair_at_boot site 1 bank ∷ pair_at_boot site 2 user ∷ [])
+        ≡ asked_by 1 0 ∷ asked_by 1 1 ∷ asked_by 2 2 ∷ asked_by 2 3 ∷ [] }
+{}
+
+/// A process keeps so many replies of each opener as that one's OPEN says, of a terminal one.
+pub fn replies_are_kept_by_the_depth_of_the_file()
+    ensures depths { depths_of deeper_site 1 ≡ 3 ∷ 1 ∷ [] }
+    ensures one { depths_of site 1 ≡ 1 ∷ 1 ∷ [] }
+    ensures none { depths_of site 2 ≡ [] }
 {}
