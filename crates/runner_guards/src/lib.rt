@@ -4,6 +4,7 @@
 //! Below stands `runner`, whose definitions are guarded; nothing stands above.
 #![tactic(auto)]
 
+pub mod dues;
 pub mod outcomes;
 pub mod statuses;
 pub mod told;
