@@ -1,6 +1,7 @@
 -- Reading the words of a checkpoint from their front, and what a call that reads tells of it.
 use Rattle.std.specs.Option.{option_map, option_and_then}
 use Rattle.std.specs.Prelude.{◌≡◌, ℕ, zero, suc, ◌==◌, ℤ, pos, negsuc, Bool, ◌&&◌, if◌then◌else◌, nat_le, nat_lt, List, [], ◌∷◌, Option, Some, None, Result, Ok, Err}
+use Rattle.gd_words.specs.Memory.{no_memory}
 use Rattle.process_semantics.specs.Words.{Front, count_in, words_in, whole, long_in}
 use Rattle.checkpoint_image.specs.declared.message.FileNumber.{FileNumber}
 use Rattle.checkpoint_image.specs.declared.message.Image.{Image}
@@ -98,4 +99,4 @@ Gives view (Some x) found = found ≡ Some (view x)
 -- the same where memory may run out, which tells nothing
 abbrev pub Tells : {X Y : Type 0} → (X → Y) → Result X Stop → Option Y → Type 0
 Tells view (Ok x) found = found ≡ Some (view x)
-Tells view (Err e) found = (e ≡ stop.NoMemory → ⊥) → found ≡ None
+Tells view (Err e) found = (e ≡ stop.NoMemory no_memory → ⊥) → found ≡ None

@@ -46,7 +46,7 @@ pub fn from_words(alloc: Global, words: &[i16]) -> Result<Option<ImageMessage>, 
     match message_in(alloc, words) {
         Ok(message) => Ok(Some(message)),
         Err(Stop::NoMessage) => Ok(None),
-        Err(Stop::NoMemory) => Err(NoMemory),
+        Err(Stop::NoMemory(memory)) => Err(memory),
     }
 }
 

@@ -1,6 +1,7 @@
 -- Where bytes spell a deck whose programs are accepted, what is due of them is no refusal.
 use Rattle.std.proofs.Common.{◌≡◌, ◌≢◌, ◌⊎◌, inl, inr, ℕ, true, List, Some, refl, subst, sym}
 use Rattle.std.specs.Prelude.{⊤, Result, Ok, Err}
+use Rattle.gd_words.specs.Memory.{no_memory}
 use Rattle.tal_tree.specs.declared.site.ProcessSpec.{ProcessSpec}
 use Rattle.path_semantics.specs.declared.reason.Refusal.{Refusal}
 use Rattle.path_semantics.specs.declared.reason.Refusal.TheVariants.{NoMemory}
@@ -16,7 +17,7 @@ use Rattle.runner.specs.declared.due.Due.{Due}
 use Rattle.runner.specs.declared.due.Due.TheVariants as due
 use Rattle.runner.specs.declared.task.Task.{Task}
 
-pub only-wanting : (refusal : Refusal) → (◌≡◌ {A = Result ⊤ Refusal} (Err refusal) (Ok tt)) ⊎ (◌≡◌ {A = Result ⊤ Refusal} (Err refusal) (Err NoMemory)) → refusal ≡ NoMemory
+pub only-wanting : (refusal : Refusal) → (◌≡◌ {A = Result ⊤ Refusal} (Err refusal) (Ok tt)) ⊎ (◌≡◌ {A = Result ⊤ Refusal} (Err refusal) (Err (NoMemory no_memory))) → refusal ≡ NoMemory no_memory
 only-wanting refusal (inl fine) = absurd (cc)
 only-wanting refusal (inr wanting) = cc
 
@@ -29,11 +30,11 @@ none-refused specs refused accepted first =
 
 -- what is due is what is due of accepted programs, or want of memory
 abbrev pub IsGood : Task → Deck → Due → Type 0
-IsGood task deck decided = (decided ≡ due.NoMemory) ⊎ IsDueOfAccepted task deck decided
+IsGood task deck decided = (decided ≡ due.NoMemory no_memory) ⊎ IsDueOfAccepted task deck decided
 
 module _ (task : Task) (deck : Deck) (able : can_stop task deck.site ≡ true) (accepted : AreAccepted deck.site.processes) where
   of-deck : (decided : Due) → IsDueOfDeck task deck decided → IsGood task deck decided
-  of-deck due.NoMemory is = inl refl
+  of-deck (due.NoMemory _) is = inl refl
   of-deck due.Usage is = absurd (cc)
   of-deck (due.ProgramRefused refused) is = absurd (none-refused deck.site.processes refused.found accepted is.1.1)
   of-deck due.ReadFault is = inr is.1.1
@@ -47,7 +48,7 @@ module _ (task : Task) (deck : Deck) (able : can_stop task deck.site ≡ true) (
     of-spelt other decided too is = of-deck decided (subst (λ (d : Deck). IsDueOfDeck task d decided) (one_deck bytes other deck too spelt) is)
 
     pub of-bytes : (decided : Due) → IsDueOfBytes task bytes decided → IsGood task deck decided
-    of-bytes due.NoMemory is = inl refl
+    of-bytes (due.NoMemory _) is = inl refl
     of-bytes (due.DeckRefused fault) is = absurd (no_deck bytes fault deck is spelt)
     of-bytes due.Usage (other, too, is) = of-spelt other due.Usage too is
     of-bytes due.ReadFault (other, too, is) = of-spelt other due.ReadFault too is
@@ -61,7 +62,7 @@ module _ (task : Task) (deck : Deck) (able : can_stop task deck.site ≡ true) (
 
     pub of-source : (before now : ℕ) (decided : Due) → IsDueOfSource task (Some bytes) before now decided → decided ≢ due.ReadFault → IsGood task deck decided
     of-source before now due.ReadFault is read = absurd (read refl)
-    of-source before now due.NoMemory is read = inl refl
+    of-source before now (due.NoMemory _) is read = inl refl
     of-source before now due.Usage (found, told, is) read = of-told found due.Usage told is
     of-source before now (due.DeckRefused fault) (found, told, is) read = of-told found (due.DeckRefused fault) told is
     of-source before now (due.Accepted site) (found, told, is) read = of-told found (due.Accepted site) told is

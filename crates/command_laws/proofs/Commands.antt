@@ -1,6 +1,7 @@
 -- What is due by words, and how a command of them ends.
 use Rattle.std.proofs.Common.{◌≡◌, ◌≢◌, ◌⊎◌, inl, inr, ℕ, true, List, Option, Some, None, refl, subst, sym, ap, ◌∙◌, arith}
 use Rattle.std.specs.Prelude.{⊤, Bool, IfSome, Result, Ok, Err}
+use Rattle.gd_words.specs.Memory.{no_memory}
 use Rattle.command_words.specs.Asked.{IsInRange, asked_by}
 use Rattle.command_words.specs.declared.asked.Command.{Command}
 use Rattle.command_words.specs.declared.asked.Command.TheVariants.{Check, Load, Run}
@@ -47,13 +48,13 @@ deck-run words bytes before now acts stop deck decided asked spelt able accepted
 
 pub deck-checked : (words : List (List ℕ)) (bytes : List ℕ) (before now : ℕ) (deck : Deck) (decided : Due)
     → asked_by words ≡ Some Check → Decks bytes deck → AreAccepted deck.site.processes
-    → IsDue words (Some bytes) before now decided → decided ≢ due.ReadFault → (decided ≡ due.Accepted deck.site) ⊎ (decided ≡ due.NoMemory)
+    → IsDue words (Some bytes) before now decided → decided ≢ due.ReadFault → (decided ≡ due.Accepted deck.site) ⊎ (decided ≡ due.NoMemory no_memory)
 deck-checked words bytes before now deck decided asked spelt accepted (inl none) read = inr none
 deck-checked words bytes before now deck decided asked spelt accepted (inr is) read =
     go (of-source task.Check deck refl accepted bytes spelt before now decided
     (subst (λ (c : Option Command). IsDueOn c (Some bytes) before now decided) asked is) read)
   where
-    go : IsGood task.Check deck decided → (decided ≡ due.Accepted deck.site) ⊎ (decided ≡ due.NoMemory)
+    go : IsGood task.Check deck decided → (decided ≡ due.Accepted deck.site) ⊎ (decided ≡ due.NoMemory no_memory)
     go (inl none) = inr none
     go (inr is) = inl is
 
@@ -75,7 +76,7 @@ ended (ending.Second processor) = tt
 
 run-status : (deck : Deck) (stop : Option Stop) (tells : Telling) (decided : Due) → IsDueOfRun deck stop tells decided → IsStatusOfRun (status_of decided)
 run-status deck stop tells (due.Report report) is = ended report.run.ran.ending
-run-status deck stop tells due.NoMemory is = tt
+run-status deck stop tells (due.NoMemory _) is = tt
 run-status deck stop tells _ is = absurd is
 
 run-ends : (deck : Deck) (stop : Option Stop) (tells : Telling) (decided : Due) (result : Result ⊤ WriteFault) (outcome : Outcome)
@@ -108,7 +109,7 @@ load-ended count report is (ending.Second processor) how =
 
 load-status : (count : ℕ) (decided : Due) → IsDueOfRun (load_deck count) None (Counts count) decided → IsStatusOfLoad (status_of decided)
 load-status count (due.Report report) is = load-ended count report is.0 report.run.ran.ending refl
-load-status count due.NoMemory is = tt
+load-status count (due.NoMemory _) is = tt
 load-status count _ is = absurd is
 
 pub load-ends : (words : List (List ℕ)) (left : Option (List ℕ)) (before now count : ℕ) (decided : Due) (result : Result ⊤ WriteFault) (outcome : Outcome)
@@ -117,7 +118,7 @@ load-ends words left before now count decided (Err fault) outcome asked is same 
 load-ends words left before now count decided (Ok done) outcome asked is same =
     subst (λ (o : Outcome). IsStatusOfLoad o.status) (sym same) (load-status count decided (load-run words left before now count decided asked is))
 
-checked-status : (decided : Due) (deck : Deck) → (decided ≡ due.Accepted deck.site) ⊎ (decided ≡ due.NoMemory) → IsStatusOfCheck (status_of decided)
+checked-status : (decided : Due) (deck : Deck) → (decided ≡ due.Accepted deck.site) ⊎ (decided ≡ due.NoMemory no_memory) → IsStatusOfCheck (status_of decided)
 checked-status decided deck (inl is) = subst (λ (d : Due). IsStatusOfCheck (status_of d)) (sym is) tt
 checked-status decided deck (inr none) = subst (λ (d : Due). IsStatusOfCheck (status_of d)) (sym none) tt
 

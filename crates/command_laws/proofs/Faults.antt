@@ -49,7 +49,7 @@ run-written (Second processor) e = cc
 write-fault-only : (decided : Due) (result : Result ⊤ WriteFault) → (outcome_of decided result).status ≡ status.WriteFault → IsErr result
 write-fault-only due.Usage (Ok done) e = absurd (cc)
 write-fault-only due.ReadFault (Ok done) e = absurd (cc)
-write-fault-only due.NoMemory (Ok done) e = absurd (cc)
+write-fault-only (due.NoMemory _) (Ok done) e = absurd (cc)
 write-fault-only (due.DeckRefused fault) (Ok done) e = absurd (cc)
 write-fault-only (due.ProgramRefused refused) (Ok done) e = absurd (cc)
 write-fault-only (due.Accepted site) (Ok done) e = absurd (cc)

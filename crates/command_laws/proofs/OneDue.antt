@@ -2,6 +2,7 @@
 use Rattle.std.proofs.Common.{◌≡◌, ◌<◌, ◌⊎◌, inl, inr, ℕ, true, false, List, Option, Some, None, refl, subst, sym, ap, ◌∙◌}
 use Rattle.std.specs.Prelude.{Bool, Err}
 use Rattle.std.proofs.lemmas.Bool.{cases_order}
+use Rattle.gd_words.specs.Memory.{no_memory}
 use Rattle.tal_tree.specs.declared.fault.DeckFault.{DeckFault}
 use Rattle.tal_tree.specs.declared.site.ProcessSpec.{ProcessSpec}
 use Rattle.tal_tree.specs.declared.program.Program.{Program}
@@ -101,10 +102,10 @@ same-refusal specs one other site first later = record {
 
 -- Decks
 
-is-free : (one : Due) → IsSameDue one due.NoMemory
+is-free : (one : Due) → IsSameDue one (due.NoMemory no_memory)
 is-free due.Usage = tt
 is-free due.ReadFault = tt
-is-free due.NoMemory = tt
+is-free (due.NoMemory _) = tt
 is-free (due.DeckRefused fault) = tt
 is-free (due.ProgramRefused refused) = tt
 is-free (due.Accepted site) = tt
@@ -113,7 +114,7 @@ is-free (due.Report report) = tt
 failing-is-free : (one : Due) → IsSameDue one due.ReadFault
 failing-is-free due.Usage = tt
 failing-is-free due.ReadFault = tt
-failing-is-free due.NoMemory = tt
+failing-is-free (due.NoMemory _) = tt
 failing-is-free (due.DeckRefused fault) = tt
 failing-is-free (due.ProgramRefused refused) = tt
 failing-is-free (due.Accepted site) = tt
@@ -124,14 +125,14 @@ not-both test is isnt = absurd (cc)
 
 -- what may be due of a deck
 data IsOfDeck (task : Task) (deck : Deck) : Due → Type 0 where
-  wanting : IsOfDeck task deck due.NoMemory
+  wanting : IsOfDeck task deck (due.NoMemory no_memory)
   unable : can_stop task deck.site ≡ false → IsOfDeck task deck due.Usage
   refused : (found : RefusedSite) → can_stop task deck.site ≡ true → found.site ≡ deck.site → IsFirstRefused deck.site.processes found.found
       → IsOfDeck task deck (due.ProgramRefused found)
   good : {decided : Due} → can_stop task deck.site ≡ true → AreAccepted deck.site.processes → IsDueOfAccepted task deck decided → IsOfDeck task deck decided
 
 of-deck : (task : Task) (deck : Deck) (decided : Due) → IsDueOfDeck task deck decided → IsOfDeck task deck decided
-of-deck task deck due.NoMemory is = wanting
+of-deck task deck (due.NoMemory _) is = wanting
 of-deck task deck due.Usage is = unable is
 of-deck task deck (due.ProgramRefused found) is = refused found is.0 is.1.0 is.1.1
 of-deck task deck due.ReadFault is = good is.0 is.1.0 is.1.1
@@ -141,8 +142,8 @@ of-deck task deck (due.Report report) is = good is.0 is.1.0 is.1.1
 
 same-run : (deck : Deck) (stop : Option Stop) (tells : Telling) (one other : Due) → IsDueOfRun deck stop tells one → IsDueOfRun deck stop tells other
     → IsSameDue one other
-same-run deck stop tells due.NoMemory other is two = tt
-same-run deck stop tells one due.NoMemory is two = is-free one
+same-run deck stop tells (due.NoMemory _) other is two = tt
+same-run deck stop tells one (due.NoMemory _) is two = is-free one
 same-run deck stop tells (due.Report report) (due.Report other) is two =
     ap due.Report (one-report deck stop report other is.0 two.0 (is.1 ∙ sym two.1))
 same-run deck stop tells (due.Report report) _ is two = absurd two
@@ -176,13 +177,13 @@ same-of-deck task deck one other (good can accepted is) (good too its two) = sam
 data IsOfBytes (task : Task) (bytes : List ℕ) : Due → Type 0 where
   broken : (fault : DeckFault) → IsRefusalOf bytes fault → IsOfBytes task bytes (due.DeckRefused fault)
   spelt : {decided : Due} (deck : Deck) → Decks bytes deck → IsOfDeck task deck decided → IsOfBytes task bytes decided
-  short : IsOfBytes task bytes due.NoMemory
+  short : IsOfBytes task bytes (due.NoMemory no_memory)
 
 of-spelt : (task : Task) (bytes : List ℕ) (deck : Deck) (decided : Due) → Decks bytes deck → IsDueOfDeck task deck decided → IsOfBytes task bytes decided
 of-spelt task bytes deck decided is_spelt is = spelt deck is_spelt (of-deck task deck decided is)
 
 of-bytes : (task : Task) (bytes : List ℕ) (decided : Due) → IsDueOfBytes task bytes decided → IsOfBytes task bytes decided
-of-bytes task bytes due.NoMemory is = short
+of-bytes task bytes (due.NoMemory _) is = short
 of-bytes task bytes (due.DeckRefused fault) is = broken fault is
 of-bytes task bytes due.Usage (deck, is_spelt, is) = of-spelt task bytes deck due.Usage is_spelt is
 of-bytes task bytes due.ReadFault (deck, is_spelt, is) = of-spelt task bytes deck due.ReadFault is_spelt is
@@ -212,7 +213,7 @@ of-told task bytes found decided same is =
 
 of-source : (task : Task) (bytes : List ℕ) (before now : ℕ) (decided : Due) → IsDueOfSource task (Some bytes) before now decided → IsOfSource task bytes decided
 of-source task bytes before now due.ReadFault is = failing
-of-source task bytes before now due.NoMemory is = read short
+of-source task bytes before now (due.NoMemory _) is = read short
 of-source task bytes before now due.Usage (found, told, is) = of-told task bytes found due.Usage told is
 of-source task bytes before now (due.DeckRefused fault) (found, told, is) = of-told task bytes found (due.DeckRefused fault) told is
 of-source task bytes before now (due.ProgramRefused refusal) (found, told, is) = of-told task bytes found (due.ProgramRefused refusal) told is
@@ -222,7 +223,7 @@ of-source task bytes before now (due.Report report) (found, told, is) = of-told 
 same-of-source : (task : Task) (bytes : List ℕ) (one other : Due) → IsOfSource task bytes one → IsOfSource task bytes other → IsSameDue one other
 same-of-source task bytes one other (read is) (read two) = same-of-bytes task bytes one other is two
 same-of-source task bytes one _ is failing = failing-is-free one
-same-of-source task bytes _ due.NoMemory failing two = tt
+same-of-source task bytes _ (due.NoMemory _) failing two = tt
 same-of-source task bytes _ due.Usage failing two = tt
 same-of-source task bytes _ due.ReadFault failing two = tt
 same-of-source task bytes _ (due.DeckRefused fault) failing two = tt
@@ -247,10 +248,10 @@ same-asked (Some (Load requests)) bytes before now earlier later one other is tw
     same-of-bytes (load_task requests) (load_text requests) one other (of-bytes (load_task requests) (load_text requests) one is)
     (of-bytes (load_task requests) (load_text requests) other two)
 
-wanting-first : (one other : Due) → one ≡ due.NoMemory → IsSameDue one other
+wanting-first : (one other : Due) → one ≡ due.NoMemory no_memory → IsSameDue one other
 wanting-first one other none = subst (λ (d : Due). IsSameDue d other) (sym none) tt
 
-wanting-last : (one other : Due) → other ≡ due.NoMemory → IsSameDue one other
+wanting-last : (one other : Due) → other ≡ due.NoMemory no_memory → IsSameDue one other
 wanting-last one other none = subst (λ (d : Due). IsSameDue one d) (sym none) (is-free one)
 
 pub one-due : (words : List (List ℕ)) (bytes : List ℕ) (before now earlier later : ℕ) (one other : Due) → IsDue words (Some bytes) before now one

@@ -14,8 +14,8 @@ pub record IsSameRefusal (one other : RefusedSite) : Type 0 where
 
 -- what is due is the same, and so its text is, where neither is a read fault or want of memory
 abbrev pub IsSameDue : Due → Due → Type 0
-IsSameDue due.NoMemory _ = Unit {0}
-IsSameDue _ due.NoMemory = Unit {0}
+IsSameDue (due.NoMemory _) _ = Unit {0}
+IsSameDue _ (due.NoMemory _) = Unit {0}
 IsSameDue due.ReadFault _ = Unit {0}
 IsSameDue _ due.ReadFault = Unit {0}
 IsSameDue (due.ProgramRefused one) (due.ProgramRefused other) = IsSameRefusal one other

@@ -6,7 +6,7 @@ use Rattle.runner.specs.declared.outcome.Status.TheVariants as status
 abbrev pub IsStatusOfCheck : Status → Type 0
 IsStatusOfCheck status.Done = Unit {0}
 IsStatusOfCheck status.WriteFault = Unit {0}
-IsStatusOfCheck status.NoMemory = Unit {0}
+IsStatusOfCheck (status.NoMemory _) = Unit {0}
 IsStatusOfCheck _ = ⊥
 
 -- a load, whose deck asks for one stop: so, where its run came to an idle end, or its run was cut

@@ -1,4 +1,5 @@
 ghost use Rattle.std.specs.Prelude.{◌≡◌, ◌≢◌, ◌⊎◌, ℕ, Bool, true, List, Option, Some, None, length};
+ghost use Rattle.gd_words.specs.Memory.{no_memory};
 ghost use Rattle.command_words.specs.Asked.{asked_by};
 ghost use Rattle.command_words.specs.declared.asked.Command.TheVariants.{Check, Load, Run};
 ghost use Rattle.deck_reader.specs.Decks.{Decks};
@@ -46,7 +47,7 @@ pub fn no_accepted_deck_is_refused<S: Source, K: Sink>()
 pub fn an_accepted_deck_is_checked()
     ensures { (words : List (List ℕ)) (bytes : List ℕ) (before now : ℕ) (deck : Deck) (decided : Due)
         → asked_by words ≡ Some Check → Decks bytes deck → AreAccepted deck.site.processes
-        → IsDue words (Some bytes) before now decided → decided ≢ due.ReadFault → (decided ≡ due.Accepted deck.site) ⊎ (decided ≡ due.NoMemory) }
+        → IsDue words (Some bytes) before now decided → decided ≢ due.ReadFault → (decided ≡ due.Accepted deck.site) ⊎ (decided ≡ due.NoMemory no_memory) }
 {}
 
 /// So such a command ends well, where the source is sure of itself, unless memory runs out or a write fails.

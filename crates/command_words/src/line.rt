@@ -42,7 +42,7 @@ pub fn parsed<'a>(alloc: Global, words: &'a [String]) -> Result<Option<ArgMatche
     match matches_of(alloc, words) {
         Ok(matches) => Ok(Some(matches)),
         Err(error) => match error.kind() {
-            ErrorKind::OutOfMemory => Err(NoMemory),
+            ErrorKind::OutOfMemory => Err(NoMemory::from(AllocError)),
             _ => Ok(None),
         },
     }

@@ -105,7 +105,7 @@ one_fault_of (told.Broken breach) f g h k = one_of_breach breach f g h k
 -- bytes are refused for their length, or for what their lines say
 pub refused_for : (bytes : List ℕ) (f : DeckFault) → IsRefusalOf bytes f → ((f ≡ fault.TooLong) × (1048576 < length bytes)) ⊎ ((length bytes ≤ 1048576) × IsFaultOf (told_by (lines_of bytes)) f)
 refused_for bytes fault.TooLong h = inl (refl, h)
-refused_for bytes fault.NoMemory h = absurd h
+refused_for bytes (fault.NoMemory _) h = absurd h
 refused_for bytes f h = inr h
 
 pub one_refusal : (bytes : List ℕ) (f g : DeckFault) → IsRefusalOf bytes f → IsRefusalOf bytes g → f ≡ g

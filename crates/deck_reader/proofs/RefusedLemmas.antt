@@ -1,6 +1,7 @@
 -- Why bytes are refused as a deck.
 use Rattle.std.proofs.Common.{◌≡◌, ℕ, ◌<◌, ◌≤◌, zero, suc, Bool, true, false, cond, List, [], ◌∷◌, ◌++◌, length, get_or, Option, Some, None, option_map, refl, sym, ap, ap₂, ◌∙◌, subst, arith, inl, inr}
 use Rattle.std.specs.Prelude.{◌≢◌, Result, Ok, Err, IfErr}
+use Rattle.gd_words.specs.Memory.{no_memory}
 use Rattle.name_table.specs.Entries.{Named}
 use Rattle.tal_laws.proofs.WithinLimits.{read_is_within}
 use Rattle.tal_reader.proofs.Reading.{one-program, refused-as-none}
@@ -93,20 +94,20 @@ first_after (x ∷ xs) later one (y ∷ ys) f each refused = inr (y.what, each.0
 
 -- what is told for one reason is told for another that follows from it
 pub tells_too : (P Q : DeckFault → Type 0) → ((f : DeckFault) → P f → Q f) → (f : DeckFault) → Tells P f → Tells Q f
-tells_too P Q gives fault.NoMemory h = tt
+tells_too P Q gives (fault.NoMemory _) h = tt
 tells_too P Q gives (fault.Program number why) h = (h.0, gives (fault.Program number why) h.1)
 tells_too P Q gives f h = gives f h
 
 -- the bytes of what lines say are refused for its fault
-pub refusal : (bytes : List ℕ) (f : DeckFault) → length bytes ≤ 1048576 → Tells (IsFaultOf (told_by (lines_of bytes))) f → f ≢ fault.TooLong → f ≢ fault.NoMemory → IsRefusalOf bytes f
+pub refusal : (bytes : List ℕ) (f : DeckFault) → length bytes ≤ 1048576 → Tells (IsFaultOf (told_by (lines_of bytes))) f → f ≢ fault.TooLong → f ≢ fault.NoMemory no_memory → IsRefusalOf bytes f
 refusal bytes fault.TooLong short h long memory = absurd (long refl)
-refusal bytes fault.NoMemory short h long memory = absurd (memory refl)
+refusal bytes (fault.NoMemory _) short h long memory = absurd (memory refl)
 refusal bytes (fault.Program number why) short h long memory = (short, h.1)
 refusal bytes f short h long memory = (short, h)
 
 -- want of memory is told as no fault of a program
-pub no_memory_told : (P : DeckFault → Type 0) (f : DeckFault) (number : ℕ) → Tells P f → f ≢ fault.Program number tal.NoMemory
-no_memory_told P (fault.Program n why) number h same = let reason : why ≡ tal.NoMemory = cc in h.0 reason
+pub no_memory_told : (P : DeckFault → Type 0) (f : DeckFault) (number : ℕ) → Tells P f → f ≢ fault.Program number (tal.NoMemory no_memory)
+no_memory_told P (fault.Program n why) number h same = let reason : why ≡ tal.NoMemory no_memory = cc in h.0 reason
 no_memory_told P f number h same = cc
 
 -- what lines say is no fault of length
@@ -151,7 +152,7 @@ not_too_long said f h same = fault_is_short said (subst (Tells (IsFaultOf said))
 
 -- where what lines say is told, the bytes are refused for it
 pub errs_refused : (bytes : List ℕ) (answer : Result Deck DeckFault) → length bytes ≤ 1048576 → IfErr answer (λ f. Tells (IsFaultOf (told_by (lines_of bytes))) f)
-    → IfErr answer (λ f. f ≢ fault.NoMemory → IsRefusalOf bytes f)
+    → IfErr answer (λ f. f ≢ fault.NoMemory no_memory → IsRefusalOf bytes f)
 errs_refused bytes (Ok deck) short h = tt
 errs_refused bytes (Err f) short h = λ memory. refusal bytes f short h (not_too_long (told_by (lines_of bytes)) f h) memory
 

@@ -2,6 +2,7 @@
 -- up to the first that can't stand where it does, and the programs of the pairs up to that line: the fault of a program stands on
 -- its pair's line, and goes before another fault of that line. Where all lines stand and all programs read, names are looked up.
 use Rattle.std.specs.Prelude.{◌≡◌, ◌≢◌, ◌⊎◌, ◌<◌, ◌≤◌, ℕ, List, [], ◌∷◌, length, Option, Some, None, option_map, if◌then◌else◌}
+use Rattle.gd_words.specs.Memory.{no_memory}
 use Rattle.name_table.specs.Entries.{Named}
 use Rattle.tal_reader.specs.Reads.{Reads, IsRefused}
 use Rattle.tal_tree.specs.declared.fault.DeckFault.{DeckFault}
@@ -74,11 +75,11 @@ IsFaultOf (told.Broken breach) why = IsBreachFault breach why
 -- why bytes are refused
 abbrev pub IsRefusalOf : List ℕ → DeckFault → Type 0
 IsRefusalOf bytes fault.TooLong = 1048576 < length bytes
-IsRefusalOf bytes fault.NoMemory = ⊥
+IsRefusalOf bytes (fault.NoMemory _) = ⊥
 IsRefusalOf bytes why = (length bytes ≤ 1048576) × IsFaultOf (told_by (lines_of bytes)) why
 
 -- what is told is right, unless memory ran out, which is told as no fault of a program
 abbrev pub Tells : (DeckFault → Type 0) → DeckFault → Type 0
-Tells IsRight fault.NoMemory = Unit {0}
-Tells IsRight (fault.Program number why) = (why ≢ tal.NoMemory) × IsRight (fault.Program number why)
+Tells IsRight (fault.NoMemory _) = Unit {0}
+Tells IsRight (fault.Program number why) = (why ≢ tal.NoMemory no_memory) × IsRight (fault.Program number why)
 Tells IsRight why = IsRight why

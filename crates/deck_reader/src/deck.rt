@@ -1,4 +1,5 @@
 ghost use Rattle.std.specs.Prelude.{◌≡◌, ◌≢◌, ◌<◌, ◌≤◌, ◌↔◌, ℕ, Some, option_map, length, IfOk, IfErr, Err, MatchResult};
+ghost use Rattle.gd_words.specs.Memory.{no_memory};
 ghost use Rattle.deck_reader.specs.Decks.{Decks, IsDeckOf, AreTerminalsOf, IsTerminalOf};
 ghost use Rattle.deck_reader.specs.Names.{IsMisnamedTarget, earlier, targets_misnamed};
 ghost use Rattle.deck_reader.specs.Refusals.{IsOutlineFault, IsRefusalOf, Tells, name_fault};
@@ -30,14 +31,14 @@ pub struct Deck {
 pub fn read_deck(alloc: Global, bytes: &[u8]) -> Result<Deck, DeckFault>
     ensures ok { IfOk result (λ deck. Decks bytes.now deck) }
     ensures too_long { (result ≡ Err DeckFault.TooLong) ↔ (1048576 < length bytes.now) }
-    ensures err { IfErr result (λ fault. fault ≢ DeckFault.NoMemory → IsRefusalOf bytes.now fault) }
-    ensures told { (number : ℕ) → result ≢ Err (DeckFault.Program number TalFault.NoMemory) }
+    ensures err { IfErr result (λ fault. fault ≢ DeckFault.NoMemory no_memory → IsRefusalOf bytes.now fault) }
+    ensures told { (number : ℕ) → result ≢ Err (DeckFault.Program number (TalFault.NoMemory no_memory)) }
 {
     if bytes.len() > MOST_BYTES {
         return Err(DeckFault::TooLong);
     }
     match told_by(alloc, bytes) {
-        Err(NoMemory) => Err(DeckFault::NoMemory),
+        Err(memory) => Err(DeckFault::NoMemory(memory)),
         Ok(Told::Broken(breach)) => Err(breach_fault(alloc, &breach)),
         Ok(Told::Whole(outline)) => deck_of(alloc, outline),
     }

@@ -71,7 +71,7 @@ fn kind_of(alloc: Global, body: &Body) -> Result<Kind, DeckFault>
         Body::Disc { sectors } => Ok(Kind::Disc { sectors: *sectors }),
         Body::Pair(lines) => match read_program(alloc, lines.text.as_slice()) {
             Ok(program) => Ok(Kind::Pair(program)),
-            Err(TalFault::NoMemory) => Err(DeckFault::NoMemory),
+            Err(TalFault::NoMemory(memory)) => Err(DeckFault::NoMemory(memory)),
             Err(fault) => Err(DeckFault::Program(lines.line, fault)),
         },
     }
@@ -97,7 +97,7 @@ fn own_fault(alloc: Global, breach: &Breach) -> DeckFault
         None => fault_at(breach.line, breach.why),
         Some(lines) => match read_program(alloc, lines.text.as_slice()) {
             Ok(_) => fault_at(breach.line, breach.why),
-            Err(TalFault::NoMemory) => DeckFault::NoMemory,
+            Err(TalFault::NoMemory(memory)) => DeckFault::NoMemory(memory),
             Err(fault) => DeckFault::Program(lines.line, fault),
         },
     }

@@ -1,6 +1,7 @@
 -- A program has one verdict.
 use Rattle.std.proofs.Common.{◌≡◌, ◌≤◌, ◌<◌, ◌⊎◌, inl, inr, ℕ, arith, List, length, refl, ap, sym, ◌∙◌, subst}
 use Rattle.std.specs.Prelude.{⊤, Result, Ok, Err}
+use Rattle.gd_words.specs.Memory.{no_memory}
 use Rattle.tal_tree.specs.declared.program.Program.{Program}
 use Rattle.path_semantics.specs.declared.reason.Reason.{Reason}
 use Rattle.path_semantics.specs.declared.reason.Reason.TheVariants.{Data, SyncBlock, Input, Depth}
@@ -11,12 +12,12 @@ use Rattle.path_semantics.specs.Break.{Breaks}
 use Rattle.discipline.specs.Verdict.{IsEarlier, IsFirst, IsVerdict, Agree}
 
 -- an accepted program is refused only for want of memory
-pub accepted-ok : (program : Program) (result : Result ⊤ Refusal) → IsVerdict program result → IsAccepted program → (result ≡ Ok tt) ⊎ (result ≡ Err NoMemory)
+pub accepted-ok : (program : Program) (result : Result ⊤ Refusal) → IsVerdict program result → IsAccepted program → (result ≡ Ok tt) ⊎ (result ≡ Err (NoMemory no_memory))
 accepted-ok program (Ok _) verdict accepted = inl refl
 accepted-ok program (Err TooDeep) verdict accepted = absurd (let bound = accepted.bounds.depth in omega arith)
 accepted-ok program (Err (TooLarge n)) verdict accepted = absurd (let bound = accepted.bounds.size in let large = verdict.1 in omega arith)
 accepted-ok program (Err (Broken reason path)) verdict accepted = absurd (accepted.unbroken path reason verdict.shortest.breaks)
-accepted-ok program (Err NoMemory) verdict accepted = inr refl
+accepted-ok program (Err (NoMemory _)) verdict accepted = inr refl
 
 less-or-more : (n m : ℕ) → (n < m) ⊎ ((n ≡ m) ⊎ (m < n))
 less-or-more n m = grind arith
@@ -55,11 +56,11 @@ both-first program one other path other_path first second (inr (inl same)) =
     (same, omega arith)
 
 pub verdicts-agree : (program : Program) (one other : Result ⊤ Refusal) → IsVerdict program one → IsVerdict program other → Agree one other
-verdicts-agree program (Err NoMemory) other first second = tt
-verdicts-agree program (Ok _) (Err NoMemory) first second = tt
-verdicts-agree program (Err TooDeep) (Err NoMemory) first second = tt
-verdicts-agree program (Err (TooLarge n)) (Err NoMemory) first second = tt
-verdicts-agree program (Err (Broken reason path)) (Err NoMemory) first second = tt
+verdicts-agree program (Err (NoMemory _)) other first second = tt
+verdicts-agree program (Ok _) (Err (NoMemory _)) first second = tt
+verdicts-agree program (Err TooDeep) (Err (NoMemory _)) first second = tt
+verdicts-agree program (Err (TooLarge n)) (Err (NoMemory _)) first second = tt
+verdicts-agree program (Err (Broken reason path)) (Err (NoMemory _)) first second = tt
 verdicts-agree program (Ok _) (Ok _) first second = tt
 verdicts-agree program (Ok _) (Err TooDeep) first second = let bound = first.bounds.depth in omega arith
 verdicts-agree program (Ok _) (Err (TooLarge m)) first second = let bound = first.bounds.size in let large = second.1 in omega arith

@@ -51,12 +51,12 @@ IsVerdict program (Ok _) = IsAccepted program
 IsVerdict program (Err TooDeep) = 16 < depth_of program
 IsVerdict program (Err (TooLarge n)) = (depth_of program ≤ 16) × (8192 < size_of program) × (n ≡ min (size_of program) 4294967295)
 IsVerdict program (Err (Broken reason path)) = IsFirst program reason path
-IsVerdict program (Err NoMemory) = Unit {0}
+IsVerdict program (Err (NoMemory _)) = Unit {0}
 
 -- two verdicts agree but for the path, where memory sufficed for both: for one reason its paths are as long
 abbrev pub Agree : Result ⊤ Refusal → Result ⊤ Refusal → Type 0
-Agree (Err NoMemory) _ = Unit {0}
-Agree _ (Err NoMemory) = Unit {0}
+Agree (Err (NoMemory _)) _ = Unit {0}
+Agree _ (Err (NoMemory _)) = Unit {0}
 Agree (Ok _) (Ok _) = Unit {0}
 Agree (Err TooDeep) (Err TooDeep) = Unit {0}
 Agree (Err (TooLarge n)) (Err (TooLarge m)) = n ≡ m

@@ -32,7 +32,7 @@ pub fn check(alloc: Global, program: &Program) -> Result<(), Refusal>
         Ok(flow) => check_reasons(alloc, program, &flow),
         Err(FlowFault::TooDeep) => Err(Refusal::TooDeep),
         Err(FlowFault::TooLarge(size)) => Err(Refusal::TooLarge(size)),
-        Err(FlowFault::NoMemory) => Err(Refusal::NoMemory),
+        Err(FlowFault::NoMemory(memory)) => Err(Refusal::NoMemory(memory)),
     }
 }
 
@@ -47,11 +47,11 @@ fn check_reasons(alloc: Global, program: &Program, flow: &Flow<'_>) -> Result<()
 {
     let mut search = match Search::new(alloc, flow.len()) {
         Ok(search) => search,
-        Err(NoMemory) => return Err(Refusal::NoMemory),
+        Err(memory) => return Err(Refusal::NoMemory(memory)),
     };
     let suspects = match suspects(alloc, flow) {
         Ok(suspects) => suspects,
-        Err(NoMemory) => return Err(Refusal::NoMemory),
+        Err(memory) => return Err(Refusal::NoMemory(memory)),
     };
     search.try_items(alloc, program, flow, suspects)?;
     search.try_files(alloc, program, flow, suspects)?;
@@ -174,9 +174,9 @@ impl Search {
             }
             Ok(Some(place)) => match self.path_to(alloc, flow, place) {
                 Ok(path) => Err(Refusal::Broken { reason, path }),
-                Err(NoMemory) => Err(Refusal::NoMemory),
+                Err(memory) => Err(Refusal::NoMemory(memory)),
             },
-            Err(NoMemory) => Err(Refusal::NoMemory),
+            Err(memory) => Err(Refusal::NoMemory(memory)),
         }
     }
 }

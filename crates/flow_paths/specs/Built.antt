@@ -14,4 +14,4 @@ abbrev pub IsBuilt : Program → Result (List Node) FlowFault → Type 0
 IsBuilt program (Ok nodes) = IsWithinBounds program × IsFlow program nodes
 IsBuilt program (Err TooDeep) = 16 < depth_of program
 IsBuilt program (Err (TooLarge size)) = (depth_of program ≤ 16) × (8192 < size_of program) × (size ≡ told (size_of program))
-IsBuilt program (Err NoMemory) = IsWithinBounds program
+IsBuilt program (Err (NoMemory _)) = IsWithinBounds program

@@ -10,16 +10,16 @@ pub enum FlowFault {
     #[error("{0} statements with all calls written out, and 8,192 is the limit")]
     TooLarge(u32),
     #[error("out of memory")]
-    NoMemory,
+    NoMemory(NoMemory),
 }
 
 impl From<NoMemory> for FlowFault {
     ghost use Rattle.std.specs.Prelude.{◌≡◌};
     ghost use Rattle.flow_paths.specs.declared.fault.FlowFault.TheVariants as flow;
 
-    ghost from_gives = { λ _ fault. fault ≡ flow.NoMemory };
+    ghost from_gives = { λ memory fault. fault ≡ flow.NoMemory memory };
 
-    fn from(_error: NoMemory) -> FlowFault {
-        FlowFault::NoMemory
+    fn from(memory: NoMemory) -> FlowFault {
+        FlowFault::NoMemory(memory)
     }
 }

@@ -56,7 +56,7 @@ fn count(alloc: Global, links: &[Link], times: usize) -> Result<Result<u16, Flow
     let program = program_of(alloc, text.as_slice())?;
     let counted = match Flow::of(alloc, &program) {
         Ok(flow) => Ok(flow.len()),
-        Err(FlowFault::NoMemory) => return Err(Fail::from("out of memory")),
+        Err(FlowFault::NoMemory(_)) => return Err(Fail::from("out of memory")),
         Err(fault) => Err(fault),
     };
     Ok(counted)

@@ -3,6 +3,7 @@ use Rattle.std.proofs.Common.{◌≡◌, ℕ, ◌+◌, ◌≤◌, List, ◌++◌
 use Rattle.std.proofs.lemmas.List.{length-append}
 use Rattle.std.proofs.Math.Seq.{drop-append_seam}
 use Rattle.std.specs.Io.KnownBytes.{Appends, Consumes, Keeps}
+use Rattle.gd_words.specs.Memory.{no_memory}
 use Rattle.gd_io.specs.Joining.{Appends-more}
 use Rattle.gd_io.specs.Reads.{ReadsFrom}
 use Rattle.gd_io.specs.declared.reading.ReadRefusal.TheVariants.{Failed, TooLong, NoMemory}
@@ -34,10 +35,10 @@ failed most None new taken e h = (taken, drop (length taken) taken, tt, (length 
 failed most (Some xs) None taken e h = absurd h
 failed most (Some xs) (Some ys) taken e h = (taken ++ ys, ys, (h, refl), (length taken, e, sym (drop-append_seam taken ys)))
 
-pub no_memory : (most : ℕ) (old new : Option (List ℕ)) (taken : List ℕ) → length taken ≤ most + 1 → Consumes old new taken → ReadsFrom most old new (Err NoMemory)
-no_memory most None new taken e h = (taken, drop (length taken) taken, tt, (length taken, e, refl))
-no_memory most (Some xs) None taken e h = absurd h
-no_memory most (Some xs) (Some ys) taken e h = (taken ++ ys, ys, (h, refl), (length taken, e, sym (drop-append_seam taken ys)))
+pub memory_ran_out : (most : ℕ) (old new : Option (List ℕ)) (taken : List ℕ) → length taken ≤ most + 1 → Consumes old new taken → ReadsFrom most old new (Err (NoMemory no_memory))
+memory_ran_out most None new taken e h = (taken, drop (length taken) taken, tt, (length taken, e, refl))
+memory_ran_out most (Some xs) None taken e h = absurd h
+memory_ran_out most (Some xs) (Some ys) taken e h = (taken ++ ys, ys, (h, refl), (length taken, e, sym (drop-append_seam taken ys)))
 
 -- first some bytes of a piece, then some of the rest
 pub Appends-take : (old mid new : Option (List ℕ)) (piece rest : List ℕ) (at n : ℕ) → rest ≡ drop at piece

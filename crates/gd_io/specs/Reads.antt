@@ -14,7 +14,7 @@ abbrev pub ReadsAll : ℕ → List ℕ → List ℕ → Result (List ℕ) ReadRe
 ReadsAll most bytes rest (Ok all) = (all ≡ bytes) × (length bytes ≤ most) × (rest ≡ [])
 ReadsAll most bytes rest (Err TooLong) = (most < length bytes) × (rest ≡ drop (most + 1) bytes)
 ReadsAll most bytes rest (Err Failed) = (n : ℕ) × (n ≤ most) × (rest ≡ drop n bytes)
-ReadsAll most bytes rest (Err NoMemory) = (n : ℕ) × (n ≤ most + 1) × (rest ≡ drop n bytes)
+ReadsAll most bytes rest (Err (NoMemory _)) = (n : ℕ) × (n ≤ most + 1) × (rest ≡ drop n bytes)
 
 -- the bytes that are left, which are the told ones where the source tells them, are read so
 abbrev pub ReadsFrom : ℕ → Option (List ℕ) → Option (List ℕ) → Result (List ℕ) ReadRefusal → Type 0

@@ -4,7 +4,7 @@ ghost use Rattle.gd_io.specs.Faults.{HasRisen};
 ghost use Rattle.gd_io.specs.Reads.{ReadsFrom};
 
 use crate::source::{Source, Took};
-use gd_words::List;
+use gd_words::{List, NoMemory};
 use std::alloc::Global;
 use thiserror::Error;
 
@@ -16,7 +16,7 @@ pub enum ReadRefusal {
     #[error("there are too many bytes")]
     TooLong,
     #[error("out of memory")]
-    NoMemory,
+    NoMemory(NoMemory),
 }
 
 const CHUNK: usize = 4096;
@@ -44,8 +44,8 @@ pub fn read_all<S: Source>(
             Took::Got(0) => return Ok(List::from_vec(bytes)),
             Took::Got(n) => {
                 let (piece, _) = start.split_at(n);
-                if bytes.extend_from_slice(piece).is_err() {
-                    return Err(ReadRefusal::NoMemory);
+                if let Err(error) = bytes.extend_from_slice(piece) {
+                    return Err(ReadRefusal::NoMemory(NoMemory::from(error)));
                 }
             }
             Took::End => return Ok(List::from_vec(bytes)),

@@ -6,3 +6,4 @@ pub mod PaddedName
 pub mod PaddedText
 pub mod Spelling
 pub mod formers
+pub mod Memory

@@ -1,9 +1,9 @@
 use std::alloc::{AllocError, AllocFailed};
 use std::fmt;
 
-/// Memory ran out. No call says when this comes.
+/// Memory ran out. No call says when this comes. It is made of an allocator's error alone.
 #[derive(Clone, Copy, Debug, PartialEq, Eq)]
-pub struct NoMemory;
+pub struct NoMemory(());
 
 impl fmt::Display for NoMemory {
     fn fmt<W: fmt::Write>(&self, f: &mut fmt::Formatter<W>) -> fmt::Result {
@@ -15,12 +15,12 @@ impl std::error::Error for NoMemory {}
 
 impl From<AllocError> for NoMemory {
     fn from(_error: AllocError) -> NoMemory {
-        NoMemory
+        NoMemory(())
     }
 }
 
 impl<T: Drop> From<AllocFailed<T>> for NoMemory {
     fn from(_error: AllocFailed<T>) -> NoMemory {
-        NoMemory
+        NoMemory(())
     }
 }

@@ -7,7 +7,7 @@
 use gd_io::{StdSink, StdSource};
 use gd_words::NoMemory;
 use runner::exit_number;
-use std::alloc::AllocGlobal;
+use std::alloc::{AllocError, AllocGlobal};
 use std::process::ExitCode;
 use std::rt::Env;
 use std::{env, io};
@@ -20,7 +20,7 @@ fn called_words<R: Env + AllocGlobal>(rt: &R) -> Result<Vec<String>, NoMemory> {
     match env::args(rt) {
         Ok(words) => Ok(words.collect(rt.alloc())?),
         Err(error) => match error.kind() {
-            io::ErrorKind::OutOfMemory => Err(NoMemory),
+            io::ErrorKind::OutOfMemory => Err(NoMemory::from(AllocError)),
             _ => Ok(Vec::new(rt.alloc())),
         },
     }

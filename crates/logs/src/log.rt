@@ -88,10 +88,11 @@ impl<T: Copy> Log<T> {
     {
         let before = self.items.len();
         self.items.extend_from_slice(items.as_slice())?;
-        if self.items.push(last).is_err() {
+        if let Err(error) = self.items.reserve(1) {
             self.items.truncate(before);
-            return Err(NoMemory);
+            return Err(NoMemory::from(error));
         }
+        self.items.push_reserved(last);
         Ok(())
     }
 }

@@ -1,4 +1,4 @@
-use gd_words::List;
+use gd_words::{List, NoMemory};
 
 /// Why a path breaks at its last statement. Globals are named by their items' numbers, files in the order of the OPENs.
 #[derive(Clone, Copy, PartialEq, Eq)]
@@ -23,5 +23,5 @@ pub enum Refusal {
     /// This path breaks, and no shorter one for the same reason.
     Broken { reason: Reason, path: List<u16> },
     /// Memory ran out.
-    NoMemory,
+    NoMemory(NoMemory),
 }

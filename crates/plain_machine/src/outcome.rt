@@ -8,17 +8,17 @@ pub enum ActFault {
     #[error("the act isn't possible")]
     NotPossible,
     #[error("memory ran out")]
-    NoMemory,
+    NoMemory(NoMemory),
 }
 
 impl From<NoMemory> for ActFault {
     ghost use Rattle.std.specs.Prelude.{◌≡◌};
     ghost use Rattle.plain_machine.specs.declared.outcome.ActFault.TheVariants as fault;
 
-    ghost from_gives = { λ _ answered. answered ≡ fault.NoMemory };
+    ghost from_gives = { λ memory answered. answered ≡ fault.NoMemory memory };
 
-    fn from(_: NoMemory) -> ActFault {
-        ActFault::NoMemory
+    fn from(memory: NoMemory) -> ActFault {
+        ActFault::NoMemory(memory)
     }
 }
 

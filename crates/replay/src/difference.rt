@@ -21,17 +21,17 @@ pub enum Difference {
     #[error("FORM the report has no end")]
     NoEnd,
     #[error("FORM out of memory")]
-    NoMemory,
+    NoMemory(NoMemory),
 }
 
 impl From<NoMemory> for Difference {
     ghost use Rattle.std.specs.Prelude.{◌≡◌};
     ghost use Rattle.replay.specs.declared.difference.Difference.TheVariants as difference;
 
-    ghost from_gives = { λ _ answered. answered ≡ difference.NoMemory };
+    ghost from_gives = { λ memory answered. answered ≡ difference.NoMemory memory };
 
-    fn from(_: NoMemory) -> Difference {
-        Difference::NoMemory
+    fn from(memory: NoMemory) -> Difference {
+        Difference::NoMemory(memory)
     }
 }
 
@@ -45,7 +45,7 @@ impl Difference {
             | Difference::NoDeck
             | Difference::NoLine(_)
             | Difference::NoEnd => 2,
-            Difference::NoMemory => 8,
+            Difference::NoMemory(_) => 8,
         }
     }
 }

@@ -31,7 +31,7 @@ fn main(rt: HostRuntime) -> ExitCode {
     let mut source = StdSource::new(rt.stdin());
     let outcome = match read_all(rt.alloc(), &mut source, MOST_BYTES) {
         Ok(input) => replay_input(rt.alloc(), input.as_slice()),
-        Err(ReadRefusal::NoMemory) => Err(Difference::NoMemory),
+        Err(ReadRefusal::NoMemory(memory)) => Err(Difference::NoMemory(memory)),
         Err(ReadRefusal::Failed | ReadRefusal::TooLong) => Err(Difference::NoInput),
     };
     let (status, written) = match outcome {

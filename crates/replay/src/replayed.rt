@@ -40,7 +40,7 @@ pub fn replay_input(alloc: Global, input: &[u8]) -> Result<usize, Difference>
     };
     match read_deck(alloc, text) {
         Ok(deck) => replay_on(alloc, &deck.site, report),
-        Err(DeckFault::NoMemory) => Err(Difference::NoMemory),
+        Err(DeckFault::NoMemory(memory)) => Err(Difference::NoMemory(memory)),
         Err(_) => Err(Difference::NoDeck),
     }
 }
@@ -122,7 +122,7 @@ impl<'a> Replay<'a> {
                 Ok(())
             }
             Err(ActFault::NotPossible) => Err(Difference::Impossible(number)),
-            Err(ActFault::NoMemory) => Err(Difference::NoMemory),
+            Err(ActFault::NoMemory(memory)) => Err(Difference::NoMemory(memory)),
         }
     }
 

@@ -1,6 +1,7 @@
 -- What is decided, and what the outcome tells of it.
 use Rattle.std.proofs.Common.{◌≡◌, ℕ, true, List, Option, Some, None, Result, Ok, Err, sym, subst, ap, ◌∙◌, refl}
 use Rattle.std.specs.Prelude.{◌≢◌, ⊤}
+use Rattle.gd_words.specs.Memory.{no_memory}
 use Rattle.deck_reader.specs.Decks.{Decks}
 use Rattle.deck_reader.specs.Refusals.{IsRefusalOf}
 use Rattle.deck_reader.specs.declared.deck.Deck.{Deck}
@@ -32,23 +33,23 @@ told None now bytes rest h = tt
 told (Some xs) now bytes rest h = h.0
 
 -- what a program is refused for is told, where it isn't want of memory
-of_text : (why : TalFault) → why ≢ tal.NoMemory → IsOfText why
-of_text tal.NoMemory memory = absurd (memory refl)
+of_text : (why : TalFault) → why ≢ tal.NoMemory no_memory → IsOfText why
+of_text (tal.NoMemory _) memory = absurd (memory refl)
 of_text _ memory = tt
 
 -- why bytes are refused is due
-pub fault_is_due : (task : Task) (bytes : List ℕ) (f : DeckFault) → (f ≢ fault.NoMemory → IsRefusalOf bytes f) → IsDueOfBytes task bytes (due_of_fault f)
-fault_is_due task bytes fault.NoMemory refused = tt
+pub fault_is_due : (task : Task) (bytes : List ℕ) (f : DeckFault) → (f ≢ fault.NoMemory no_memory → IsRefusalOf bytes f) → IsDueOfBytes task bytes (due_of_fault f)
+fault_is_due task bytes (fault.NoMemory _) refused = tt
 fault_is_due task bytes f refused = refused (λ e. absurd (cc))
 
 -- why bytes are refused has a line
-has_line : (bytes : List ℕ) (f : DeckFault) → IsRefusalOf bytes f → ((number : ℕ) → f ≢ fault.Program number tal.NoMemory) → IsOfDeck f
+has_line : (bytes : List ℕ) (f : DeckFault) → IsRefusalOf bytes f → ((number : ℕ) → f ≢ fault.Program number (tal.NoMemory no_memory)) → IsOfDeck f
 has_line bytes (fault.Program number why) refused memory = of_text why (λ e. memory number (ap (fault.Program number) e))
-has_line bytes fault.NoMemory refused memory = absurd refused
+has_line bytes (fault.NoMemory _) refused memory = absurd refused
 has_line bytes _ refused memory = tt
 
-pub fault_is_written : (bytes : List ℕ) (f : DeckFault) → (f ≢ fault.NoMemory → IsRefusalOf bytes f) → ((number : ℕ) → f ≢ fault.Program number tal.NoMemory) → CanBeWritten (due_of_fault f)
-fault_is_written bytes fault.NoMemory refused memory = tt
+pub fault_is_written : (bytes : List ℕ) (f : DeckFault) → (f ≢ fault.NoMemory no_memory → IsRefusalOf bytes f) → ((number : ℕ) → f ≢ fault.Program number (tal.NoMemory no_memory)) → CanBeWritten (due_of_fault f)
+fault_is_written bytes (fault.NoMemory _) refused memory = tt
 fault_is_written bytes f refused memory = has_line bytes f (refused (λ e. absurd (cc))) memory
 
 -- a read fault is the status of no run
@@ -61,7 +62,7 @@ run_read (Second processor) e = cc
 read_fault_only : (decided : Due) (result : Result ⊤ WriteFault) → (outcome_of decided result).status ≡ status.ReadFault → decided ≡ due.ReadFault
 read_fault_only due.Usage (Ok done) e = absurd (cc)
 read_fault_only due.ReadFault (Ok done) e = refl
-read_fault_only due.NoMemory (Ok done) e = absurd (cc)
+read_fault_only (due.NoMemory _) (Ok done) e = absurd (cc)
 read_fault_only (due.DeckRefused fault) (Ok done) e = absurd (cc)
 read_fault_only (due.ProgramRefused refused) (Ok done) e = absurd (cc)
 read_fault_only (due.Accepted site) (Ok done) e = absurd (cc)
@@ -77,7 +78,7 @@ pub accepted_is_due : (task : Task) (deck : Deck) (decided : Due) → AreAccepte
     → IsDueOfPrograms task deck decided
 accepted_is_due (task.Run acts stop) deck (due.ProgramRefused refused) accepted is = absurd is
 accepted_is_due task.Check deck (due.ProgramRefused refused) accepted is = absurd (cc)
-accepted_is_due task deck due.NoMemory accepted is = tt
+accepted_is_due task deck (due.NoMemory _) accepted is = tt
 accepted_is_due task deck due.Usage accepted is = (accepted, is)
 accepted_is_due task deck due.ReadFault accepted is = (accepted, is)
 accepted_is_due task deck (due.DeckRefused fault) accepted is = (accepted, is)
@@ -101,7 +102,7 @@ no_deck_fault task.Check deck f is = cc
 pub programs_are_due : (task : Task) (deck : Deck) (decided : Due) → can_stop task deck.site ≡ true → IsDueOfPrograms task deck decided
     → IsDueOfDeck task deck decided
 programs_are_due task deck due.Usage can is = absurd (no_usage task deck is.1)
-programs_are_due task deck due.NoMemory can is = (can, is)
+programs_are_due task deck (due.NoMemory _) can is = (can, is)
 programs_are_due task deck due.ReadFault can is = (can, is)
 programs_are_due task deck (due.DeckRefused fault) can is = (can, is)
 programs_are_due task deck (due.ProgramRefused refused) can is = (can, is)
@@ -112,7 +113,7 @@ programs_are_due task deck (due.Report report) can is = (can, is)
 pub deck_is_due : (task : Task) (bytes : List ℕ) (deck : Deck) (decided : Due) → Decks bytes deck → IsDueOfDeck task deck decided
     → IsDueOfBytes task bytes decided
 deck_is_due task bytes deck (due.DeckRefused f) decks is = absurd (no_deck_fault task deck f is.1.1)
-deck_is_due task bytes deck due.NoMemory decks is = tt
+deck_is_due task bytes deck (due.NoMemory _) decks is = tt
 deck_is_due task bytes deck due.Usage decks is = (deck, decks, is)
 deck_is_due task bytes deck due.ReadFault decks is = (deck, decks, is)
 deck_is_due task bytes deck (due.ProgramRefused refused) decks is = (deck, decks, is)
@@ -130,7 +131,7 @@ not_read_fault task bytes decided is e = bytes_are_read task bytes (subst (IsDue
 pub bytes_are_due : (task : Task) (left : Option (List ℕ)) (before now : ℕ) (bytes : List ℕ) (decided : Due) → IsTold left bytes → IsDueOfBytes task bytes decided
     → IsDueOfSource task left before now decided
 bytes_are_due task left before now bytes due.ReadFault told is = absurd (bytes_are_read task bytes is)
-bytes_are_due task left before now bytes due.NoMemory told is = tt
+bytes_are_due task left before now bytes (due.NoMemory _) told is = tt
 bytes_are_due task left before now bytes due.Usage told is = (bytes, told, is)
 bytes_are_due task left before now bytes (due.DeckRefused f) told is = (bytes, told, is)
 bytes_are_due task left before now bytes (due.ProgramRefused refused) told is = (bytes, told, is)

@@ -1,5 +1,6 @@
 -- What a command decides before it writes anything.
 use Rattle.std.specs.Prelude.{◌≡◌, ◌⊎◌, ℕ, Bool, true, false, List, Option, Some, None}
+use Rattle.gd_words.specs.Memory.{no_memory}
 use Rattle.tal_tree.specs.declared.fault.DeckFault.{DeckFault}
 use Rattle.tal_tree.specs.declared.fault.DeckFault.TheVariants.{TooLong, NoMemory}
 use Rattle.command_words.specs.Asked.{asked_by}
@@ -46,7 +47,7 @@ pub record IsReportOf (deck : Deck) (stop : Option Stop) (report : Report) : Typ
 -- what is due of a deck that is run: the report of its run, which is to tell so of it
 abbrev pub IsDueOfRun : Deck → Option Stop → Telling → Due → Type 0
 IsDueOfRun deck stop tells (due.Report report) = IsReportOf deck stop report × (report.tells ≡ tells)
-IsDueOfRun deck stop tells due.NoMemory = Unit {0}
+IsDueOfRun deck stop tells (due.NoMemory _) = Unit {0}
 IsDueOfRun deck stop tells _ = ⊥
 
 -- what is due of a deck whose programs are all accepted, by what is to be done with it
@@ -57,7 +58,7 @@ IsDueOfAccepted task.Check deck decided = decided ≡ due.Accepted deck.site
 -- what is due of the programs of a deck: the first that is refused, or else what is due by what is to be done, and then all are accepted
 abbrev pub IsDueOfPrograms : Task → Deck → Due → Type 0
 IsDueOfPrograms task deck (due.ProgramRefused refused) = (refused.site ≡ deck.site) × IsFirstRefused deck.site.processes refused.found
-IsDueOfPrograms task deck due.NoMemory = Unit {0}
+IsDueOfPrograms task deck (due.NoMemory _) = Unit {0}
 IsDueOfPrograms task deck decided = AreAccepted deck.site.processes × IsDueOfAccepted task deck decided
 
 -- what is due of a deck: the usage where a processor is to stop that it hasn't, else what is due of its programs
@@ -67,13 +68,13 @@ IsDueOfDeck task deck decided = (can_stop task deck.site ≡ true) × IsDueOfPro
 
 -- what is due where a deck is refused for a fault, or memory ran out
 abbrev pub due_of_fault : DeckFault → Due
-due_of_fault NoMemory = due.NoMemory
+due_of_fault (NoMemory memory) = due.NoMemory memory
 due_of_fault fault = due.DeckRefused fault
 
 -- what is due of bytes
 abbrev pub IsDueOfBytes : Task → List ℕ → Due → Type 0
 IsDueOfBytes task bytes (due.DeckRefused fault) = IsRefusalOf bytes fault
-IsDueOfBytes task bytes due.NoMemory = Unit {0}
+IsDueOfBytes task bytes (due.NoMemory _) = Unit {0}
 IsDueOfBytes task bytes decided = (deck : Deck) × Decks bytes deck × IsDueOfDeck task deck decided
 
 -- what there is is what was told, where it was told
@@ -84,7 +85,7 @@ IsTold (Some told) there = told ≡ there
 -- what is due of a source, whose count of faults stood and stands so
 abbrev pub IsDueOfSource : Task → Option (List ℕ) → ℕ → ℕ → Due → Type 0
 IsDueOfSource task left before now due.ReadFault = HasRisen before now
-IsDueOfSource task left before now due.NoMemory = Unit {0}
+IsDueOfSource task left before now (due.NoMemory _) = Unit {0}
 IsDueOfSource task left before now decided = (bytes : List ℕ) × IsTold left bytes × IsDueOfBytes task bytes decided
 
 -- what is due by a command: of the deck that is read, or of the load deck, whose text is read as any other
@@ -100,7 +101,7 @@ IsDueOn (Some asked) left before now decided = IsDueOfCommand asked left before 
 
 -- what is due: want of memory, or what is due by what the words ask for, the program's name first
 abbrev pub IsDue : List (List ℕ) → Option (List ℕ) → ℕ → ℕ → Due → Type 0
-IsDue words left before now decided = (decided ≡ due.NoMemory) ⊎ IsDueOn (asked_by words) left before now decided
+IsDue words left before now decided = (decided ≡ due.NoMemory no_memory) ⊎ IsDueOn (asked_by words) left before now decided
 
 -- whether a deck is read for what is asked: not where that is nothing, or a load, whose deck is made
 abbrev pub reads_deck : Option Command → Bool

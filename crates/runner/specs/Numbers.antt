@@ -12,4 +12,4 @@ number_of Cut = 4
 number_of (SecondStop processor) = 5
 number_of ReadFault = 6
 number_of WriteFault = 7
-number_of NoMemory = 8
+number_of (NoMemory _) = 8

@@ -37,7 +37,7 @@ text_of_run report = text_telling report.tells report
 abbrev pub text_of : Due → List ℕ
 text_of due.Usage = usage_line
 text_of due.ReadFault = []
-text_of due.NoMemory = []
+text_of (due.NoMemory _) = []
 text_of (due.DeckRefused fault) = fault_line fault
 text_of (due.ProgramRefused refused) = refusal_text refused.site refused.found.process refused.found.refusal refused.found.lines
 text_of (due.Accepted site) = accepted_text site
@@ -46,7 +46,7 @@ text_of (due.Report report) = text_of_run report
 abbrev pub status_of : Due → Status
 status_of due.Usage = status.Usage
 status_of due.ReadFault = status.ReadFault
-status_of due.NoMemory = status.NoMemory
+status_of (due.NoMemory memory) = status.NoMemory memory
 status_of (due.DeckRefused fault) = status.DeckRefused fault
 status_of (due.ProgramRefused refused) = status.Refused refused.found.process refused.found.refusal
 status_of (due.Accepted site) = status.Done

@@ -41,7 +41,7 @@ pub fn decide<S: Source>(alloc: Global, words: &[String], source: &mut S) -> Due
     ensures read_whole { reads_deck (asked_by (map string_bytes words.entry.now)) ≡ true → IsOfWholeDeck result → IsAtEnd (S.left source.new) }
 {
     match asked_by(alloc, words) {
-        Err(NoMemory) => Due::NoMemory,
+        Err(memory) => Due::NoMemory(memory),
         Ok(None) => Due::Usage,
         Ok(Some(command)) => due_of_command(alloc, command, source),
     }
@@ -73,7 +73,7 @@ fn due_of_load(alloc: Global, requests: u32) -> Due
     ensures unread { result ≢ Due.ReadFault }
 {
     match load_text(alloc, requests) {
-        Err(NoMemory) => Due::NoMemory,
+        Err(memory) => Due::NoMemory(memory),
         Ok(text) => due_of_bytes(alloc, Task::load(requests), text.as_slice()),
     }
 }
@@ -88,7 +88,7 @@ fn due_of_source<S: Source>(alloc: Global, task: Task, source: &mut S) -> Due
         Ok(bytes) => due_of_bytes(alloc, task, bytes.as_slice()),
         Err(ReadRefusal::Failed) => Due::ReadFault,
         Err(ReadRefusal::TooLong) => Due::DeckRefused(DeckFault::TooLong),
-        Err(ReadRefusal::NoMemory) => Due::NoMemory,
+        Err(ReadRefusal::NoMemory(memory)) => Due::NoMemory(memory),
     }
 }
 
@@ -106,7 +106,7 @@ fn due_of_fault(fault: DeckFault) -> Due
     ensures { result ≡ due_of_fault fault }
 {
     match fault {
-        DeckFault::NoMemory => Due::NoMemory,
+        DeckFault::NoMemory(memory) => Due::NoMemory(memory),
         fault => Due::DeckRefused(fault),
     }
 }
@@ -129,7 +129,7 @@ fn due_of_programs(alloc: Global, task: Task, deck: Deck) -> Due
 {
     an_accepted_deck_meets_the_premises();
     match first_refused(alloc, deck.site.processes.as_slice()) {
-        Err(NoMemory) => Due::NoMemory,
+        Err(memory) => Due::NoMemory(memory),
         Ok(None) => due_of_accepted(alloc, task, deck),
         Ok(Some(found)) => {
             let Deck { site, lines: _ } = deck;
@@ -160,7 +160,7 @@ fn due_of_run(alloc: Global, deck: Deck, stop: Option<Stop>, tells: Telling) -> 
     ensures written { CanBeWritten result }
 {
     match report_of(alloc, deck, stop, tells) {
-        Err(NoMemory) => Due::NoMemory,
+        Err(memory) => Due::NoMemory(memory),
         Ok(report) => Due::Report(report),
     }
 }

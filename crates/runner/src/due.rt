@@ -1,6 +1,6 @@
 use crate::outcome::RunEnd;
 use crate::task::Telling;
-use gd_words::List;
+use gd_words::{List, NoMemory};
 use logs::Shared;
 use shown_sectors::SectorWords;
 use tal_tree::{DeckFault, Site};
@@ -11,7 +11,7 @@ use verdicts::RefusedProgram;
 pub enum Due {
     Usage,
     ReadFault,
-    NoMemory,
+    NoMemory(NoMemory),
     /// The bytes aren't a deck.
     DeckRefused(DeckFault),
     /// A program isn't accepted.

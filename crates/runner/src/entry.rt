@@ -63,7 +63,7 @@ fn write_due<K: Sink>(sink: &mut K, due: &Due) -> Result<(), WriteFault>
         Due::Accepted(site) => write_checked(sink, site),
         Due::Report(report) => write_run(sink, report),
         Due::ReadFault => Ok(()),
-        Due::NoMemory => Ok(()),
+        Due::NoMemory(_) => Ok(()),
     }
 }
 
@@ -143,7 +143,7 @@ fn done(due: Due) -> Outcome
     match due {
         Due::Usage => Outcome::without_run(Status::Usage),
         Due::ReadFault => Outcome::without_run(Status::ReadFault),
-        Due::NoMemory => Outcome::without_run(Status::NoMemory),
+        Due::NoMemory(memory) => Outcome::without_run(Status::NoMemory(memory)),
         Due::DeckRefused(fault) => Outcome::without_run(Status::DeckRefused(fault)),
         Due::ProgramRefused(refused) => Outcome::without_run(status_of_refused(refused)),
         Due::Accepted(_) => Outcome::without_run(Status::Done),
@@ -174,7 +174,7 @@ fn cut_off(due: Due) -> Outcome
         Due::Report(report) => Some(report.run),
         Due::Usage => None,
         Due::ReadFault => None,
-        Due::NoMemory => None,
+        Due::NoMemory(_) => None,
         Due::DeckRefused(_) => None,
         Due::ProgramRefused(_) => None,
         Due::Accepted(_) => None,

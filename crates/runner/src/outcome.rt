@@ -40,7 +40,7 @@ pub enum Status {
     SecondStop(u8),
     ReadFault,
     WriteFault,
-    NoMemory,
+    NoMemory(NoMemory),
 }
 
 impl Status {
@@ -60,7 +60,7 @@ impl Status {
             Status::SecondStop(_) => 5,
             Status::ReadFault => 6,
             Status::WriteFault => 7,
-            Status::NoMemory => 8,
+            Status::NoMemory(_) => 8,
         }
     }
 }

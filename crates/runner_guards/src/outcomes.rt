@@ -1,4 +1,5 @@
 ghost use Rattle.std.specs.Prelude.{◌≡◌, ℕ, [], ⊤, Ok, Err, Some, None, true, false};
+ghost use Rattle.gd_words.specs.Memory.{no_memory};
 ghost use Rattle.tal_tree.specs.declared.fault.DeckFault.{DeckFault};
 ghost use Rattle.tal_tree.specs.declared.site.Site.{Site};
 ghost use Rattle.path_semantics.specs.declared.reason.Refusal.{Refusal};
@@ -17,7 +18,7 @@ ghost use Rattle.runner.specs.declared.outcome.Status.TheVariants as status;
 pub fn what_is_due_is_written()
     ensures usage { (text_of due.Usage ≡ usage_line) × (status_of due.Usage ≡ status.Usage) }
     ensures read_fault { (text_of due.ReadFault ≡ []) × (status_of due.ReadFault ≡ status.ReadFault) }
-    ensures no_memory { (text_of due.NoMemory ≡ []) × (status_of due.NoMemory ≡ status.NoMemory) }
+    ensures no_memory { (text_of (due.NoMemory no_memory) ≡ []) × (status_of (due.NoMemory no_memory) ≡ status.NoMemory no_memory) }
     ensures deck_refused { (fault : DeckFault) → (text_of (due.DeckRefused fault) ≡ fault_line fault) × (status_of (due.DeckRefused fault) ≡ status.DeckRefused fault) }
     ensures refused { (refused : RefusedSite) → (text_of (due.ProgramRefused refused) ≡ refusal_text refused.site refused.found.process refused.found.refusal refused.found.lines)
         × (status_of (due.ProgramRefused refused) ≡ status.Refused refused.found.process refused.found.refusal) }

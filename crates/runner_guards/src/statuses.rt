@@ -1,4 +1,5 @@
 ghost use Rattle.std.specs.Prelude.{◌≡◌, ◌∷◌, [], ℕ, Some, None, true, false};
+ghost use Rattle.gd_words.specs.Memory.{no_memory};
 ghost use Rattle.tal_tree.specs.declared.fault.DeckFault.{DeckFault};
 ghost use Rattle.tal_tree.specs.declared.site.Site.{Site};
 ghost use Rattle.path_semantics.specs.declared.reason.Refusal.{Refusal};
@@ -20,7 +21,7 @@ pub fn a_status_has_its_number()
     ensures second_stop { (processor : ℕ) → number_of (status.SecondStop processor) ≡ 5 }
     ensures read_fault { number_of status.ReadFault ≡ 6 }
     ensures write_fault { number_of status.WriteFault ≡ 7 }
-    ensures no_memory { number_of status.NoMemory ≡ 8 }
+    ensures no_memory { number_of (status.NoMemory no_memory) ≡ 8 }
 {}
 
 /// The processors that have stopped are told by their numbers, rising.

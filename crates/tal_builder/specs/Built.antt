@@ -1,5 +1,6 @@
 -- What the builder answers.
 use Rattle.std.specs.Prelude.{◌≡◌, List, Result, Ok, Err}
+use Rattle.gd_words.specs.Memory.{no_memory}
 use Rattle.tal_tokens.specs.declared.token.Token.{Token}
 use Rattle.tal_syntax.specs.declared.text.Text.{Text}
 use Rattle.tal_syntax.specs.Grammar as g
@@ -17,4 +18,4 @@ IsSyntax ks t = g.IsText t × (g.of_text t ≡ ks) × AllAtMost 33 (nest_text t)
 -- the syntax of the tokens is built, or where there is memory they have none
 abbrev pub Built : List Token → Result Text Stop → Type 0
 Built ks (Ok t) = IsSyntax ks (seen_text t)
-Built ks (Err e) = (e ≡ stop.NoMemory → ⊥) → (t : g.Text) → IsSyntax ks t → ⊥
+Built ks (Err e) = (e ≡ stop.NoMemory no_memory → ⊥) → (t : g.Text) → IsSyntax ks t → ⊥

@@ -7,13 +7,13 @@ use gd_words::NoMemory;
 #[derive(Clone, Copy, PartialEq, Eq)]
 pub enum Stop {
     NoSyntax,
-    NoMemory,
+    NoMemory(NoMemory),
 }
 
 impl From<NoMemory> for Stop {
-    ghost from_gives = { λ e r. r ≡ variants.NoMemory };
+    ghost from_gives = { λ memory stop. stop ≡ variants.NoMemory memory };
 
-    fn from(_error: NoMemory) -> Stop {
-        Stop::NoMemory
+    fn from(memory: NoMemory) -> Stop {
+        Stop::NoMemory(memory)
     }
 }

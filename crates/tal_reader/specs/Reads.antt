@@ -1,5 +1,6 @@
 -- Which program a text reads as, and for which fault a text is refused that reads as none.
 use Rattle.std.specs.Prelude.{◌≡◌, ◌⊎◌, ℕ, List, [], slice_get, Some, None, Result, Ok, Err}
+use Rattle.gd_words.specs.Memory.{no_memory}
 use Rattle.tal_tokens.specs.declared.token.Token.{Token}
 use Rattle.tal_tokens.specs.Lexer.{tokens_of}
 use Rattle.tal_syntax.specs.Grammar as g
@@ -39,8 +40,8 @@ pub data IsRefused (text : List ℕ) : TalFault → Type 0 where
 -- the answer of the reader: the program that the text reads as, or the fault for which it is refused, but where memory ran out
 abbrev pub IsRead : List ℕ → Result Program TalFault → Type 0
 IsRead text (Ok program) = Reads text program
-IsRead text (Err f) = (f ≡ fault.NoMemory → ⊥) → IsRefused text f
+IsRead text (Err f) = (f ≡ fault.NoMemory no_memory → ⊥) → IsRefused text f
 
 -- what comes of tokens: want of memory, or of their syntax the tree or the least of its faults
 abbrev pub IsJudged : List Token → Result Program TalFault → Type 0
-IsJudged ks result = (result ≡ Err fault.NoMemory) ⊎ ((t : g.Text) × IsSyntax ks t × Judged t result)
+IsJudged ks result = (result ≡ Err (fault.NoMemory no_memory)) ⊎ ((t : g.Text) × IsSyntax ks t × Judged t result)

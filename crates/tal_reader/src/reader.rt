@@ -37,7 +37,7 @@ fn program_of(alloc: Global, tokens: &[Token]) -> Result<Program, TalFault>
 {
     match build(alloc, tokens) {
         Ok(syntax) => tree(alloc, &syntax),
-        Err(Stop::NoMemory) => Err(TalFault::NoMemory),
+        Err(Stop::NoMemory(memory)) => Err(TalFault::NoMemory(memory)),
         Err(Stop::NoSyntax) => unreachable!(),
     }
 }

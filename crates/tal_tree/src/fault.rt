@@ -30,7 +30,7 @@ pub enum TalFault {
     #[error("{0}: no procedure is MAIN")]
     NoMain(Place),
     #[error("out of memory")]
-    NoMemory,
+    NoMemory(NoMemory),
 }
 
 /// Why a deck is refused, and on which line, counted from 1.
@@ -57,17 +57,17 @@ pub enum DeckFault {
     #[error("the deck has more than 1,048,576 bytes")]
     TooLong,
     #[error("out of memory")]
-    NoMemory,
+    NoMemory(NoMemory),
 }
 
 impl From<NoMemory> for TalFault {
     ghost use Rattle.std.specs.Prelude.{◌≡◌};
     ghost use Rattle.tal_tree.specs.declared.fault.TalFault.TheVariants as tal;
 
-    ghost from_gives = { λ _ fault. fault ≡ tal.NoMemory };
+    ghost from_gives = { λ memory fault. fault ≡ tal.NoMemory memory };
 
-    fn from(_error: NoMemory) -> TalFault {
-        TalFault::NoMemory
+    fn from(memory: NoMemory) -> TalFault {
+        TalFault::NoMemory(memory)
     }
 }
 
@@ -75,9 +75,9 @@ impl From<NoMemory> for DeckFault {
     ghost use Rattle.std.specs.Prelude.{◌≡◌};
     ghost use Rattle.tal_tree.specs.declared.fault.DeckFault.TheVariants as deck;
 
-    ghost from_gives = { λ _ fault. fault ≡ deck.NoMemory };
+    ghost from_gives = { λ memory fault. fault ≡ deck.NoMemory memory };
 
-    fn from(_error: NoMemory) -> DeckFault {
-        DeckFault::NoMemory
+    fn from(memory: NoMemory) -> DeckFault {
+        DeckFault::NoMemory(memory)
     }
 }

@@ -182,13 +182,13 @@ pub fn tree(alloc: Global, text: &Text) -> Result<Program, TalFault>
 {
     let tables = match judge_text(alloc, text) {
         Ok(tables) => tables,
-        Err(NoMemory) => return Err(TalFault::NoMemory),
+        Err(memory) => return Err(TalFault::NoMemory(memory)),
     };
     match tables.least {
         Some(fault) => Err(answer_of(fault)),
         None => match program_of(alloc, tables, text.procedures.as_slice()) {
             Ok(program) => Ok(program),
-            Err(NoMemory) => Err(TalFault::NoMemory),
+            Err(memory) => Err(TalFault::NoMemory(memory)),
         },
     }
 }

@@ -8,7 +8,7 @@ use Rattle.trace_print.specs.TalNumbers.{IsOfText, tal_numbers}
 -- a fault of the deck itself, and not want of memory
 abbrev pub IsOfDeck : DeckFault → Type 0
 IsOfDeck (Program line fault) = IsOfText fault
-IsOfDeck NoMemory = ⊥
+IsOfDeck (NoMemory _) = ⊥
 IsOfDeck _ = Unit {0}
 
 -- the deck's line, 0 where the fault stands on none; the fault's number; and what else is told of it
@@ -23,7 +23,7 @@ fault_numbers (Limit line which) = line ∷ 7 ∷ which ∷ []
 fault_numbers (NoEnd line) = line ∷ 8 ∷ []
 fault_numbers (OpensItself line) = line ∷ 9 ∷ []
 fault_numbers TooLong = 0 ∷ 10 ∷ []
-fault_numbers NoMemory = []
+fault_numbers (NoMemory _) = []
 
 -- `DECK` and the fault's numbers
 abbrev pub fault_line : DeckFault → List ℕ

@@ -6,7 +6,7 @@ use Rattle.tal_tree.specs.declared.fault.TalFault.TheVariants.{BadCharacter, Num
 
 -- a fault of the text itself, and not want of memory
 abbrev pub IsOfText : TalFault → Type 0
-IsOfText NoMemory = ⊥
+IsOfText (NoMemory _) = ⊥
 IsOfText _ = Unit {0}
 
 -- its number, its line and its column
@@ -27,4 +27,4 @@ tal_numbers (NotBefore place) = placed 9 place
 tal_numbers (Prologue place) = placed 10 place
 tal_numbers (Limit which place) = 11 ∷ place.line ∷ place.column ∷ which ∷ []
 tal_numbers (NoMain place) = placed 12 place
-tal_numbers NoMemory = []
+tal_numbers (NoMemory _) = []

@@ -55,7 +55,7 @@ abbrev pub cause_text : Site → ℕ → Refusal → List ℕ
 cause_text site process TooDeep = codes "TooDeep"
 cause_text site process (TooLarge size) = codes "TooLarge " ++ decimal size
 cause_text site process (Broken reason path) = reason_text site process reason
-cause_text site process NoMemory = []
+cause_text site process (NoMemory _) = []
 
 -- `REFUSED NAME` and the cause
 abbrev pub refused_line : Site → ℕ → Refusal → List ℕ
@@ -73,7 +73,7 @@ abbrev pub path_of : Refusal → List ℕ
 path_of (Broken reason path) = path
 path_of TooDeep = []
 path_of (TooLarge size) = []
-path_of NoMemory = []
+path_of (NoMemory _) = []
 
 -- where a program is refused: the cause, the path that shows it, and the end
 abbrev pub refusal_text : Site → ℕ → Refusal → List ℕ → List ℕ

@@ -40,7 +40,7 @@ fn push_fault(line: &mut Line, fault: &DeckFault)
         DeckFault::NoEnd(at) => line.numbers(&[*at, 8]),
         DeckFault::OpensItself(at) => line.numbers(&[*at, 9]),
         DeckFault::TooLong => line.numbers(&[0, 10]),
-        DeckFault::NoMemory => unreachable!(),
+        DeckFault::NoMemory(_) => unreachable!(),
     }
 }
 
@@ -65,7 +65,7 @@ fn push_tal_fault(line: &mut Line, fault: &TalFault)
             line.numbers(&[11, place.line, place.column, u32::from(*which)]);
         }
         TalFault::NoMain(place) => push_placed(line, 12, place),
-        TalFault::NoMemory => unreachable!(),
+        TalFault::NoMemory(_) => unreachable!(),
     }
 }
 

@@ -135,7 +135,7 @@ fn path_of(refusal: &Refusal) -> &[u16]
         Refusal::Broken { reason: _, path } => path.as_slice(),
         Refusal::TooDeep => &[],
         Refusal::TooLarge(_) => &[],
-        Refusal::NoMemory => &[],
+        Refusal::NoMemory(_) => &[],
     }
 }
 
@@ -163,7 +163,7 @@ fn push_cause(line: &mut Line, site: &Site, process: u8, refusal: &Refusal)
             line.number(i64::from(*size));
         }
         Refusal::Broken { reason, path: _ } => push_reason(line, site, process, *reason),
-        Refusal::NoMemory => {}
+        Refusal::NoMemory(_) => {}
     }
 }
 

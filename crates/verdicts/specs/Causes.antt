@@ -1,5 +1,6 @@
 -- What is found of one process; only the clauses of private functions cite it.
 use Rattle.std.specs.Prelude.{◌≡◌, ◌≢◌, Option, Some, Err}
+use Rattle.gd_words.specs.Memory.{no_memory}
 use Rattle.tal_tree.specs.declared.program.Program.{Program}
 use Rattle.tal_tree.specs.declared.site.Kind.{Kind}
 use Rattle.path_semantics.specs.Accepted.{IsAccepted}
@@ -18,5 +19,5 @@ pub record IsCauseOf (what : Kind) (cause : Cause) : Type 0 where
   pub program : Program
   pub there : program_of what ≡ Some program
   pub verdict : IsVerdict program (Err cause.refusal)
-  pub told : cause.refusal ≢ NoMemory
+  pub told : cause.refusal ≢ NoMemory no_memory
   pub lines : cause.lines ≡ lines_of program

@@ -2,6 +2,7 @@
 use Rattle.std.specs.Prelude.{◌≡◌, ◌≢◌, ◌<◌, ℕ, List, Option, Some, None, Err, slice_get}
 use Rattle.std.specs.List.{All}
 use Rattle.std.specs.Option.{option_and_then}
+use Rattle.gd_words.specs.Memory.{no_memory}
 use Rattle.tal_tree.specs.Limits.{IsWithinLimits}
 use Rattle.tal_tree.specs.Ordered.{IsOrdered}
 use Rattle.tal_tree.specs.Regular.{IsRegular}
@@ -50,6 +51,6 @@ pub record IsFirstRefused (specs : List ProcessSpec) (refused : RefusedProgram) 
   pub program : Program
   pub there : program_at specs refused.process ≡ Some program
   pub verdict : IsVerdict program (Err refused.refusal)
-  pub told : refused.refusal ≢ NoMemory
+  pub told : refused.refusal ≢ NoMemory no_memory
   pub before : AreAcceptedBefore specs refused.process
   pub lines : refused.lines ≡ lines_of program

@@ -66,7 +66,7 @@ fn cause_of_program(alloc: Global, program: &Program) -> Result<Option<Cause>, N
 {
     match check(alloc, program) {
         Ok(()) => Ok(None),
-        Err(Refusal::NoMemory) => Err(NoMemory),
+        Err(Refusal::NoMemory(memory)) => Err(memory),
         Err(refusal) => {
             let lines = lines_of(alloc, program)?;
             Ok(Some(Cause { refusal, lines }))

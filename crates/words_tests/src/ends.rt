@@ -26,7 +26,7 @@ fn reads_all_or_says_why_not(rt: HostRuntime) -> Result<(), Fail> {
                 assert!(rt; wanted == None, "most {most}");
                 assert!(rt; bytes.as_slice() == b"DECK".as_slice(), "most {most}");
             }
-            Err(ReadRefusal::NoMemory) => return Err(Fail::from(AllocError)),
+            Err(ReadRefusal::NoMemory(_)) => return Err(Fail::from(AllocError)),
             Err(refusal) => assert!(rt; wanted == Some(refusal), "most {most}"),
         }
     }

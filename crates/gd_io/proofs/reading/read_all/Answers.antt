@@ -1,13 +1,13 @@
 use Rattle.std.proofs.Common.{◌≤◌, ◌++◌, length, take, arith}
 use Rattle.std.proofs.lemmas.List.{length-append, length-take}
-use Rattle.gd_io.proofs.Known.{Consumes-keeps, Consumes-more, too_long, failed, no_memory}
+use Rattle.gd_io.proofs.Known.{Consumes-keeps, Consumes-more, too_long, failed, memory_ran_out}
 use Rattle.gd_io.proofs.reading.read_all.Goals as goal
 
 pub returns-then-is_err-clause-bytes : goal.returns-then-is_err-clause-bytes
 returns-then-is_err-clause-bytes g c =
     let fits : c.in-Got.n ≤ length c.take.new.room = c.in-Got.ensures.bytes.0 in
     let piece = take c.in-Got.n c.take.new.room in
-    no_memory c.args.most _ _ (c.loop-room.bytes.items ++ piece)
+    memory_ran_out c.args.most _ _ (c.loop-room.bytes.items ++ piece)
     (omega (arith, length-append c.loop-room.bytes.items piece, length-take c.in-Got.n c.take.new.room))
     (Consumes-more _ _ _ c.loop-room.bytes.items piece c.loop-room.invariant.1 c.in-Got.ensures.bytes.1)
 
