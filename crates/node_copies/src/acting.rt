@@ -1,8 +1,9 @@
-ghost use Rattle.std.specs.Prelude.{◌≡◌, List, IfOk, OnOk};
+ghost use Rattle.std.specs.Prelude.{◌≡◌, List, length, IfOk, OnOk};
 ghost use Rattle.tal_tree.specs.declared.site.Site.{Site};
 ghost use Rattle.disc_device.specs.declared.stored.Stored.{Stored};
 ghost use Rattle.process_semantics.specs.Process.{point};
 ghost use Rattle.computed_changes.specs.Fitting.{depths_of};
+ghost use Rattle.number_ranges.specs.HasRoom.{CopyHasRoom, HasNext};
 ghost use Rattle.world_semantics.specs.Passes.{after_sending, checkpoint_of};
 ghost use Rattle.node_copies.specs.Acting.{HasActed, copy_passed, own_in, records_passed};
 ghost use Rattle.node_copies.specs.Seen.{openers_on, sectors_on};
@@ -149,7 +150,9 @@ impl NodeCopy {
         records: &mut Records,
         stands: Point,
     ) -> Result<Step, NoMemory>
-        requires { point self.old.copy.core.state ≡ stands }
+        requires point { point self.old.copy.core.state ≡ stands }
+        requires room { CopyHasRoom self.old.copy }
+        requires shown { HasNext (length records.old.shown) }
         ensures acted { (site : Site) → files.now ≡ openers_on site number → self.old.depths ≡ depths_of site number → IfOk result (λ step. HasActed number
             (own_in site number (record { one = self.old; sectors = sectors_on device.old; records = records.old }) stands) step
             (record { one = self.old; sectors = sectors_on device.old; records = records.old }) (record { one = self.new; sectors = sectors_on device.new; records = records.new })) }
@@ -182,7 +185,8 @@ impl NodeCopy {
 
     /// The checkpoint of the mark at which it stands.
     pub fn send(&mut self, alloc: Global, number: u8) -> Result<ImageMessage, NoMemory>
-        requires { point self.old.copy.core.state ≡ Point.Mark }
+        requires point { point self.old.copy.core.state ≡ Point.Mark }
+        requires room { CopyHasRoom self.old.copy }
         ensures message { IfOk result (λ message. message ≡ checkpoint_of number self.old.copy) }
         ensures copy { OnOk result (self.new ≡ record self.old { copy = after_sending self.old.copy }) }
         ensures depths { self.new.depths ≡ self.old.depths }

@@ -9,6 +9,7 @@ ghost use Rattle.world_semantics.specs.declared.role.Role.TheVariants.{Watching}
 ghost use Rattle.world_semantics.specs.Core.{next_on};
 ghost use Rattle.world_semantics.specs.Rules.{stopped_copy, taken_over, told_again};
 ghost use Rattle.computed_changes.specs.Handed.{is_of_last};
+ghost use Rattle.number_ranges.specs.HasRoom.{CopyHasRoom};
 ghost use Rattle.node_copies.specs.Receiving.{after_early_request, after_request, copy_applying, core_applying, entered_reply, with_changed};
 ghost use Rattle.node_copies.specs.Takeover.{without_held};
 
@@ -48,7 +49,8 @@ impl NodeCopy {
         words: &Words,
         records: &mut Records,
     ) -> Result<(), NoMemory>
-        requires { point self.old.copy.core.state ≡ Await }
+        requires point { point self.old.copy.core.state ≡ Await }
+        requires room { CopyHasRoom self.old.copy }
         ensures copy { OnOk result (self.new ≡ with_changed self.old (entered_reply process words.now records.old.kept self.old.copy).copy) }
         ensures records { OnOk result (records.new ≡ record records.old { kept = (entered_reply process words.now records.old.kept self.old.copy).kept }) }
         ensures depths { self.new.depths ≡ self.old.depths }
@@ -95,7 +97,8 @@ impl NodeCopy {
 
     /// The copy takes over, from the base on. The replies kept to its waiting requests are added to `told`.
     pub fn take_over(&mut self, base: u64, told: &mut List<Sending>) -> Result<(), NoMemory>
-        requires { self.old.copy.role ≡ Watching }
+        requires watching { self.old.copy.role ≡ Watching }
+        requires room { CopyHasRoom self.old.copy }
         ensures copy { OnOk result (self.new ≡ with_changed self.old (taken_over base self.old.copy)) }
         ensures told { OnOk result (told.new ≡ told.old ++ told_again self.old.copy) }
         ensures depths { self.new.depths ≡ self.old.depths }

@@ -1,6 +1,7 @@
-ghost use Rattle.std.specs.Prelude.{◌≡◌, ◌∷◌, OnOk};
+ghost use Rattle.std.specs.Prelude.{◌≡◌, ◌∷◌, length, OnOk};
 ghost use Rattle.tal_tree.specs.declared.act.Act.TheVariants as act;
 ghost use Rattle.tal_tree.specs.declared.act.Shown.TheVariants as shown;
+ghost use Rattle.number_ranges.specs.HasRoom.{HasNext};
 
 use crate::records::Records;
 use gd_words::{NoMemory, Reply, Request};
@@ -18,6 +19,7 @@ impl Records {
 
     /// A terminal prints a reply.
     pub fn print(&mut self, terminal: u8, reply: Reply) -> Result<(), NoMemory>
+        requires shown { HasNext (length self.old.shown) }
         ensures { OnOk result (self.new ≡ record self.old {
           shown = shown.Reply terminal reply.number reply.words ∷ self.old.shown;
           kept = act.Print terminal ∷ self.old.kept;
