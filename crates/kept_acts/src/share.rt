@@ -1,4 +1,4 @@
-ghost use Rattle.std.specs.Prelude.{◌≡◌, reverse, IfOk, OnOk, OnErr};
+ghost use Rattle.std.specs.Prelude.{◌≡◌, ◌<◌, ◌+◌, ◌^◌, reverse, IfOk, OnOk, OnErr};
 ghost use Rattle.kept_acts.specs.Shares.{closing, covered, covering, entering, letting_go, passing, share_from};
 
 use crate::kept::KeptActs;
@@ -52,9 +52,9 @@ impl CopyShare {
         self.held.as_slice()
     }
 
-    /// An act of a copy of the process enters the kept acts, or is held, or was kept already. Want of memory is answered too where the
-    /// position has no number left.
+    /// An act of a copy of the process enters the kept acts, or is held, or was kept already. The copy's position has a number after it.
     pub fn enter(&mut self, process: u8, done: Act, kept: &mut KeptActs) -> Result<(), NoMemory>
+        requires { self.old.position + 1 < 2 ^ 64 }
         ensures share { OnOk result (self.new ≡ (entering process done kept.old self.old).share) }
         ensures kept { OnOk result (kept.new ≡ (entering process done kept.old self.old).kept) }
         ensures err { OnErr result ((self.new ≡ self.old) × (kept.new ≡ kept.old)) }
@@ -75,14 +75,11 @@ impl CopyShare {
                 self.held.add(done)?;
                 Ok(())
             }
-            _ => match self.position.checked_add(1) {
-                None => Err(NoMemory),
-                Some(position) => {
-                    kept.keep(done)?;
-                    self.position = position;
-                    Ok(())
-                }
-            },
+            _ => {
+                kept.keep(done)?;
+                self.position += 1;
+                Ok(())
+            }
         }
     }
 
