@@ -1,16 +1,12 @@
--- The numbers of requests: which stands next to a receive table, and which has a successor.
-use Rattle.std.proofs.Common.{◌≡◌, ◌<◌, ◌+◌, ◌==◌, ◌&&◌, ℕ, zero, suc, ℤ, Bool, true, false, if◌then◌else◌, List, [], ◌∷◌, Option, Some, None, length, refl, ap, sym, ◌∙◌, arith, slice_get}
-use Rattle.std.specs.Option.{unwrap_or}
-use Rattle.std.specs.Prelude.{nat_lt}
-use Rattle.std.proofs.lemmas.Bool.{eqb-true, ltb-true}
+-- Which number of a request stands next to a receive table.
+use Rattle.std.proofs.Common.{◌≡◌, ◌<◌, ◌+◌, ◌==◌, ℕ, ℤ, Bool, true, false, if◌then◌else◌, List, Option, Some, None, length, refl, ap, sym, ◌∙◌, slice_get}
+use Rattle.std.proofs.lemmas.Bool.{eqb-true}
 use Rattle.std.proofs.lemmas.Option.{slice_get_within}
-use Rattle.checkpoint_image.specs.Receive.{holds, kept_or_old, standing_at, standing_by, standing_in}
+use Rattle.checkpoint_image.specs.Receive.{holds, kept_or_old, standing_at, standing_by}
 use Rattle.checkpoint_image.specs.declared.receive.OpenerBlock.{OpenerBlock}
 use Rattle.checkpoint_image.specs.declared.receive.ReceiveBlock.{ReceiveBlock}
 use Rattle.checkpoint_image.specs.declared.receive.Standing.TheVariants.{Next, InHand, Ahead}
 use Rattle.sync_ids.specs.Tables.{last_taken, taken_in}
-use Rattle.sync_ids.proofs.Tables.{and-left, and-right}
-use Rattle.process_control.specs.Cores.{have_next}
 
 by-tests : (same ahead held : Bool) (kept : Option (List ℤ))
     → (if same then Next else if ahead then Ahead else if held then InHand else kept_or_old kept) ≡ Next → same ≡ true
@@ -32,9 +28,3 @@ next-there table opener number next = by (slice_get table.openers opener) refl n
       slice_get_within table.openers opener block is,
       eqb-true number (block.taken + 1) (by-tests (number == block.taken + 1) _ _ _ e) ∙ ap (λ (o : Option OpenerBlock). taken_in o + 1) (sym is),
     )
-
--- where each file has a number left, so has each one
-pub next-below : (next : List ℕ) (file : ℕ) → have_next next ≡ true → unwrap_or (slice_get next file) 1 < 4294967295
-next-below [] file have = omega arith
-next-below (number ∷ next) zero have = ltb-true number 4294967295 (and-left (nat_lt number 4294967295) (have_next next) have)
-next-below (number ∷ next) (suc file) have = next-below next file (and-right (nat_lt number 4294967295) (have_next next) have)

@@ -1,5 +1,5 @@
 -- The states of a copy stay in order, and what follows of its files, of what is listed and of what is in hand.
-use Rattle.std.proofs.Common.{◌≡◌, ◌≢◌, ◌<◌, ℕ, ℤ, Bool, true, false, List, [], ◌∷◌, Option, Some, None, refl, sym, subst, ap, rules, is_some}
+use Rattle.std.proofs.Common.{◌≡◌, ◌<◌, ℕ, ℤ, Bool, true, false, List, [], ◌∷◌, Option, Some, None, refl, subst, rules, is_some}
 use Rattle.std.proofs.lemmas.Option.{option_and_then_some, same_Some}
 use Rattle.process_semantics.specs.declared.disc.DiscState.{DiscState}
 use Rattle.process_semantics.specs.declared.point.Point.{Point}

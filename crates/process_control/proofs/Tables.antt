@@ -1,5 +1,5 @@
 -- What a receive table is after a request is taken or answered, or a whole table is put.
-use Rattle.std.proofs.Common.{◌≡◌, ◌<◌, ◌+◌, ℕ, zero, suc, arith, ℤ, Bool, true, false, if◌then◌else◌, List, Option, Some, None, [], ◌∷◌, ◌++◌, length, slice_get, slice_set, refl, ap, ap₂, sym, subst, ◌∙◌}
+use Rattle.std.proofs.Common.{◌≡◌, ◌<◌, ℕ, zero, suc, arith, ℤ, Bool, true, if◌then◌else◌, List, Option, Some, [], ◌∷◌, ◌++◌, length, slice_get, slice_set, refl, ap, ap₂, sym, ◌∙◌}
 use Rattle.process_semantics.specs.Process as process
 use Rattle.process_semantics.specs.Process.{ProcessState}
 use Rattle.checkpoint_image.specs.Receive.{after_answering, last_ones}
@@ -9,7 +9,6 @@ use Rattle.sync_ids.specs.Tables.{Remembered, IsSound, are_of_depths, can_hold, 
 use Rattle.sync_ids.proofs.Tables.{and-left, lengths}
 use Rattle.world_semantics.specs.Core.{Core}
 use Rattle.process_control.specs.Cores.{answering_at, answering_of, core_answered, core_answering, core_answering_at}
-use Rattle.process_control.specs.declared.told.Answering.{Answering}
 
 pub found : {A : Type 0} (xs : List A) (k : ℕ) → k < length xs → (x : A) × (slice_get xs k ≡ Some x)
 found [] k below = absurd (omega (arith, below))

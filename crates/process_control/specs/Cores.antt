@@ -1,7 +1,6 @@
 -- What the steps of a copy do to its core. What each step is stands with the definitions of processes and of receive tables.
 use Rattle.std.specs.Option.{option_map}
-use Rattle.std.specs.Prelude.{ℕ, ◌+◌, ℤ, Bool, nat_lt, List, map, replicate, slice_get, slice_set, Option, Some, None}
-use Rattle.std.specs.List.{list_all}
+use Rattle.std.specs.Prelude.{ℕ, ◌+◌, ℤ, List, map, replicate, slice_get, slice_set, Option, Some, None}
 use Rattle.gd_words.specs.declared.message.Request.{Request}
 use Rattle.tal_tree.specs.declared.site.OpenerSpec.{OpenerSpec}
 use Rattle.process_semantics.specs.Process as process
@@ -39,10 +38,6 @@ abbrev pub core_taking : Request → Core → Option Core
 core_taking request core = option_map (core_taken request core) (slice_get core.receive.openers request.opener)
 
 -- A request that is asked
-
--- whether each file has a number left after its next one, within 32 bits
-abbrev pub have_next : List ℕ → Bool
-have_next next = list_all (λ number. nat_lt number 4294967295) next
 
 -- what is asked: the file, the number of the request on it, and the words
 abbrev pub asking_of : Core → Asking

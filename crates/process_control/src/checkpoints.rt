@@ -1,4 +1,4 @@
-ghost use Rattle.std.specs.Prelude.{◌≡◌, ◌<◌, ◌↔◌, true, is_some, IfOk, IsOk, OnOk, OnErr};
+ghost use Rattle.std.specs.Prelude.{◌≡◌, ◌<◌, ◌+◌, ◌^◌, true, is_some, IfOk, OnOk, OnErr};
 ghost use Rattle.std.specs.Option.{unwrap_or};
 ghost use Rattle.process_semantics.specs.declared.point.Point.TheVariants.{Mark};
 ghost use Rattle.process_semantics.specs.Process.{point};
@@ -12,29 +12,24 @@ use std::alloc::Global;
 use world_semantics::Role;
 
 impl<B: Behaviour> CopyControl<B> {
-    /// The checkpoint of the mark at which it stands, for the other copy of its process. Want of memory is answered too where the era
-    /// has no number left. An error changes nothing.
+    /// The checkpoint of the mark at which it stands, for the other copy of its process. Its number has 32 bits. An error changes nothing.
     pub fn checkpoint_out(&mut self, alloc: Global, process: u8) -> Result<ImageMessage, NoMemory>
-        requires { point self.old.core.state ≡ Mark }
+        requires point { point self.old.core.state ≡ Mark }
+        requires number { self.old.number + 1 < 2 ^ 32 }
         ensures message { IfOk result (λ message. message ≡ copy_checkpoint process self.old) }
         ensures ok { OnOk result (self.new ≡ copy_sending self.old) }
         ensures err { OnErr result (self.new ≡ self.old) }
     {
-        match self.number.checked_add(1) {
-            None => Err(NoMemory),
-            Some(number) => {
-                let image = self.core.carried(alloc)?;
-                self.number = number;
-                self.sent = true;
-                self.acknowledged = false;
-                Ok(ImageMessage {
-                    process,
-                    era: self.era,
-                    number,
-                    image,
-                })
-            }
-        }
+        let image = self.core.carried(alloc)?;
+        self.number += 1;
+        self.sent = true;
+        self.acknowledged = false;
+        Ok(ImageMessage {
+            process,
+            era: self.era,
+            number: self.number,
+            image,
+        })
     }
 
     /// A checkpoint came: it is applied whole, or ignored, and then nothing changes. It takes no memory.
@@ -95,23 +90,16 @@ impl<B: Behaviour> CopyControl<B> {
         self.acknowledged = false;
     }
 
-    /// Takes over from the other copy, whose processor is marked: it acts from the last checkpoint on that it has applied. Want of memory
-    /// is answered where there is no era left, and then nothing changes.
-    pub fn take_over(&mut self) -> Result<(), NoMemory>
-        requires { self.old.role ≡ Watching }
-        ensures room { self.old.era < 4294967295 ↔ IsOk result }
-        ensures ok { OnOk result (self.new ≡ copy_taking_over self.old) }
-        ensures err { OnErr result (self.new ≡ self.old) }
+    /// Takes over from the other copy, whose processor is marked: it acts from the last checkpoint on that it has applied. The number of
+    /// the next era has 32 bits.
+    pub fn take_over(&mut self)
+        requires watching { self.old.role ≡ Watching }
+        requires era { self.old.era + 1 < 2 ^ 32 }
+        ensures { self.new ≡ copy_taking_over self.old }
     {
-        match self.era.checked_add(1) {
-            None => Err(NoMemory),
-            Some(era) => {
-                self.role = Role::Acting;
-                self.era = era;
-                self.number = 0;
-                Ok(())
-            }
-        }
+        self.role = Role::Acting;
+        self.era += 1;
+        self.number = 0;
     }
 
     /// Its processor stops.

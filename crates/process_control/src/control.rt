@@ -1,7 +1,7 @@
-ghost use Rattle.std.specs.Prelude.{◌≡◌, ◌<◌, ◌≤◌, ◌+◌, ◌↔◌, ◌^◌, All, false, length, Some, IfOk, IsOk, IsTrue, OnOk, OnErr};
+ghost use Rattle.std.specs.Prelude.{◌≡◌, ◌<◌, ◌≤◌, ◌+◌, ◌^◌, All, false, length, Some, IfOk};
 ghost use Rattle.std.specs.Option.{option_map};
 ghost use Rattle.process_semantics.specs.declared.point.Point.TheVariants.{Inner, Take, Ask, Await, Answer, Device};
-ghost use Rattle.process_semantics.specs.Process.{point, in_hand, call_of};
+ghost use Rattle.process_semantics.specs.Process.{asked_file, call_of, in_hand, point};
 ghost use Rattle.whole_states.specs.Listing.{files_of};
 ghost use Rattle.whole_states.specs.Processes.{IsWholeProcess};
 ghost use Rattle.checkpoint_image.specs.Behaving.{last_write_of};
@@ -9,7 +9,7 @@ ghost use Rattle.checkpoint_image.specs.Receive.{standing};
 ghost use Rattle.checkpoint_image.specs.declared.receive.Standing.TheVariants.{Next};
 ghost use Rattle.sync_ids.specs.Tables.{IsDepth};
 ghost use Rattle.world_semantics.specs.Core.{next_on};
-ghost use Rattle.process_control.specs.Cores.{core_going, core_taking, have_next, asking_of, core_asking, core_getting, answering_of, core_answering, core_acting};
+ghost use Rattle.process_control.specs.Cores.{core_going, core_taking, asking_of, core_asking, core_getting, answering_of, core_answering, core_acting};
 ghost use Rattle.process_control.specs.Copies.{copy_at_start, with_core};
 
 use crate::inside::CopyCore;
@@ -183,17 +183,14 @@ impl<B: Behaviour> CopyControl<B> {
         self.core.take(request);
     }
 
-    /// Asks on a file, and awaits the reply from now on. Want of memory is answered where a file has no number left, and then nothing
-    /// changes.
-    pub fn ask(&mut self) -> Result<Asking, NoMemory>
-        requires { point self.old.core.state ≡ Ask }
-        ensures room { IsTrue (have_next self.old.core.next) ↔ IsOk result }
-        ensures asking { IfOk result (λ asking. asking ≡ asking_of self.old.core) }
-        ensures ok { OnOk result (self.new ≡ with_core self.old (core_asking self.old.core)) }
-        ensures err { OnErr result (self.new ≡ self.old) }
+    /// Asks on a file, and awaits the reply from now on. The number of the next request on it has 32 bits.
+    pub fn ask(&mut self) -> Asking
+        requires point { point self.old.core.state ≡ Ask }
+        requires number { next_on self.old.core (asked_file self.old.core.state) + 1 < 2 ^ 32 }
+        ensures asking { result ≡ asking_of self.old.core }
+        ensures copy { self.new ≡ with_core self.old (core_asking self.old.core) }
     {
-        let asking = self.core.ask()?;
-        Ok(asking)
+        self.core.ask()
     }
 
     /// Gets the reply that it awaits.

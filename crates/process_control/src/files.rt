@@ -1,7 +1,6 @@
 ghost use Rattle.std.specs.Prelude.{◌≡◌, IfOk, map, slice_get};
 ghost use Rattle.std.specs.Option.{unwrap_or};
 ghost use Rattle.world_semantics.specs.Core.{with_files};
-ghost use Rattle.process_control.specs.Cores.{have_next};
 ghost use Rattle.computed_changes.specs.Fitting.{are_files};
 
 use checkpoint_image::FileNumber;
@@ -17,16 +16,6 @@ pub fn next_on(asker: &Asker, file: u8) -> u32
         None => 1,
         Some(number) => number,
     }
-}
-
-/// Whether each file has a number left after its next one.
-pub fn have_next(asker: &Asker) -> bool
-    ensures { result ≡ have_next asker.now }
-{
-    asker
-        .as_slice()
-        .iter()
-        .all(|number| *number < 4_294_967_295)
 }
 
 /// The next numbers of these files.

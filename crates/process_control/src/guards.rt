@@ -1,4 +1,4 @@
-ghost use Rattle.std.specs.Prelude.{◌≡◌, ◌≢◌, ℕ, ◌+◌, ℤ, true, false, List, ◌++◌, [], ◌∷◌, slice_get, Some, None};
+ghost use Rattle.std.specs.Prelude.{◌≡◌, ◌≢◌, ℕ, ◌+◌, true, false, List, slice_get, Some, None};
 ghost use Rattle.gd_words.specs.declared.message.Request.{Request};
 ghost use Rattle.process_semantics.specs.Process.{after_answered, after_took, answer_of};
 ghost use Rattle.checkpoint_image.specs.Receive.{after_answering, after_taking};
@@ -8,7 +8,7 @@ ghost use Rattle.checkpoint_image.specs.declared.receive.OpenerBlock.{OpenerBloc
 ghost use Rattle.world_semantics.specs.declared.role.Role.TheVariants.{Watching};
 ghost use Rattle.world_semantics.specs.Core.{Core, put_in};
 ghost use Rattle.computed_changes.specs.Fitting.{fits};
-ghost use Rattle.process_control.specs.Cores.{answering_of, core_answering, core_taking, have_next};
+ghost use Rattle.process_control.specs.Cores.{answering_of, core_answering, core_taking};
 ghost use Rattle.process_control.specs.Copies.{CopyState, copy_applying, is_of_last};
 
 /// A copy applies no checkpoint of another era or of another number than the next, none that doesn't fit, and none where it doesn't watch.
@@ -42,10 +42,4 @@ pub fn taking_and_answering_are_noted()
     ensures answering { (depths : List ℕ) (core : Core) (place depth : ℕ) (block : OpenerBlock) → core.receive.in_hand ≡ Some place
         → slice_get depths place ≡ Some depth → slice_get core.receive.openers place ≡ Some block
         → core_answering depths core ≡ Some (record core { state = after_answered core.state; receive = after_answering depth place block (answer_of core.state) core.receive }) }
-{}
-
-/// The last number of 32 bits has no number after it.
-pub fn numbers_end()
-    ensures none { have_next (1 ∷ 4294967295 ∷ []) ≡ false }
-    ensures one { have_next (1 ∷ 4294967294 ∷ []) ≡ true }
 {}

@@ -1,7 +1,7 @@
-ghost use Rattle.std.specs.Prelude.{◌≡◌, ◌<◌, ◌≤◌, ◌+◌, ◌↔◌, ◌^◌, All, false, is_some, length, Some, IfOk, IsOk, IsTrue, OnOk, OnErr};
+ghost use Rattle.std.specs.Prelude.{◌≡◌, ◌<◌, ◌≤◌, ◌+◌, ◌^◌, All, false, is_some, length, Some, IfOk};
 ghost use Rattle.std.specs.Option.{unwrap_or};
 ghost use Rattle.process_semantics.specs.declared.point.Point.TheVariants.{Inner, Take, Ask, Await, Answer, Mark, Device};
-ghost use Rattle.process_semantics.specs.Process.{point, in_hand, call_of};
+ghost use Rattle.process_semantics.specs.Process.{asked_file, call_of, in_hand, point};
 ghost use Rattle.whole_states.specs.Listing.{files_of};
 ghost use Rattle.whole_states.specs.Processes.{IsWholeProcess};
 ghost use Rattle.checkpoint_image.specs.Behaving.{last_write_of};
@@ -9,10 +9,10 @@ ghost use Rattle.checkpoint_image.specs.Receive.{standing};
 ghost use Rattle.checkpoint_image.specs.declared.receive.Standing.TheVariants.{Next};
 ghost use Rattle.sync_ids.specs.Tables.{IsDepth};
 ghost use Rattle.world_semantics.specs.Core.{after_passing, carried, next_on};
-ghost use Rattle.process_control.specs.Cores.{core_at_start, core_going, core_taking, have_next, asking_of, core_asking, core_getting, answering_of, core_answering, core_acting};
+ghost use Rattle.process_control.specs.Cores.{core_at_start, core_going, core_taking, asking_of, core_asking, core_getting, answering_of, core_answering, core_acting};
 ghost use Rattle.computed_changes.specs.Fitting.{put_fitting};
 
-use crate::files::{are_files, have_next, next_on, numbers_of, put_files};
+use crate::files::{are_files, next_on, numbers_of, put_files};
 use crate::told::{Answering, Asking};
 use checkpoint_image::{Behaviour, Image};
 use gd_words::{DeviceCall, NoMemory, Request, Sector, Words};
@@ -120,24 +120,20 @@ impl<B: Behaviour> CopyCore<B> {
         self.behaviour.took(&request.words);
     }
 
-    pub fn ask(&mut self) -> Result<Asking, NoMemory>
-        requires { point self.old.core.state ≡ Ask }
-        ensures room { IsTrue (have_next self.old.core.next) ↔ IsOk result }
-        ensures asking { IfOk result (λ asking. asking ≡ asking_of self.old.core) }
-        ensures ok { OnOk result (self.new ≡ record self.old { core = core_asking self.old.core }) }
-        ensures err { OnErr result (self.new ≡ self.old) }
+    pub fn ask(&mut self) -> Asking
+        requires point { point self.old.core.state ≡ Ask }
+        requires number { next_on self.old.core (asked_file self.old.core.state) + 1 < 2 ^ 32 }
+        ensures asking { result ≡ asking_of self.old.core }
+        ensures core { self.new ≡ record self.old { core = core_asking self.old.core } }
     {
-        if !have_next(&self.asker) {
-            return Err(NoMemory);
-        }
         let asked = self.behaviour.asked();
         let number = next_on(&self.asker, asked.file);
         self.asker.set(asked.file, number + 1);
-        Ok(Asking {
+        Asking {
             file: asked.file,
             number,
             words: asked.words,
-        })
+        }
     }
 
     pub fn got(&mut self, words: &Words)

@@ -1,4 +1,4 @@
-use Rattle.std.proofs.Common.{◌≡◌, ◌<◌, ℕ, List, Some, length, sym, subst, ap, ◌∙◌}
+use Rattle.std.proofs.Common.{◌≡◌, ◌<◌, ℕ, Some, sym, subst}
 use Rattle.process_semantics.specs.Process.{point}
 use Rattle.process_semantics.specs.declared.point.Point.TheVariants.{Answer}
 use Rattle.process_control.specs.Cores.{CoreAndDepths, answering_of, core_answering}

@@ -1,21 +1,14 @@
-use Rattle.std.proofs.Common.{◌≡◌, ◌<◌, ℕ, true, length, slice_get, sym, subst, ap, ◌∙◌, arith}
-use Rattle.std.specs.Option.{unwrap_or}
+use Rattle.std.proofs.Common.{◌≡◌, ◌<◌, ℕ, sym, subst}
 use Rattle.process_semantics.specs.Process.{point}
 use Rattle.process_semantics.specs.declared.point.Point.TheVariants.{Ask}
 use Rattle.process_control.proofs.Ordered.{asked-order-there}
 use Rattle.whole_states.specs.Listing.{files_of}
 use Rattle.process_control.specs.Cores.{CoreAndDepths}
-use Rattle.process_control.proofs.Numbers.{next-below}
 use Rattle.process_control.proofs.inside.CopyCore.ask.Goals as goal
-
-pub overflow_add-number : goal.overflow_add-number
-overflow_add-number g c =
-    let below = next-below c.self.inside.asker c.asked-asked.result.file (sym c.have_next.ensures ∙ c.if-not-have_next.false) in
-    let number = c.next_on-number.ensures in omega (arith, below, number)
 
 pub set-requires : goal.set-requires
 set-requires g c =
     subst (λ (n : ℕ). c.asked-asked.result.file < n) (sym c.self.invariant.files)
     (subst (λ (n : ℕ). n < files_of (g.B.Behaviour.state c.self.inside.behaviour)) (sym c.asked-asked.ensures.file)
     (asked-order-there (g.B.Behaviour.state c.self.inside.behaviour) c.self.invariant.order
-    (subst (λ (one : CoreAndDepths). point one.core.state ≡ Ask) (sym c.self.view_is) c.requires)))
+    (subst (λ (one : CoreAndDepths). point one.core.state ≡ Ask) (sym c.self.view_is) c.requires.point)))
