@@ -1,11 +1,12 @@
 -- What a message does that comes to a copy of a process, told of the process alone. The rules are those of the world of copies, and laws of this crate say so.
-use Rattle.std.specs.Prelude.{ℕ, Bool, true, false, [], ◌∷◌, map, Option, Some, None}
+use Rattle.std.specs.Prelude.{ℕ, ◌<◌, Bool, true, false, [], ◌∷◌, length, map, Option, Some, None}
 use Rattle.std.specs.Option.{option_map, option_and_then}
 use Rattle.gd_words.specs.declared.message.Request.{Request}
 use Rattle.gd_words.specs.declared.message.Reply.{Reply}
 use Rattle.tal_tree.specs.declared.act.Act.TheVariants as act
 use Rattle.tal_tree.specs.declared.site.Site.{Site}
 use Rattle.process_semantics.specs.Process as process
+use Rattle.plain_semantics.specs.Openers.{openers_of}
 use Rattle.checkpoint_image.specs.declared.message.ImageMessage.{ImageMessage}
 use Rattle.checkpoint_image.specs.declared.message.TakenMessage.{TakenMessage}
 use Rattle.checkpoint_image.specs.Receive.{came, repeated, waits}
@@ -96,6 +97,13 @@ taken_step k pair records taken Watching = None
 taken_step k pair records taken Gone = None
 
 -- All messages
+
+-- a request that comes names an opener of the process of this number
+abbrev pub NamesOpener : Site → ℕ → Message → Type 0
+NamesOpener site number (Asking request) = request.opener < length (openers_of site number)
+NamesOpener site number (Replying reply) = Unit {0}
+NamesOpener site number (Checkpointing message) = Unit {0}
+NamesOpener site number (Taking taken) = Unit {0}
 
 -- what a message does that comes to one copy of the process of this number; none where it changes nothing
 abbrev pub step_by : Site → ℕ → Pair → Records → Message → Which → Option Stepped

@@ -5,6 +5,7 @@ ghost use Rattle.file_calls.specs.Queue.{sent_again};
 ghost use Rattle.plain_semantics.specs.Openers.{openers_of};
 ghost use Rattle.checkpoint_image.specs.Receive.{repeated};
 ghost use Rattle.kept_acts.specs.Shares.{covered, share_of, with_share};
+ghost use Rattle.number_ranges.specs.HasRoom.{CopyHasRoom, PairHasRoom};
 ghost use Rattle.posted_letters.specs.Seen.{message_of};
 ghost use Rattle.world_semantics.specs.World.{copy_of, other_of};
 ghost use Rattle.world_semantics.specs.Messages.{Replying, Taking, sent_at};
@@ -13,8 +14,8 @@ ghost use Rattle.computed_changes.specs.Handed.{awaits, is_of_last};
 ghost use Rattle.node_copies.specs.Receiving.{after_early_request, after_request, copy_applying};
 ghost use Rattle.node_copies.specs.Records as happened;
 ghost use Rattle.node_copies.specs.Seen.{told_by};
-ghost use Rattle.process_copies.specs.Handing.{checkpoint_step, reply_step, reply_step_where, request_step, step_by, step_on};
-ghost use Rattle.process_copies.specs.Handing.{taken_step, taken_step_where};
+ghost use Rattle.process_copies.specs.Handing.{NamesOpener, checkpoint_step, reply_step, reply_step_where, request_step};
+ghost use Rattle.process_copies.specs.Handing.{step_by, step_on, taken_step, taken_step_where};
 ghost use Rattle.process_copies.specs.Receiving.{Settles, core_by, got_step, is_awaiting, other_covering, pair_covering, placed_with, repeated_at};
 ghost use Rattle.process_copies.specs.Seen.{placed_after, records_after, sent_by};
 
@@ -28,14 +29,15 @@ use process_semantics::Point;
 use world_semantics::{Role, Which};
 
 impl ProcessCopies {
-    /// A message comes to the process at a node; that it is for this process is the caller's part. Want of memory is answered too to a
-    /// request whose opener isn't there, which no machine of the site sends.
+    /// A message comes to the process at a node; that it is for this process is the caller's part.
     pub fn come_in(
         &mut self,
         node: u8,
         message: Message,
         records: &mut Records,
     ) -> Result<Step, NoMemory>
+        requires opener { NamesOpener self.old.site self.old.number (message_of message) }
+        requires room { PairHasRoom self.old.pair }
         ensures told { IfOk result (λ step. told_by step
             ≡ sent_by (step_on self.old.site self.old.number node self.old.pair records.old (message_of message))) }
         ensures process { OnOk result (self.new
@@ -61,6 +63,8 @@ impl ProcessCopies {
         message: Message,
         records: &mut Records,
     ) -> Result<Step, NoMemory>
+        requires opener { NamesOpener self.old.site self.old.number (message_of message) }
+        requires room { CopyHasRoom (copy_of which self.old.pair) }
         ensures step { IfOk result (λ step. Settles
             (step_by self.old.site self.old.number self.old.pair records.old (message_of message) which)
             self.old records.old step self.new records.new) }
@@ -68,10 +72,7 @@ impl ProcessCopies {
         ensures number { self.new.number ≡ self.old.number }
     {
         match message {
-            Message::Asking(request) => {
-                let step = self.request_to(which, request)?;
-                Ok(step)
-            }
+            Message::Asking(request) => Ok(self.request_to(which, request)),
             Message::Replying(reply) => {
                 let step = self.reply_to(which, &reply, records)?;
                 Ok(step)
@@ -84,23 +85,21 @@ impl ProcessCopies {
         }
     }
 
-    fn request_to(&mut self, which: Which, request: Request) -> Result<Step, NoMemory>
-        ensures step { (records : happened.Records) → IfOk result (λ step. Settles
+    fn request_to(&mut self, which: Which, request: Request) -> Step
+        requires { request.opener < length (openers_of self.old.site self.old.number) }
+        ensures step { (records : happened.Records) → Settles
             (request_step which self.old.pair records request (copy_of which self.old.pair).role)
-            self.old records step self.new records) }
+            self.old records result self.new records }
         ensures site { self.new.site ≡ self.old.site }
         ensures number { self.new.number ≡ self.old.number }
     {
-        if usize::from(request.opener) >= self.openers.len() {
-            return Err(NoMemory);
-        }
         match self.role(which) {
-            Role::Acting => Ok(self.request_acting(which, request)),
+            Role::Acting => self.request_acting(which, request),
             Role::Watching => {
                 self.arrive_watching(which, request);
-                Ok(Step::Quiet)
+                Step::Quiet
             }
-            Role::Gone => Ok(Step::Impossible),
+            Role::Gone => Step::Impossible,
         }
     }
 
@@ -141,6 +140,7 @@ impl ProcessCopies {
         reply: &Reply,
         records: &mut Records,
     ) -> Result<Step, NoMemory>
+        requires { CopyHasRoom (copy_of which self.old.pair) }
         ensures step { IfOk result (λ step. Settles
             (reply_step self.old.site self.old.number which self.old.pair records.old reply.now (copy_of which self.old.pair).role)
             self.old records.old step self.new records.new) }
@@ -162,6 +162,7 @@ impl ProcessCopies {
         reply: &Reply,
         records: &mut Records,
     ) -> Result<Step, NoMemory>
+        requires { CopyHasRoom (copy_of which self.old.pair) }
         ensures step { IfOk result (λ step. Settles
             (reply_step_where self.old.number which self.old.pair records.old reply.now
             (is_awaiting self.old.site self.old.number (copy_of which self.old.pair) reply.now))
@@ -204,7 +205,8 @@ impl ProcessCopies {
         reply: &Reply,
         records: &mut Records,
     ) -> Result<(), NoMemory>
-        requires { process.point (copy_of which self.old.pair).core.state ≡ Await }
+        requires point { process.point (copy_of which self.old.pair).core.state ≡ Await }
+        requires room { CopyHasRoom (copy_of which self.old.pair) }
         ensures process { OnOk result (self.new ≡ record self.old { pair = (got_step which self.old records.old reply.now).pair }) }
         ensures records { OnOk result (records.new ≡ (got_step which self.old records.old reply.now).records) }
         ensures site { self.new.site ≡ self.old.site }

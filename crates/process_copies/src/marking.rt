@@ -3,6 +3,7 @@ ghost use Rattle.world_semantics.specs.declared.role.Role.TheVariants.{Watching}
 ghost use Rattle.world_semantics.specs.World.{copy_of, other_of};
 ghost use Rattle.world_semantics.specs.Rules.{after_takeover, is_watching, marked_pair, stopped_pair, taken_over, taker, takes_over, told_again, told_at_mark};
 ghost use Rattle.kept_acts.specs.Shares.{closed_by};
+ghost use Rattle.number_ranges.specs.HasRoom.{CopyHasRoom};
 ghost use Rattle.process_copies.specs.Receiving.{placed_with};
 ghost use Rattle.process_copies.specs.Takeover.{let_go};
 
@@ -20,6 +21,8 @@ impl ProcessCopies {
         processor: u8,
         told: &mut List<Sending>,
     ) -> Result<(), NoMemory>
+        requires watching { (k : Which) → (copy_of k self.old.pair).role ≡ Watching
+            → CopyHasRoom (copy_of k self.old.pair) }
         ensures process { OnOk result (self.new ≡ record self.old { pair = marked_pair node processor self.old.pair }) }
         ensures told { OnOk result (told.new ≡ told.old ++ told_at_mark node processor self.old.pair) }
         ensures site { self.new.site ≡ self.old.site }
@@ -66,7 +69,8 @@ impl ProcessCopies {
 
     /// A copy that watches takes over.
     fn take_over(&mut self, which: Which, told: &mut List<Sending>) -> Result<(), NoMemory>
-        requires { (copy_of which self.old.pair).role ≡ Watching }
+        requires watching { (copy_of which self.old.pair).role ≡ Watching }
+        requires room { CopyHasRoom (copy_of which self.old.pair) }
         ensures process { OnOk result (self.new ≡ record self.old { pair = after_takeover which self.old.pair }) }
         ensures told { OnOk result (told.new ≡ told.old ++ told_again (copy_of which self.old.pair)) }
         ensures site { self.new.site ≡ self.old.site }

@@ -1,6 +1,7 @@
-ghost use Rattle.std.specs.Prelude.{◌≡◌, Some, IfOk, OnOk};
+ghost use Rattle.std.specs.Prelude.{◌≡◌, Some, length, IfOk, OnOk};
 ghost use Rattle.process_semantics.specs.Process.{point};
 ghost use Rattle.world_semantics.specs.World.{copy_of, may_pass};
+ghost use Rattle.number_ranges.specs.HasRoom.{CopyHasRoom, HasNext, PairHasRoom};
 ghost use Rattle.node_copies.specs.Records as happened;
 ghost use Rattle.node_copies.specs.Seen.{told_by};
 ghost use Rattle.process_copies.specs.Acting.{HasStepped, own_of, passed_step, step_by_act};
@@ -24,6 +25,8 @@ impl ProcessCopies {
         marks: &Marks,
         records: &mut Records,
     ) -> Result<Step, NoMemory>
+        requires room { PairHasRoom self.old.pair }
+        requires shown { HasNext (length records.old.shown) }
         ensures told { IfOk result (λ step. told_by step ≡ sent_by (step_of self.old.site self.old.number self.old.pair marks.now records.old)) }
         ensures process { OnOk result (self.new ≡ placed_after self.old (step_of self.old.site self.old.number self.old.pair marks.now records.old)) }
         ensures records { OnOk result (records.new ≡ records_after records.old (step_of self.old.site self.old.number self.old.pair marks.now records.old)) }
@@ -40,6 +43,8 @@ impl ProcessCopies {
         marks: &Marks,
         records: &mut Records,
     ) -> Result<Step, NoMemory>
+        requires room { PairHasRoom self.old.pair }
+        requires shown { HasNext (length records.old.shown) }
         ensures stepped { IfOk result (λ step. HasStepped (step_of self.old.site self.old.number self.old.pair marks.now records.old)
             step self.old self.new records.old records.new) }
         ensures site { self.new.site ≡ self.old.site }
@@ -62,6 +67,8 @@ impl ProcessCopies {
         marks: &Marks,
         records: &mut Records,
     ) -> Result<Step, NoMemory>
+        requires room { PairHasRoom self.old.pair }
+        requires shown { HasNext (length records.old.shown) }
         ensures stepped { IfOk result (λ step. HasStepped (step_of_copy self.old.site self.old.number self.old.pair marks.now records.old which)
             step self.old self.new records.old records.new) }
         ensures site { self.new.site ≡ self.old.site }
@@ -80,6 +87,8 @@ impl ProcessCopies {
         records: &mut Records,
         role: Role,
     ) -> Result<Step, NoMemory>
+        requires room { CopyHasRoom (copy_of which self.old.pair) }
+        requires shown { HasNext (length records.old.shown) }
         ensures stepped { IfOk result (λ step. HasStepped (step_as self.old.site self.old.number which self.old.pair marks.now records.old role)
             step self.old self.new records.old records.new) }
         ensures site { self.new.site ≡ self.old.site }
@@ -107,7 +116,9 @@ impl ProcessCopies {
         records: &mut Records,
         stands: Point,
     ) -> Result<Step, NoMemory>
-        requires { point (copy_of which self.old.pair).core.state ≡ stands }
+        requires point { point (copy_of which self.old.pair).core.state ≡ stands }
+        requires room { CopyHasRoom (copy_of which self.old.pair) }
+        requires shown { HasNext (length records.old.shown) }
         ensures stepped { IfOk result (λ step. HasStepped (step_at self.old.site self.old.number which self.old.pair marks.now records.old stands)
             step self.old self.new records.old records.new) }
         ensures site { self.new.site ≡ self.old.site }
@@ -129,7 +140,9 @@ impl ProcessCopies {
 
     /// An act of a copy at a point where it stands.
     fn act(&mut self, which: Which, records: &mut Records, stands: Point) -> Result<Step, NoMemory>
-        requires { point (copy_of which self.old.pair).core.state ≡ stands }
+        requires point { point (copy_of which self.old.pair).core.state ≡ stands }
+        requires room { CopyHasRoom (copy_of which self.old.pair) }
+        requires shown { HasNext (length records.old.shown) }
         ensures stepped { IfOk result (λ step. HasStepped (step_by_act self.old.number which self.old.pair records.old
             (own_of self.old.site self.old.number which self.old.pair records.old stands)) step self.old self.new records.old records.new) }
         ensures site { self.new.site ≡ self.old.site }
@@ -148,7 +161,9 @@ impl ProcessCopies {
     }
 
     fn act_first(&mut self, records: &mut Records, stands: Point) -> Result<Step, NoMemory>
-        requires { point self.old.pair.first.core.state ≡ stands }
+        requires point { point self.old.pair.first.core.state ≡ stands }
+        requires room { CopyHasRoom self.old.pair.first }
+        requires shown { HasNext (length records.old.shown) }
         ensures stepped { IfOk result (λ step. HasStepped (step_by_act self.old.number Which.First self.old.pair records.old
             (own_of self.old.site self.old.number Which.First self.old.pair records.old stands)) step self.old self.new records.old records.new) }
         ensures site { self.new.site ≡ self.old.site }
@@ -163,7 +178,9 @@ impl ProcessCopies {
     }
 
     fn act_second(&mut self, records: &mut Records, stands: Point) -> Result<Step, NoMemory>
-        requires { point self.old.pair.second.core.state ≡ stands }
+        requires point { point self.old.pair.second.core.state ≡ stands }
+        requires room { CopyHasRoom self.old.pair.second }
+        requires shown { HasNext (length records.old.shown) }
         ensures stepped { IfOk result (λ step. HasStepped (step_by_act self.old.number Which.Second self.old.pair records.old
             (own_of self.old.site self.old.number Which.Second self.old.pair records.old stands)) step self.old self.new records.old records.new) }
         ensures site { self.new.site ≡ self.old.site }
@@ -186,7 +203,8 @@ impl ProcessCopies {
         free: bool,
         sent: bool,
     ) -> Result<Step, NoMemory>
-        requires { point (copy_of which self.old.pair).core.state ≡ Point.Mark }
+        requires point { point (copy_of which self.old.pair).core.state ≡ Point.Mark }
+        requires room { CopyHasRoom (copy_of which self.old.pair) }
         ensures stepped { IfOk result (λ step. HasStepped (mark_step self.old.number which self.old.pair records.old free sent)
             step self.old self.new records.old records.new) }
         ensures site { self.new.site ≡ self.old.site }
@@ -221,7 +239,8 @@ impl ProcessCopies {
 
     /// A copy sends the checkpoint of its mark.
     fn send(&mut self, alloc: Global, which: Which) -> Result<Step, NoMemory>
-        requires { point (copy_of which self.old.pair).core.state ≡ Point.Mark }
+        requires point { point (copy_of which self.old.pair).core.state ≡ Point.Mark }
+        requires room { CopyHasRoom (copy_of which self.old.pair) }
         ensures stepped { (records : happened.Records) → IfOk result (λ step. HasStepped (Some (sending_step self.old.number which self.old.pair records))
             step self.old self.new records records) }
         ensures site { self.new.site ≡ self.old.site }
