@@ -1,4 +1,4 @@
-ghost use Rattle.std.specs.Prelude.{◌≡◌};
+ghost use Rattle.std.specs.Prelude.{◌≡◌, length};
 ghost use Rattle.process_semantics.specs.Process.{point};
 ghost use Rattle.plain_semantics.specs.Openers.{openers_of};
 ghost use Rattle.world_semantics.specs.World.{copy_of};
@@ -95,6 +95,16 @@ impl ProcessCopies {
         match &self.device {
             None => &[],
             Some(disc) => disc.sectors(),
+        }
+    }
+
+    /// How many sectors its device has.
+    pub fn sector_count(&self) -> u8
+        ensures { result ≡ length self.now.pair.sectors }
+    {
+        match &self.device {
+            None => 0,
+            Some(disc) => disc.count(),
         }
     }
 
