@@ -2,6 +2,7 @@ ghost use Rattle.std.specs.Prelude.{◌≡◌, length, slice_get, IfOk, OnOk};
 ghost use Rattle.std.specs.Option.{option_map};
 ghost use Rattle.message_wires.specs.Idle.{none_owed};
 ghost use Rattle.message_wires.specs.Wires.{paid, paid_between, posted, wires_again, wires_at_boot, without_packet};
+ghost use Rattle.number_ranges.specs.HasRoom.{HasNextLong};
 ghost use Rattle.posted_letters.specs.Repeats.{IsRepeated};
 
 use crate::bus::Bus;
@@ -61,21 +62,17 @@ impl PostedLetters {
         Some(self.bus.get(k)?.sender())
     }
 
-    /// Sends a letter: it is owed, and a packet of it goes to the bus. Where its number would have no successor memory is wanting.
+    /// Sends a letter: it is owed, and a packet of it goes to the bus. The number of its sending has a successor.
     pub fn post(&mut self, letter: Letter) -> Result<(), NoMemory>
+        requires { HasNextLong self.old.count }
         ensures { OnOk result (self.new ≡ posted letter self.old) }
     {
         let number = self.count;
-        match number.checked_add(1) {
-            None => Err(NoMemory),
-            Some(count) => {
-                let packet = letter.copy()?;
-                self.bus.put(Sent::new(number, packet))?;
-                self.owed.push(Sent::new(number, letter))?;
-                self.count = count;
-                Ok(())
-            }
-        }
+        let packet = letter.copy()?;
+        self.bus.put(Sent::new(number, packet))?;
+        self.owed.push(Sent::new(number, letter))?;
+        self.count = number + 1;
+        Ok(())
     }
 
     /// Takes the packet at a position off the bus.
