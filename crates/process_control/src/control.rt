@@ -159,6 +159,13 @@ impl<B: Behaviour> CopyControl<B> {
         self.core.next()
     }
 
+    /// How many files it has.
+    pub fn files(&self) -> u8
+        ensures { result ≡ length self.now.core.next }
+    {
+        self.core.files()
+    }
+
     /// The number of the next request on a file.
     pub fn next_on(&self, file: u8) -> u32
         ensures { result ≡ next_on self.now.core file }

@@ -96,6 +96,12 @@ impl<B: Behaviour> CopyCore<B> {
         self.asker.as_slice()
     }
 
+    pub fn files(&self) -> u8
+        ensures { result ≡ length self.now.core.next }
+    {
+        self.asker.len() as u8
+    }
+
     pub fn next_on(&self, file: u8) -> u32
         ensures { result ≡ next_on self.now.core file }
     {
