@@ -146,6 +146,13 @@ impl Pairs {
         self.whole.stopped.as_slice()
     }
 
+    /// How many processors there are.
+    pub fn processors(&self) -> u8
+        ensures { result ≡ length self.now.state.world.stopped }
+    {
+        self.whole.stopped.count()
+    }
+
     /// Which node has marked which processor.
     pub fn marks(&self) -> &Marks
         ensures { result.now ≡ self.now.state.world.marks }
