@@ -1,5 +1,5 @@
 -- The open links of a node: the links of requesters and of servers in one table, each under its number.
-use Rattle.std.specs.Prelude.{◌≡◌, ◌≢◌, ℕ, ℤ, ◌<◌, ◌==◌, ◌&&◌, not, Bool, true, false, List, slice_index_or, slice_set, Option, Some, None, option_map, option_and_then, Result, Ok, Err}
+use Rattle.std.specs.Prelude.{◌≡◌, ◌≢◌, ℕ, ℤ, suc, ◌<◌, ◌==◌, ◌&&◌, not, Bool, true, false, List, slice_index_or, slice_set, Option, Some, None, option_map, option_and_then, Result, Ok, Err}
 use Rattle.std.specs.Option.{option_map_or}
 use Rattle.gd_words.specs.declared.message.Request.{Request}
 use Rattle.gd_words.specs.declared.message.Reply.{Reply}
@@ -14,6 +14,11 @@ use Rattle.message_system.specs.declared.link.Wanted.TheVariants.{Unread, Of}
 -- for each number the link that is open under it
 abbrev pub Table : Type 0
 Table = List (Option Link)
+
+-- the open links, and how many were opened so far, those that have ended too
+pub record Held : Type 0 where
+  pub table : Table
+  pub opened : ℕ
 
 -- the link under a number
 abbrev pub at : Table → ℕ → Option Link
@@ -93,14 +98,19 @@ changed_at number change table = slice_set table number (option_map (with_side c
 abbrev pub without : ℕ → Table → Table
 without number table = slice_set table number None
 
+-- the table changed, and no link opened
+abbrev pub with_table : (Table → Table) → Held → Held
+with_table change held = record held { table = change held.table }
+
 -- a link was opened under a number that no open link had. It is later than all others, and these stay
-pub record Opens (old new : Table) (side : Side) (number : ℕ) : Type 0 where
+pub record Opens (old new : Held) (side : Side) (number : ℕ) : Type 0 where
   pub link : Link
-  pub was_free : at old number ≡ None
-  pub is_open : at new number ≡ Some link
+  pub was_free : at old.table number ≡ None
+  pub is_open : at new.table number ≡ Some link
   pub has_side : link.side ≡ side
-  pub is_latest : (other : ℕ) (before : Link) → at old other ≡ Some before → before.opened < link.opened
-  pub others_stay : (other : ℕ) → other ≢ number → at new other ≡ at old other
+  pub is_latest : (other : ℕ) (before : Link) → at old.table other ≡ Some before → before.opened < link.opened
+  pub others_stay : (other : ℕ) → other ≢ number → at new.table other ≡ at old.table other
+  pub is_counted : new.opened ≡ suc old.opened
 
 -- of the links that pass, the one under this number was opened before each other
 pub record IsOldest (passes : Side → Bool) (table : Table) (number : ℕ) : Type 0 where

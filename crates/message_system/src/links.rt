@@ -1,7 +1,7 @@
-ghost use Rattle.std.specs.Prelude.{◌≡◌, ◌⊎◌, ◌≤◌, ◌↔◌, [], ok_or, option_map, option_copied, Some, None, false, IsOk, IsSome, IfOk, IfErr, IfSome, IfNone, OnOk, OnErr};
+ghost use Rattle.std.specs.Prelude.{◌≡◌, ◌⊎◌, ◌≤◌, ◌<◌, ◌-◌, ◌^◌, ◌↔◌, [], ok_or, option_map, option_copied, Some, None, false, IsOk, IsSome, IfOk, IfErr, IfSome, IfNone, OnOk, OnErr};
 ghost use Rattle.message_system.specs.declared.link.Side.TheVariants.{Asked, Arrived};
 ghost use Rattle.message_system.specs.declared.link.LinkFault.TheVariants.{NoSuchLink};
-ghost use Rattle.message_system.specs.Linking.{at, asked_at, arrived_at, reply_at, reply_to, replied, read, changed_at, without, Opens, IsOldest, NonePasses, is_unread, is_of, is_wanted};
+ghost use Rattle.message_system.specs.Linking.{at, asked_at, arrived_at, reply_at, reply_to, replied, read, changed_at, without, Opens, IsOldest, NonePasses, with_table, is_unread, is_of, is_wanted};
 
 use crate::link::{Link, LinkFault, Side, Wanted};
 use gd_words::{NoMemory, Reply, Request, Words};
@@ -10,36 +10,38 @@ use std::alloc::Global;
 use std::marker::Model;
 
 /// The open links of a node. Requesters' links and servers' links stand in one table, and a call on a link of the other kind
-/// finds none. A number is used again once its link has ended.
+/// finds none. A number is used again once its link has ended. A link may be opened while the count of those opened, which has 64
+/// bits, has a next.
 #[derive(Drop)]
 pub struct Links {
     links: Slab<Link>,
-    next: u64,
+    opened: u64,
 }
 
 impl Model for Links {
-    ghost use Rattle.message_system.specs.Linking.{Table, IsTimed};
+    ghost use Rattle.message_system.specs.Linking.{Held, IsTimed};
 
-    ghost Value = { Table };
+    ghost Value = { Held };
 
-    ghost view = { λ links. links.links.slots };
+    ghost view = { λ links. record { table = links.links.slots; opened = links.opened } };
 
-    ghost invariant = { λ links. IsTimed links.links.slots links.next };
+    ghost invariant = { λ links. IsTimed links.links.slots links.opened };
 }
 
 impl Links {
     /// No link is open.
     pub fn new(alloc: Global) -> Links
-        ensures { result ≡ [] }
+        ensures { result ≡ record { table = []; opened = 0 } }
     {
         Links {
             links: Slab::new(alloc),
-            next: 0,
+            opened: 0,
         }
     }
 
     /// Opens the link of a requester that sends this request, and gives its number.
     pub fn link(&mut self, request: Request) -> Result<usize, NoMemory>
+        requires { self.old.opened < 2 ^ 64 - 1 }
         ensures opens { IfOk result (Opens self.old self.new (Asked request None)) }
         ensures err { OnErr result (self.new ≡ self.old) }
     {
@@ -51,7 +53,7 @@ impl Links {
 
     /// The request of a requester's link; none where no such link is open.
     pub fn requested(&self, number: usize) -> Option<&Request>
-        ensures { option_copied result ≡ asked_at self.now number }
+        ensures { option_copied result ≡ asked_at self.now.table number }
     {
         match &self.links.get(number)?.side {
             Side::Asked { request, reply: _ } => Some(request),
@@ -65,9 +67,10 @@ impl Links {
     /// The reply came for a requester's link. Where one came before, that one stays. `NoSuchLink` where no requester's link is
     /// open under the number.
     pub fn replied(&mut self, number: usize, words: Words) -> Result<(), LinkFault>
-        ensures open { IsOk result ↔ IsSome (asked_at self.old number) }
+        ensures open { IsOk result ↔ IsSome (asked_at self.old.table number) }
         ensures fault { IfErr result (λ fault. fault ≡ NoSuchLink) }
-        ensures after { OnOk result (self.new ≡ changed_at number (replied words) self.old) }
+        ensures after { OnOk result (self.new ≡ with_table (changed_at number (replied words)) self.old) }
+        ensures count { self.new.opened ≡ self.old.opened }
         ensures err { OnErr result (self.new ≡ self.old) }
     {
         match self.links.get_mut(number) {
@@ -79,8 +82,9 @@ impl Links {
     /// Gives the reply that came for a requester's link, and ends the link. `NotAnswered` where none came, and the link stays
     /// open; `NoSuchLink` where no requester's link is open under the number.
     pub fn break_link(&mut self, number: usize) -> Result<Words, LinkFault>
-        ensures answer { result ≡ reply_at self.old number }
-        ensures ends { OnOk result (self.new ≡ without number self.old) }
+        ensures answer { result ≡ reply_at self.old.table number }
+        ensures ends { OnOk result (self.new ≡ with_table (without number) self.old) }
+        ensures count { self.new.opened ≡ self.old.opened }
         ensures err { OnErr result (self.new ≡ self.old) }
     {
         let words = match self.links.get(number) {
@@ -93,6 +97,7 @@ impl Links {
 
     /// Opens the link of a server to which this request came, and gives its number.
     pub fn arrived(&mut self, request: Request) -> Result<usize, NoMemory>
+        requires { self.old.opened < 2 ^ 64 - 1 }
         ensures opens { IfOk result (Opens self.old self.new (Arrived request false)) }
         ensures err { OnErr result (self.new ≡ self.old) }
     {
@@ -104,8 +109,8 @@ impl Links {
 
     /// The oldest link of a process that the process hasn't read yet.
     pub fn listen(&self, process: u8) -> Option<usize>
-        ensures oldest { IfSome result (IsOldest (is_unread process) self.now) }
-        ensures none { IfNone result (NonePasses (is_unread process) self.now) }
+        ensures oldest { IfSome result (IsOldest (is_unread process) self.now.table) }
+        ensures none { IfNone result (NonePasses (is_unread process) self.now.table) }
     {
         self.oldest(Wanted::Unread { process })
     }
@@ -113,8 +118,9 @@ impl Links {
     /// The request of a server's link, which is read from now on; one that was read before gives it again. `NoSuchLink` where
     /// no server's link is open under the number.
     pub fn read_link(&mut self, number: usize) -> Result<Request, LinkFault>
-        ensures answer { result ≡ ok_or (arrived_at self.old number) NoSuchLink }
-        ensures after { OnOk result (self.new ≡ changed_at number read self.old) }
+        ensures answer { result ≡ ok_or (arrived_at self.old.table number) NoSuchLink }
+        ensures after { OnOk result (self.new ≡ with_table (changed_at number read) self.old) }
+        ensures count { self.new.opened ≡ self.old.opened }
         ensures err { OnErr result (self.new ≡ self.old) }
     {
         match self.links.get_mut(number) {
@@ -126,8 +132,9 @@ impl Links {
     /// The reply to the request of a server's link, which ends, read before or not. `NoSuchLink` where no server's link is open
     /// under the number.
     pub fn write_link(&mut self, number: usize, words: &Words) -> Result<Reply, LinkFault>
-        ensures answer { result ≡ ok_or (option_map (reply_to words.now) (arrived_at self.old number)) NoSuchLink }
-        ensures ends { OnOk result (self.new ≡ without number self.old) }
+        ensures answer { result ≡ ok_or (option_map (reply_to words.now) (arrived_at self.old.table number)) NoSuchLink }
+        ensures ends { OnOk result (self.new ≡ with_table (without number) self.old) }
+        ensures count { self.new.opened ≡ self.old.opened }
         ensures err { OnErr result (self.new ≡ self.old) }
     {
         let reply = match self.served(number) {
@@ -140,8 +147,8 @@ impl Links {
 
     /// The oldest open link of a server for this request.
     pub fn link_of(&self, process: u8, opener: u16, number: u32) -> Option<usize>
-        ensures oldest { IfSome result (IsOldest (is_of process opener number) self.now) }
-        ensures none { IfNone result (NonePasses (is_of process opener number) self.now) }
+        ensures oldest { IfSome result (IsOldest (is_of process opener number) self.now.table) }
+        ensures none { IfNone result (NonePasses (is_of process opener number) self.now.table) }
     {
         self.oldest(Wanted::Of {
             process,
@@ -152,9 +159,10 @@ impl Links {
 
     /// Ends a server's link without a reply. `NoSuchLink` where no server's link is open under the number.
     pub fn end_link(&mut self, number: usize) -> Result<(), LinkFault>
-        ensures open { IsOk result ↔ IsSome (arrived_at self.old number) }
+        ensures open { IsOk result ↔ IsSome (arrived_at self.old.table number) }
         ensures fault { IfErr result (λ fault. fault ≡ NoSuchLink) }
-        ensures ends { OnOk result (self.new ≡ without number self.old) }
+        ensures ends { OnOk result (self.new ≡ with_table (without number) self.old) }
+        ensures count { self.new.opened ≡ self.old.opened }
         ensures err { OnErr result (self.new ≡ self.old) }
     {
         if self.served(number).is_none() {
@@ -166,7 +174,7 @@ impl Links {
 
     /// The request of a server's link; none where no such link is open.
     fn served(&self, number: usize) -> Option<&Request>
-        ensures { option_copied result ≡ arrived_at self.now number }
+        ensures { option_copied result ≡ arrived_at self.now.table number }
     {
         match &self.links.get(number)?.side {
             Side::Asked {
@@ -177,23 +185,20 @@ impl Links {
         }
     }
 
-    // Want of memory is the answer too where the count of opened links could rise no more.
     fn open(&mut self, side: Side) -> Result<usize, NoMemory>
+        requires { self.old.opened < 2 ^ 64 - 1 }
         ensures opens { IfOk result (Opens self.old self.new side) }
         ensures err { OnErr result (self.new ≡ self.old) }
     {
-        let opened = self.next;
-        let Some(next) = opened.checked_add(1) else {
-            return Err(NoMemory);
-        };
+        let opened = self.opened;
         let number = self.links.insert(Link { opened, side })?;
-        self.next = next;
+        self.opened = opened + 1;
         Ok(number)
     }
 
     fn oldest(&self, wanted: Wanted) -> Option<usize>
-        ensures oldest { IfSome result (IsOldest (is_wanted wanted) self.now) }
-        ensures none { IfNone result (NonePasses (is_wanted wanted) self.now) }
+        ensures oldest { IfSome result (IsOldest (is_wanted wanted) self.now.table) }
+        ensures none { IfNone result (NonePasses (is_wanted wanted) self.now.table) }
     {
         let mut oldest: Option<Seen> = None;
         for (number, link) in self.links.iter() {

@@ -6,4 +6,4 @@ abbrev pub invariant-loop-number : goal.invariant-loop-number
 invariant-loop-number l =
     (goal.iterator-loop-number).can_next l.number-iterator ×
     (goal.iterator-loop-number).is_finite l.number-iterator ×
-    IsSearched (is_wanted l.wanted) l.self l.oldest l.number-iterator
+    IsSearched (is_wanted l.wanted) l.self.table l.oldest l.number-iterator
