@@ -1,5 +1,5 @@
 -- Code grows by the operators of a chain, one after the other.
-use Rattle.std.proofs.Common.{◌≡◌, ◌<◌, List, [], ◌∷◌, ◌++◌, refl, ap, sym, ◌∙◌, arith}
+use Rattle.std.proofs.Common.{◌≡◌, ◌+◌, ◌<◌, ◌≤◌, List, [], ◌∷◌, ◌++◌, length, refl, ap, sym, ◌∙◌, arith}
 use Rattle.tal_tree.specs.declared.expression.Expr.{Expr, Two, size-Expr}
 use Rattle.tal_tree.specs.declared.expression.Cond.{Cond, size-Cond}
 use Rattle.tal_values.specs.declared.chain.Tail.{Tail}
@@ -11,6 +11,8 @@ use Rattle.tal_values.proofs.ChainSteps.{chained-push, linked-push}
 use Rattle.tal_values.proofs.ValueSteps as value
 use Rattle.tal_values.proofs.TruthSteps as truth
 use Rattle.tal_code.specs.Parts.{PartStack, Valued, Tested, with_part, two_part, joined_part}
+use Rattle.tal_code.specs.Waiting.{waiting_of, waiting_for, waiting_of_test}
+use Rattle.tal_code.proofs.Waits.{first_waits, first_test_waits, waiting-two, waiting-joined}
 
 -- the code so far is that of an expression, of which the operators that are left make the whole
 pub record Grows (old code : PartStack) (tails : List Tail) (whole : Expr) : Type 0 where
@@ -40,6 +42,19 @@ tail-within {old} {code} {whole} {items} tails tail popped so_far =
       ap size-Expr (next-chain tails tail popped so_far),
       value.first_within (Two tail.op so_far.below tail.right.now) tails,
       value.right_within tail.op so_far.below tail.right.now,
+    )
+
+-- for the right side of the next operator no more wait than for the whole
+pub tail-waits : {old code : PartStack} {whole : Expr} {items : List Tail} (tails : List Tail) (tail : Tail)
+    → items ≡ tails ++ tail ∷ [] → length old.below + waiting_of whole < 80 → Grows old code items whole → length code.below + waiting_for tail.right.now ≤ 80
+tail-waits {old} {code} {whole} {items} tails tail popped low so_far =
+    omega (
+      arith,
+      low,
+      ap (λ (c : PartStack). length c.below) so_far.code_is,
+      ap waiting_of (next-chain tails tail popped so_far),
+      first_waits (Two tail.op so_far.below tail.right.now) tails,
+      waiting-two tail.op so_far.below tail.right.now,
     )
 
 -- the same for conditions
@@ -74,4 +89,17 @@ link-within {old} {code} {whole} {items} links link popped so_far =
       ap size-Cond (next-link links link popped so_far),
       truth.first_within (joined link.junction so_far.below link.right.now) links,
       truth.right_within link.junction so_far.below link.right.now,
+    )
+
+pub link-waits : {old code : PartStack} {whole : Cond} {items : List Link} (links : List Link) (link : Link)
+    → items ≡ links ++ link ∷ [] → length old.below + waiting_of_test whole < 80 → Joins old code items whole
+    → length code.below + (waiting_of_test link.right.now + 1) ≤ 80
+link-waits {old} {code} {whole} {items} links link popped low so_far =
+    omega (
+      arith,
+      low,
+      ap (λ (c : PartStack). length c.below) so_far.code_is,
+      ap waiting_of_test (next-link links link popped so_far),
+      first_test_waits (joined link.junction so_far.below link.right.now) links,
+      waiting-joined link.junction so_far.below link.right.now,
     )

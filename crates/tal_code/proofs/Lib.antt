@@ -3,3 +3,4 @@ pub mod Places
 pub mod Room
 pub mod Shown
 pub mod Tops
+pub mod Waits

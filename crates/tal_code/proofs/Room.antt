@@ -1,5 +1,5 @@
 -- Room for the words of code: what is kept low while it is made has room for each of its steps.
-use Rattle.std.proofs.Common.{◌≡◌, ℕ, length-drop, ◌≤◌, List, [], ◌∷◌, ◌++◌, length, refl, ap, sym, subst, ◌∙◌, arith}
+use Rattle.std.proofs.Common.{◌≡◌, length-drop, ◌≤◌, List, [], ◌∷◌, ◌++◌, length, refl, subst, arith}
 use Rattle.tal_code.specs.declared.step.Operand.{Operand}
 use Rattle.tal_code.specs.declared.step.Step.{Step}
 use Rattle.tal_code.specs.declared.step.Step.TheVariants as step
@@ -39,11 +39,9 @@ low-first : (parts : PartStack) (steps : List Step) → LowFrom parts steps → 
 low-first parts [] low = low
 low-first parts (first ∷ steps) low = low.0
 
--- a draft stays low, and keeps its height, by a step that leaves it so
-pub push-keeps : (old new : List Step) (s : Step) (h n : ℕ) → new ≡ old ++ s ∷ [] → IsLow old × (h ≡ length (built old).below)
-    → n ≡ length (parts_after s (built old)).below → n ≤ 80 → IsLow new × (n ≡ length (built new).below)
-push-keeps old new s h n is inv at low =
-    rw is (low-push nothing old s inv.0 (omega (arith, at, low)), at ∙ ap (λ (p : PartStack). length p.below) (sym (after-push old s nothing)))
+-- a draft stays low by a step that leaves it so
+pub push-keeps : (old new : List Step) (s : Step) → new ≡ old ++ s ∷ [] → IsLow old → length (parts_after s (built old)).below ≤ 80 → IsLow new
+push-keeps old new s is inv low = rw is (low-push nothing old s inv low)
 
 -- the parts after a step are as many as it says
 height-of-parts : (s : Step) (parts : PartStack) → length (parts_after s parts).below ≡ height_after s (length parts.below)

@@ -1,4 +1,5 @@
 pub mod Parts
 pub mod Room
 pub mod Spots
+pub mod Waiting
 pub mod Words

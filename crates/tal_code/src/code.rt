@@ -1,5 +1,5 @@
-ghost use Rattle.std.specs.Prelude.{◌≡◌, ◌≤◌, length, OnOk, IfSome};
-ghost use Rattle.tal_code.specs.Parts.{Valued, Tested, PartStack, nothing, built, parts_after, expr_in, cond_in};
+ghost use Rattle.std.specs.Prelude.{◌≡◌, ◌≤◌, length, OnOk};
+ghost use Rattle.tal_code.specs.Parts.{Valued, Tested, nothing, built, parts_after, expr_in, cond_in};
 ghost use Rattle.tal_code.specs.Room.{IsLow};
 
 use crate::step::Step;
@@ -69,15 +69,13 @@ impl TestCode {
     }
 }
 
-/// Code that is being made: its steps, and how many words they leave below the top.
+/// Code that is being made.
 #[derive(Drop)]
 pub(crate) struct Draft {
     steps: List<Step>,
-    height: usize,
 }
 
 impl Model for Draft {
-    ghost use Rattle.std.specs.Prelude.{◌≡◌, length};
     ghost use Rattle.std.specs.Coded.{codes};
     ghost use Rattle.tal_tree.specs.contracts.expression.Expr as expression;
     ghost use Rattle.tal_tree.specs.contracts.expression.Cond as condition;
@@ -90,7 +88,7 @@ impl Model for Draft {
 
     ghost view = { λ draft. parts.built draft.steps };
 
-    ghost invariant = { λ draft. room.IsLow draft.steps × (draft.height ≡ length (parts.built draft.steps).below) };
+    ghost invariant = { λ draft. room.IsLow draft.steps };
 }
 
 impl Draft {
@@ -99,20 +97,15 @@ impl Draft {
     {
         Draft {
             steps: List::new(alloc),
-            height: 0,
         }
     }
 
-    /// Puts a step after the others. A step that would leave more than 80 words below the top is refused as if memory were
-    /// wanting.
+    /// Puts a step after the others, where it leaves no more than 80 words below the top.
     pub(crate) fn push(&mut self, step: Step) -> Result<(), NoMemory>
+        requires { length (parts_after step self.old).below ≤ 80 }
         ensures { OnOk result (self.new ≡ parts_after step self.old) }
     {
-        let Some(height) = height_after(step, self.height) else {
-            return Err(NoMemory);
-        };
         self.steps.push(step)?;
-        self.height = height;
         Ok(())
     }
 
@@ -121,7 +114,7 @@ impl Draft {
         requires { self.top ≡ Valued (expr_in self.top) }
         ensures { result ≡ expr_in self.top }
     {
-        let Draft { steps, height: _ } = self;
+        let Draft { steps } = self;
         Code { steps }
     }
 
@@ -130,23 +123,7 @@ impl Draft {
         requires { self.top ≡ Tested (cond_in self.top) }
         ensures { result ≡ cond_in self.top }
     {
-        let Draft { steps, height: _ } = self;
+        let Draft { steps } = self;
         TestCode { steps }
-    }
-}
-
-/// How many words stand below the top after a step, where there is room for it.
-fn height_after(step: Step, height: usize) -> Option<usize>
-    requires { height ≤ 80 }
-    ensures height { (s : PartStack) → height ≡ length s.below → IfSome result (λ n. n ≡ length (parts_after step s).below) }
-    ensures low { IfSome result (λ n. n ≤ 80) }
-{
-    match step {
-        Step::Load(_) => { if height < 80 { Some(height + 1) } else { None } }
-        Step::Two(_) => Some(height.saturating_sub(1)),
-        Step::Compare(_) => Some(height.saturating_sub(1)),
-        Step::And => Some(height.saturating_sub(1)),
-        Step::Or => Some(height.saturating_sub(1)),
-        _ => Some(height),
     }
 }

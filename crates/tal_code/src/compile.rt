@@ -1,8 +1,9 @@
-ghost use Rattle.std.specs.Prelude.{◌≡◌, pos, IfOk, OnOk, IfSome};
+ghost use Rattle.std.specs.Prelude.{◌≡◌, ◌+◌, ◌<◌, ◌≤◌, pos, length, IfOk, OnOk, IfSome, IfNone};
 ghost use Rattle.tal_tree.specs.declared.expression.Expr.TheVariants as expr;
 ghost use Rattle.tal_tree.specs.declared.expression.Cond.TheVariants as cond;
 ghost use Rattle.tal_values.specs.Chain.{expr_of, cond_of};
 ghost use Rattle.tal_values.specs.Spots.{spot_of};
+ghost use Rattle.tal_code.specs.Waiting.{waiting_of, waiting_of_spot, waiting_for, waiting_of_test};
 ghost use Rattle.tal_code.specs.Words.{operand_expr};
 ghost use Rattle.tal_code.specs.Parts.{Valued, Tested, with_part, two_part, compared_part, joined_part};
 
@@ -14,11 +15,12 @@ use std::alloc::Global;
 use tal_tree::{Cond, Expr, Op, Rel, Spot, Variable};
 use tal_values::chain::{Junction, Link, Operand as First, Tail, Test, cond_chain, expr_chain};
 
-/// The code of an expression. This call and those below are refused where memory is wanting, and where code would leave
-/// more than 80 words below the top of a stack: one that stands there from the beginning, and one for each left side that
-/// waits for a right side that is no number and no simple variable. So the limit bounds how deep right sides stand in one
-/// another, those of AND and OR among them, and neither how long a chain is nor how deep its left sides stand.
+/// The code of an expression. This call and those below require that fewer than 80 left sides wait at one time for right
+/// sides that are no numbers and no simple variables: a stack has room for 80 words below the top, of which one stands
+/// there from the beginning. So it counts how deep right sides stand in one another, those of AND and OR among them, and
+/// neither how long a chain is nor how deep its left sides stand.
 pub fn code_of(alloc: Global, expr: &Expr) -> Result<Code, NoMemory>
+    requires { waiting_of expr.now < 80 }
     ensures { IfOk result (λ code. code ≡ expr.now) }
 {
     let mut draft = Draft::new(alloc);
@@ -28,6 +30,7 @@ pub fn code_of(alloc: Global, expr: &Expr) -> Result<Code, NoMemory>
 
 /// The code of a condition.
 pub fn test_code_of(alloc: Global, cond: &Cond) -> Result<TestCode, NoMemory>
+    requires { waiting_of_test cond.now < 80 }
     ensures { IfOk result (λ code. code ≡ cond.now) }
 {
     let mut draft = Draft::new(alloc);
@@ -37,6 +40,7 @@ pub fn test_code_of(alloc: Global, cond: &Cond) -> Result<TestCode, NoMemory>
 
 /// The code of a spot.
 pub fn spot_code_of(alloc: Global, spot: &Spot) -> Result<SpotCode, NoMemory>
+    requires { waiting_of_spot spot.now < 80 }
     ensures { IfOk result (λ code. code ≡ spot.now) }
 {
     match spot {
@@ -52,6 +56,7 @@ pub fn spot_code_of(alloc: Global, spot: &Spot) -> Result<SpotCode, NoMemory>
 
 /// The code of the test of a FOR: whether its variable is at most the value after TO.
 pub fn limit_code_of(alloc: Global, variable: Variable, to: &Expr) -> Result<TestCode, NoMemory>
+    requires { waiting_for to.now < 80 }
     ensures { IfOk result (λ code. code ≡ cond.Compare Rel.AtMost (expr.Read (spot_of variable)) to.now) }
 {
     let mut draft = Draft::new(alloc);
@@ -72,6 +77,7 @@ pub fn next_code_of(alloc: Global, variable: Variable) -> Result<Code, NoMemory>
 
 #[cycle(put)]
 fn put_expr(alloc: Global, draft: &mut Draft, expr: &Expr) -> Result<(), NoMemory>
+    requires { length draft.old.below + waiting_of expr.now < 80 }
     ensures { OnOk result (draft.new ≡ with_part (Valued expr.now) draft.old) }
 {
     let chain = expr_chain(alloc, expr)?;
@@ -85,6 +91,7 @@ fn put_expr(alloc: Global, draft: &mut Draft, expr: &Expr) -> Result<(), NoMemor
 
 #[cycle(put)]
 fn put_first(alloc: Global, draft: &mut Draft, first: First<'_>) -> Result<(), NoMemory>
+    requires { length draft.old.below + waiting_of (expr_of first) < 80 }
     ensures { OnOk result (draft.new ≡ with_part (Valued (expr_of first.entry)) draft.old) }
 {
     match first {
@@ -100,6 +107,7 @@ fn put_first(alloc: Global, draft: &mut Draft, first: First<'_>) -> Result<(), N
 
 #[cycle(put)]
 fn put_spot(alloc: Global, draft: &mut Draft, spot: &Spot) -> Result<(), NoMemory>
+    requires { length draft.old.below + waiting_of_spot spot.now < 80 }
     ensures { OnOk result (draft.new ≡ with_part (Valued (expr.Read spot.now)) draft.old) }
 {
     match spot {
@@ -115,6 +123,7 @@ fn put_spot(alloc: Global, draft: &mut Draft, spot: &Spot) -> Result<(), NoMemor
 
 #[cycle(put)]
 fn put_tail(alloc: Global, draft: &mut Draft, tail: Tail<'_>) -> Result<(), NoMemory>
+    requires { length draft.old.below + waiting_for tail.right.now ≤ 80 }
     ensures { OnOk result (draft.new ≡ record draft.old { top = two_part tail.entry.op draft.old.top (Valued tail.entry.right.now) }) }
 {
     match simple(tail.right) {
@@ -129,7 +138,8 @@ fn put_tail(alloc: Global, draft: &mut Draft, tail: Tail<'_>) -> Result<(), NoMe
 
 /// The operand that an expression is, where it is as simple as that.
 fn simple(expr: &Expr) -> Option<Operand>
-    ensures { IfSome result (λ operand. operand_expr operand ≡ expr.now) }
+    ensures some { IfSome result (λ operand. operand_expr operand ≡ expr.now) }
+    ensures none { IfNone result (waiting_for expr.now ≡ waiting_of expr.now + 1) }
 {
     match expr {
         Expr::Number(word) => Some(Operand::Number(*word)),
@@ -139,7 +149,8 @@ fn simple(expr: &Expr) -> Option<Operand>
 }
 
 fn simple_spot(spot: &Spot) -> Option<Operand>
-    ensures { IfSome result (λ operand. operand_expr operand ≡ expr.Read spot.now) }
+    ensures some { IfSome result (λ operand. operand_expr operand ≡ expr.Read spot.now) }
+    ensures none { IfNone result (waiting_for (expr.Read spot.now) ≡ waiting_of (expr.Read spot.now) + 1) }
 {
     match spot {
         Spot::Local(place) => Some(Operand::Local(*place)),
@@ -159,6 +170,7 @@ fn simple_variable(variable: Variable) -> Operand
 
 #[cycle(put_cond)]
 fn put_cond(alloc: Global, draft: &mut Draft, cond: &Cond) -> Result<(), NoMemory>
+    requires { length draft.old.below + waiting_of_test cond.now < 80 }
     ensures { OnOk result (draft.new ≡ with_part (Tested cond.now) draft.old) }
 {
     let chain = cond_chain(alloc, cond)?;
@@ -172,6 +184,7 @@ fn put_cond(alloc: Global, draft: &mut Draft, cond: &Cond) -> Result<(), NoMemor
 
 #[cycle(put_cond)]
 fn put_test(alloc: Global, draft: &mut Draft, first: Test<'_>) -> Result<(), NoMemory>
+    requires { length draft.old.below + waiting_of_test (cond_of first) < 80 }
     ensures { OnOk result (draft.new ≡ with_part (Tested (cond_of first.entry)) draft.old) }
 {
     match first {
@@ -192,6 +205,7 @@ fn put_test(alloc: Global, draft: &mut Draft, first: Test<'_>) -> Result<(), NoM
 }
 
 fn put_compared(alloc: Global, draft: &mut Draft, rel: Rel, right: &Expr) -> Result<(), NoMemory>
+    requires { length draft.old.below + waiting_for right.now ≤ 80 }
     ensures { OnOk result (draft.new ≡ record draft.old { top = compared_part rel draft.old.top (Valued right.now) }) }
 {
     match simple(right) {
@@ -207,6 +221,7 @@ fn put_compared(alloc: Global, draft: &mut Draft, rel: Rel, right: &Expr) -> Res
 // Both sides are evaluated, and a trap of the right one is lost where the left one decides: so code needs no jumps.
 #[cycle(put_cond)]
 fn put_link(alloc: Global, draft: &mut Draft, link: Link<'_>) -> Result<(), NoMemory>
+    requires { length draft.old.below + (waiting_of_test link.right.now + 1) ≤ 80 }
     ensures { OnOk result (draft.new ≡ record draft.old { top = joined_part link.entry.junction draft.old.top (Tested link.entry.right.now) }) }
 {
     put_cond(alloc, draft, link.right)?;
