@@ -1,11 +1,10 @@
 -- In a site within the limits each opener has an address: its server is one of 16 processes, which has at most 144 openers.
-use Rattle.std.proofs.Common.{◌≡◌, ℕ, zero, suc, refl, ◌+◌, ◌<◌, ◌≤◌, Bool, true, false, true≢false, if◌then◌else◌, List, [], ◌∷◌, length, slice_get, Option, Some, None, is_some, IfSome, ap, sym, subst, arith}
+use Rattle.std.proofs.Common.{◌≡◌, ℕ, zero, suc, refl, ◌+◌, ◌<◌, ◌≤◌, Bool, true, false, true≢false, if◌then◌else◌, List, [], ◌∷◌, length, slice_get, Option, Some, None, is_some, IfSome, sym, arith}
 use Rattle.tal_tree.specs.declared.site.Site.{Site}
 use Rattle.tal_tree.specs.declared.site.ProcessSpec.{ProcessSpec}
 use Rattle.tal_tree.specs.declared.site.OpenerSpec.{OpenerSpec}
 use Rattle.tal_tree.specs.declared.site.Who.{Who}
-use Rattle.plain_semantics.specs.declared.slot.Opener.{Opener}
-use Rattle.plain_semantics.specs.Openers.{opener_at, opener_of, opener_on, openers_by, openers_of, place_from, same_who, server_by}
+use Rattle.plain_semantics.specs.Openers.{opener_at, opener_of, opener_on, openers_by, place_from, same_who, server_by}
 use Rattle.plain_semantics.specs.SiteLimits.{KeepsSiteLimits}
 use Rattle.process_copies.proofs.Few.{openers-few}
 use Rattle.process_copies.specs.Starting.{HasAddress}

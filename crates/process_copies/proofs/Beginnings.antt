@@ -1,5 +1,5 @@
 -- A process at its beginning is that of the world at the beginning.
-use Rattle.std.proofs.Common.{◌≡◌, ◌∙◌, ℕ, List, [], length, map, refl, ap, ap₂, sym}
+use Rattle.std.proofs.Common.{◌≡◌, ◌∙◌, ℕ, List, [], length, map, ap, ap₂}
 use Rattle.tal_tree.specs.declared.site.OpenerSpec.{OpenerSpec}
 use Rattle.tal_tree.specs.declared.site.ProcessSpec.{ProcessSpec}
 use Rattle.tal_tree.specs.declared.site.Site.{Site}
@@ -10,7 +10,7 @@ use Rattle.checkpoint_image.specs.declared.message.TakenMessage.{TakenMessage}
 use Rattle.disc_device.specs.declared.stored.Stored.{Stored}
 use Rattle.world_semantics.specs.declared.role.Role.{Role}
 use Rattle.world_semantics.specs.declared.role.Role.TheVariants.{Acting, Watching}
-use Rattle.world_semantics.specs.Core.{Core, core_at_boot}
+use Rattle.world_semantics.specs.Core.{core_at_boot}
 use Rattle.world_semantics.specs.World.{Copy, copy_at_boot, device_at_boot, pair_at_boot}
 use Rattle.process_control.specs.Cores.{core_at_start}
 use Rattle.process_control.proofs.Starting.{starts}

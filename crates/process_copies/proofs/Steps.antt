@@ -1,6 +1,5 @@
 -- The steps of a process, by what its copies do.
-use Rattle.std.proofs.Common.{◌≡◌, ◌≢◌, ℕ, Bool, true, false, List, Option, Some, None, nat_lt, refl, ap, ap₂, sym, subst, ◌∙◌}
-use Rattle.std.specs.Option.{option_map}
+use Rattle.std.proofs.Common.{◌≡◌, ◌≢◌, ℕ, Bool, true, false, List, Option, Some, None, nat_lt, refl, ap, ap₂, sym, subst}
 use Rattle.tal_tree.specs.declared.site.Site.{Site}
 use Rattle.process_semantics.specs.declared.point.Point.{Point}
 use Rattle.process_semantics.specs.declared.point.Point.TheVariants as point
@@ -15,7 +14,7 @@ use Rattle.node_copies.specs.Acting.{HasActed, Scene}
 use Rattle.node_copies.specs.Records.{Records}
 use Rattle.node_copies.specs.Seen.{CopyAndDepths, told_by}
 use Rattle.node_copies.specs.declared.step.Step.{Step}
-use Rattle.node_copies.specs.declared.step.Step.TheVariants.{Impossible, Quiet, Sends}
+use Rattle.node_copies.specs.declared.step.Step.TheVariants.{Impossible}
 use Rattle.process_copies.specs.Acting.{HasStepped, own_of, passed_step, step_by_act}
 use Rattle.process_copies.specs.Seen.{Placed, sent_by}
 use Rattle.process_copies.specs.Steps.{Stepped, first_step, mark_step, passing_step, step_at}
