@@ -10,6 +10,7 @@ pub mod PacketKinds
 pub mod Packets
 pub mod Places
 pub mod Reroutes
+pub mod Room
 pub mod Steps
 pub mod Sweeps
 pub mod Terminals

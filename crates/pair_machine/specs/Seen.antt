@@ -25,7 +25,7 @@ abbrev pub terminal_row : Site → ℕ → List TerminalSpec → List (Option Op
 terminal_row site number [] = []
 terminal_row site number (terminal ∷ terminals) = opener_of site (who.Terminal number) ∷ terminal_row site (number + 1) terminals
 
--- a machine's state, and whether the machine once wanted memory: then it answers so for good
+-- a machine's state, and whether an allocation was once refused to it: then it answers so for good
 pub record Standing : Type 0 where
   pub is_broken : Bool
   pub state : Whole

@@ -2,7 +2,9 @@ ghost use Rattle.std.specs.Prelude.{◌≡◌, slice_get, IfOk, OnOk};
 ghost use Rattle.std.specs.Option.{option_map};
 ghost use Rattle.computed_changes.specs.Handed.{handed_done, replied_done, replied_to};
 ghost use Rattle.machine_states.specs.States.{Settles};
+ghost use Rattle.number_ranges.specs.HasRoom.{HasRoom};
 ghost use Rattle.message_wires.specs.Play.{after_any, comes_in, deliver_played, lose_played, packet_at, received, repeat_played};
+ghost use Rattle.pair_machine.specs.Room.{AreCounted, AreCountedAfter, NamesItsOpener, NamesOpener, OpenersAreThere};
 ghost use Rattle.pair_machine.specs.Told.{brought, sent_in, unsent};
 ghost use Rattle.plain_semantics.specs.Openers.{openers_of};
 ghost use Rattle.posted_letters.specs.Seen.{message_of};
@@ -19,6 +21,9 @@ impl Whole {
     /// The packet at a position of a bus is taken off, and its letter comes in or is dropped.
     #[tactic(auto, using(crate::proofs::Packets::none_removed))]
     pub(crate) fn deliver(&mut self, y: bool, k: u32) -> Result<Effect, NoMemory>
+        requires openers { OpenersAreThere self.old }
+        requires room { HasRoom self.old }
+        requires letters { AreCountedAfter (deliver_played k self.old (packet_at self.old y k)) }
         ensures { IfOk result (λ effect. Settles (deliver_played k self.old (packet_at self.old y k)) self.old effect self.new) }
     {
         if y {
@@ -35,6 +40,9 @@ impl Whole {
 
     /// A packet that was taken off the bus comes in at its receiver, or is dropped there.
     fn receive(&mut self, packet: Sent) -> Result<(), NoMemory>
+        requires opener { NamesItsOpener self.old.site packet.letter.message }
+        requires room { HasRoom self.old }
+        requires letters { AreCounted (received packet self.old) }
         ensures { OnOk result (self.new ≡ received packet self.old) }
     {
         if self.comes_in(&packet) {
@@ -55,6 +63,10 @@ impl Whole {
 
     /// A message is handed over at a node.
     fn hand(&mut self, node: u8, message: Message) -> Result<(), NoMemory>
+        requires opener { NamesItsOpener self.old.site (message_of message) }
+        requires room { HasRoom self.old }
+        requires letters { AreCounted (after_any self.old
+            (handed_done self.old.site node (message_of message) self.old.world)) }
         ensures { OnOk result (self.new ≡ after_any self.old (handed_done self.old.site node (message_of message) self.old.world)) }
     {
         match message {
@@ -80,6 +92,9 @@ impl Whole {
 
     /// A reply goes to the opener that stands at its place.
     fn hand_reply(&mut self, node: u8, reply: Reply) -> Result<(), NoMemory>
+        requires room { HasRoom self.old }
+        requires letters { AreCounted (after_any self.old (replied_done self.old.site node reply self.old.world
+            (option_map (λ one. one.who) (slice_get (openers_of self.old.site reply.process) reply.opener)))) }
         ensures { OnOk result (self.new ≡ after_any self.old (replied_done self.old.site node reply self.old.world
             (option_map (λ one. one.who) (slice_get (openers_of self.old.site reply.process) reply.opener)))) }
     {
@@ -93,6 +108,8 @@ impl Whole {
     }
 
     fn reply_to(&mut self, node: u8, reply: Reply, opener: Who) -> Result<(), NoMemory>
+        requires room { HasRoom self.old }
+        requires letters { AreCounted (after_any self.old (replied_to self.old.site node reply self.old.world opener)) }
         ensures { OnOk result (self.new ≡ after_any self.old (replied_to self.old.site node reply self.old.world opener)) }
     {
         match opener {
@@ -111,6 +128,10 @@ impl Whole {
 
     /// A message comes to the process of a number at a node, and what that sends is posted.
     fn bring(&mut self, number: u8, node: u8, message: Message) -> Result<(), NoMemory>
+        requires opener { NamesOpener self.old.site number (message_of message) }
+        requires room { HasRoom self.old }
+        requires letters { AreCounted (after_any self.old
+            (brought self.old.site number node (message_of message) self.old.world)) }
         ensures { OnOk result (self.new ≡ after_any self.old (brought self.old.site number node (message_of message) self.old.world)) }
     {
         let step = self.bring_to(number, node, message)?;
@@ -120,6 +141,8 @@ impl Whole {
 
     /// A message comes to the process of a number at a node. What that sends isn't posted yet.
     fn bring_to(&mut self, number: u8, node: u8, message: Message) -> Result<Step, NoMemory>
+        requires opener { NamesOpener self.old.site number (message_of message) }
+        requires room { HasRoom self.old }
         ensures told { IfOk result (λ step. told_by step ≡ sent_in (brought self.old.site number node (message_of message) self.old.world)) }
         ensures state { OnOk result (self.new ≡ unsent self.old (brought self.old.site number node (message_of message) self.old.world)) }
     {

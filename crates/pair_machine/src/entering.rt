@@ -3,7 +3,9 @@ ghost use Rattle.std.specs.Option.{option_map};
 ghost use Rattle.computed_changes.specs.Entered.{enter_done, enter_where, entered_done};
 ghost use Rattle.machine_states.specs.States.{Settles};
 ghost use Rattle.message_wires.specs.Play.{after_done, made_by};
+ghost use Rattle.number_ranges.specs.HasRoom.{HasNext, HasRoom};
 ghost use Rattle.plain_semantics.specs.Machine.{next_request};
+ghost use Rattle.pair_machine.specs.Room.{AreCounted, AreCountedAfter};
 
 use crate::terminal::Terminal;
 use crate::whole::Whole;
@@ -27,6 +29,8 @@ fn request_to(opener: Address, number: u32, words: Words) -> Request
 impl Whole {
     /// A terminal enters its next request.
     pub(crate) fn enter(&mut self, terminal: u8) -> Result<Effect, NoMemory>
+        requires room { HasRoom self.old }
+        requires letters { AreCountedAfter (made_by self.old (enter_done self.old.site terminal self.old.world)) }
         ensures { IfOk result (λ effect. Settles (made_by self.old (enter_done self.old.site terminal self.old.world)) self.old effect self.new) }
     {
         let place = usize::from(terminal);
@@ -43,6 +47,9 @@ impl Whole {
 
     /// A terminal that awaits no reply enters its next request, if it has one left.
     fn enter_next(&mut self, terminal: u8, before: Terminal) -> Result<Effect, NoMemory>
+        requires room { HasNext before.entered }
+        requires letters { AreCountedAfter (made_by self.old
+            (enter_where self.old.site terminal before self.old.world true)) }
         ensures { IfOk result (λ effect. Settles (made_by self.old (enter_where self.old.site terminal before self.old.world true)) self.old effect self.new) }
     {
         match self.place_of(terminal) {
@@ -60,6 +67,10 @@ impl Whole {
         before: Terminal,
         opener: Address,
     ) -> Result<Effect, NoMemory>
+        requires room { HasNext before.entered }
+        requires letters { AreCountedAfter (made_by self.old
+            (option_map (entered_done terminal before self.old.world opener)
+            (next_request self.old.site terminal before.entered))) }
         ensures { IfOk result (λ effect. Settles (made_by self.old (option_map (entered_done terminal before self.old.world opener)
             (next_request self.old.site terminal before.entered))) self.old effect self.new) }
     {
@@ -89,9 +100,11 @@ impl Whole {
         opener: Address,
         words: Words,
     ) -> Result<(), NoMemory>
+        requires room { HasNext before.entered }
+        requires letters { AreCounted (after_done self.old (entered_done terminal before self.old.world opener words)) }
         ensures { OnOk result (self.new ≡ after_done self.old (entered_done terminal before self.old.world opener words)) }
     {
-        let after = before.after_entering()?;
+        let after = before.after_entering();
         let number = after.entered();
         let request = request_to(opener, number, words.copy());
         self.records.enter(terminal, request)?;

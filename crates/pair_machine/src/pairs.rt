@@ -5,7 +5,9 @@ ghost use Rattle.world_semantics.specs.Kept.{acts_of};
 ghost use Rattle.node_copies.specs.ShownCounts.{replies_in, writes_in};
 ghost use Rattle.message_wires.specs.Idle.{is_idle};
 ghost use Rattle.message_wires.specs.Play.{packet_at, play, whole_at_boot};
+ghost use Rattle.number_ranges.specs.HasRoom.{HasRoom, HasRoomForLetters};
 ghost use Rattle.process_copies.specs.Starting.{IsStartable};
+ghost use Rattle.pair_machine.specs.Room.{OpenersAreThere};
 ghost use Rattle.pair_machine.specs.Seen.{ArePlaced, closed_state, kind_at, pairs_in};
 
 use crate::terminal::Terminal;
@@ -23,15 +25,16 @@ use tal_tree::{Act, Shown, Site};
 /// The kind of a packet that carries a piece of a message.
 const PIECE: u8 = 1;
 
-/// The machine over whole messages. Once it wanted memory it answers so for good.
+/// The machine over whole messages. Once an allocation was refused to it, it answers so for good.
 #[derive(Drop)]
 pub struct Pairs {
-    is_broken: bool,
+    broken: Option<NoMemory>,
     whole: Whole,
 }
 
 impl Model for Pairs {
     ghost use Rattle.std.specs.Coded.{codes};
+    ghost use Rattle.std.specs.Prelude.{is_some};
     ghost use Rattle.tal_tree.specs.contracts.statement.Statement as statement;
     ghost use Rattle.pair_machine.specs.Seen.{Standing};
 
@@ -39,7 +42,7 @@ impl Model for Pairs {
 
     ghost coded = { Prim.hlevel (codes, statement.the_row.coded) };
 
-    ghost view = { λ pairs. record { is_broken = pairs.is_broken; state = pairs.whole } };
+    ghost view = { λ pairs. record { is_broken = is_some pairs.broken; state = pairs.whole } };
 }
 
 impl Pairs {
@@ -50,24 +53,27 @@ impl Pairs {
     {
         let whole = Whole::boot(alloc, site)?;
         Ok(Pairs {
-            is_broken: false,
+            broken: None,
             whole,
         })
     }
 
     /// One event.
     pub fn event(&mut self, event: Event) -> Result<Effect, NoMemory>
+        requires room { HasRoom self.old.state }
+        requires letters { HasRoomForLetters self.old.state }
+        requires openers { OpenersAreThere self.old.state }
         ensures done { IfOk result (λ effect. Settles (play self.old.state event) self.old.state effect self.new.state) }
         ensures whole { IfOk result (λ effect. (self.old.is_broken ≡ false) × (self.new.is_broken ≡ false)) }
         ensures broken { OnErr result (self.new.is_broken ≡ true) }
     {
-        if self.is_broken {
-            return Err(NoMemory);
+        if let Some(error) = self.broken {
+            return Err(error);
         }
         match self.whole.event(event) {
             Ok(effect) => Ok(effect),
             Err(error) => {
-                self.is_broken = true;
+                self.broken = Some(error);
                 Err(error)
             }
         }
@@ -127,14 +133,14 @@ impl Pairs {
         ensures whole { OnOk result (self.old.is_broken ≡ false) }
         ensures broken { OnErr result (self.new.is_broken ≡ true) }
     {
-        if self.is_broken {
-            return Err(NoMemory);
+        if let Some(error) = self.broken {
+            return Err(error);
         }
         match self.whole.close() {
             Ok(()) => Ok(()),
-            Err(NoMemory) => {
-                self.is_broken = true;
-                Err(NoMemory)
+            Err(error) => {
+                self.broken = Some(error);
+                Err(error)
             }
         }
     }
@@ -191,6 +197,9 @@ impl Pairs {
 
 impl Whole {
     fn event(&mut self, event: Event) -> Result<Effect, NoMemory>
+        requires room { HasRoom self.old }
+        requires letters { HasRoomForLetters self.old }
+        requires openers { OpenersAreThere self.old }
         ensures { IfOk result (λ effect. Settles (play self.old event) self.old effect self.new) }
     {
         match event {

@@ -1,9 +1,9 @@
 ghost use Rattle.std.specs.Prelude.{◌≡◌, [], ◌∷◌, slice_get, IfOk, OnOk};
 ghost use Rattle.std.specs.Option.{option_and_then, option_map};
-ghost use Rattle.letters.specs.Routes.{home_of, letters_of, receiver_of};
-ghost use Rattle.message_wires.specs.Wires.{all_posted};
+ghost use Rattle.letters.specs.Routes.{home_of, receiver_of};
 ghost use Rattle.plain_semantics.specs.Openers.{openers_of};
-ghost use Rattle.pair_machine.specs.Told.{Answers};
+ghost use Rattle.pair_machine.specs.Room.{AreCounted, AreCountedTelling};
+ghost use Rattle.pair_machine.specs.Told.{Answers, sent_all};
 ghost use Rattle.posted_letters.specs.Seen.{message_of};
 ghost use Rattle.node_copies.specs.Seen.{told_by};
 
@@ -51,7 +51,8 @@ impl Whole {
 
     /// A message is sent at a node: a letter is posted to where the node finds the receiver.
     pub(crate) fn post(&mut self, sending: Sending) -> Result<(), NoMemory>
-        ensures { OnOk result (self.new ≡ record self.old { wires = all_posted (letters_of self.old.site self.old.world (sending ∷ [])) self.old.wires }) }
+        requires { AreCounted (sent_all (sending ∷ []) self.old) }
+        ensures { OnOk result (self.new ≡ sent_all (sending ∷ []) self.old) }
     {
         match self.receiver_of(sending.node(), sending.message()) {
             None => Ok(()),
@@ -66,7 +67,8 @@ impl Whole {
 
     /// Messages are sent, one after another.
     pub(crate) fn post_all(&mut self, sendings: List<Sending>) -> Result<(), NoMemory>
-        ensures { OnOk result (self.new ≡ record self.old { wires = all_posted (letters_of self.old.site self.old.world sendings) self.old.wires }) }
+        requires { AreCounted (sent_all sendings self.old) }
+        ensures { OnOk result (self.new ≡ sent_all sendings self.old) }
     {
         for sending in sendings.into_vec() {
             self.post(sending)?;
@@ -76,6 +78,7 @@ impl Whole {
 
     /// Posts what a step sends that a process was to make, and answers whether it was made.
     pub(crate) fn tell(&mut self, step: Step) -> Result<Effect, NoMemory>
+        requires { AreCountedTelling (told_by step) self.old }
         ensures { IfOk result (λ effect. Answers (told_by step) self.old effect self.new) }
     {
         match step {

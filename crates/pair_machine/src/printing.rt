@@ -1,6 +1,7 @@
-ghost use Rattle.std.specs.Prelude.{◌≡◌, slice_get, OnOk};
+ghost use Rattle.std.specs.Prelude.{◌≡◌, length, slice_get, OnOk};
 ghost use Rattle.computed_changes.specs.Handed.{awaits_at, is_to, printed_done};
 ghost use Rattle.message_wires.specs.Play.{after_any};
+ghost use Rattle.number_ranges.specs.HasRoom.{HasNext};
 ghost use Rattle.tal_tree.specs.declared.site.Who.TheVariants as who;
 ghost use Rattle.plain_semantics.specs.Openers.{opener_of};
 
@@ -39,6 +40,7 @@ impl Whole {
 
     /// A reply that comes to a terminal is printed, if the terminal awaits it.
     pub(crate) fn print(&mut self, number: u8, reply: Reply) -> Result<(), NoMemory>
+        requires { HasNext (length self.old.world.shown) }
         ensures { OnOk result (self.new ≡ after_any self.old
             (printed_done self.old.site number reply self.old.world (slice_get self.old.world.terminals number))) }
     {

@@ -3,10 +3,12 @@ ghost use Rattle.std.specs.List.{flat_map};
 ghost use Rattle.tal_tree.specs.declared.site.Site.{Site};
 ghost use Rattle.machine_states.specs.States.{Settles};
 ghost use Rattle.computed_changes.specs.Stopped.{marked_done, marked_world, may_mark};
+ghost use Rattle.number_ranges.specs.HasRoom.{HasRoom};
 ghost use Rattle.message_wires.specs.Play.{after_marked, marked_by, marks_from, tick_played};
 ghost use Rattle.message_wires.specs.Wires.{paid_between, wires_again};
 ghost use Rattle.world_semantics.specs.Rules.{marked_pair, told_at_mark};
 ghost use Rattle.pair_machine.specs.Changes.{changed};
+ghost use Rattle.pair_machine.specs.Room.{AllWatchersHaveRoom, AreCounted, AreCountedAfter};
 ghost use Rattle.pair_machine.specs.Seen.{ArePlaced, pairs_in};
 
 use crate::whole::Whole;
@@ -18,6 +20,8 @@ use process_copies::ProcessCopies;
 impl Whole {
     /// The tick of a node: it marks what has stopped, and puts on the bus again what it sent that is owed and not there.
     pub(crate) fn tick(&mut self, node: u8) -> Result<Effect, NoMemory>
+        requires room { HasRoom self.old }
+        requires letters { AreCountedAfter (tick_played node self.old) }
         ensures { IfOk result (λ effect. Settles (tick_played node self.old) self.old effect self.new) }
     {
         if !self.is_running(node) {
@@ -38,6 +42,8 @@ impl Whole {
 
     /// A node marks each processor that has stopped and isn't marked yet. For most of a run none has.
     fn mark_stopped(&mut self, node: u8) -> Result<(), NoMemory>
+        requires watching { AllWatchersHaveRoom self.old.world.processes }
+        requires letters { AreCounted (marks_from node 0 (length self.old.world.stopped) self.old) }
         ensures { OnOk result (self.new ≡ marks_from node 0 (length self.old.world.stopped) self.old) }
     {
         if self.stopped.has_stopped() {
@@ -48,6 +54,8 @@ impl Whole {
 
     /// A node looks at each processor, whether it is to be marked.
     fn mark_each(&mut self, node: u8) -> Result<(), NoMemory>
+        requires watching { AllWatchersHaveRoom self.old.world.processes }
+        requires letters { AreCounted (marks_from node 0 (length self.old.world.stopped) self.old) }
         ensures { OnOk result (self.new ≡ marks_from node 0 (length self.old.world.stopped) self.old) }
     {
         for processor in 0..self.stopped.count() {
@@ -57,6 +65,8 @@ impl Whole {
     }
 
     fn mark(&mut self, node: u8, processor: u8) -> Result<(), NoMemory>
+        requires watching { AllWatchersHaveRoom self.old.world.processes }
+        requires letters { AreCounted (marked_by node processor self.old (marked_done node processor self.old.world)) }
         ensures { OnOk result (self.new ≡ marked_by node processor self.old (marked_done node processor self.old.world)) }
     {
         if self.is_to_mark(node, processor) {
@@ -87,6 +97,9 @@ impl Whole {
 
     /// A node marks a processor that has stopped.
     fn mark_down(&mut self, node: u8, processor: u8) -> Result<(), NoMemory>
+        requires watching { AllWatchersHaveRoom self.old.world.processes }
+        requires letters { AreCounted (after_marked node processor self.old
+            (marked_world node processor self.old.world)) }
         ensures { OnOk result (self.new ≡ after_marked node processor self.old (marked_world node processor self.old.world)) }
     {
         let mut sendings = List::new(self.alloc);
@@ -104,6 +117,7 @@ impl Whole {
         processor: u8,
         told: &mut List<Sending>,
     ) -> Result<(), NoMemory>
+        requires { AllWatchersHaveRoom self.old.world.processes }
         ensures state { OnOk result (self.new
             ≡ record self.old { world = record self.old.world { processes = map (marked_pair node processor) self.old.world.processes } }) }
         ensures told { OnOk result (told.new ≡ told.old ++ flat_map (told_at_mark node processor) self.old.world.processes) }
@@ -131,6 +145,7 @@ fn mark_all(
     processor: u8,
     told: &mut List<Sending>,
 ) -> Result<(), NoMemory>
+    requires { AllWatchersHaveRoom (pairs_in processes.old) }
     ensures processes { OnOk result (processes.new ≡ map (changed (marked_pair node processor)) processes.old) }
     ensures told { OnOk result (told.new ≡ told.old ++ flat_map (told_at_mark node processor) (pairs_in processes.old)) }
     ensures placed { (site : Site) → ArePlaced site processes.old → ArePlaced site processes.new }

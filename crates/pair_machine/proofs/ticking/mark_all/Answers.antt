@@ -1,9 +1,12 @@
-use Rattle.std.proofs.Common.{◌≡◌, ◌<◌, ◌∙◌, get_or, length, Some, slice_get, arith}
+use Rattle.std.proofs.Common.{◌≡◌, ◌<◌, ◌∙◌, get_or, length, Some, slice_get, subst, sym, arith}
 use Rattle.std.proofs.lemmas.Option.{slice_get-get_or}
 use Rattle.world_semantics.specs.Rules.{marked_pair, told_at_mark}
+use Rattle.process_copies.specs.Seen.{Placed}
 use Rattle.pair_machine.specs.Changes.{changed}
+use Rattle.pair_machine.specs.Room.{WatchersHaveRoom}
 use Rattle.pair_machine.proofs.Changed.{changed-step, told-step}
 use Rattle.pair_machine.proofs.Places.{placed-set}
+use Rattle.pair_machine.proofs.Room.{marked-room, put-room, watcher-there}
 use Rattle.pair_machine.proofs.ticking.mark_all.Goals as goal
 
 pub returns-in_err-mark-clause-placed : goal.returns-in_err-mark-clause-placed
@@ -28,6 +31,11 @@ loop-number-preserved c =
     record {
       marked = changed-step (changed f) processes k before c.mark.new.self there c.in_ok-mark.ensures.process ∙ c.loop-number.invariant.marked;
       told = told-step g processes k before c.mark.new.self c.loop-number.told c.mark.new.told there c.in_ok-mark.ensures.told ∙ c.loop-number.invariant.told;
+      watching =
+          put-room processes k c.mark.new.self
+          (subst (λ (placed : Placed). WatchersHaveRoom placed.pair) (sym c.in_ok-mark.ensures.process)
+          (marked-room c.args.node c.args.processor before.pair (watcher-there processes k before there c.loop-number.invariant.watching)))
+          c.loop-number.invariant.watching;
       placed = λ site seated.
           placed-set site processes k before c.mark.new.self there c.mark.ensures.site c.mark.ensures.number (c.loop-number.invariant.placed site seated);
     }

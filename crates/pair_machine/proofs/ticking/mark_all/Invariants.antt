@@ -3,6 +3,7 @@ use Rattle.std.specs.List.{flat_map}
 use Rattle.tal_tree.specs.declared.site.Site.{Site}
 use Rattle.world_semantics.specs.Rules.{marked_pair, told_at_mark}
 use Rattle.pair_machine.specs.Changes.{changed}
+use Rattle.pair_machine.specs.Room.{AllWatchersHaveRoom}
 use Rattle.pair_machine.specs.Seen.{ArePlaced, pairs_in}
 use Rattle.pair_machine.proofs.ticking.mark_all.Given as goal
 
@@ -12,5 +13,6 @@ invariant-loop-number l = record {
       ≡ map (changed (marked_pair l.node l.processor)) l.initial.processes;
   told : l.told ++ flat_map (told_at_mark l.node l.processor) (pairs_in (drop l.number l.processes))
       ≡ l.initial.told ++ flat_map (told_at_mark l.node l.processor) (pairs_in l.initial.processes);
+  watching : AllWatchersHaveRoom (pairs_in l.processes);
   placed : (site : Site) → ArePlaced site l.initial.processes → ArePlaced site l.processes;
 }

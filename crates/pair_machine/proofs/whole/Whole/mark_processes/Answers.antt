@@ -2,9 +2,15 @@ use Rattle.std.proofs.Common.{rules, ◌≡◌, ◌∙◌, ap, length, map, refl
 use Rattle.std.proofs.lemmas.List.{places, with_items_is}
 use Rattle.world_semantics.specs.Rules.{marked_pair}
 use Rattle.pair_machine.specs.Changes.{changed}
-use Rattle.pair_machine.specs.Seen.{ArePlaced}
+use Rattle.message_wires.specs.Play.{Whole}
+use Rattle.pair_machine.specs.Room.{AllWatchersHaveRoom}
+use Rattle.pair_machine.specs.Seen.{ArePlaced, pairs_in}
 use Rattle.pair_machine.proofs.Changed.{pairs-changed}
 use Rattle.pair_machine.proofs.whole.Whole.mark_processes.Goals as goal
+
+pub mark_all-requires : goal.mark_all-requires
+mark_all-requires c =
+    subst AllWatchersHaveRoom (sym (ap (λ (s : Whole). s.world.processes) c.self.view_is) ∙ ap pairs_in (sym c.as_mut_slice.ensures.value)) c.requires
 
 pub invariant_of-self : goal.invariant_of-self
 invariant_of-self c =

@@ -1,0 +1,7 @@
+use Rattle.std.proofs.Common.{ap, sym}
+use Rattle.message_wires.specs.Play.{Whole}
+use Rattle.pair_machine.proofs.Room.{room-alike}
+use Rattle.pair_machine.proofs.whole.Whole.receive.Goals as goal
+
+pub hand-requires-clause-room : goal.hand-requires-clause-room
+hand-requires-clause-room c = room-alike (ap (λ (s : Whole). s.world) (sym c.self.view_is)) c.requires.room
