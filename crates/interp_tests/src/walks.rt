@@ -53,7 +53,7 @@ impl<'a> Sides<'a> {
     fn is_plain(&self, alloc: Global, image: &[i16]) -> Result<bool, NoMemory> {
         let everything = everything(alloc, &self.process)?;
         let words = self.plain.state_words(alloc, everything.items.as_slice())?;
-        Ok(words.as_slice() == image)
+        Ok(are_same(words.as_slice(), image))
     }
 
     /// Puts an image into the second process: each of its words changed in turn, a word too many and a word too few, which are
@@ -137,6 +137,15 @@ impl<'a> Sides<'a> {
 fn tell(told: &mut Told, what: i16, words: &[i16]) -> Result<(), NoMemory> {
     told.push(what)?;
     told.extend_from_slice(words)
+}
+
+/// Whether the plain program's words are those of an image.
+fn are_same(words: &[i64], image: &[i16]) -> bool {
+    words.len() == image.len()
+        && words
+            .iter()
+            .zip(image.iter())
+            .all(|(plain, word)| *plain == i64::from(*word))
 }
 
 /// The first 16 of these words.

@@ -1,4 +1,4 @@
-ghost use Rattle.std.specs.Prelude.{◌≡◌, ◌-◌, ◌∷◌, ◌++◌, length, drop, slice_set, IfOk, OnOk};
+ghost use Rattle.std.specs.Prelude.{◌≡◌, ◌≤◌, ◌-◌, ◌∷◌, ◌++◌, length, drop, slice_set, IfOk, OnOk};
 ghost use Rattle.std.specs.Option.{option_map};
 ghost use Rattle.process_semantics.specs.Rests.{next_number, number_of};
 ghost use Rattle.process_semantics.specs.State.{first_of, runs_of, frame_of, zeros};
@@ -60,7 +60,8 @@ impl<'a> Frame<'a> {
 
     /// The number of the next entry, 0 at the procedure's end.
     pub fn next_number(&self) -> usize
-        ensures { result ≡ next_number self.now.rest }
+        ensures number { result ≡ next_number self.now.rest }
+        ensures few { result ≤ 65536 }
     {
         match self.next() {
             None => 0,
@@ -126,7 +127,8 @@ pub struct Frames<'a> {
 
 /// The number of an entry.
 fn number_of(entry: Entry<'_>) -> usize
-    ensures { result ≡ number_of (entry_of entry.entry) }
+    ensures number { result ≡ number_of (entry_of entry.entry) }
+    ensures few { result ≤ 65536 }
 {
     match entry {
         Entry::Run(statement) => usize::from(statement.number),
