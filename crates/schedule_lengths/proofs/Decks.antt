@@ -10,8 +10,8 @@ use Rattle.schedule_runs.specs.Runs.{Agenda, Plays}
 use Rattle.deck_reader.specs.Limits.{IsWithinDeckLimits}
 use Rattle.deck_reader.specs.Schedules.{singles_in, singles_of, rounds_in, rounds_of}
 use Rattle.deck_reader.specs.declared.deck.Deck.{Deck}
-use Rattle.schedule_lengths.specs.Lengths.{most_in_round, most_in_line, most_in_lines, stops_of_words}
-use Rattle.schedule_lengths.proofs.Lengths.{so-many}
+use Rattle.schedule_runs.specs.Lengths.{most_events, most_in_round, most_in_line, most_in_lines, stops_of_words}
+use Rattle.schedule_runs.proofs.Lengths.{so-many}
 
 -- a line asks for its single events and its rounds
 line-is : (round : ℕ) (line : Line) → most_in_line round line ≡ singles_in line + rounds_in line * round
@@ -38,13 +38,18 @@ one-stop (Some stop) = omega arith
 round-few : (site : Site) → site.processors ≤ 16 → length site.processes ≤ 16 → length site.terminals ≤ 16 → most_in_round site ≤ 8273
 round-few site processors processes terminals = omega (arith, processors, processes, terminals)
 
-pub deck-few : (deck : Deck) (stop : Option Stop) (events : List Event) (agenda : Agenda) (s : Whole) → IsWithinDeckLimits deck
-    → Plays deck.site deck.lines stop events agenda s → length events ≤ 828300001
-deck-few deck stop events agenda s within plays =
-    let most = so-many deck.site deck.lines stop events agenda s plays in
+pub deck-asks : (deck : Deck) (stop : Option Stop) → IsWithinDeckLimits deck → most_events deck.site deck.lines stop ≤ 828300001
+deck-asks deck stop within =
     let sum = lines-are (most_in_round deck.site) deck.lines in
     let round = round-few deck.site within.site.most_processors within.site.processes within.site.terminals in
     let rounds : rounds_of deck.lines * most_in_round deck.site ≤ 100000 * 8273 = mul-le-mul within.rounds round in
     let singles = within.singles in
     let one = one-stop stop in
-    omega (arith, most, sum, rounds, singles, one)
+    omega (arith, sum, rounds, singles, one)
+
+pub deck-few : (deck : Deck) (stop : Option Stop) (events : List Event) (agenda : Agenda) (s : Whole) → IsWithinDeckLimits deck
+    → Plays deck.site deck.lines stop events agenda s → length events ≤ 828300001
+deck-few deck stop events agenda s within plays =
+    let played = so-many deck.site deck.lines stop events agenda s plays in
+    let most = deck-asks deck stop within in
+    omega (arith, played, most)

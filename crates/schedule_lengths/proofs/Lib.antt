@@ -1,5 +1,1 @@
-pub mod Buses
 pub mod Decks
-pub mod Lengths
-pub mod Lines
-pub mod Turns

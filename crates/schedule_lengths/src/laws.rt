@@ -8,7 +8,7 @@ ghost use Rattle.message_wires.specs.Runs.{IsPlayed};
 ghost use Rattle.schedule_runs.specs.Runs.{Agenda, Plays};
 ghost use Rattle.deck_reader.specs.Limits.{IsWithinDeckLimits};
 ghost use Rattle.deck_reader.specs.declared.deck.Deck.{Deck};
-ghost use Rattle.schedule_lengths.specs.Lengths.{most_events};
+ghost use Rattle.schedule_runs.specs.Lengths.{AsksForFewEvents, most_events};
 
 /// No more packets are on the bus than it has room for.
 pub fn a_bus_has_room_for_its_packets()
@@ -27,4 +27,5 @@ pub fn a_schedule_asks_for_few_events()
         → Plays deck.site deck.lines stop events agenda s → length events ≤ 828300001 }
     ensures few { (deck : Deck) (stop : Option Stop) (events : List Event) (agenda : Agenda) (s : Whole) → IsWithinDeckLimits deck
         → Plays deck.site deck.lines stop events agenda s → length events < 4294967294 }
+    ensures asks { (deck : Deck) (stop : Option Stop) → IsWithinDeckLimits deck → AsksForFewEvents deck.site deck.lines stop }
 {}

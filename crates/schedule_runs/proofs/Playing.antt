@@ -1,5 +1,5 @@
 -- A run that is being played, and how it ends.
-use Rattle.std.proofs.Common.{◌≡◌, ◌<◌, ◌∙◌, ℕ, ◌+◌, Bool, true, false, List, [], ◌∷◌, ◌++◌, length, Option, Some, None, refl, ap, sym, subst}
+use Rattle.std.proofs.Common.{◌≡◌, ◌<◌, ◌≤◌, ◌∙◌, ℕ, ◌+◌, Bool, true, false, List, [], ◌∷◌, ◌++◌, length, Option, Some, None, refl, ap, sym, subst, arith}
 use Rattle.std.proofs.lemmas.List.{length-append}
 use Rattle.std.specs.Option.{IfSome}
 use Rattle.tal_tree.specs.declared.site.Site.{Site}
@@ -9,12 +9,19 @@ use Rattle.player.specs.declared.stop.Stop.{Stop}
 use Rattle.message_wires.specs.Idle.{is_idle}
 use Rattle.message_wires.specs.Play.{Whole, play, whole_at_boot}
 use Rattle.machine_states.specs.States.{WouldStop}
-use Rattle.pair_machine.specs.Seen.{Standing, closed_state}
+use Rattle.number_ranges.specs.HasRoom.{HasRoom, HasRoomForLetters}
+use Rattle.number_laws.proofs.Counts.{letters-within}
+use Rattle.number_laws.proofs.Played.{room-within}
+use Rattle.plain_semantics.specs.SiteLimits.{KeepsSiteLimits}
+use Rattle.pair_machine.specs.Seen.{Standing}
 use Rattle.schedule_runs.specs.Ends.{EndsAs, IsEndOf, IsRunOf, IsTried}
+use Rattle.schedule_runs.specs.Lengths.{AsksForFewEvents}
 use Rattle.schedule_runs.specs.Runs.{Agenda, Plan, Plays, RunsOut, RunsToStop, agenda_of, counts_of, plays_none, plays_on, sizes_of, upcoming}
 use Rattle.schedule_runs.specs.Seen.{Scheduled, event_in}
-use Rattle.schedule_runs.specs.declared.ran.Ending.TheVariants.{Idle, Cut, Second}
+use Rattle.schedule_runs.specs.declared.ran.Ending.TheVariants.{Second}
 use Rattle.schedule_runs.specs.declared.ran.Ran.{Ran}
+use Rattle.schedule_runs.proofs.Lengths.{so-many}
+use Rattle.schedule_runs.proofs.Played.{played}
 
 -- so many events were played, and led to where the machine and the schedule stand
 pub record IsPlaying (site : Site) (lines : List Line) (stop : Option Stop) (schedule : Scheduled) (machine : Standing) (played : ℕ) : Type 0 where
@@ -138,3 +145,24 @@ begins site lines stop schedule machine m s = record {
   sizes = ap (λ (x : Scheduled). x.sizes) s;
   whole = ap (λ (x : Standing). x.is_broken) m;
 }
+
+-- no more events were played than the schedule asks for
+pub few_played : (site : Site) (lines : List Line) (stop : Option Stop) (schedule : Scheduled) (machine : Standing) (n : ℕ) → AsksForFewEvents site lines stop
+    → IsPlaying site lines stop schedule machine n → n < 4294967294
+few_played site lines stop schedule machine n few playing =
+    let most = so-many site lines stop playing.events schedule.agenda machine.state playing.plays in
+    let counted = playing.counted in
+    omega (arith, most, few, counted)
+
+-- so each number of the machine has a successor
+pub numbers_have_room : (site : Site) (lines : List Line) (stop : Option Stop) (schedule : Scheduled) (machine : Standing) (n : ℕ)
+    → IsPlaying site lines stop schedule machine n → n < 4294967294 → HasRoom machine.state
+numbers_have_room site lines stop schedule machine n playing few =
+    room-within site playing.events machine.state (played playing.plays) (subst (λ m. m < 4294967294) (sym playing.counted) few)
+
+-- and the next letters have numbers
+pub letters_have_room : (site : Site) (lines : List Line) (stop : Option Stop) (schedule : Scheduled) (machine : Standing) (n : ℕ) → KeepsSiteLimits site
+    → site.processors ≤ 255 → IsPlaying site lines stop schedule machine n → n < 4294967294 → HasRoomForLetters machine.state
+letters_have_room site lines stop schedule machine n limits processors playing few =
+    letters-within site limits.processes limits.terminals processors playing.events machine.state (played playing.plays)
+    (subst (λ m. m < 4294967294) (sym playing.counted) few)

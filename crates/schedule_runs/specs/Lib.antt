@@ -1,3 +1,4 @@
 pub mod Ends
+pub mod Lengths
 pub mod Runs
 pub mod Seen

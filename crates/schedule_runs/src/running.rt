@@ -1,7 +1,9 @@
 ghost use Rattle.std.specs.Prelude.{◌≡◌, false, IfOk};
 ghost use Rattle.message_wires.specs.Idle.{is_idle};
+ghost use Rattle.number_ranges.specs.HasRoom.{HasRoom, HasRoomForLetters};
 ghost use Rattle.process_copies.specs.Starting.{IsStartable};
 ghost use Rattle.schedule_runs.specs.Ends.{IsEndOf, IsRunOf, IsTried};
+ghost use Rattle.schedule_runs.specs.Lengths.{AsksForFewEvents};
 ghost use Rattle.schedule_runs.specs.Runs.{sizes_of};
 
 use crate::agenda::Schedule;
@@ -15,27 +17,21 @@ use schedule::{Event, Line};
 use std::alloc::Global;
 use tal_tree::Site;
 
-/// The laws of what is played speak of at most so many events. No schedule within the limits of a deck asks for as many.
-const MOST_EVENTS: u32 = 4_294_967_294;
-
-/// Plays a schedule on a site, with a stop of a processor where one is given. Memory is wanting too where there would be more than
-/// `MOST_EVENTS`.
+/// Plays a schedule on a site, with a stop of a processor where one is given.
 pub fn run(
     alloc: Global,
     site: &Shared<Site>,
     lines: &[Line],
     stop: Option<Stop>,
 ) -> Result<Ran, NoMemory>
-    requires { IsStartable site.now }
+    requires startable { IsStartable site.now }
+    requires few { AsksForFewEvents site.now lines.now stop }
     ensures { IfOk result (λ ran. IsRunOf site.now lines.now stop ran) }
 {
     let mut machine = Pairs::boot(alloc, site)?;
     let mut schedule = Schedule::new(sizes_of(site.get()), lines, stop);
     let mut played: u32 = 0;
     while let Some(event) = schedule.next(played, &machine) {
-        if played >= MOST_EVENTS {
-            return Err(NoMemory);
-        }
         let next = played + 1;
         match tried(&mut machine, event)? {
             None => played = next,
@@ -65,6 +61,8 @@ fn sizes_of(site: &Site) -> Sizes
 
 /// Plays an event. Answers the second processor that it would stop, and then nothing changes.
 fn tried(machine: &mut Pairs, event: Event) -> Result<Option<u8>, NoMemory>
+    requires numbers { HasRoom machine.old.state }
+    requires letters { HasRoomForLetters machine.old.state }
     ensures tried { IfOk result (λ second. IsTried machine.old.state event machine.new.state second) }
     ensures whole { IfOk result (λ second. machine.new.is_broken ≡ false) }
 {

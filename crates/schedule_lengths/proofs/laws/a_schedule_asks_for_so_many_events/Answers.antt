@@ -1,4 +1,4 @@
-use Rattle.schedule_lengths.proofs.Lengths.{so-many}
+use Rattle.schedule_runs.proofs.Lengths.{so-many}
 use Rattle.schedule_lengths.proofs.laws.a_schedule_asks_for_so_many_events.Goals as goal
 
 pub returns : goal.returns

@@ -1,5 +1,5 @@
 -- How many events a schedule asks for at most.
-use Rattle.std.specs.Prelude.{ℕ, ◌+◌, ◌*◌, List, [], ◌∷◌, length, Option, Some, None}
+use Rattle.std.specs.Prelude.{◌<◌, ℕ, ◌+◌, ◌*◌, List, [], ◌∷◌, length, Option, Some, None}
 use Rattle.tal_tree.specs.declared.site.Site.{Site}
 use Rattle.schedule.specs.declared.line.Line.{Line}
 use Rattle.schedule.specs.declared.line.Line.TheVariants.{One, Many, Drain, Mix, Mute, Until}
@@ -31,3 +31,7 @@ stops_of_words (Some stop) = 1
 -- a schedule with a stop on a site
 abbrev pub most_events : Site → List Line → Option Stop → ℕ
 most_events site lines stop = most_in_lines (most_in_round site) lines + stops_of_words stop
+
+-- so few that each of them has a number of 32 bits, and so has the next one after it
+abbrev pub AsksForFewEvents : Site → List Line → Option Stop → Type 0
+AsksForFewEvents site lines stop = most_events site lines stop < 4294967294

@@ -15,8 +15,8 @@ use Rattle.player.specs.declared.standing.Move.{Move}
 use Rattle.player.specs.Rounds.{next_turn}
 use Rattle.player.specs.Mixes.{next_mixed}
 use Rattle.player.specs.Lines.{begun, moved, moved_mixed, proposed, is_over, decided_move, next_event}
-use Rattle.schedule_lengths.specs.Lengths.{most_in_line}
-use Rattle.schedule_lengths.proofs.Turns.{round_of, left_at, left_at_mixed, first-turn, later-turn, first-mixed, later-mixed}
+use Rattle.schedule_runs.specs.Lengths.{most_in_line}
+use Rattle.schedule_runs.proofs.Turns.{round_of, left_at, left_at_mixed, first-turn, later-turn, first-mixed, later-mixed}
 
 -- what is left of a line that stands here
 abbrev pub left_in : Sizes → Standing → ℕ

@@ -10,10 +10,10 @@ use Rattle.player.specs.declared.stop.Stop.{Stop}
 use Rattle.player.specs.Lines.{begun, next_event}
 use Rattle.message_wires.specs.Play.{Whole}
 use Rattle.schedule_runs.specs.Runs.{sizes_of, counts_of, Agenda, Plan, planned_by, coming, stopped_by, upcoming_after, upcoming, Plays, plays_none, plays_on}
-use Rattle.schedule_lengths.specs.Lengths.{most_in_lines, stops_of_words, most_events}
-use Rattle.schedule_lengths.proofs.Buses.{bus-few}
-use Rattle.schedule_lengths.proofs.Turns.{round_of}
-use Rattle.schedule_lengths.proofs.Lines.{left_in, MoveTakes, next-takes, begun-left}
+use Rattle.schedule_runs.specs.Lengths.{most_in_lines, stops_of_words, most_events}
+use Rattle.schedule_runs.proofs.Buses.{bus-few}
+use Rattle.schedule_runs.proofs.Turns.{round_of}
+use Rattle.schedule_runs.proofs.Lines.{left_in, MoveTakes, next-takes, begun-left}
 
 abbrev held_back : Option Event → ℕ
 held_back None = 0
