@@ -1,25 +1,30 @@
 //! What a deck whose programs are accepted is.
-ghost use Rattle.std.specs.Prelude.{ℕ, List};
+ghost use Rattle.std.specs.Prelude.{ℕ, List, Option};
 ghost use Rattle.deck_reader.specs.Decks.{Decks};
 ghost use Rattle.deck_reader.specs.declared.deck.Deck.{Deck};
 ghost use Rattle.verdicts.specs.Refused.{AreAccepted, AreJudgeable};
 ghost use Rattle.awaited_requests.specs.Seats.{IsLaidOut};
 ghost use Rattle.headline_laws.specs.Premises.{IsAcceptedSite};
+ghost use Rattle.player.specs.declared.stop.Stop.{Stop};
 ghost use Rattle.process_copies.specs.Starting.{IsStartable};
+ghost use Rattle.schedule_runs.specs.Lengths.{AsksForFewEvents};
 
 use deck_reader::{
     a_deck_keeps_the_limits, a_deck_reads_its_programs, requests_of_a_deck_are_short,
 };
+use schedule_lengths::a_schedule_asks_for_few_events;
 
 /// The programs of a deck that bytes spell can be judged, the machine of copies starts on its site, and its processes are laid out
-/// over its processors. Where all its programs are accepted, its site is an accepted one.
+/// over its processors. Its schedule asks for few events. Where all its programs are accepted, its site is an accepted one.
 pub fn an_accepted_deck_meets_the_premises()
     ensures judgeable { (bytes : List ℕ) (deck : Deck) → Decks bytes deck → AreJudgeable deck.site.processes }
     ensures startable { (bytes : List ℕ) (deck : Deck) → Decks bytes deck → IsStartable deck.site }
     ensures laid_out { (bytes : List ℕ) (deck : Deck) → Decks bytes deck → IsLaidOut deck.site }
+    ensures few { (bytes : List ℕ) (deck : Deck) (stop : Option Stop) → Decks bytes deck → AsksForFewEvents deck.site deck.lines stop }
     ensures accepted { (bytes : List ℕ) (deck : Deck) → Decks bytes deck → AreAccepted deck.site.processes → IsAcceptedSite deck.site }
 {
     a_deck_keeps_the_limits();
     a_deck_reads_its_programs();
     requests_of_a_deck_are_short();
+    a_schedule_asks_for_few_events();
 }

@@ -11,5 +11,6 @@ returns c =
       judgeable = λ bytes deck decks. judgeable-of deck.site (told bytes deck decks);
       startable = λ bytes deck decks. startable-of deck.site (told bytes deck decks);
       laid_out = λ bytes deck decks. laid-out-of deck.site (told bytes deck decks);
+      few = λ bytes deck stop decks. c.a_schedule_asks_for_few_events.ensures.asks deck stop (c.a_deck_keeps_the_limits.ensures bytes deck decks);
       accepted = λ bytes deck decks are. accepted-of deck.site (told bytes deck decks) are;
     }
