@@ -5,8 +5,10 @@ pub mod Hands
 pub mod Images
 pub mod Letters
 pub mod Marks
+pub mod Openers
 pub mod Played
 pub mod Quiet
+pub mod Requests
 pub mod Runs
 pub mod Unmarked
 pub mod Within

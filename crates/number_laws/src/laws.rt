@@ -1,10 +1,15 @@
-ghost use Rattle.std.specs.Prelude.{◌<◌, ◌≤◌, ℕ, List, Option, length};
+ghost use Rattle.std.specs.Prelude.{◌≡◌, ◌<◌, ◌≤◌, ℕ, List, Option, length};
+ghost use Rattle.gd_words.specs.Members.{IsAmong};
+ghost use Rattle.gd_words.specs.declared.message.Request.{Request};
 ghost use Rattle.tal_tree.specs.declared.site.Site.{Site};
 ghost use Rattle.schedule.specs.declared.event.Event.{Event};
 ghost use Rattle.message_wires.specs.Play.{Whole, marked_by, marks_from};
 ghost use Rattle.world_semantics.specs.Running.{Done};
 ghost use Rattle.message_wires.specs.Runs.{IsPlayed};
+ghost use Rattle.message_wires.specs.Wires.{Sent};
+ghost use Rattle.plain_semantics.specs.Openers.{openers_of};
 ghost use Rattle.plain_semantics.specs.SiteLimits.{KeepsSiteLimits};
+ghost use Rattle.world_semantics.specs.Messages.{Asking};
 ghost use Rattle.number_ranges.specs.HasRoom.{HasRoom, HasRoomForLetters};
 
 /// After fewer than 4,294,967,294 events each number has a successor. Request numbers begin with 1, so after so many events the next one
@@ -24,4 +29,10 @@ pub fn letters_have_numbers()
 pub fn a_tick_only_adds_letters()
     ensures one { (node processor : ℕ) (s : Whole) (done : Option Done) → s.wires.count ≤ (marked_by node processor s done).wires.count }
     ensures all { (node processor left : ℕ) (s : Whole) → s.wires.count ≤ (marks_from node processor left s).wires.count }
+{}
+
+/// Each request on the bus names one of the openers of the process that it is for: whoever sends one is such an opener.
+pub fn requests_name_their_openers()
+    ensures { (site : Site) (events : List Event) (s : Whole) → IsPlayed site events s → (packet : Sent) (request : Request)
+        → IsAmong packet s.wires.bus → packet.letter.message ≡ Asking request → request.opener < length (openers_of s.site request.process) }
 {}
