@@ -1,16 +1,15 @@
 -- Whether a copy can take a request, or answer one.
-use Rattle.std.proofs.Common.{◌≡◌, ◌<◌, ◌&&◌, ◌↔◌, ℕ, zero, suc, Bool, true, false, List, [], ◌∷◌, length, Option, Some, None, slice_get, refl, ap, sym, subst, ◌∙◌, arith}
+use Rattle.std.proofs.Common.{◌≡◌, ◌<◌, ◌↔◌, ℕ, zero, suc, Bool, true, false, List, [], ◌∷◌, length, Option, Some, None, slice_get, refl, ap, sym, subst, ◌∙◌, arith}
 use Rattle.std.specs.Prelude.{is_some, IsTrue, IsSome}
 use Rattle.std.specs.Option.{option_map}
-use Rattle.std.proofs.lemmas.Option.{slice_get-map, slice_get_within, slice_get-get_or}
+use Rattle.std.proofs.lemmas.Option.{slice_get-map}
 use Rattle.tal_tree.specs.declared.site.OpenerSpec.{OpenerSpec}
 use Rattle.tal_tree.specs.declared.site.Site.{Site}
 use Rattle.plain_semantics.specs.Openers.{openers_of}
 use Rattle.checkpoint_image.specs.declared.receive.OpenerBlock.{OpenerBlock}
 use Rattle.checkpoint_image.specs.declared.receive.ReceiveBlock.{ReceiveBlock}
-use Rattle.checkpoint_image.specs.declared.receive.Standing.{Standing}
 use Rattle.checkpoint_image.specs.declared.receive.Standing.TheVariants.{Next}
-use Rattle.checkpoint_image.specs.Receive.{Chosen, chosen, holds, standing, standing_by}
+use Rattle.checkpoint_image.specs.Receive.{Chosen, chosen, holds, standing_by}
 use Rattle.computed_changes.specs.Fitting.{depths_of}
 use Rattle.sync_ids.specs.Tables.{IsSound, Remembered, are_of_depths, can_hold, is_unanswered}
 use Rattle.sync_ids.proofs.Tables.{and-left, and-right, lengths}

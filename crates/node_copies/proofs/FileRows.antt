@@ -1,12 +1,11 @@
 -- Where the files of a process stand.
 use Rattle.std.proofs.Common.{◌≡◌, ℕ, zero, suc, ◌+◌, List, [], ◌∷◌, Option, Some, None, slice_get, refl, ap, sym, ◌∙◌, arith}
-use Rattle.std.specs.Option.{option_map}
 use Rattle.tal_tree.specs.declared.program.FileUse.{FileUse}
 use Rattle.tal_tree.specs.declared.site.ProcessSpec.{ProcessSpec}
 use Rattle.tal_tree.specs.declared.site.Site.{Site}
 use Rattle.tal_tree.specs.declared.site.Who.TheVariants as who
 use Rattle.plain_semantics.specs.declared.slot.Opener.{Opener}
-use Rattle.plain_semantics.specs.Openers.{file_of, files_of, opener_of, opener_on, server_of, server_of_file}
+use Rattle.plain_semantics.specs.Openers.{file_of, files_of, opener_of, opener_on, server_of_file}
 use Rattle.node_copies.specs.Acting.{opener_among}
 use Rattle.node_copies.specs.Seen.{file_row, files_by, openers_on}
 

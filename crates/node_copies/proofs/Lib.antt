@@ -4,3 +4,4 @@ mod Choosing
 pub mod FileRows
 mod KeptReplies
 mod Loads
+mod ShownCounts

@@ -1,17 +1,20 @@
 ghost use Rattle.std.specs.Prelude.{◌≡◌, List, length, IfOk, OnOk};
 ghost use Rattle.tal_tree.specs.declared.site.Site.{Site};
 ghost use Rattle.disc_device.specs.declared.stored.Stored.{Stored};
-ghost use Rattle.process_semantics.specs.Process.{point};
+ghost use Rattle.process_semantics.specs.Process.{asked_file, point};
+ghost use Rattle.checkpoint_image.specs.Behaving.{last_write_of};
 ghost use Rattle.computed_changes.specs.Fitting.{depths_of};
-ghost use Rattle.number_ranges.specs.HasRoom.{CopyHasRoom, HasNext};
+ghost use Rattle.number_ranges.specs.HasRoom.{CopyHasRoom, HasNext, HasNextLong};
+ghost use Rattle.world_semantics.specs.Core.{next_on};
 ghost use Rattle.world_semantics.specs.Passes.{after_sending, checkpoint_of};
 ghost use Rattle.node_copies.specs.Acting.{HasActed, copy_passed, own_in, records_passed};
 ghost use Rattle.node_copies.specs.Seen.{openers_on, sectors_on};
 
 use crate::address::Address;
+use crate::device::found_on;
 use crate::one::NodeCopy;
 use crate::records::Records;
-use crate::sending::{address_in, found_on, reply_of, request_to};
+use crate::sending::{address_in, reply_of, request_to};
 use crate::step::Step;
 use checkpoint_image::ImageMessage;
 use disc_device::Disc;
@@ -23,7 +26,8 @@ use tal_tree::Act;
 impl NodeCopy {
     /// A step inside.
     fn inner(&mut self, number: u8, records: &mut Records) -> Result<Step, NoMemory>
-        requires { point self.old.copy.core.state ≡ Point.Inner }
+        requires point { point self.old.copy.core.state ≡ Point.Inner }
+        requires position { HasNextLong self.old.copy.position }
         ensures acted { (site : Site) (sectors : List Stored) → IfOk result (λ step. HasActed number
             (own_in site number (record { one = self.old; sectors = sectors; records = records.old }) Point.Inner) step
             (record { one = self.old; sectors = sectors; records = records.old }) (record { one = self.new; sectors = sectors; records = records.new })) }
@@ -37,7 +41,8 @@ impl NodeCopy {
 
     /// Takes the first request that stands Next, if there is one.
     fn take(&mut self, number: u8, records: &mut Records) -> Result<Step, NoMemory>
-        requires { point self.old.copy.core.state ≡ Point.Take }
+        requires point { point self.old.copy.core.state ≡ Point.Take }
+        requires position { HasNextLong self.old.copy.position }
         ensures acted { (site : Site) (sectors : List Stored) → IfOk result (λ step. HasActed number
             (own_in site number (record { one = self.old; sectors = sectors; records = records.old }) Point.Take) step
             (record { one = self.old; sectors = sectors; records = records.old }) (record { one = self.new; sectors = sectors; records = records.new })) }
@@ -65,13 +70,15 @@ impl NodeCopy {
         files: &[Option<Address>],
         records: &mut Records,
     ) -> Result<Step, NoMemory>
-        requires { point self.old.copy.core.state ≡ Point.Ask }
+        requires point { point self.old.copy.core.state ≡ Point.Ask }
+        requires number { HasNext (next_on self.old.copy.core (asked_file self.old.copy.core.state)) }
+        requires position { HasNextLong self.old.copy.position }
         ensures acted { (site : Site) (sectors : List Stored) → files.now ≡ openers_on site number → IfOk result (λ step. HasActed number
             (own_in site number (record { one = self.old; sectors = sectors; records = records.old }) Point.Ask) step
             (record { one = self.old; sectors = sectors; records = records.old }) (record { one = self.new; sectors = sectors; records = records.new })) }
         ensures depths { self.new.depths ≡ self.old.depths }
     {
-        let asking = self.control.ask()?;
+        let asking = self.control.ask();
         self.share
             .enter(number, Act::Step(number), &mut records.kept)?;
         let address = address_in(files, asking.file);
@@ -81,7 +88,8 @@ impl NodeCopy {
 
     /// Answers the request in hand: the reply is sent.
     fn answer(&mut self, number: u8, records: &mut Records) -> Result<Step, NoMemory>
-        requires { point self.old.copy.core.state ≡ Point.Answer }
+        requires point { point self.old.copy.core.state ≡ Point.Answer }
+        requires position { HasNextLong self.old.copy.position }
         ensures acted { (site : Site) (sectors : List Stored) → self.old.depths ≡ depths_of site number → IfOk result (λ step. HasActed number
             (own_in site number (record { one = self.old; sectors = sectors; records = records.old }) Point.Answer) step
             (record { one = self.old; sectors = sectors; records = records.old }) (record { one = self.new; sectors = sectors; records = records.new })) }
@@ -94,50 +102,28 @@ impl NodeCopy {
         Ok(step)
     }
 
-    /// Acts on the device. A process without one is never there, nor is a disc's sector called for that isn't there: both answer want of
-    /// memory, as does a disc whose writes have no number left.
+    /// Acts on the device, if there is one.
     fn device(
         &mut self,
         number: u8,
         device: &mut Option<Disc>,
         records: &mut Records,
     ) -> Result<Step, NoMemory>
-        requires { point self.old.copy.core.state ≡ Point.Device }
+        requires point { point self.old.copy.core.state ≡ Point.Device }
+        requires write { HasNext (last_write_of self.old.copy.core.state) }
+        requires position { HasNextLong self.old.copy.position }
+        requires shown { HasNext (length records.old.shown) }
         ensures acted { (site : Site) → IfOk result (λ step. HasActed number
             (own_in site number (record { one = self.old; sectors = sectors_on device.old; records = records.old }) Point.Device) step
             (record { one = self.old; sectors = sectors_on device.old; records = records.old }) (record { one = self.new; sectors = sectors_on device.new; records = records.new })) }
         ensures depths { self.new.depths ≡ self.old.depths }
     {
-        match device {
-            None => Err(NoMemory),
-            Some(disc) => {
-                let step = self.act_on(number, disc, records)?;
-                Ok(step)
-            }
-        }
-    }
-
-    fn act_on(
-        &mut self,
-        number: u8,
-        disc: &mut Disc,
-        records: &mut Records,
-    ) -> Result<Step, NoMemory>
-        requires { point self.old.copy.core.state ≡ Point.Device }
-        ensures acted { (site : Site) → IfOk result (λ step. HasActed number
-            (own_in site number (record { one = self.old; sectors = disc.old; records = records.old }) Point.Device) step
-            (record { one = self.old; sectors = disc.old; records = records.old }) (record { one = self.new; sectors = disc.new; records = records.new })) }
-        ensures depths { self.new.depths ≡ self.old.depths }
-    {
-        if self.control.behaviour().last_write() == u32::MAX {
-            return Err(NoMemory);
-        }
         let call = self.control.device();
-        let found = found_on(disc, &call);
+        let found = found_on(device, &call);
         self.control.device_done(&found);
         self.share
             .enter(number, Act::Step(number), &mut records.kept)?;
-        records.call(number, disc, &call)?;
+        records.call(number, device, &call)?;
         Ok(Step::Quiet)
     }
 

@@ -9,6 +9,7 @@
 
 mod acting;
 pub mod address;
+mod device;
 pub mod marks;
 pub mod one;
 mod receiving;

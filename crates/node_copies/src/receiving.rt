@@ -105,7 +105,7 @@ impl NodeCopy {
     {
         let receive = self.control.receive();
         settle(self.processor, &mut self.waiting, receive, told)?;
-        self.control.take_over()?;
+        self.control.take_over();
         self.share.take_over(base);
         Ok(())
     }

@@ -1,12 +1,13 @@
-ghost use Rattle.std.specs.Prelude.{◌≡◌, ◌++◌, ◌∷◌, [], List, Some, map, IfOk, OnOk};
+ghost use Rattle.std.specs.Prelude.{◌≡◌, ◌++◌, ◌∷◌, [], List, Some, length, map, IfOk, OnOk};
 ghost use Rattle.gd_words.specs.declared.message.Request.{Request as AskedRequest};
-ghost use Rattle.plain_semantics.specs.Machine.{found_by};
+ghost use Rattle.number_ranges.specs.HasRoom.{HasNext};
 ghost use Rattle.world_semantics.specs.Messages.{Asking as AskingMessage, Replying, sent_at};
-ghost use Rattle.world_semantics.specs.Own.{found_on, request_to};
+ghost use Rattle.world_semantics.specs.Own.{request_to};
 ghost use Rattle.node_copies.specs.Acting.{after_call, around_with, opener_among, requests_in};
-ghost use Rattle.node_copies.specs.Seen.{told_by};
+ghost use Rattle.node_copies.specs.Seen.{sectors_on, told_by};
 
 use crate::address::Address;
+use crate::device::write_on;
 use crate::records::Records;
 use crate::step::Step;
 use disc_device::Disc;
@@ -39,14 +40,16 @@ impl Records {
         Ok(Step::Sends(Sending::new(node, Message::Replying(reply))))
     }
 
-    /// A process calls its device: a new write is done and shown.
+    /// A process calls its device, if it has one: a new write is done and shown.
     pub(crate) fn call(
         &mut self,
         process: u8,
-        disc: &mut Disc,
+        device: &mut Option<Disc>,
         call: &DeviceCall,
     ) -> Result<(), NoMemory>
-        ensures around { (waiting : List AskedRequest) → OnOk result (after_call process (around_with waiting disc.old self.old) call.now ≡ around_with waiting disc.new self.new) }
+        requires shown { HasNext (length self.old.shown) }
+        ensures around { (waiting : List AskedRequest) → OnOk result
+            (after_call process (around_with waiting (sectors_on device.old) self.old) call.now ≡ around_with waiting (sectors_on device.new) self.new) }
         ensures kept { OnOk result (self.new.kept ≡ self.old.kept) }
     {
         match *call {
@@ -55,7 +58,7 @@ impl Records {
                 words,
                 number,
             } => {
-                self.write(process, disc, sector, words, number)?;
+                self.write(process, device, sector, words, number)?;
                 Ok(())
             }
             DeviceCall::Read(_) | DeviceCall::Nothing => Ok(()),
@@ -65,18 +68,18 @@ impl Records {
     fn write(
         &mut self,
         process: u8,
-        disc: &mut Disc,
+        device: &mut Option<Disc>,
         sector: u8,
         words: Sector,
         number: u32,
     ) -> Result<(), NoMemory>
-        ensures around { (waiting : List AskedRequest) → OnOk result (after_call process (around_with waiting disc.old self.old) (DeviceCall.Write sector words number) ≡ around_with waiting disc.new self.new) }
+        requires shown { HasNext (length self.old.shown) }
+        ensures around { (waiting : List AskedRequest) → OnOk result
+            (after_call process (around_with waiting (sectors_on device.old) self.old) (DeviceCall.Write sector words number)
+            ≡ around_with waiting (sectors_on device.new) self.new) }
         ensures kept { OnOk result (self.new.kept ≡ self.old.kept) }
     {
-        if disc.count() <= sector {
-            return Err(NoMemory);
-        }
-        if disc.write(sector, &words, number) {
+        if write_on(device, sector, &words, number) {
             self.shown.add(Shown::Write {
                 process,
                 sector,
@@ -122,23 +125,4 @@ pub(crate) fn reply_of(process: u8, answering: Answering) -> Reply
         number: answering.number,
         words: answering.words,
     }
-}
-
-/// The words that a call of the device finds.
-pub(crate) fn found_on(disc: &Disc, call: &DeviceCall) -> Sector
-    ensures { result ≡ found_on disc.now call.now }
-{
-    match *call {
-        DeviceCall::Read(sector) => read_on(disc, sector),
-        _ => [0; 8],
-    }
-}
-
-fn read_on(disc: &Disc, sector: u8) -> Sector
-    ensures { result ≡ found_on disc.now (DeviceCall.Read sector) }
-{
-    if disc.count() <= sector {
-        return [0; 8];
-    }
-    disc.read(sector)
 }

@@ -1,4 +1,5 @@
-ghost use Rattle.std.specs.Prelude.{◌≡◌, ◌+◌, [], ◌∷◌, reverse, if◌then◌else◌, IfOk, OnOk, OnErr};
+ghost use Rattle.std.specs.Prelude.{◌≡◌, [], ◌∷◌, length, reverse, OnOk, OnErr};
+ghost use Rattle.number_ranges.specs.HasRoom.{HasNext};
 ghost use Rattle.node_copies.specs.ShownCounts.{is_write, replies_in, writes_in};
 
 use gd_words::NoMemory;
@@ -18,7 +19,8 @@ pub struct ShownLog {
 impl Model for ShownLog {
     ghost use Rattle.std.specs.Prelude.{◌≡◌, List};
     ghost use Rattle.tal_tree.specs.declared.act.Shown.{Shown};
-    ghost use Rattle.node_copies.specs.ShownCounts.{replies_in, writes_in};
+    ghost use Rattle.number_ranges.specs.HasRoom.{HasNext};
+ghost use Rattle.node_copies.specs.ShownCounts.{replies_in, writes_in};
 
     ghost Value = { List Shown };
 
@@ -60,16 +62,19 @@ impl ShownLog {
         self.replies
     }
 
-    /// One more is shown. Memory is wanting too where there would be more than can be counted.
+    /// One more is shown. All that is shown can be counted in 32 bits.
     pub fn add(&mut self, one: Shown) -> Result<(), NoMemory>
+        requires { HasNext (length self.old) }
         ensures ok { OnOk result (self.new ≡ one ∷ self.old) }
         ensures err { OnErr result (self.new ≡ self.old) }
     {
-        let writes = raised(self.writes, is_write(&one))?;
-        let replies = raised(self.replies, !is_write(&one))?;
+        let is_write = is_write(&one);
         self.log.add(one)?;
-        self.writes = writes;
-        self.replies = replies;
+        if is_write {
+            self.writes += 1;
+        } else {
+            self.replies += 1;
+        }
         Ok(())
     }
 }
@@ -80,18 +85,5 @@ fn is_write(one: &Shown) -> bool
     match one {
         Shown::Write { .. } => true,
         Shown::Reply { .. } => false,
-    }
-}
-
-/// A count, raised by one where it is to be.
-fn raised(count: u32, raises: bool) -> Result<u32, NoMemory>
-    ensures { IfOk result (λ new. new ≡ (if raises then 1 else 0) + count) }
-{
-    if !raises {
-        return Ok(count);
-    }
-    match count.checked_add(1) {
-        None => Err(NoMemory),
-        Some(new) => Ok(new),
     }
 }

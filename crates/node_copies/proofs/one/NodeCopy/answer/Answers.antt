@@ -1,4 +1,4 @@
-use Rattle.std.proofs.Common.{◌≡◌, ◌∙◌, Some, ap, sym, subst, rules}
+use Rattle.std.proofs.Common.{◌≡◌, Some, subst, rules}
 use Rattle.process_control.specs.Cores.{answering_of, core_answering}
 use Rattle.node_copies.specs.Acting.{Scene, around_in}
 use Rattle.node_copies.specs.Seen.{CopyAndDepths}
