@@ -7,7 +7,7 @@ use Rattle.plain_semantics.specs.Openers.{openers_of}
 use Rattle.world_semantics.specs.declared.role.Role.TheVariants.{Watching}
 use Rattle.world_semantics.specs.declared.which.Which.{Which}
 use Rattle.world_semantics.specs.World.{Pair, copy_of}
-use Rattle.world_semantics.specs.Messages.{Message, Asking, Replying, Checkpointing, Taking, Sending}
+use Rattle.world_semantics.specs.Messages.{Message, Asking, Sending}
 use Rattle.machine_states.specs.States.{Played, Makes, Skips, WouldStop}
 use Rattle.message_wires.specs.Wires.{Sent, Wires}
 use Rattle.message_wires.specs.Play.{Whole}
@@ -38,14 +38,7 @@ abbrev pub AreCountedTelling : Option (List Sending) → Whole → Type 0
 AreCountedTelling None s = Unit {0}
 AreCountedTelling (Some sendings) s = AreCounted (sent_all sendings s)
 
--- of a message to the process of a number: a request names one of its openers
-abbrev pub NamesOpener : Site → ℕ → Message → Type 0
-NamesOpener site number (Asking request) = request.opener < length (openers_of site number)
-NamesOpener site number (Replying reply) = Unit {0}
-NamesOpener site number (Checkpointing checkpoint) = Unit {0}
-NamesOpener site number (Taking taken) = Unit {0}
-
--- and of a message that is handed over: a request names an opener of the process that it is for
+-- of a message that is handed over: a request names an opener of the process that it is for
 abbrev pub NamesItsOpener : Site → Message → Type 0
 NamesItsOpener site message =
     (request : Request) → message ≡ Asking request → request.opener < length (openers_of site request.process)

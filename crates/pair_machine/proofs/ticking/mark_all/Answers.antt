@@ -9,6 +9,15 @@ use Rattle.pair_machine.proofs.Places.{placed-set}
 use Rattle.pair_machine.proofs.Room.{marked-room, put-room, watcher-there}
 use Rattle.pair_machine.proofs.ticking.mark_all.Goals as goal
 
+pub mark-requires : goal.mark-requires
+mark-requires c =
+    let processes = c.loop-number.processes in
+    let k = c.loop-number.number in
+    let before = get_or processes k c.index-processes-number.result in
+    let within : k < length processes = omega arith in
+    let there : slice_get processes k ≡ Some before = slice_get-get_or processes k c.index-processes-number.result within in
+    record { watching = watcher-there processes k before there c.loop-number.invariant.watching }
+
 pub returns-in_err-mark-clause-placed : goal.returns-in_err-mark-clause-placed
 returns-in_err-mark-clause-placed c =
     λ site seated.

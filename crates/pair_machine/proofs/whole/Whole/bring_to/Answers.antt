@@ -1,10 +1,12 @@
-use Rattle.std.proofs.Common.{◌≡◌, ℕ, Option, Some, slice_get, refl, arith}
+use Rattle.std.proofs.Common.{◌≡◌, ◌∙◌, ℕ, Option, Some, ap, slice_get, refl, subst₂, sym, arith}
 use Rattle.std.proofs.lemmas.Option.{slice_get_read}
 use Rattle.message_wires.specs.Play.{Whole}
 use Rattle.posted_letters.specs.Seen.{message_of}
 use Rattle.pair_machine.specs.Told.{brought}
 use Rattle.world_semantics.specs.Running.{Done}
+use Rattle.process_copies.specs.Handing.{NamesOpener}
 use Rattle.pair_machine.proofs.Places.{standing-set}
+use Rattle.pair_machine.proofs.Room.{placed-room, room-alike}
 use Rattle.pair_machine.proofs.Steps.{IsFound, stands, told-found, tells}
 use Rattle.pair_machine.specs.contracts.whole.Whole.{the_view}
 use Rattle.pair_machine.proofs.whole.Whole.bring_to.Goals as goal
@@ -22,6 +24,19 @@ found c = record {
 
 abbrev does : goal.In_ok-step → Whole → ℕ → Option Done
 does c s number = brought s.site number c.args.node (message_of c.args.message) s.world
+
+pub come_in-requires-clause-opener : goal.come_in-requires-clause-opener
+come_in-requires-clause-opener c =
+    let there = slice_get_read c.self.inside.processes.items _ _ _ refl (omega (arith, c.self.inside.processes.ok.0)) c.index_mut.ensures.value in
+    let seated = c.self.invariant.0 _ _ there in
+    subst₂ (λ site number. NamesOpener site number (message_of c.args.message))
+    (sym (seated.0 ∙ ap (λ (s : Whole). s.site) c.self.view_is)) (sym (seated.1 ∙ c.from-place.ensures)) c.requires.opener
+
+pub come_in-requires-clause-room : goal.come_in-requires-clause-room
+come_in-requires-clause-room c =
+    placed-room (the_view c.self.inside) c.self.inside.processes.items c.from-place.result c.index_mut.result.now refl
+    (slice_get_read c.self.inside.processes.items _ _ _ refl (omega (arith, c.self.inside.processes.ok.0)) c.index_mut.ensures.value)
+    (room-alike (ap (λ (s : Whole). s.world) (sym c.self.view_is)) c.requires.room)
 
 pub invariant_of-self : goal.invariant_of-self
 invariant_of-self c =

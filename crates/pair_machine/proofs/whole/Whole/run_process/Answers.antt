@@ -1,8 +1,10 @@
-use Rattle.std.proofs.Common.{◌≡◌, Some, slice_get, refl, arith}
+use Rattle.std.proofs.Common.{◌≡◌, Some, ap, slice_get, refl, sym, arith}
 use Rattle.std.proofs.lemmas.Option.{slice_get_read}
 use Rattle.message_wires.specs.Play.{Whole}
 use Rattle.world_semantics.specs.Running.{run_done}
+use Rattle.number_ranges.specs.HasRoom.{HasRoom}
 use Rattle.pair_machine.proofs.Places.{standing-set}
+use Rattle.pair_machine.proofs.Room.{placed-room, room-alike}
 use Rattle.pair_machine.proofs.Steps.{IsFound, run-found, stands, tells}
 use Rattle.pair_machine.specs.contracts.whole.Whole.{the_view}
 use Rattle.pair_machine.proofs.whole.Whole.run_process.Goals as goal
@@ -17,6 +19,16 @@ found c = record {
   site = (c.self.invariant.0 _ _ (there c)).0;
   number = (c.self.invariant.0 _ _ (there c)).1;
 }
+
+pub run-requires-clause-room : goal.run-requires-clause-room
+run-requires-clause-room c =
+    placed-room (the_view c.self.inside) c.self.inside.processes.items c.from-place.result c.index_mut.result.now refl
+    (slice_get_read c.self.inside.processes.items _ _ _ refl (omega (arith, c.self.inside.processes.ok.0)) c.index_mut.ensures.value)
+    (room-alike (ap (λ (s : Whole). s.world) (sym c.self.view_is)) c.requires)
+
+pub run-requires-clause-shown : goal.run-requires-clause-shown
+run-requires-clause-shown c =
+    let room : HasRoom (the_view c.self.inside) = room-alike (ap (λ (s : Whole). s.world) (sym c.self.view_is)) c.requires in room.shown
 
 pub invariant_of-self : goal.invariant_of-self
 invariant_of-self c =
