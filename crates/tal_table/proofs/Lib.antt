@@ -3,3 +3,4 @@ pub mod Nodes
 pub mod Numbered
 pub mod Own
 pub mod Small
+pub mod Waits

@@ -149,7 +149,7 @@ listing-next old now new procedure all left statement others after next is comes
 
 -- Statements by their kinds
 
-layer-is : (what : What) (layer : What-F What Statement) → roll-What layer ≡ what → out-What what ≡ layer
+pub layer-is : (what : What) (layer : What-F What Statement) → roll-What layer ≡ what → out-What what ≡ layer
 layer-is what layer is = ap out-What (sym is) ∙ out-roll-What layer
 
 -- nodes behind one that stands behind others

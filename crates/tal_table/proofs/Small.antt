@@ -16,7 +16,7 @@ use Rattle.tal_tree.specs.declared.statement.What.{If, While, For}
 use Rattle.tal_table.specs.Loads.{AreSmall, numbers_at}
 
 -- the one that stands at a place is among them
-place-among : {A : Type 0} (xs : List A) (k : ℕ) (x : A) → x ≡ get_or xs k x → k < length xs → IsAmong x xs
+pub place-among : {A : Type 0} (xs : List A) (k : ℕ) (x : A) → x ≡ get_or xs k x → k < length xs → IsAmong x xs
 place-among {A} xs k x is within = among-at xs k x (slice_get-get_or xs k x within ∙ ap (λ (y : A). Some y) (sym is))
 
 own-among : (statement : Statement) (statements : List Statement) (n : ℕ) → IsAmong statement statements → IsAmong n (numbers_at statement) → IsAmong n (numbers_of statements)

@@ -1,5 +1,5 @@
 -- The nodes that parts of a program get when it is loaded.
-use Rattle.std.specs.Prelude.{◌≡◌, ◌≤◌, ℕ, List, [], ◌∷◌, ◌++◌, length, drop, flat_map, None}
+use Rattle.std.specs.Prelude.{◌≡◌, ◌≤◌, ◌<◌, ℕ, List, [], ◌∷◌, ◌++◌, length, drop, flat_map, None}
 use Rattle.gd_words.specs.Members.{IsAmong}
 use Rattle.tal_tree.specs.Statements.{numbers_within}
 use Rattle.tal_tree.specs.declared.program.Procedure.{Procedure}
@@ -8,6 +8,7 @@ use Rattle.tal_tree.specs.declared.statement.What.{What, What-F, out-What}
 use Rattle.process_semantics.specs.Rests.{next_number, rests_in, rests_of}
 use Rattle.process_semantics.specs.State.{Entry, Run}
 use Rattle.program_deeds.specs.Deed.{deed_of, deed_run}
+use Rattle.tal_code.specs.Waiting.{waiting_at}
 use Rattle.tal_table.specs.Places.{rest_at}
 use Rattle.tal_table.specs.Seen.{seen}
 use Rattle.tal_table.specs.Tables.{IsOf}
@@ -27,6 +28,10 @@ FindsAll places rests = (rest : List Entry) → IsAmong rest rests → Finds pla
 -- no number is above 2,000
 abbrev pub AreSmall : List ℕ → Type 0
 AreSmall numbers = (number : ℕ) → IsAmong number numbers → number ≤ 2000
+
+-- fewer than 80 left sides wait at one time while any of these statements computes what it does
+abbrev pub FewWait : List Statement → Type 0
+FewWait statements = (statement : Statement) → IsAmong statement statements → waiting_at (out-What statement.what) < 80
 
 -- the numbers of a statement and of what stands in it
 abbrev pub numbers_at : Statement → List ℕ

@@ -1,8 +1,9 @@
-ghost use Rattle.std.specs.Prelude.{◌≡◌, ◌++◌, [], ◌∷◌, OnOk};
-ghost use Rattle.tal_tree.specs.Statements.{numbers_of};
+ghost use Rattle.std.specs.Prelude.{◌≡◌, ◌<◌, ◌++◌, [], ◌∷◌, OnOk};
+ghost use Rattle.tal_tree.specs.Statements.{all_in, all_of, numbers_of};
 ghost use Rattle.tal_tree.specs.declared.statement.What.{out-What};
 ghost use Rattle.process_semantics.specs.Rests.{rests};
-ghost use Rattle.tal_table.specs.Loads.{AreSmall, Puts, numbers_at, rests_at};
+ghost use Rattle.tal_code.specs.Waiting.{waiting_at};
+ghost use Rattle.tal_table.specs.Loads.{AreSmall, FewWait, Puts, numbers_at, rests_at};
 ghost use Rattle.tal_table.specs.Loads as loads;
 
 use crate::node::{Node, Work};
@@ -20,7 +21,8 @@ pub(crate) fn put_list(
     statements: &[Statement],
     after: u16,
 ) -> Result<(), NoMemory>
-    requires { AreSmall (numbers_of statements.now) }
+    requires small { AreSmall (numbers_of statements.now) }
+    requires few { FewWait (all_of statements.now) }
     ensures { OnOk result (Puts nodes.old.items nodes.new.items procedure (rests statements.now) after) }
 {
     for (k, statement) in statements.iter().enumerate() {
@@ -49,7 +51,8 @@ fn put_statement(
     statement: &Statement,
     after: u16,
 ) -> Result<(), NoMemory>
-    requires { AreSmall (numbers_at statement.now) }
+    requires small { AreSmall (numbers_at statement.now) }
+    requires few { FewWait (all_in statement.now) }
     ensures { OnOk result (Puts nodes.old.items nodes.new.items procedure (rests_at statement.now) after) }
 {
     match &statement.what {
@@ -78,7 +81,8 @@ fn put_leaf(
     statement: &Statement,
     after: u16,
 ) -> Result<(), NoMemory>
-    requires { loads.IsAlone (out-What statement.now.what) }
+    requires kind { loads.IsAlone (out-What statement.now.what) }
+    requires few { waiting_at (out-What statement.now.what) < 80 }
     ensures { OnOk result (Puts nodes.old.items nodes.new.items procedure (rests_at statement.now) after) }
 {
     let work = leaf_work(alloc, statement, after)?;
@@ -95,6 +99,7 @@ fn put_if(
 ) -> Result<(), NoMemory>
     requires kind { loads.IsIf (out-What statement.now.what) }
     requires small { AreSmall (numbers_at statement.now) }
+    requires few { FewWait (all_in statement.now) }
     ensures { OnOk result (Puts nodes.old.items nodes.new.items procedure (rests_at statement.now) after) }
 {
     let What::If { test, yes, no } = &statement.what else {
@@ -117,6 +122,7 @@ fn put_while(
 ) -> Result<(), NoMemory>
     requires kind { loads.IsWhile (out-What statement.now.what) }
     requires small { AreSmall (numbers_at statement.now) }
+    requires few { FewWait (all_in statement.now) }
     ensures { OnOk result (Puts nodes.old.items nodes.new.items procedure (rests_at statement.now) after) }
 {
     let What::While { test, body } = &statement.what else {
@@ -139,6 +145,7 @@ fn put_for(
 ) -> Result<(), NoMemory>
     requires kind { loads.IsFor (out-What statement.now.what) }
     requires small { AreSmall (numbers_at statement.now) }
+    requires few { FewWait (all_in statement.now) }
     ensures { OnOk result (Puts nodes.old.items nodes.new.items procedure (rests_at statement.now) after) }
 {
     let What::For {

@@ -1,6 +1,8 @@
 ghost use Rattle.std.specs.List.{All};
-ghost use Rattle.std.specs.Prelude.{◌≡◌, ◌≤◌, length, map, IfOk};
+ghost use Rattle.std.specs.Prelude.{◌≡◌, ◌≤◌, ℕ, length, map, slice_get, Some, IfOk};
 ghost use Rattle.tal_tree.specs.Ordered.{numbers_in_all};
+ghost use Rattle.tal_tree.specs.Statements.{all_of};
+ghost use Rattle.tal_tree.specs.declared.program.Procedure.{Procedure};
 ghost use Rattle.tal_table.specs.Loads as loads;
 
 use crate::fill::{begins, put_list};
@@ -48,6 +50,7 @@ fn heading_of(procedure: &Procedure) -> Heading
 pub(crate) fn nodes_of(alloc: Global, procedures: &[Procedure]) -> Result<Vec<Node>, NoMemory>
     requires few { length procedures.now ≤ 64 }
     requires small { loads.AreSmall (numbers_in_all procedures.now) }
+    requires waiting { (k : ℕ) (procedure : Procedure) → slice_get procedures.now k ≡ Some procedure → loads.FewWait (all_of procedure.body) }
     ensures { IfOk result (λ nodes. loads.Fills procedures.now procedures.now nodes.items) }
 {
     let mut nodes = Vec::new(alloc);

@@ -3,6 +3,7 @@ ghost use Rattle.process_semantics.specs.Rests.{next_number};
 ghost use Rattle.tal_tree.specs.Limits.{IsWithinLimits};
 ghost use Rattle.tal_tree.specs.Ordered.{IsNumbered};
 ghost use Rattle.tal_tree.specs.Regular.{IsRegular};
+ghost use Rattle.tal_code.specs.Waiting.{WaitsBelow};
 ghost use Rattle.tal_table.specs.Places.{places, rest_at};
 ghost use Rattle.tal_table.specs.Tables.{Tells, Heads, told_in, told_if};
 
@@ -43,12 +44,13 @@ impl Model for Table {
 }
 
 impl Table {
-    /// The table of a program that is numbered in the order of its text, keeps its limits and is regular, as what is read is.
-    /// It is refused where memory is wanting, and where `tal_code` refuses the code of an expression.
+    /// The table of a program that is numbered in the order of its text, keeps its limits, is regular, and has room for the
+    /// code of what it computes, as what is read has.
     pub fn load(alloc: Global, program: &Program) -> Result<Table, NoMemory>
         requires numbered { IsNumbered program.now }
         requires limits { IsWithinLimits program.now }
         requires regular { IsRegular program.now }
+        requires waiting { WaitsBelow 80 program.now }
         ensures { IfOk result (λ table. table ≡ program.now) }
     {
         let procedures = program.procedures.as_slice();

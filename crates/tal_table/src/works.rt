@@ -1,8 +1,9 @@
-ghost use Rattle.std.specs.Prelude.{◌≡◌, pos, Some, None, IfOk};
+ghost use Rattle.std.specs.Prelude.{◌≡◌, ◌<◌, pos, Some, None, IfOk};
 ghost use Rattle.tal_tree.specs.declared.expression.Cond.TheVariants as cond;
 ghost use Rattle.tal_tree.specs.declared.expression.Expr.TheVariants as expr;
 ghost use Rattle.tal_tree.specs.declared.statement.What.{out-What};
 ghost use Rattle.tal_values.specs.Spots.{spot_of};
+ghost use Rattle.tal_code.specs.Waiting.{waiting_of, waiting_of_spot, waiting_for, waiting_of_test, waiting_of_all, waiting_of_answer, waiting_at};
 ghost use Rattle.tal_table.specs.Loads.{IsAlone, IsLeaf};
 ghost use Rattle.tal_table.specs.declared.node.Work.TheVariants as work;
 
@@ -15,7 +16,8 @@ use tal_tree::{Cond, Expr, Op, Rel, Spot, Statement, Variable, What};
 
 /// The work of a statement in which no others stand, before the entry of a number.
 pub(crate) fn leaf_work(alloc: Global, statement: &Statement, after: u16) -> Result<Work, NoMemory>
-    requires { IsAlone (out-What statement.now.what) }
+    requires kind { IsAlone (out-What statement.now.what) }
+    requires few { waiting_at (out-What statement.now.what) < 80 }
     ensures { IfOk result (λ made. IsLeaf statement.now after made) }
 {
     match &statement.what {
@@ -49,6 +51,8 @@ pub(crate) fn leaf_work(alloc: Global, statement: &Statement, after: u16) -> Res
 }
 
 fn assign_work(alloc: Global, to: &Spot, value: &Expr, next: u16) -> Result<Work, NoMemory>
+    requires spot { waiting_of_spot to.now < 80 }
+    requires value { waiting_of value.now < 80 }
     ensures { IfOk result (λ made. made ≡ work.Assign to.now value.now next) }
 {
     let to = spot_code_of(alloc, to)?;
@@ -62,6 +66,8 @@ fn call_to_work(
     procedure: u16,
     arguments: &[Expr],
 ) -> Result<Work, NoMemory>
+    requires spot { waiting_of_spot to.now < 80 }
+    requires arguments { waiting_of_all arguments.now < 80 }
     ensures { IfOk result (λ made. made ≡ work.Call procedure arguments.now (Some to.now)) }
 {
     let arguments = codes_of(alloc, arguments)?;
@@ -74,6 +80,7 @@ fn call_to_work(
 }
 
 fn call_work(alloc: Global, procedure: u16, arguments: &[Expr]) -> Result<Work, NoMemory>
+    requires { waiting_of_all arguments.now < 80 }
     ensures { IfOk result (λ made. made ≡ work.Call procedure arguments.now None) }
 {
     let arguments = codes_of(alloc, arguments)?;
@@ -85,6 +92,7 @@ fn call_work(alloc: Global, procedure: u16, arguments: &[Expr]) -> Result<Work, 
 }
 
 fn return_work(alloc: Global, value: &Option<Expr>) -> Result<Work, NoMemory>
+    requires { waiting_of_answer value.now < 80 }
     ensures { IfOk result (λ made. made ≡ work.Return value.now) }
 {
     match value {
@@ -97,6 +105,7 @@ fn return_work(alloc: Global, value: &Option<Expr>) -> Result<Work, NoMemory>
 }
 
 fn read_work(alloc: Global, buffer: u16, most: &Expr, got: Variable) -> Result<Work, NoMemory>
+    requires { waiting_of most.now < 80 }
     ensures { IfOk result (λ made. made ≡ work.ReadUpdate buffer most.now got) }
 {
     let most = code_of(alloc, most)?;
@@ -104,6 +113,7 @@ fn read_work(alloc: Global, buffer: u16, most: &Expr, got: Variable) -> Result<W
 }
 
 fn reply_work(alloc: Global, buffer: u16, count: &Expr) -> Result<Work, NoMemory>
+    requires { waiting_of count.now < 80 }
     ensures { IfOk result (λ made. made ≡ work.Reply buffer count.now) }
 {
     let count = code_of(alloc, count)?;
@@ -118,6 +128,8 @@ fn write_work(
     room: &Expr,
     got: Variable,
 ) -> Result<Work, NoMemory>
+    requires send { waiting_of send.now < 80 }
+    requires room { waiting_of room.now < 80 }
     ensures { IfOk result (λ made. made ≡ work.WriteRead file buffer send.now room.now got) }
 {
     let send = code_of(alloc, send)?;
@@ -148,6 +160,7 @@ fn copy_of<T: Copy>(alloc: Global, items: &[T]) -> Result<List<T>, NoMemory>
 }
 
 fn codes_of(alloc: Global, arguments: &[Expr]) -> Result<List<Code>, NoMemory>
+    requires { waiting_of_all arguments.now < 80 }
     ensures { IfOk result (λ codes. codes ≡ arguments.now) }
 {
     let mut codes = List::new(alloc);
@@ -160,6 +173,7 @@ fn codes_of(alloc: Global, arguments: &[Expr]) -> Result<List<Code>, NoMemory>
 
 /// The work of an IF or a WHILE, with the numbers that come next where the test is true and where it is false.
 pub(crate) fn test_work(alloc: Global, test: &Cond, yes: u16, no: u16) -> Result<Work, NoMemory>
+    requires { waiting_of_test test.now < 80 }
     ensures { IfOk result (λ made. made ≡ work.Test test.now yes no) }
 {
     let test = test_code_of(alloc, test)?;
@@ -173,6 +187,7 @@ pub(crate) fn from_work(
     from: &Expr,
     test: u16,
 ) -> Result<Work, NoMemory>
+    requires { waiting_of from.now < 80 }
     ensures { IfOk result (λ made. made ≡ work.Assign (spot_of variable) from.now test) }
 {
     let spot = spot(variable);
@@ -187,6 +202,7 @@ pub(crate) fn limit_work(
     yes: u16,
     no: u16,
 ) -> Result<Work, NoMemory>
+    requires { waiting_for to.now < 80 }
     ensures { IfOk result (λ made. made ≡ work.Test (cond.Compare Rel.AtMost (expr.Read (spot_of variable)) to.now) yes no) }
 {
     let test = limit_code_of(alloc, variable, to)?;

@@ -4,6 +4,7 @@ use Rattle.tal_tree.specs.declared.statement.What.{If, While, For}
 use Rattle.tal_table.specs.Loads.{begins}
 use Rattle.tal_table.proofs.Nodes.{left-is, drop-past, on-ok, listing-next, listing-end, while-puts, if-puts, for-puts}
 use Rattle.tal_table.proofs.Small.{count-at, count-while, count-if, count-for, small-at, small-own, small-while, small-first, small-second, small-for}
+use Rattle.tal_table.proofs.Waits.{few-at, few-while, few-first, few-second, few-for}
 use Rattle.tal_table.proofs.fill.+put.Goals as goal
 
 pub put_for-overflow_add-test : goal.put_for-overflow_add-test
@@ -15,7 +16,10 @@ put_for-put_list-requires t c =
     let is : c.args.statement.now.what ≡ For c.in-For.variable c.in-For.from c.in-For.to body c.in-For.last =
     c.in-For.is ∙ ap (λ (ss : List Statement). For c.in-For.variable c.in-For.from c.in-For.to ss c.in-For.last) (sym c.as_slice-body.ensures) in (
       omega (arith, c.decreases, count-for c.args.statement.now c.in-For.variable c.in-For.from c.in-For.to body c.in-For.last is),
-      small-for c.args.statement.now c.requires.small c.in-For.variable c.in-For.from c.in-For.to body c.in-For.last is,
+      (
+        small-for c.args.statement.now c.requires.small c.in-For.variable c.in-For.from c.in-For.to body c.in-For.last is,
+        few-for c.args.statement.now c.requires.few c.in-For.variable c.in-For.from c.in-For.to body c.in-For.last is,
+      ),
     )
 
 pub put_if-put_list-requires : goal.put_if-put_list-requires
@@ -24,7 +28,10 @@ put_if-put_list-requires t c =
     let other = c.as_slice-no.result.now in
     let is : c.args.statement.now.what ≡ If c.in-If.test yes other =
     c.in-If.is ∙ ap₂ (λ (ss rs : List Statement). If c.in-If.test ss rs) (sym c.as_slice-yes.ensures) (sym c.as_slice-no.ensures) in
-    (omega (arith, c.decreases, count-if c.args.statement.now c.in-If.test yes other is), small-first c.args.statement.now c.requires.small c.in-If.test yes other is)
+    (
+      omega (arith, c.decreases, count-if c.args.statement.now c.in-If.test yes other is),
+      (small-first c.args.statement.now c.requires.small c.in-If.test yes other is, few-first c.args.statement.now c.requires.few c.in-If.test yes other is),
+    )
 
 pub put_if-put_list-requires-2 : goal.put_if-put_list-requires-2
 put_if-put_list-requires-2 t c =
@@ -32,18 +39,27 @@ put_if-put_list-requires-2 t c =
     let other = c.as_slice-no.result.now in
     let is : c.args.statement.now.what ≡ If c.in-If.test yes other =
     c.in-If.is ∙ ap₂ (λ (ss rs : List Statement). If c.in-If.test ss rs) (sym c.as_slice-yes.ensures) (sym c.as_slice-no.ensures) in
-    (omega (arith, c.decreases, count-if c.args.statement.now c.in-If.test yes other is), small-second c.args.statement.now c.requires.small c.in-If.test yes other is)
+    (
+      omega (arith, c.decreases, count-if c.args.statement.now c.in-If.test yes other is),
+      (small-second c.args.statement.now c.requires.small c.in-If.test yes other is, few-second c.args.statement.now c.requires.few c.in-If.test yes other is),
+    )
 
 pub put_while-put_list-requires : goal.put_while-put_list-requires
 put_while-put_list-requires t c =
     let body = c.as_slice-body.result.now in
     let is : c.args.statement.now.what ≡ While c.in-While.test body = c.in-While.is ∙ ap (While c.in-While.test) (sym c.as_slice-body.ensures) in
-    (omega (arith, c.decreases, count-while c.args.statement.now c.in-While.test body is), small-while c.args.statement.now c.requires.small c.in-While.test body is)
+    (
+      omega (arith, c.decreases, count-while c.args.statement.now c.in-While.test body is),
+      (small-while c.args.statement.now c.requires.small c.in-While.test body is, few-while c.args.statement.now c.requires.few c.in-While.test body is),
+    )
 
 pub put_list-put_statement-requires : goal.put_list-put_statement-requires
 put_list-put_statement-requires t c = (
   omega (arith, c.decreases, count-at c.args.statements.now c.loop-k.k c.index-statements-k.result c.index-statements-k.is c.loop-k-test.true),
-  small-at c.args.statements.now c.loop-k.k c.index-statements-k.result c.index-statements-k.is c.loop-k-test.true c.requires,
+  (
+    small-at c.args.statements.now c.loop-k.k c.index-statements-k.result c.index-statements-k.is c.loop-k-test.true c.requires.small,
+    few-at c.args.statements.now c.loop-k.k c.index-statements-k.result c.index-statements-k.is c.loop-k-test.true c.requires.few,
+  ),
 )
 
 pub put_list-loop-k-preserved : goal.put_list-loop-k-preserved

@@ -1,4 +1,4 @@
-use Rattle.std.proofs.Common.{◌≡◌, List, refl, subst, sym, rules}
+use Rattle.std.proofs.Common.{◌≡◌, List, slice_get, refl, ap, subst, sym, ◌∙◌, rules}
 use Rattle.tal_tree.specs.Ordered.{numbers_in_all}
 use Rattle.tal_tree.specs.declared.program.Procedure.{Procedure}
 use Rattle.tal_tree.specs.declared.program.Program.{Program}
@@ -13,6 +13,10 @@ headings_of-requires c = few-locals c.args.program.now c.as_slice-procedures.res
 pub nodes_of-requires-clause-small : goal.nodes_of-requires-clause-small
 nodes_of-requires-clause-small c = subst (λ (procedures : List Procedure). AreSmall (numbers_in_all procedures)) (sym c.as_slice-procedures.ensures)
     (λ number among. (c.requires.limits.numbers number among).1)
+
+pub nodes_of-requires-clause-waiting : goal.nodes_of-requires-clause-waiting
+nodes_of-requires-clause-waiting c = λ k procedure there.
+    c.requires.waiting k procedure (ap (λ (procedures : List Procedure). slice_get procedures k) (sym c.as_slice-procedures.ensures) ∙ there)
 
 pub invariant_of-result : goal.invariant_of-result
 invariant_of-result c =
