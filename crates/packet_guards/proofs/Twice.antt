@@ -4,9 +4,9 @@ use Rattle.std.proofs.Common.{slice_get}
 use Rattle.world_semantics.specs.World.{has_marked, is_running}
 use Rattle.computed_changes.specs.Stopped.{marked_where, mark_where, may_mark}
 use Rattle.message_layout.specs.Messages.{Declaring}
-use Rattle.packet_wires.specs.Play.{Packeted, handed, marked_by}
+use Rattle.packet_wires.specs.Play.{Underway, handed, marked_by}
 
-pub no-mark-on-suspicion-twice : (node processor : ℕ) (s : Packeted) → has_marked s.world.marks node processor ≡ true → handed node (Declaring processor) s ≡ s
+pub no-mark-on-suspicion-twice : (node processor : ℕ) (s : Underway) → has_marked s.world.marks node processor ≡ true → handed node (Declaring processor) s ≡ s
 no-mark-on-suspicion-twice node processor s marked = by (slice_get s.world.stopped processor)
   where
     either : (runs : Bool) → (runs && not true) ≡ false

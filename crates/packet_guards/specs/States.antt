@@ -11,7 +11,7 @@ use Rattle.alive_regroup.specs.Sets.{nobody}
 use Rattle.alive_regroup.specs.Watching as watching
 use Rattle.alive_regroup.specs.Watching.{changed_at}
 use Rattle.packet_wires.specs.Nodes.{never_reloaded}
-use Rattle.packet_wires.specs.Wires.{Wires, learns}
+use Rattle.packet_wires.specs.Wires.{Wires, nothing_sent, learns}
 use Rattle.packet_wires.specs.Play.{Packeted}
 use Rattle.packet_wires.specs.Sights.{end_of}
 use Rattle.packet_wires.specs.Examples.{adder_at_boot, rounds, taken_over, three_at_boot, times, up_to_checkpoint}
@@ -47,7 +47,9 @@ first_muted = rounds 0 4 three_at_boot
 
 -- to processor 0, processor 1 is down and processor 2 silent
 abbrev pub two_lost : Wires
-two_lost = learns 0 (changed_at 2 (λ one. Up false missed.More nobody)) (learns 0 (changed_at 1 watching.marked) three_at_boot.wires)
+two_lost = record three_at_boot.wires {
+  nodes = (learns 0 (changed_at 2 (λ one. Up false missed.More nobody)) (learns 0 (changed_at 1 watching.marked) (nothing_sent three_at_boot.wires.nodes))).nodes;
+}
 
 -- so it is after processor 1 stopped, and while all run
 abbrev pub second_silent : Packeted

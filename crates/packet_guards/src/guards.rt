@@ -1,5 +1,5 @@
 //! What is played, at telling points.
-ghost use Rattle.std.specs.Prelude.{◌≡◌, ◌<◌, ℕ, pos, true, false, [], ◌∷◌, ◌++◌, length, Some, None};
+ghost use Rattle.std.specs.Prelude.{◌≡◌, ◌≤◌, ◌+◌, ℕ, pos, true, false, List, [], ◌∷◌, ◌++◌, length, Some, None};
 ghost use Rattle.schedule.specs.declared.event.Event.TheVariants as event;
 ghost use Rattle.wire.specs.declared.bus_name.BusName.{BusName};
 ghost use Rattle.wire.specs.declared.bus_name.BusName.TheVariants.{X, Y};
@@ -9,11 +9,11 @@ ghost use Rattle.machine_states.specs.States.{Skips, WouldStop};
 ghost use Rattle.message_layout.specs.Messages.{Declaring};
 ghost use Rattle.message_layout.specs.Reading.{understood};
 ghost use Rattle.packet_wires.specs.Idle.{is_idle, holds_nothing};
-ghost use Rattle.packet_wires.specs.Nodes.{end_at};
+ghost use Rattle.packet_wires.specs.Nodes.{Node, end_at};
 ghost use Rattle.world_semantics.specs.World.{has_marked};
-ghost use Rattle.packet_wires.specs.Play.{Packeted, count_on, handed, kind_at, play, sender_at};
+ghost use Rattle.packet_wires.specs.Play.{Packeted, Underway, begun, count_on, handed, kind_at, play, sender_at};
 ghost use Rattle.packet_wires.specs.Sights.{acknowledged, alive, end_of, last, piece, seen};
-ghost use Rattle.packet_wires.specs.Wires.{Wires, on_bus, put_on};
+ghost use Rattle.packet_wires.specs.Wires.{Midst, Wires, all_put, goes_over, nothing_sent, on_bus, packets_over, with_sent};
 ghost use Rattle.packet_wires.specs.Examples.{adder_at_boot, after_four, held, served, taken_over, up_to_checkpoint};
 ghost use Rattle.packet_guards.specs.States.{after_three, first_muted, first_piece_again, laden, none_stopped, one_gone, second_silent, stray, ticks, told};
 
@@ -39,11 +39,24 @@ pub fn positions_are_told()
     ensures past { sender_at laden X 3 ≡ None }
 {}
 
-/// A bus has room for 4,096 packets, and what finds it full is lost.
+/// A bus has room for 4,096 packets. What an event sends over it goes to its end, each packet in its turn, and what finds
+/// the bus full is lost.
 pub fn a_bus_has_room_for_4096()
-    ensures room { (name : BusName) (packet : Packet) (wires : Wires) → length (on_bus name wires) < 4096
-        → on_bus name (put_on name packet wires) ≡ on_bus name wires ++ packet ∷ [] }
-    ensures full { (name : BusName) (packet : Packet) (wires : Wires) → length (on_bus name wires) ≡ 4096 → on_bus name (put_on name packet wires) ≡ on_bus name wires }
+    ensures room { (name : BusName) (midst : Midst) (wires : Wires)
+        → length (on_bus name wires) + length (packets_over name midst.out) ≤ 4096
+        → on_bus name (with_sent midst wires) ≡ on_bus name wires ++ packets_over name midst.out }
+    ensures full { (name : BusName) (midst : Midst) (wires : Wires) → length (on_bus name wires) ≡ 4096
+        → on_bus name (with_sent midst wires) ≡ on_bus name wires }
+    ensures last { (packet : Packet) (other : Packet) (on : List Packet) → length on ≡ 4095
+        → all_put (packet ∷ other ∷ []) on ≡ on ++ packet ∷ [] }
+{}
+
+/// What goes over one bus stands in the order in which it was sent, and nothing of it goes over the other one.
+pub fn each_packet_takes_its_bus()
+    ensures x { (one : Packet) (other : Packet) (nodes : List Node)
+        → packets_over X (goes_over X other (goes_over Y other (goes_over X one (nothing_sent nodes)))).out ≡ one ∷ other ∷ [] }
+    ensures y { (one : Packet) (other : Packet) (nodes : List Node)
+        → packets_over Y (goes_over Y other (goes_over X other (goes_over Y one (nothing_sent nodes)))).out ≡ one ∷ other ∷ [] }
 {}
 
 /// A tick sends I'm-alive packets in rising order of receivers, then its report in the same order, and at last what is outstanding.
@@ -113,8 +126,8 @@ pub fn who_has_stopped_does_nothing()
 
 /// A node marks only what has stopped, and no processor twice.
 pub fn no_mark_on_suspicion()
-    ensures runs { handed 1 (Declaring 0) adder_at_boot ≡ adder_at_boot }
-    ensures twice { (node processor : ℕ) (s : Packeted) → has_marked s.world.marks node processor ≡ true → handed node (Declaring processor) s ≡ s }
+    ensures runs { handed 1 (Declaring 0) (begun adder_at_boot) ≡ begun adder_at_boot }
+    ensures twice { (node processor : ℕ) (s : Underway) → has_marked s.world.marks node processor ≡ true → handed node (Declaring processor) s ≡ s }
 {}
 
 /// Words of no message are dropped, and messages that name what the site hasn't: here two processors, one process and one opener.

@@ -1,5 +1,6 @@
 pub mod Arriving
 pub mod Between
+pub mod Buses
 pub mod Nodes
 pub mod Owing
 pub mod Sending

@@ -25,16 +25,16 @@ use Rattle.letters.specs.Routes.{Letter}
 use Rattle.message_layout.specs.Messages.{NodeMessage, Carrying, Reporting, Declaring}
 use Rattle.message_layout.specs.Layout.{Fits, words_of}
 use Rattle.packet_wires.specs.Nodes.{Node, end_at}
-use Rattle.packet_wires.specs.Wires.{Wires, on_bus, put_on, put_any, put_again, at_node, at_end_of, at_end, end_changed, learns, for_each, push_at, sends, posted, all_posted, bus_of_answer, heard_of, arrive_at, arrived, alive_at, tick_at, down_at, cut_off}
+use Rattle.packet_wires.specs.Wires.{Wires, Midst, Outgoing, with_sent, goes_over, any_goes_over, goes_again, at_node, at_end_of, at_end, end_changed, learns, for_each, push_at, sends, posted, all_posted, bus_of_answer, heard_of, arrive_at, arrived, alive_at, tick_at, down_at, cut_off}
 use Rattle.packet_wires.specs.Play.{completed}
 use Rattle.packet_nets.specs.Tied.{IsTied, IsWatch, AreWatches}
-use Rattle.packet_nets.specs.Owing.{IsTrueOf, IsOpen, Owes, Ties}
+use Rattle.packet_nets.specs.Owing.{IsTrueOf, IsOpen, Owes, Ties, TiesAtRest, on_both}
 use Rattle.packet_nets.proofs.Watches.{changed-watch, ends-watches, watched-watches}
 use Rattle.packet_nets.proofs.Between.{letters_by}
 use Rattle.packet_nets.proofs.Owing.{calm-owes, more-owes, push-owes, closed-owes, without-owes}
 use Rattle.packet_nets.proofs.Arriving.{Arrives, arrives, hands_none, ways-pushes, ways-out}
 use Rattle.packet_nets.proofs.Tied as tied
-use Rattle.packet_nets.proofs.Tied.{end-is, end-tied, fewer-tied, watched-tied, down-tied, running-stands, stopped-stands, bus-put}
+use Rattle.packet_nets.proofs.Tied.{end-is, end-tied, watched-tied, down-tied, fewer-tied, rest-tied, running-stands, stopped-stands, out-any}
 
 -- No message is without words
 filled : (told : NodeMessage) → 0 < length (words_of told)
@@ -47,14 +47,14 @@ filled (Declaring processor) = omega arith
 
 -- What is done at one end
 
-module _ {stopped : List Bool} {wires : Wires} {n : Net} (t : IsTied stopped wires n) (x y : ℕ) (node : Node) (e : End)
-    (at : slice_get wires.nodes x ≡ Some node) (has : slice_get node.ends y ≡ Some e) (runs : is_running stopped x ≡ true) where
+module _ {stopped : List Bool} {on : List Packet} {midst : Midst} {n : Net} (t : IsTied stopped on midst n) (x y : ℕ) (node : Node) (e : End)
+    (at : slice_get midst.nodes x ≡ Some node) (has : slice_get node.ends y ≡ Some e) (runs : is_running stopped x ≡ true) where
   -- the net has the same end
   is-net : n.ends x y ≡ e
   is-net = end-is t x y node e e at has runs
 
   -- the end stays the same, and sends nothing
-  still-tied : (name : BusName) (sent : Option Packet) (same : End) → same ≡ e → sent ≡ None → IsTied stopped (put_any name sent (end_changed x y node same wires)) n
+  still-tied : (name : BusName) (sent : Option Packet) (same : End) → same ≡ e → sent ≡ None → IsTied stopped on (any_goes_over name sent (end_changed x y node same midst)) n
   still-tied name sent same is none =
       end-tied t x y node e same at has runs name sent n t.whole refl
       (sym (put-own x y n.ends) ∙ ap (λ d. put x y d n.ends) (is-net ∙ sym is)) (sym (append-nil n.flight) ∙ ap (λ o. n.flight ++ option_to_list o) (sym none)) (ap (λ (d : End). d.down) is)
@@ -64,57 +64,56 @@ module _ {stopped : List Bool} {wires : Wires} {n : Net} (t : IsTied stopped wir
   up d = (t.stood x ∙ running-stands stopped x runs, ap (λ (d : End). d.down) is-net ∙ d)
 
   push-tied : (words : List ℤ) → 0 < length words → e.down ≡ false
-      → IsTied stopped (put_any bus.X (sent_by_push words e) (end_changed x y node (after_push words e) wires)) (pushed_net x y words n)
+      → IsTied stopped on (any_goes_over bus.X (sent_by_push words e) (end_changed x y node (after_push words e) midst)) (pushed_net x y words n)
   push-tied words some d =
       end-tied t x y node e (after_push words e) at has runs bus.X (sent_by_push words e) (pushed_net x y words n) (whole-goes (pushes x y words some (up d)) t.whole) refl
       (ap (λ d. put x y (after_push words d) n.ends) is-net) (ap (λ d. n.flight ++ option_to_list (sent_by_push words d)) is-net)
       (ap (λ (d : End). d.down) (when-up e (record e { sending = pushed words e.sending }) d))
 
-  tick-tied : (sent : Option Resent) → sent_by_tick e ≡ sent → e.down ≡ false → IsTied stopped (put_again sent (end_changed x y node (after_tick e) wires)) (ticked_net x y n)
+  tick-tied : (sent : Option Resent) → sent_by_tick e ≡ sent → e.down ≡ false → IsTied stopped on (goes_again sent (end_changed x y node (after_tick e) midst)) (ticked_net x y n)
   tick-tied sent is d = by sent is
     where
       with_packet : (name : BusName) (packet : Option Packet) → option_map packet_in (sent_by_tick e) ≡ packet
-          → IsTied stopped (put_any name packet (end_changed x y node (after_tick e) wires)) (ticked_net x y n)
+          → IsTied stopped on (any_goes_over name packet (end_changed x y node (after_tick e) midst)) (ticked_net x y n)
       with_packet name packet is =
           end-tied t x y node e (after_tick e) at has runs name packet (ticked_net x y n) (whole-goes (ticks x y (up d)) t.whole) refl
           (ap (λ d. put x y (after_tick d) n.ends) is-net) (ap (λ d. n.flight ++ option_to_list (option_map packet_in (sent_by_tick d))) is-net ∙ ap (λ o. n.flight ++ option_to_list o) is)
           (ap (λ (d : End). d.down) (when-up e (record e { sending = ticked e.sending }) d))
 
-      by : (sent : Option Resent) → sent_by_tick e ≡ sent → IsTied stopped (put_again sent (end_changed x y node (after_tick e) wires)) (ticked_net x y n)
+      by : (sent : Option Resent) → sent_by_tick e ≡ sent → IsTied stopped on (goes_again sent (end_changed x y node (after_tick e) midst)) (ticked_net x y n)
       by None is = with_packet bus.X None (ap (option_map packet_in) is)
       by (Some resent) is = with_packet resent.bus (Some resent.packet) (ap (option_map packet_in) is)
 
-  live-tied : e.down ≡ false → IsTied stopped (put_on bus.Y (packet_of e kind.Alive) (put_on bus.X (packet_of e kind.Alive) wires)) (alive_net x y n)
-  live-tied d = fewer-tied {next = put_on bus.Y packet (put_on bus.X packet wires)} refl from later
+  live-tied : e.down ≡ false → IsTied stopped on (goes_over bus.Y (packet_of e kind.Alive) (goes_over bus.X (packet_of e kind.Alive) midst)) (alive_net x y n)
+  live-tied d = record {
+    shape = t.shape;
+    whole = whole-goes (lives x y (up d)) t.whole;
+    stood = t.stood;
+    ends = t.ends;
+    flight = λ p among. among-left p n.flight (packet_of (n.ends x y) kind.Alive ∷ []) (t.flight p among);
+    out = from;
+    down = t.down;
+  }
     where
-      packet : Packet
-      packet = packet_of e kind.Alive
+      new : packet_of e kind.Alive ≡ packet_of (n.ends x y) kind.Alive
+      new = ap (λ d. packet_of d kind.Alive) (sym is-net)
 
-      next : Net
-      next = alive_net x y n
+      now : (one : Outgoing) → IsAmong one.packet (packet_of e kind.Alive ∷ []) → IsAmong one.packet (n.flight ++ packet_of (n.ends x y) kind.Alive ∷ [])
+      now one (inl same) = among-right one.packet n.flight (packet_of (n.ends x y) kind.Alive ∷ []) (inl (same ∙ new))
+      now one (inr none) = absurd none
 
-      later : IsTied stopped wires (alive_net x y n)
-      later = record {
-        shape = t.shape;
-        whole = whole-goes (lives x y (up d)) t.whole;
-        stood = t.stood;
-        ends = t.ends;
-        flight = λ name p among. among-left p n.flight (packet_of (n.ends x y) kind.Alive ∷ []) (t.flight name p among);
-        down = t.down;
-      }
-
-      from : (name : BusName) (p : Packet) → IsAmong p (on_bus name (put_on bus.Y (packet_of e kind.Alive) (put_on bus.X (packet_of e kind.Alive) wires)))
-          → IsAmong p (n.flight ++ packet_of (n.ends x y) kind.Alive ∷ [])
-      from name p among = elim (bus-put bus.Y name (packet_of e kind.Alive) p (put_on bus.X (packet_of e kind.Alive) wires) among) [
-        | inl before ↦ elim (bus-put bus.X name (packet_of e kind.Alive) p wires before) [
-          | inl first ↦ among-left p n.flight (packet_of (n.ends x y) kind.Alive ∷ []) (t.flight name p first)
-          | inr new ↦ among-right p n.flight (packet_of (n.ends x y) kind.Alive ∷ []) (inl (new ∙ ap (λ d. packet_of d kind.Alive) (sym is-net)))
+      from : (one : Outgoing) → IsAmong one (goes_over bus.Y (packet_of e kind.Alive) (goes_over bus.X (packet_of e kind.Alive) midst)).out
+          → IsAmong one.packet (n.flight ++ packet_of (n.ends x y) kind.Alive ∷ [])
+      from one among = elim (out-any bus.Y (Some (packet_of e kind.Alive)) one (goes_over bus.X (packet_of e kind.Alive) midst) among) [
+        | inl before ↦ elim (out-any bus.X (Some (packet_of e kind.Alive)) one midst before) [
+          | inl first ↦ among-left one.packet n.flight (packet_of (n.ends x y) kind.Alive ∷ []) (t.out one first)
+          | inr sent ↦ now one sent
         ]
-        | inr new ↦ among-right p n.flight (packet_of (n.ends x y) kind.Alive ∷ []) (inl (new ∙ ap (λ d. packet_of d kind.Alive) (sym is-net)))
+        | inr sent ↦ now one sent
       ]
 
   arrive-tied : (name : BusName) (p : Packet) → p.receiver ≡ x → p.sender ≡ y → IsAmong p n.flight → e.down ≡ false
-      → IsTied stopped (put_any name (sent_by_packet p e) (end_changed x y node (after_packet p e) wires)) (arrived_net x y p n)
+      → IsTied stopped on (any_goes_over name (sent_by_packet p e) (end_changed x y node (after_packet p e) midst)) (arrived_net x y p n)
   arrive-tied name p r s among d =
       end-tied t x y node e (after_packet p e) at has runs name (sent_by_packet p e) (arrived_net x y p n)
       (subst (λ a. IsWhole (arrived_net a y p n)) r (subst (λ b. IsWhole (arrived_net p.receiver b p n)) s (whole-goes (net.arrives p among
@@ -130,17 +129,17 @@ module _ {stopped : List Bool} {wires : Wires} {n : Net} (t : IsTied stopped wir
 -- What is tied and owed, together
 
 -- nodes that there may be have their ends
-absent : {stopped : List Bool} {wires : Wires} {n : Net} (t : IsTied stopped wires n) (x y : ℕ) → end_at wires.nodes x y ≡ None → x ≤ 16 → y ≤ 16 → ⊥
+absent : {stopped : List Bool} {on : List Packet} {midst : Midst} {n : Net} (t : IsTied stopped on midst n) (x y : ℕ) → end_at midst.nodes x y ≡ None → x ≤ 16 → y ≤ 16 → ⊥
 absent t x y e low few = let one = t.shape x y low few in let bad : None ≡ Some one.0 = sym e ∙ one.1 in absurd cc
 
-no-node : (wires : Wires) (x y : ℕ) → slice_get wires.nodes x ≡ None → end_at wires.nodes x y ≡ None
-no-node wires x y e = ap (option_and_then (λ (node : Node). slice_get node.ends y)) e
+no-node : (midst : Midst) (x y : ℕ) → slice_get midst.nodes x ≡ None → end_at midst.nodes x y ≡ None
+no-node midst x y e = ap (option_and_then (λ (node : Node). slice_get node.ends y)) e
 
-no-end : (wires : Wires) (x y : ℕ) (node : Node) → slice_get wires.nodes x ≡ Some node → slice_get node.ends y ≡ None → end_at wires.nodes x y ≡ None
-no-end wires x y node at e = ap (option_and_then (λ (node : Node). slice_get node.ends y)) at ∙ e
+no-end : (midst : Midst) (x y : ℕ) (node : Node) → slice_get midst.nodes x ≡ Some node → slice_get node.ends y ≡ None → end_at midst.nodes x y ≡ None
+no-end midst x y node at e = ap (option_and_then (λ (node : Node). slice_get node.ends y)) at ∙ e
 
-is-end : (wires : Wires) (x y : ℕ) (node : Node) (e : End) → slice_get wires.nodes x ≡ Some node → slice_get node.ends y ≡ Some e → end_at wires.nodes x y ≡ Some e
-is-end wires x y node e at has = ap (option_and_then (λ (node : Node). slice_get node.ends y)) at ∙ has
+is-end : (midst : Midst) (x y : ℕ) (node : Node) (e : End) → slice_get midst.nodes x ≡ Some node → slice_get node.ends y ≡ Some e → end_at midst.nodes x y ≡ Some e
+is-end midst x y node e at has = ap (option_and_then (λ (node : Node). slice_get node.ends y)) at ∙ has
 
 push-down : (words : List ℤ) (e : End) → (after_push words e).down ≡ e.down
 push-down words e = by e.down
@@ -159,23 +158,23 @@ tick-down e = by e.down
 down-put : (x y : ℕ) (e : End) (ends : ℕ → ℕ → End) → e.down ≡ (ends x y).down → (a b : ℕ) → (put x y e ends a b).down ≡ (ends a b).down
 down-put x y e ends is a b = put-all (λ a b (d : End). d.down ≡ (ends a b).down) x y e ends is (λ a b. refl) a b
 
-module _ {site : Site} {stopped : List Bool} {owed sent : List Letter} where
+module _ {site : Site} {stopped : List Bool} {on : List Packet} {owed sent : List Letter} where
   -- one message goes
-  pub sends-ties : (wires : Wires) (x y : ℕ) (told : NodeMessage) → is_running stopped x ≡ true → Fits site told → IsTrueOf stopped sent x y told
-      → Ties site stopped wires owed sent → Ties site stopped (sends x y told wires) (owed ++ letters_by x y told) sent
-  sends-ties wires x y told runs fits right T = by_node (slice_get wires.nodes x) refl
+  pub sends-ties : (midst : Midst) (x y : ℕ) (told : NodeMessage) → is_running stopped x ≡ true → Fits site told → IsTrueOf stopped sent x y told
+      → Ties site stopped on midst owed sent → Ties site stopped on (sends x y told midst) (owed ++ letters_by x y told) sent
+  sends-ties midst x y told runs fits right T = by_node (slice_get midst.nodes x) refl
     where
-      closed : (IsOpen stopped T.net x y → ⊥) → Ties site stopped wires (owed ++ letters_by x y told) sent
+      closed : (IsOpen stopped T.net x y → ⊥) → Ties site stopped on midst (owed ++ letters_by x y told) sent
       closed not_open = record { net = T.net; tied = T.tied; owes = closed-owes T.owes x y told not_open; watches = T.watches; places = T.places }
 
-      end-there : (node : Node) (e : End) → slice_get wires.nodes x ≡ Some node → slice_get node.ends y ≡ Some e → (d : Bool) → e.down ≡ d
-          → Ties site stopped (push_at x y (words_of told) node e wires) (owed ++ letters_by x y told) sent
+      end-there : (node : Node) (e : End) → slice_get midst.nodes x ≡ Some node → slice_get node.ends y ≡ Some e → (d : Bool) → e.down ≡ d
+          → Ties site stopped on (push_at x y (words_of told) node e midst) (owed ++ letters_by x y told) sent
       end-there node e at has true d = record {
         net = T.net;
         tied = still-tied T.tied x y node e at has runs bus.X (sent_by_push (words_of told) e) (after_push (words_of told) e) (rw d refl) (rw d refl);
         owes = closed-owes T.owes x y told (λ o. let up : e.down ≡ false = ap (λ (d : End). d.down) (sym (is-net T.tied x y node e at has runs)) ∙ o.there in absurd cc);
-        watches = subst (AreWatches site.processors) (sym (tied.put-nodes bus.X (sent_by_push (words_of told) e) (end_changed x y node (after_push (words_of told) e) wires)))
-            (ends-watches wires.nodes x y node (after_push (words_of told) e) at T.watches);
+        watches = subst (AreWatches site.processors) (sym (tied.any-nodes bus.X (sent_by_push (words_of told) e) (end_changed x y node (after_push (words_of told) e) midst)))
+            (ends-watches midst.nodes x y node (after_push (words_of told) e) at T.watches);
         places = T.places;
       }
       end-there node e at has false d = record {
@@ -183,37 +182,37 @@ module _ {site : Site} {stopped : List Bool} {owed sent : List Letter} where
         tied = push-tied T.tied x y node e at has runs (words_of told) (filled told) d;
         owes = push-owes T.owes x y told fits right (pushed_net x y (words_of told) T.net) refl
             (down-put x y (after_push (words_of told) (T.net.ends x y)) T.net.ends (push-down (words_of told) (T.net.ends x y)));
-        watches = subst (AreWatches site.processors) (sym (tied.put-nodes bus.X (sent_by_push (words_of told) e) (end_changed x y node (after_push (words_of told) e) wires)))
-            (ends-watches wires.nodes x y node (after_push (words_of told) e) at T.watches);
+        watches = subst (AreWatches site.processors) (sym (tied.any-nodes bus.X (sent_by_push (words_of told) e) (end_changed x y node (after_push (words_of told) e) midst)))
+            (ends-watches midst.nodes x y node (after_push (words_of told) e) at T.watches);
         places = T.places;
       }
 
-      by_end : (node : Node) → slice_get wires.nodes x ≡ Some node → (one : Option End) → slice_get node.ends y ≡ one
-          → Ties site stopped (at_end_of (push_at x y (words_of told) node) one wires) (owed ++ letters_by x y told) sent
-      by_end node at None e = closed (λ o. absent T.tied x y (no-end wires x y node at e) o.sender o.receiver)
+      by_end : (node : Node) → slice_get midst.nodes x ≡ Some node → (one : Option End) → slice_get node.ends y ≡ one
+          → Ties site stopped on (at_end_of (push_at x y (words_of told) node) one midst) (owed ++ letters_by x y told) sent
+      by_end node at None e = closed (λ o. absent T.tied x y (no-end midst x y node at e) o.sender o.receiver)
       by_end node at (Some e) has = end-there node e at has e.down refl
 
-      by_node : (one : Option Node) → slice_get wires.nodes x ≡ one
-          → Ties site stopped (at_node (λ node. at_end_of (push_at x y (words_of told) node) (slice_get node.ends y)) one wires) (owed ++ letters_by x y told) sent
-      by_node None e = closed (λ o. absent T.tied x y (no-node wires x y e) o.sender o.receiver)
+      by_node : (one : Option Node) → slice_get midst.nodes x ≡ one
+          → Ties site stopped on (at_node (λ node. at_end_of (push_at x y (words_of told) node) (slice_get node.ends y)) one midst) (owed ++ letters_by x y told) sent
+      by_node None e = closed (λ o. absent T.tied x y (no-node midst x y e) o.sender o.receiver)
       by_node (Some node) at = by_end node at (slice_get node.ends y) refl
 
   -- a tick of one end
-  pub tick-ties : (wires : Wires) (x y : ℕ) → is_running stopped x ≡ true → Ties site stopped wires owed sent → Ties site stopped (at_end x y (tick_at x y) wires) owed sent
-  tick-ties wires x y runs T = by_node (slice_get wires.nodes x) refl
+  pub tick-ties : (midst : Midst) (x y : ℕ) → is_running stopped x ≡ true → Ties site stopped on midst owed sent → Ties site stopped on (at_end x y (tick_at x y) midst) owed sent
+  tick-ties midst x y runs T = by_node (slice_get midst.nodes x) refl
     where
-      nodes : (o : Option Resent) (w : Wires) → (put_again o w).nodes ≡ w.nodes
+      nodes : (o : Option Resent) (w : Midst) → (goes_again o w).nodes ≡ w.nodes
       nodes None w = refl
-      nodes (Some resent) w = tied.put-nodes resent.bus (Some resent.packet) w
+      nodes (Some resent) w = tied.any-nodes resent.bus (Some resent.packet) w
 
-      end-there : (node : Node) (e : End) → slice_get wires.nodes x ≡ Some node → slice_get node.ends y ≡ Some e → (d : Bool) → e.down ≡ d
-          → Ties site stopped (tick_at x y node e wires) owed sent
+      end-there : (node : Node) (e : End) → slice_get midst.nodes x ≡ Some node → slice_get node.ends y ≡ Some e → (d : Bool) → e.down ≡ d
+          → Ties site stopped on (tick_at x y node e midst) owed sent
       end-there node e at has true d = record {
         net = T.net;
-        tied = subst (λ (o : Option Resent). IsTied stopped (put_again o (end_changed x y node (after_tick e) wires)) T.net) (sym none)
+        tied = subst (λ (o : Option Resent). IsTied stopped on (goes_again o (end_changed x y node (after_tick e) midst)) T.net) (sym none)
             (still-tied T.tied x y node e at has runs bus.X None (after_tick e) (rw d refl) refl);
         owes = T.owes;
-        watches = subst (AreWatches site.processors) (sym (nodes (sent_by_tick e) (end_changed x y node (after_tick e) wires))) (ends-watches wires.nodes x y node (after_tick e) at T.watches);
+        watches = subst (AreWatches site.processors) (sym (nodes (sent_by_tick e) (end_changed x y node (after_tick e) midst))) (ends-watches midst.nodes x y node (after_tick e) at T.watches);
         places = T.places;
       }
         where
@@ -226,26 +225,26 @@ module _ {site : Site} {stopped : List Bool} {owed sent : List Letter} where
             (λ a b. put-all (λ a b (w : Way). w.pushes ≡ (T.net.ways a b).pushes) x y (ticking (T.net.ways x y)) T.net.ways refl (λ a b. refl) a b)
             (λ a b. put-all (λ a b (w : Way). w.out ≡ (T.net.ways a b).out) x y (ticking (T.net.ways x y)) T.net.ways refl (λ a b. refl) a b)
             (down-put x y (after_tick (T.net.ends x y)) T.net.ends (tick-down (T.net.ends x y)));
-        watches = subst (AreWatches site.processors) (sym (nodes (sent_by_tick e) (end_changed x y node (after_tick e) wires))) (ends-watches wires.nodes x y node (after_tick e) at T.watches);
+        watches = subst (AreWatches site.processors) (sym (nodes (sent_by_tick e) (end_changed x y node (after_tick e) midst))) (ends-watches midst.nodes x y node (after_tick e) at T.watches);
         places = T.places;
       }
 
-      by_end : (node : Node) → slice_get wires.nodes x ≡ Some node → (one : Option End) → slice_get node.ends y ≡ one
-          → Ties site stopped (at_end_of (tick_at x y node) one wires) owed sent
+      by_end : (node : Node) → slice_get midst.nodes x ≡ Some node → (one : Option End) → slice_get node.ends y ≡ one
+          → Ties site stopped on (at_end_of (tick_at x y node) one midst) owed sent
       by_end node at None e = T
       by_end node at (Some e) has = end-there node e at has e.down refl
 
-      by_node : (one : Option Node) → slice_get wires.nodes x ≡ one
-          → Ties site stopped (at_node (λ node. at_end_of (tick_at x y node) (slice_get node.ends y)) one wires) owed sent
+      by_node : (one : Option Node) → slice_get midst.nodes x ≡ one
+          → Ties site stopped on (at_node (λ node. at_end_of (tick_at x y node) (slice_get node.ends y)) one midst) owed sent
       by_node None e = T
       by_node (Some node) at = by_end node at (slice_get node.ends y) refl
 
   -- I'm-alive packets go out at one end
-  pub live-ties : (wires : Wires) (x y : ℕ) → is_running stopped x ≡ true → Ties site stopped wires owed sent → Ties site stopped (at_end x y alive_at wires) owed sent
-  live-ties wires x y runs T = by_node (slice_get wires.nodes x) refl
+  pub live-ties : (midst : Midst) (x y : ℕ) → is_running stopped x ≡ true → Ties site stopped on midst owed sent → Ties site stopped on (at_end x y alive_at midst) owed sent
+  live-ties midst x y runs T = by_node (slice_get midst.nodes x) refl
     where
-      by_down : (node : Node) (e : End) → slice_get wires.nodes x ≡ Some node → slice_get node.ends y ≡ Some e → (d : Bool) → e.down ≡ d
-          → Ties site stopped (if d then wires else put_on bus.Y (packet_of e kind.Alive) (put_on bus.X (packet_of e kind.Alive) wires)) owed sent
+      by_down : (node : Node) (e : End) → slice_get midst.nodes x ≡ Some node → slice_get node.ends y ≡ Some e → (d : Bool) → e.down ≡ d
+          → Ties site stopped on (if d then midst else goes_over bus.Y (packet_of e kind.Alive) (goes_over bus.X (packet_of e kind.Alive) midst)) owed sent
       by_down node e at has true d = T
       by_down node e at has false d = record {
         net = alive_net x y T.net;
@@ -255,47 +254,47 @@ module _ {site : Site} {stopped : List Bool} {owed sent : List Letter} where
         places = T.places;
       }
 
-      by_end : (node : Node) → slice_get wires.nodes x ≡ Some node → (one : Option End) → slice_get node.ends y ≡ one → Ties site stopped (at_end_of (alive_at node) one wires) owed sent
+      by_end : (node : Node) → slice_get midst.nodes x ≡ Some node → (one : Option End) → slice_get node.ends y ≡ one → Ties site stopped on (at_end_of (alive_at node) one midst) owed sent
       by_end node at None e = T
       by_end node at (Some e) has = by_down node e at has e.down refl
 
-      by_node : (one : Option Node) → slice_get wires.nodes x ≡ one → Ties site stopped (at_node (λ node. at_end_of (alive_at node) (slice_get node.ends y)) one wires) owed sent
+      by_node : (one : Option Node) → slice_get midst.nodes x ≡ one → Ties site stopped on (at_node (λ node. at_end_of (alive_at node) (slice_get node.ends y)) one midst) owed sent
       by_node None e = T
       by_node (Some node) at = by_end node at (slice_get node.ends y) refl
 
   -- the same at each of some nodes
-  pub each-ties : (does : ℕ → Wires → Wires) → ((y : ℕ) (wires : Wires) → Ties site stopped wires owed sent → Ties site stopped (does y wires) owed sent)
-      → (ys : List ℕ) (wires : Wires) → Ties site stopped wires owed sent → Ties site stopped (for_each does ys wires) owed sent
-  each-ties does keeps [] wires T = T
-  each-ties does keeps (y ∷ ys) wires T = each-ties does keeps ys (does y wires) (keeps y wires T)
+  pub each-ties : (does : ℕ → Midst → Midst) → ((y : ℕ) (midst : Midst) → Ties site stopped on midst owed sent → Ties site stopped on (does y midst) owed sent)
+      → (ys : List ℕ) (midst : Midst) → Ties site stopped on midst owed sent → Ties site stopped on (for_each does ys midst) owed sent
+  each-ties does keeps [] midst T = T
+  each-ties does keeps (y ∷ ys) midst T = each-ties does keeps ys (does y midst) (keeps y midst T)
 
   -- a node learns something
-  pub watched-ties : (wires : Wires) (x : ℕ) (change : Watching → Watching) → ((watch : Watching) → IsWatch site.processors x watch → IsWatch site.processors x (change watch))
-      → Ties site stopped wires owed sent → Ties site stopped (learns x change wires) owed sent
-  watched-ties wires x change keeps T = record {
+  pub watched-ties : (midst : Midst) (x : ℕ) (change : Watching → Watching) → ((watch : Watching) → IsWatch site.processors x watch → IsWatch site.processors x (change watch))
+      → Ties site stopped on midst owed sent → Ties site stopped on (learns x change midst) owed sent
+  watched-ties midst x change keeps T = record {
     net = T.net;
     tied = watched-tied x change T.tied;
     owes = T.owes;
-    watches = watched-watches wires x change keeps T.watches;
+    watches = watched-watches midst x change keeps T.watches;
     places = T.places;
   }
 
   -- as many are owed when more letters were sent
-  pub more-ties : (wires : Wires) (more : List Letter) → ((letter : Letter) → IsAmong letter sent → IsAmong letter more) → Ties site stopped wires owed sent
-      → Ties site stopped wires owed more
-  more-ties wires more up T = record { net = T.net; tied = T.tied; owes = more-owes T.owes more up; watches = T.watches; places = T.places }
+  pub more-ties : (midst : Midst) (more : List Letter) → ((letter : Letter) → IsAmong letter sent → IsAmong letter more) → Ties site stopped on midst owed sent
+      → Ties site stopped on midst owed more
+  more-ties midst more up T = record { net = T.net; tied = T.tied; owes = more-owes T.owes more up; watches = T.watches; places = T.places }
 
   -- a node cuts off a processor that has stopped
-  pub cut-ties : (wires : Wires) (x y : ℕ) → is_running stopped x ≡ true → slice_get stopped y ≡ Some true → Ties site stopped wires owed sent
-      → Ties site stopped (cut_off x y wires) (without_those_between x y owed) sent
-  cut-ties wires x y runs gone T = later (by_node (slice_get wires.nodes x) refl)
+  pub cut-ties : (midst : Midst) (x y : ℕ) → is_running stopped x ≡ true → slice_get stopped y ≡ Some true → Ties site stopped on midst owed sent
+      → Ties site stopped on (cut_off x y midst) (without_those_between x y owed) sent
+  cut-ties midst x y runs gone T = later (by_node (slice_get midst.nodes x) refl)
     where
       -- both channels are closed
       closed : (next : Net) → next.ways ≡ T.net.ways → ((a b : ℕ) → IsOpen stopped next a b → IsOpen stopped T.net a b) → (IsOpen stopped next x y → ⊥) → (IsOpen stopped next y x → ⊥)
           → Owes site stopped (without_those_between x y owed) sent next
       closed next ways was one other = without-owes T.owes x y next ways was one other
 
-      missing : end_at wires.nodes x y ≡ None → Ties site stopped wires (without_those_between x y owed) sent
+      missing : end_at midst.nodes x y ≡ None → Ties site stopped on midst (without_those_between x y owed) sent
       missing e = record {
         net = T.net;
         tied = T.tied;
@@ -304,15 +303,15 @@ module _ {site : Site} {stopped : List Bool} {owed sent : List Letter} where
         places = T.places;
       }
 
-      marked : (node : Node) (e : End) → slice_get wires.nodes x ≡ Some node → slice_get node.ends y ≡ Some e
-          → Ties site stopped (down_at x y node e wires) (without_those_between x y owed) sent
+      marked : (node : Node) (e : End) → slice_get midst.nodes x ≡ Some node → slice_get node.ends y ≡ Some e
+          → Ties site stopped on (down_at x y node e midst) (without_those_between x y owed) sent
       marked node e at has = record {
         net = marked_net x y T.net;
         tied = down-tied T.tied x y node e at has runs gone;
         owes = closed (marked_net x y T.net) refl was
             (λ o. let down : true ≡ false = sym (ap (λ (d : End). d.down) (put-same x y (after_down (T.net.ends x y)) T.net.ends)) ∙ o.there in absurd cc)
             (λ o. let down : true ≡ false = sym (ap (λ (d : End). d.down) (put-same x y (after_down (T.net.ends x y)) T.net.ends)) ∙ o.back in absurd cc);
-        watches = ends-watches wires.nodes x y node (after_down e) at T.watches;
+        watches = ends-watches midst.nodes x y node (after_down e) at T.watches;
         places = T.places;
       }
         where
@@ -322,24 +321,34 @@ module _ {site : Site} {stopped : List Bool} {owed sent : List Letter} where
           was : (a b : ℕ) → IsOpen stopped (marked_net x y T.net) a b → IsOpen stopped T.net a b
           was a b o = record { sender = o.sender; receiver = o.receiver; runs = o.runs; there = up a b o.there; back = up b a o.back }
 
-      by_end : (node : Node) → slice_get wires.nodes x ≡ Some node → (one : Option End) → slice_get node.ends y ≡ one
-          → Ties site stopped (at_end_of (down_at x y node) one wires) (without_those_between x y owed) sent
-      by_end node at None e = missing (no-end wires x y node at e)
+      by_end : (node : Node) → slice_get midst.nodes x ≡ Some node → (one : Option End) → slice_get node.ends y ≡ one
+          → Ties site stopped on (at_end_of (down_at x y node) one midst) (without_those_between x y owed) sent
+      by_end node at None e = missing (no-end midst x y node at e)
       by_end node at (Some e) has = marked node e at has
 
-      by_node : (one : Option Node) → slice_get wires.nodes x ≡ one
-          → Ties site stopped (at_node (λ node. at_end_of (down_at x y node) (slice_get node.ends y)) one wires) (without_those_between x y owed) sent
-      by_node None e = missing (no-node wires x y e)
+      by_node : (one : Option Node) → slice_get midst.nodes x ≡ one
+          → Ties site stopped on (at_node (λ node. at_end_of (down_at x y node) (slice_get node.ends y)) one midst) (without_those_between x y owed) sent
+      by_node None e = missing (no-node midst x y e)
       by_node (Some node) at = by_end node at (slice_get node.ends y) refl
 
-      later : Ties site stopped (at_end x y (down_at x y) wires) (without_those_between x y owed) sent → Ties site stopped (cut_off x y wires) (without_those_between x y owed) sent
+      later : Ties site stopped on (at_end x y (down_at x y) midst) (without_those_between x y owed) sent → Ties site stopped on (cut_off x y midst) (without_those_between x y owed) sent
       later L = record {
         net = L.net;
         tied = watched-tied x (changed_at y watching.marked) L.tied;
         owes = L.owes;
-        watches = watched-watches (at_end x y (down_at x y) wires) x (changed_at y watching.marked) (λ watch is. changed-watch y watching.marked refl is) L.watches;
+        watches = watched-watches (at_end x y (down_at x y) midst) x (changed_at y watching.marked) (λ watch is. changed-watch y watching.marked refl is) L.watches;
         places = L.places;
       }
+
+-- fewer packets are on the buses
+pub fewer-ties : {site : Site} {stopped : List Bool} {on fewer : List Packet} {midst : Midst} {owed sent : List Letter} → ((p : Packet) → IsAmong p fewer → IsAmong p on)
+    → Ties site stopped on midst owed sent → Ties site stopped fewer midst owed sent
+fewer-ties from T = record { net = T.net; tied = fewer-tied from T.tied; owes = T.owes; watches = T.watches; places = T.places }
+
+-- an event is over, and what it sent is put on the buses
+pub rest-ties : {site : Site} {stopped : List Bool} {owed sent : List Letter} (wires : Wires) (midst : Midst) → Ties site stopped (on_both wires) midst owed sent
+    → TiesAtRest site stopped (with_sent midst wires) owed sent
+rest-ties wires midst T = record { net = T.net; tied = rest-tied wires T.tied; owes = T.owes; watches = T.watches; places = T.places }
 
 -- Letters that are posted
 
@@ -347,13 +356,13 @@ module _ {site : Site} {stopped : List Bool} {owed sent : List Letter} where
 abbrev pub AreFit : Site → List Letter → List Letter → Type 0
 AreFit site sent letters = (letter : Letter) → IsAmong letter letters → Fits site (Carrying letter.message) × IsAmong letter sent
 
-pub posted-ties : {site : Site} {stopped : List Bool} {owed sent : List Letter} (wires : Wires) (letter : Letter) → Fits site (Carrying letter.message) → IsAmong letter sent
-    → Ties site stopped wires owed sent → Ties site stopped (posted stopped letter wires) (owed ++ letter ∷ []) sent
-posted-ties {site = site} {stopped = stopped} {owed = owed} {sent = sent} wires letter fits among T = by (is_running stopped letter.sender) refl
+pub posted-ties : {site : Site} {stopped : List Bool} {on : List Packet} {owed sent : List Letter} (midst : Midst) (letter : Letter) → Fits site (Carrying letter.message) → IsAmong letter sent
+    → Ties site stopped on midst owed sent → Ties site stopped on (posted stopped letter midst) (owed ++ letter ∷ []) sent
+posted-ties {site = site} {stopped = stopped} {on = on} {owed = owed} {sent = sent} midst letter fits among T = by (is_running stopped letter.sender) refl
   where
     by : (test : Bool) → is_running stopped letter.sender ≡ test
-        → Ties site stopped (if test then sends letter.sender letter.receiver (Carrying letter.message) wires else wires) (owed ++ letter ∷ []) sent
-    by true runs = sends-ties wires letter.sender letter.receiver (Carrying letter.message) runs fits among T
+        → Ties site stopped on (if test then sends letter.sender letter.receiver (Carrying letter.message) midst else midst) (owed ++ letter ∷ []) sent
+    by true runs = sends-ties midst letter.sender letter.receiver (Carrying letter.message) runs fits among T
     by false rests = record {
       net = T.net;
       tied = T.tied;
@@ -362,22 +371,22 @@ posted-ties {site = site} {stopped = stopped} {owed = owed} {sent = sent} wires 
       places = T.places;
     }
 
-pub all-posted-ties : {site : Site} {stopped : List Bool} {owed sent : List Letter} (letters : List Letter) (wires : Wires) → AreFit site sent letters
-    → Ties site stopped wires owed sent → Ties site stopped (all_posted stopped letters wires) (owed ++ letters) sent
-all-posted-ties {site = site} {stopped = stopped} {owed = owed} {sent = sent} [] wires fit T = subst (λ o. Ties site stopped wires o sent) (sym (append-nil owed)) T
-all-posted-ties {site = site} {stopped = stopped} {owed = owed} {sent = sent} (letter ∷ letters) wires fit T =
+pub all-posted-ties : {site : Site} {stopped : List Bool} {on : List Packet} {owed sent : List Letter} (letters : List Letter) (midst : Midst) → AreFit site sent letters
+    → Ties site stopped on midst owed sent → Ties site stopped on (all_posted stopped letters midst) (owed ++ letters) sent
+all-posted-ties {site = site} {stopped = stopped} {on = on} {owed = owed} {sent = sent} [] midst fit T = subst (λ o. Ties site stopped on midst o sent) (sym (append-nil owed)) T
+all-posted-ties {site = site} {stopped = stopped} {on = on} {owed = owed} {sent = sent} (letter ∷ letters) midst fit T =
     let here = fit letter (inl refl) in
-    subst (λ o. Ties site stopped (all_posted stopped (letter ∷ letters) wires) o sent) (append_assoc owed (letter ∷ []) letters)
-    (all-posted-ties letters (posted stopped letter wires) (λ other among. fit other (inr among)) (posted-ties wires letter here.0 here.1 T))
+    subst (λ o. Ties site stopped on (all_posted stopped (letter ∷ letters) midst) o sent) (append_assoc owed (letter ∷ []) letters)
+    (all-posted-ties letters (posted stopped letter midst) (λ other among. fit other (inr among)) (posted-ties midst letter here.0 here.1 T))
 
 -- A packet that comes
 
--- the state of wires between a packet's arrival and the hand-over
-pub record Came (site : Site) (stopped : List Bool) (wires : Wires) (owed sent : List Letter) (s r : ℕ) (h : Option (List ℤ)) : Type 0 where
+-- the state of midst between a packet's arrival and the hand-over
+pub record Came (site : Site) (stopped : List Bool) (on : List Packet) (midst : Midst) (owed sent : List Letter) (s r : ℕ) (h : Option (List ℤ)) : Type 0 where
   pub net : Net
-  pub tied : IsTied stopped wires net
+  pub tied : IsTied stopped on midst net
   pub arrived : Arrives site stopped owed sent net s r h
-  pub watches : AreWatches site.processors wires.nodes
+  pub watches : AreWatches site.processors midst.nodes
   pub places : length stopped ≡ site.processors
 
 -- a way's output grows by what the end completes
@@ -395,28 +404,28 @@ gained n a b p e w live is up = by p.kind ∙ ap (λ o. (n.ways a b).out ++ opti
     by (kind.Acknowledgement number) =
         put-all (λ c d (w : Way). w.out ≡ (n.ways c d).out) b a (telling number (n.ways b a)) n.ways refl (λ c d. refl) a b ∙ sym (append-nil (n.ways a b).out)
 
-pub came : {site : Site} {stopped : List Bool} {owed sent : List Letter} (wires : Wires) (T : Ties site stopped wires owed sent) (name : BusName) (p : Packet)
+pub came : {site : Site} {stopped : List Bool} {on : List Packet} {owed sent : List Letter} (midst : Midst) (T : Ties site stopped on midst owed sent) (name : BusName) (p : Packet)
     → IsAmong p T.net.flight → is_running stopped p.receiver ≡ true
-    → Came site stopped (arrived name p wires) owed sent p.sender p.receiver (completed p (end_at wires.nodes p.receiver p.sender))
-came {site = site} {stopped = stopped} {owed = owed} {sent = sent} wires T name p among runs = later (by_node (slice_get wires.nodes p.receiver) refl)
+    → Came site stopped on (arrived name p midst) owed sent p.sender p.receiver (completed p (end_at midst.nodes p.receiver p.sender))
+came {site = site} {stopped = stopped} {on = on} {owed = owed} {sent = sent} midst T name p among runs = later (by_node (slice_get midst.nodes p.receiver) refl)
   where
     r : ℕ
     r = p.receiver
 
-    Here : Wires → Option End → Type 0
-    Here next e = Came site stopped next owed sent p.sender p.receiver (completed p e)
+    Here : Midst → Option End → Type 0
+    Here next e = Came site stopped on next owed sent p.sender p.receiver (completed p e)
 
-    nothing : Here wires None
+    nothing : Here midst None
     nothing = record { net = T.net; tied = T.tied; arrived = hands_none T.owes; watches = T.watches; places = T.places }
 
-    at_it : (node : Node) (e : End) → slice_get wires.nodes p.receiver ≡ Some node → slice_get node.ends p.sender ≡ Some e → (d : Bool) → e.down ≡ d
-        → Here (arrive_at name p node e wires) (Some e)
+    at_it : (node : Node) (e : End) → slice_get midst.nodes p.receiver ≡ Some node → slice_get node.ends p.sender ≡ Some e → (d : Bool) → e.down ≡ d
+        → Here (arrive_at name p node e midst) (Some e)
     at_it node e at has true d = record {
       net = T.net;
       tied = still-tied T.tied p.receiver p.sender node e at has runs (bus_of_answer name p.kind) (sent_by_packet p e) (after_packet p e) (rw d refl) (rw d refl);
       arrived = subst (Arrives site stopped owed sent T.net p.sender p.receiver) (sym none) (hands_none T.owes);
-      watches = subst (AreWatches site.processors) (sym (tied.put-nodes (bus_of_answer name p.kind) (sent_by_packet p e) (end_changed p.receiver p.sender node (after_packet p e) wires)))
-          (ends-watches wires.nodes p.receiver p.sender node (after_packet p e) at T.watches);
+      watches = subst (AreWatches site.processors) (sym (tied.any-nodes (bus_of_answer name p.kind) (sent_by_packet p e) (end_changed p.receiver p.sender node (after_packet p e) midst)))
+          (ends-watches midst.nodes p.receiver p.sender node (after_packet p e) at T.watches);
       places = T.places;
     }
       where
@@ -430,12 +439,12 @@ came {site = site} {stopped = stopped} {owed = owed} {sent = sent} wires T name 
           (down-put p.receiver p.sender (after_packet p (T.net.ends p.receiver p.sender)) T.net.ends (packet_down (T.net.ends p.receiver p.sender)))
           (handed_by_packet p e)
           (gained T.net p.sender p.receiver p e T.tied.whole (up T.tied p.receiver p.sender node e at has runs d) (is-net T.tied p.receiver p.sender node e at has runs) d);
-      watches = subst (AreWatches site.processors) (sym (tied.put-nodes (bus_of_answer name p.kind) (sent_by_packet p e) (end_changed p.receiver p.sender node (after_packet p e) wires)))
-          (ends-watches wires.nodes p.receiver p.sender node (after_packet p e) at T.watches);
+      watches = subst (AreWatches site.processors) (sym (tied.any-nodes (bus_of_answer name p.kind) (sent_by_packet p e) (end_changed p.receiver p.sender node (after_packet p e) midst)))
+          (ends-watches midst.nodes p.receiver p.sender node (after_packet p e) at T.watches);
       places = T.places;
     }
       where
-        here_tied : IsTied stopped (arrive_at name p node e wires) (arrived_net p.receiver p.sender p T.net)
+        here_tied : IsTied stopped on (arrive_at name p node e midst) (arrived_net p.receiver p.sender p T.net)
         here_tied = arrive-tied T.tied p.receiver p.sender node e at has runs (bus_of_answer name p.kind) p refl refl among d
 
         packet_down : (e : End) → (after_packet p e).down ≡ e.down
@@ -447,13 +456,13 @@ came {site = site} {stopped = stopped} {owed = owed} {sent = sent} wires T name 
             by false (kind.Piece number piece) = refl
             by false (kind.Acknowledgement number) = refl
 
-    by_end : (node : Node) → slice_get wires.nodes p.receiver ≡ Some node → (one : Option End) → slice_get node.ends p.sender ≡ one
-        → Here (at_end_of (arrive_at name p node) one wires) one
+    by_end : (node : Node) → slice_get midst.nodes p.receiver ≡ Some node → (one : Option End) → slice_get node.ends p.sender ≡ one
+        → Here (at_end_of (arrive_at name p node) one midst) one
     by_end node at None e = nothing
     by_end node at (Some e) has = at_it node e at has e.down refl
 
-    by_node : (one : Option Node) → slice_get wires.nodes p.receiver ≡ one
-        → Here (at_node (λ node. at_end_of (arrive_at name p node) (slice_get node.ends p.sender)) one wires) (option_and_then (λ (node : Node). slice_get node.ends p.sender) one)
+    by_node : (one : Option Node) → slice_get midst.nodes p.receiver ≡ one
+        → Here (at_node (λ node. at_end_of (arrive_at name p node) (slice_get node.ends p.sender)) one midst) (option_and_then (λ (node : Node). slice_get node.ends p.sender) one)
     by_node None e = nothing
     by_node (Some node) at = by_end node at (slice_get node.ends p.sender) refl
 
@@ -462,12 +471,12 @@ came {site = site} {stopped = stopped} {owed = owed} {sent = sent} wires T name 
     note (kind.Piece number piece) watch is = is
     note (kind.Acknowledgement number) watch is = is
 
-    later : Here (at_end p.receiver p.sender (arrive_at name p) wires) (end_at wires.nodes p.receiver p.sender)
-        → Here (arrived name p wires) (end_at wires.nodes p.receiver p.sender)
+    later : Here (at_end p.receiver p.sender (arrive_at name p) midst) (end_at midst.nodes p.receiver p.sender)
+        → Here (arrived name p midst) (end_at midst.nodes p.receiver p.sender)
     later L = record {
       net = L.net;
       tied = watched-tied p.receiver (heard_of p.sender p.kind) L.tied;
       arrived = L.arrived;
-      watches = watched-watches (at_end p.receiver p.sender (arrive_at name p) wires) p.receiver (heard_of p.sender p.kind) (note p.kind) L.watches;
+      watches = watched-watches (at_end p.receiver p.sender (arrive_at name p) midst) p.receiver (heard_of p.sender p.kind) (note p.kind) L.watches;
       places = L.places;
     }

@@ -7,10 +7,7 @@ use Rattle.std.specs.Bool.{beq}
 use Rattle.std.proofs.lemmas.Bool.{leb-true, le-leb, eqb-true, eq-eqb}
 use Rattle.std.proofs.lemmas.List.{append-nil}
 use Rattle.std.proofs.lemmas.Option.{slice_get_within}
-use Rattle.gd_words.specs.Members.{IsAmong}
 use Rattle.tal_tree.specs.declared.site.Site.{Site}
-use Rattle.wire.specs.declared.bus_name.BusName.{BusName}
-use Rattle.wire.specs.declared.bus_name.BusName.TheVariants as bus
 use Rattle.wire.specs.declared.packet.Packet.{Packet}
 use Rattle.link_control.specs.Ends.{End, new_end}
 use Rattle.channel_laws.specs.Net.{quiet_net}
@@ -25,10 +22,10 @@ use Rattle.letters.specs.Routes.{Letter}
 use Rattle.message_layout.specs.Messages.{NodeMessage, Reporting, Declaring}
 use Rattle.packet_wires.specs.Nodes.{Node, end_at, numbers, all_nodes, others, never_reloaded, node_at_boot, nodes_at_boot}
 use Rattle.packet_wires.specs.Lines.{first_held}
-use Rattle.packet_wires.specs.Wires.{Wires, wires_at_boot, on_bus, at_node, at_end, watch_changed, for_each, sends, sends_all, alive_at, tells_alive, reports, check_at, checks, tick_at, ticked, declares}
+use Rattle.packet_wires.specs.Wires.{Midst, wires_at_boot, at_node, at_end, watch_changed, for_each, sends, sends_all, alive_at, tells_alive, reports, check_at, checks, tick_at, ticked, declares}
 use Rattle.message_layout.specs.Layout.{Fits}
 use Rattle.packet_nets.specs.Tied.{stands, IsWatch}
-use Rattle.packet_nets.specs.Owing.{Ties}
+use Rattle.packet_nets.specs.Owing.{Ties, TiesAtRest}
 use Rattle.packet_nets.proofs.Sending.{sends-ties, tick-ties, live-ties, each-ties, watched-ties}
 use Rattle.packet_nets.proofs.Watches.{ticked-watch, size-map}
 
@@ -89,46 +86,46 @@ report-fits site stopped x watch set places runs is told = by (does_check watch)
         changed true is = absurd cc
         changed false is = known e (sym (some-same is))
 
-module _ {site : Site} {stopped : List Bool} {owed sent : List Letter} (x : ℕ) (runs : is_running stopped x ≡ true) where
+module _ {site : Site} {stopped : List Bool} {on : List Packet} {owed sent : List Letter} (x : ℕ) (runs : is_running stopped x ≡ true) where
   -- nodes tell each other something that is no letter
-  pub other-ties : (told : NodeMessage) (wires : Wires) (ys : List ℕ) → ((y : ℕ) (wires : Wires) → Ties site stopped wires owed sent → Ties site stopped (sends x y told wires) owed sent)
-      → Ties site stopped wires owed sent → Ties site stopped (sends_all x told ys wires) owed sent
-  other-ties told wires ys keeps T = each-ties (λ y. sends x y told) keeps ys wires T
+  pub other-ties : (told : NodeMessage) (midst : Midst) (ys : List ℕ) → ((y : ℕ) (midst : Midst) → Ties site stopped on midst owed sent → Ties site stopped on (sends x y told midst) owed sent)
+      → Ties site stopped on midst owed sent → Ties site stopped on (sends_all x told ys midst) owed sent
+  other-ties told midst ys keeps T = each-ties (λ y. sends x y told) keeps ys midst T
 
-  report-ties : (wires : Wires) (set : Option ProcessorSet) → ((one : ProcessorSet) → set ≡ Some one → Fits site (Reporting x one)) → Ties site stopped wires owed sent
-      → Ties site stopped (reports site.processors x set wires) owed sent
-  report-ties wires None fits T = T
-  report-ties wires (Some set) fits T =
-      other-ties (Reporting x set) wires (others site.processors x)
-      (λ y wires T. subst (λ o. Ties site stopped (sends x y (Reporting x set) wires) o sent) (append-nil owed) (sends-ties wires x y (Reporting x set) runs (fits set refl) tt T)) T
+  report-ties : (midst : Midst) (set : Option ProcessorSet) → ((one : ProcessorSet) → set ≡ Some one → Fits site (Reporting x one)) → Ties site stopped on midst owed sent
+      → Ties site stopped on (reports site.processors x set midst) owed sent
+  report-ties midst None fits T = T
+  report-ties midst (Some set) fits T =
+      other-ties (Reporting x set) midst (others site.processors x)
+      (λ y midst T. subst (λ o. Ties site stopped on (sends x y (Reporting x set) midst) o sent) (append-nil owed) (sends-ties midst x y (Reporting x set) runs (fits set refl) tt T)) T
 
-  pub ticked-ties : (wires : Wires) → Ties site stopped wires owed sent → Ties site stopped (ticked site.processors x wires) owed sent
-  ticked-ties wires T =
-      each-ties (λ y. at_end x y (tick_at x y)) (λ y wires T. tick-ties wires x y runs T) all_nodes (checks site.processors x (tells_alive site.processors x wires))
-      (checked_too (tells_alive site.processors x wires) (alive (x == terminal_node)))
+  pub ticked-ties : (midst : Midst) → Ties site stopped on midst owed sent → Ties site stopped on (ticked site.processors x midst) owed sent
+  ticked-ties midst T =
+      each-ties (λ y. at_end x y (tick_at x y)) (λ y midst T. tick-ties midst x y runs T) all_nodes (checks site.processors x (tells_alive site.processors x midst))
+      (checked_too (tells_alive site.processors x midst) (alive (x == terminal_node)))
     where
-      alive : (test : Bool) → Ties site stopped (if test then wires else for_each (λ y. at_end x y alive_at) (others site.processors x) wires) owed sent
+      alive : (test : Bool) → Ties site stopped on (if test then midst else for_each (λ y. at_end x y alive_at) (others site.processors x) midst) owed sent
       alive true = T
-      alive false = each-ties (λ y. at_end x y alive_at) (λ y wires T. live-ties wires x y runs T) (others site.processors x) wires T
+      alive false = each-ties (λ y. at_end x y alive_at) (λ y midst T. live-ties midst x y runs T) (others site.processors x) midst T
 
-      checked_too : (wires : Wires) → Ties site stopped wires owed sent → Ties site stopped (checks site.processors x wires) owed sent
-      checked_too wires T = by (slice_get wires.nodes x) refl
+      checked_too : (midst : Midst) → Ties site stopped on midst owed sent → Ties site stopped on (checks site.processors x midst) owed sent
+      checked_too midst T = by (slice_get midst.nodes x) refl
         where
-          by : (one : Option Node) → slice_get wires.nodes x ≡ one → Ties site stopped (at_node (check_at site.processors x) one wires) owed sent
+          by : (one : Option Node) → slice_get midst.nodes x ≡ one → Ties site stopped on (at_node (check_at site.processors x) one midst) owed sent
           by None e = T
           by (Some node) e =
-              report-ties (watch_changed x after_tick node wires) (told_by_tick node.watch)
+              report-ties (watch_changed x after_tick node midst) (told_by_tick node.watch)
               (λ one told. report-fits site stopped x node.watch one T.places runs (T.watches x node e) told)
-              (subst (λ (o : Option Node). Ties site stopped (at_node (watch_changed x after_tick) o wires) owed sent) e
-              (watched-ties wires x after_tick (λ watch is. ticked-watch is) T))
+              (subst (λ (o : Option Node). Ties site stopped on (at_node (watch_changed x after_tick) o midst) owed sent) e
+              (watched-ties midst x after_tick (λ watch is. ticked-watch is) T))
 
   -- a stopped processor is declared down to all others
-  pub down-ties : (wires : Wires) (processor : ℕ) → processor ≤ 15 → slice_get stopped processor ≡ Some true → Ties site stopped wires owed sent
-      → Ties site stopped (declares site.processors x processor wires) owed sent
-  down-ties wires processor few gone T =
-      other-ties (Declaring processor) wires (others site.processors x ++ terminal_node ∷ [])
-      (λ y wires T. subst (λ o. Ties site stopped (sends x y (Declaring processor) wires) o sent) (append-nil owed)
-      (sends-ties wires x y (Declaring processor) runs (record { within = few; known = place-within site stopped processor true T.places gone }) gone T)) T
+  pub down-ties : (midst : Midst) (processor : ℕ) → processor ≤ 15 → slice_get stopped processor ≡ Some true → Ties site stopped on midst owed sent
+      → Ties site stopped on (declares site.processors x processor midst) owed sent
+  down-ties midst processor few gone T =
+      other-ties (Declaring processor) midst (others site.processors x ++ terminal_node ∷ [])
+      (λ y midst T. subst (λ o. Ties site stopped on (sends x y (Declaring processor) midst) o sent) (append-nil owed)
+      (sends-ties midst x y (Declaring processor) runs (record { within = few; known = place-within site stopped processor true T.places gone }) gone T)) T
 
 -- no node pulls its own line, and each line is a processor's
 pub held-other : (node : ℕ) (watch : Watching) (from more processor : ℕ) → from + more ≤ 16 → first_held node watch from more ≡ Some processor → (processor ≢ node) × (processor ≤ 15)
@@ -163,7 +160,7 @@ size-numbers : (b : Bool) (n : ℕ) → length (replicate n b) ≡ n
 size-numbers b zero = refl
 size-numbers b (suc n) = ap suc (size-numbers b n)
 
-pub begins : (site : Site) → Ties site (replicate site.processors false) (wires_at_boot site.processors) [] []
+pub begins : (site : Site) → TiesAtRest site (replicate site.processors false) (wires_at_boot site.processors) [] []
 begins site = record {
   net = quiet_net (λ x. 0);
   tied = record {
@@ -175,7 +172,8 @@ begins site = record {
     whole = whole-quiet (λ x. 0);
     stood = λ x. sym (none site.processors x);
     ends = λ x y e runs is. has_end x y e is;
-    flight = λ name p among. no_packet name p among;
+    flight = λ p among. among;
+    out = λ one among. among;
     down = λ x y is. absurd cc;
   };
   owes = record { pushed = λ x y words among. absurd among; owes = λ x y open_too. refl };
@@ -196,10 +194,6 @@ begins site = record {
         by (Some node) at is =
             sym (first-is (λ other. new_end x other never_reloaded) 17 y e
             (sym (ap (λ (m : Node). slice_get m.ends y) (first-is (node_at_boot site.processors) 17 x node at)) ∙ is))
-
-    no_packet : (name : BusName) (p : Packet) → IsAmong p (on_bus name (wires_at_boot site.processors)) → IsAmong p []
-    no_packet bus.X p among = among
-    no_packet bus.Y p among = among
 
     watch : (x : ℕ) → IsWatch site.processors x (begun x site.processors)
     watch x = record {

@@ -8,7 +8,7 @@ use Rattle.alive_regroup.specs.declared.neighbour.Neighbour.TheVariants.{Absent}
 use Rattle.alive_regroup.specs.Watching as watching
 use Rattle.alive_regroup.specs.Watching.{Watching, changed_at, after_tick, after_check, does_check}
 use Rattle.packet_wires.specs.Nodes.{Node, with_end}
-use Rattle.packet_wires.specs.Wires.{Wires, learns, watch_changed, at_node}
+use Rattle.packet_wires.specs.Wires.{Midst, learns, watch_changed, at_node}
 use Rattle.packet_nets.specs.Tied.{IsWatch, AreWatches}
 
 pub size-set : {A : Type 0} (xs : List A) (k : ℕ) (x : A) → length (slice_set xs k x) ≡ length xs
@@ -60,16 +60,16 @@ ends-watches {processors = processors} nodes x y node e at all = λ a one there.
         subst (λ (w : Watching). IsWatch processors a w) (sym (ap (λ (m : Node). m.watch) new)) (subst (λ c. IsWatch processors c node.watch) same (all x node at))
     of a one (is_same other there) = all a one there
 
-pub watched-watches : {processors : ℕ} (wires : Wires) (x : ℕ) (change : Watching → Watching)
-    → ((watch : Watching) → IsWatch processors x watch → IsWatch processors x (change watch)) → AreWatches processors wires.nodes
-    → AreWatches processors (learns x change wires).nodes
-watched-watches {processors = processors} wires x change keeps all = by (slice_get wires.nodes x) refl
+pub watched-watches : {processors : ℕ} (midst : Midst) (x : ℕ) (change : Watching → Watching)
+    → ((watch : Watching) → IsWatch processors x watch → IsWatch processors x (change watch)) → AreWatches processors midst.nodes
+    → AreWatches processors (learns x change midst).nodes
+watched-watches {processors = processors} midst x change keeps all = by (slice_get midst.nodes x) refl
   where
-    by : (one : Option Node) → slice_get wires.nodes x ≡ one → AreWatches processors (at_node (watch_changed x change) one wires).nodes
+    by : (one : Option Node) → slice_get midst.nodes x ≡ one → AreWatches processors (at_node (watch_changed x change) one midst).nodes
     by None e = all
-    by (Some node) e = λ a one there. of a one (changed wires.nodes x (record node { watch = change node.watch }) a one there)
+    by (Some node) e = λ a one there. of a one (changed midst.nodes x (record node { watch = change node.watch }) a one there)
       where
-        of : (a : ℕ) (one : Node) → Changed wires.nodes x (record node { watch = change node.watch }) a one → IsWatch processors a one.watch
+        of : (a : ℕ) (one : Node) → Changed midst.nodes x (record node { watch = change node.watch }) a one → IsWatch processors a one.watch
         of a one (is_new same new) =
             subst (λ (w : Watching). IsWatch processors a w) (sym (ap (λ (m : Node). m.watch) new))
             (subst (λ c. IsWatch processors c (change node.watch)) same (keeps node.watch (all x node e)))

@@ -4,6 +4,7 @@ use Rattle.std.specs.List.{filter}
 use Rattle.std.specs.Option.{option_and_then}
 use Rattle.gd_words.specs.Members.{IsAmong}
 use Rattle.tal_tree.specs.declared.site.Site.{Site}
+use Rattle.wire.specs.declared.packet.Packet.{Packet}
 use Rattle.channel_laws.specs.Net.{Net}
 use Rattle.world_semantics.specs.Messages.{Message}
 use Rattle.world_semantics.specs.World.{is_running}
@@ -11,7 +12,7 @@ use Rattle.letters.specs.Routes.{Letter}
 use Rattle.message_layout.specs.Messages.{NodeMessage, Carrying, Reporting, Declaring}
 use Rattle.message_layout.specs.Layout.{words_of, Fits}
 use Rattle.message_layout.specs.Reading.{node_message_in, understood}
-use Rattle.packet_wires.specs.Wires.{Wires}
+use Rattle.packet_wires.specs.Wires.{Wires, Midst, nothing_sent}
 use Rattle.packet_nets.specs.Tied.{IsTied, AreWatches}
 
 -- the message of the world in a message between nodes, if it carries one
@@ -64,10 +65,18 @@ pub record Owes (site : Site) (stopped : List Bool) (owed sent : List Letter) (n
   pub pushed : (x y : ℕ) (words : List ℤ) → IsAmong words (n.ways x y).pushes → IsPushed site stopped sent x y words
   pub owes : (x y : ℕ) → IsOpen stopped n x y → carried (n.ways x y).pushes ≡ carried (n.ways x y).out ++ between x y owed
 
--- the wires of a world, in which these have stopped, hold what these letters owe
-pub record Ties (site : Site) (stopped : List Bool) (wires : Wires) (owed sent : List Letter) : Type 0 where
+-- while these packets are on the buses, the wires in the midst of an event hold what these letters owe, in a world in which these have stopped
+pub record Ties (site : Site) (stopped : List Bool) (on : List Packet) (midst : Midst) (owed sent : List Letter) : Type 0 where
   pub net : Net
-  pub tied : IsTied stopped wires net
+  pub tied : IsTied stopped on midst net
   pub owes : Owes site stopped owed sent net
-  pub watches : AreWatches site.processors wires.nodes
+  pub watches : AreWatches site.processors midst.nodes
   pub places : length stopped ≡ site.processors
+
+-- all that is on the buses
+abbrev pub on_both : Wires → List Packet
+on_both wires = wires.x ++ wires.y
+
+-- between events, wires hold what these letters owe
+abbrev pub TiesAtRest : Site → List Bool → Wires → List Letter → List Letter → Type 0
+TiesAtRest site stopped wires owed sent = Ties site stopped (on_both wires) (nothing_sent wires.nodes) owed sent

@@ -2,7 +2,6 @@
 use Rattle.std.specs.Prelude.{◌≡◌, ◌≤◌, ℕ, Bool, true, false, List, length, slice_get, Some}
 use Rattle.std.specs.Option.{unwrap_or}
 use Rattle.gd_words.specs.Members.{IsAmong}
-use Rattle.wire.specs.declared.bus_name.BusName.{BusName}
 use Rattle.wire.specs.declared.packet.Packet.{Packet}
 use Rattle.link_control.specs.Ends.{End}
 use Rattle.channel_laws.specs.Net.{Net, IsWhole}
@@ -11,20 +10,22 @@ use Rattle.alive_regroup.specs.declared.neighbour.Neighbour.{Neighbour}
 use Rattle.alive_regroup.specs.declared.neighbour.Neighbour.TheVariants.{Absent}
 use Rattle.alive_regroup.specs.Watching.{Watching}
 use Rattle.packet_wires.specs.Nodes.{Node, end_at}
-use Rattle.packet_wires.specs.Wires.{Wires, on_bus}
+use Rattle.packet_wires.specs.Wires.{Midst, Outgoing}
 
 -- a node is one of the processors that have stopped
 abbrev pub stands : List Bool → ℕ → Bool
 stands stopped x = unwrap_or (slice_get stopped x) false
 
--- wires are those of a net: between nodes up to 16 each has an end with each; the net is whole, and its nodes have stopped where the world's have; the ends of
--- a node that runs are the net's; what is on a bus is in flight in the net, which forgets no packet; and who is cut off has stopped
-pub record IsTied (stopped : List Bool) (wires : Wires) (n : Net) : Type 0 where
-  pub shape : (x y : ℕ) → x ≤ 16 → y ≤ 16 → (e : End) × (end_at wires.nodes x y ≡ Some e)
+-- the wires in the midst of an event are those of a net, while these packets are on the buses: between nodes up to 16 each has an end with each; the net is
+-- whole, and its nodes have stopped where the world's have; the ends of a node that runs are the net's; what is on the buses and what the event has sent is in
+-- flight in the net, which forgets no packet; and who is cut off has stopped
+pub record IsTied (stopped : List Bool) (on : List Packet) (midst : Midst) (n : Net) : Type 0 where
+  pub shape : (x y : ℕ) → x ≤ 16 → y ≤ 16 → (e : End) × (end_at midst.nodes x y ≡ Some e)
   pub whole : IsWhole n
   pub stood : (x : ℕ) → n.stopped x ≡ stands stopped x
-  pub ends : (x y : ℕ) (e : End) → is_running stopped x ≡ true → end_at wires.nodes x y ≡ Some e → n.ends x y ≡ e
-  pub flight : (name : BusName) (p : Packet) → IsAmong p (on_bus name wires) → IsAmong p n.flight
+  pub ends : (x y : ℕ) (e : End) → is_running stopped x ≡ true → end_at midst.nodes x y ≡ Some e → n.ends x y ≡ e
+  pub flight : (p : Packet) → IsAmong p on → IsAmong p n.flight
+  pub out : (one : Outgoing) → IsAmong one midst.out → IsAmong one.packet n.flight
   pub down : (x y : ℕ) → (n.ends x y).down ≡ true → stands stopped y ≡ true
 
 -- the node x of a site with so many processors watches 16 of them, of which those that the site hasn't are absent

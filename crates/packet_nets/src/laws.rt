@@ -2,38 +2,45 @@
 ghost use Rattle.std.specs.Prelude.{◌≡◌, ◌≤◌, ℕ, Bool, true, false, List, [], ◌++◌, replicate, slice_get, Some};
 ghost use Rattle.gd_words.specs.Members.{IsAmong};
 ghost use Rattle.tal_tree.specs.declared.site.Site.{Site};
+ghost use Rattle.wire.specs.declared.packet.Packet.{Packet};
 ghost use Rattle.world_semantics.specs.World.{is_running};
 ghost use Rattle.letters.specs.Posts.{without_those_between};
 ghost use Rattle.letters.specs.Routes.{Letter};
 ghost use Rattle.message_layout.specs.Layout.{Fits};
 ghost use Rattle.message_layout.specs.Messages.{Carrying};
-ghost use Rattle.packet_wires.specs.Wires.{Wires, all_posted, cut_off, declares, ticked, wires_at_boot};
-ghost use Rattle.packet_nets.specs.Owing.{Ties};
+ghost use Rattle.packet_wires.specs.Wires.{Midst, Wires, all_posted, cut_off, declares, ticked, wires_at_boot, with_sent};
+ghost use Rattle.packet_nets.specs.Owing.{Ties, TiesAtRest, on_both};
 
 /// At the beginning nothing is owed.
 pub fn wires_begin_owing_nothing()
-    ensures { (site : Site) → Ties site (replicate site.processors false) (wires_at_boot site.processors) [] [] }
+    ensures { (site : Site) → TiesAtRest site (replicate site.processors false) (wires_at_boot site.processors) [] [] }
 {}
 
 /// Letters that are posted are owed behind those that were.
 pub fn what_is_posted_is_owed()
-    ensures { (site : Site) (stopped : List Bool) (wires : Wires) (owed : List Letter) (sent : List Letter) (letters : List Letter) → Ties site stopped wires owed sent
-        → ((letter : Letter) → IsAmong letter letters → Fits site (Carrying letter.message) × IsAmong letter sent)
-        → Ties site stopped (all_posted stopped letters wires) (owed ++ letters) sent }
+    ensures { (site : Site) (stopped : List Bool) (on : List Packet) (midst : Midst) (owed : List Letter) (sent : List Letter) (letters : List Letter)
+        → Ties site stopped on midst owed sent → ((letter : Letter) → IsAmong letter letters → Fits site (Carrying letter.message) × IsAmong letter sent)
+        → Ties site stopped on (all_posted stopped letters midst) (owed ++ letters) sent }
 {}
 
 /// What a node sends at its ticks, and by which it declares a stopped processor down, changes nothing that is owed.
 pub fn ticks_owe_nothing_more()
-    ensures tick { (site : Site) (stopped : List Bool) (wires : Wires) (owed : List Letter) (sent : List Letter) (node : ℕ) → is_running stopped node ≡ true
-        → Ties site stopped wires owed sent → Ties site stopped (ticked site.processors node wires) owed sent }
-    ensures declare { (site : Site) (stopped : List Bool) (wires : Wires) (owed : List Letter) (sent : List Letter) (node processor : ℕ) → is_running stopped node ≡ true
-        → processor ≤ 15 → slice_get stopped processor ≡ Some true → Ties site stopped wires owed sent
-        → Ties site stopped (declares site.processors node processor wires) owed sent }
+    ensures tick { (site : Site) (stopped : List Bool) (on : List Packet) (midst : Midst) (owed : List Letter) (sent : List Letter) (node : ℕ)
+        → is_running stopped node ≡ true → Ties site stopped on midst owed sent → Ties site stopped on (ticked site.processors node midst) owed sent }
+    ensures declare { (site : Site) (stopped : List Bool) (on : List Packet) (midst : Midst) (owed : List Letter) (sent : List Letter) (node processor : ℕ)
+        → is_running stopped node ≡ true → processor ≤ 15 → slice_get stopped processor ≡ Some true → Ties site stopped on midst owed sent
+        → Ties site stopped on (declares site.processors node processor midst) owed sent }
 {}
 
 /// When a node cuts a stopped processor off, what was owed between both is owed no more.
 pub fn what_is_cut_off_is_struck_off()
-    ensures { (site : Site) (stopped : List Bool) (wires : Wires) (owed : List Letter) (sent : List Letter) (node processor : ℕ) → is_running stopped node ≡ true
-        → slice_get stopped processor ≡ Some true → Ties site stopped wires owed sent
-        → Ties site stopped (cut_off node processor wires) (without_those_between node processor owed) sent }
+    ensures { (site : Site) (stopped : List Bool) (on : List Packet) (midst : Midst) (owed : List Letter) (sent : List Letter) (node processor : ℕ)
+        → is_running stopped node ≡ true → slice_get stopped processor ≡ Some true → Ties site stopped on midst owed sent
+        → Ties site stopped on (cut_off node processor midst) (without_those_between node processor owed) sent }
+{}
+
+/// When an event is over, and what it sent is put on the buses, as much is owed.
+pub fn what_is_sent_is_in_flight()
+    ensures { (site : Site) (stopped : List Bool) (wires : Wires) (midst : Midst) (owed : List Letter) (sent : List Letter)
+        → Ties site stopped (on_both wires) midst owed sent → TiesAtRest site stopped (with_sent midst wires) owed sent }
 {}

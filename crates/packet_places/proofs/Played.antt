@@ -5,7 +5,6 @@ use Rattle.gd_words.proofs.Among.{among-either}
 use Rattle.tal_tree.specs.declared.site.Site.{Site}
 use Rattle.schedule.specs.declared.event.Event.TheVariants.{Run, Enter, Deliver, Lose, Repeat, Tick, Fail}
 use Rattle.wire.specs.declared.bus_name.BusName.{BusName}
-use Rattle.wire.specs.declared.bus_name.BusName.TheVariants as bus
 use Rattle.wire.specs.declared.packet.Packet.{Packet}
 use Rattle.alive_regroup.specs.Watching as watching
 use Rattle.alive_regroup.specs.Watching.{changed_at}
@@ -21,7 +20,7 @@ use Rattle.world_semantics.proofs.Lists.{set-there, some-same}
 use Rattle.world_semantics.proofs.Members.{among-map}
 use Rattle.computed_changes.specs.Entered.{enter_done}
 use Rattle.computed_changes.specs.Handed.{handed_done}
-use Rattle.computed_changes.specs.Stopped.{stop_where, stopped_world, marked_where, mark_where, may_mark, marked_world}
+use Rattle.computed_changes.specs.Stopped.{stop_done, stop_where, stopped_world, marked_where, mark_where, may_mark, marked_world}
 use Rattle.letters.specs.Routes.{Letter, letters_of}
 use Rattle.letters.specs.Again.{sent_again}
 use Rattle.sent_letters.proofs.Given.{letter-from}
@@ -30,9 +29,9 @@ use Rattle.message_wires.specs.Play.{has_stopped}
 use Rattle.message_layout.specs.Messages.{NodeMessage, Carrying, Reporting, Declaring}
 use Rattle.message_layout.specs.Reading.{understood}
 use Rattle.packet_wires.specs.Nodes.{end_at}
-use Rattle.packet_wires.specs.Wires.{Wires, bus_named, put_on, without_packet, arrived, learns, ticked, cut_off}
-use Rattle.packet_wires.specs.Play.{Packeted, after_done, made_by, after_any, after_marked, marked_by, marks, handed, handed_any, handed_words, completed, received, deliver_played, lose_played, repeat_played, fail_played, marks_and_declares, pulled, pulls, line_of, pulls_its, packet_at, play}
-use Rattle.packet_places.specs.Places.{KeepsItsOwn, StaysElsewhere}
+use Rattle.packet_wires.specs.Wires.{Wires, Midst, bus_named, goes_over, arrived, learns, ticked, cut_off}
+use Rattle.packet_wires.specs.Play.{Packeted, Underway, begun, after_done, made_by, after_any, after_marked, marked_by, marks, handed, handed_any, handed_words, completed, received, deliver_acted, lose_acted, repeat_acted, fail_acted, marks_and_declares, pulled, pulls, line_of, pulls_its, tick_acted, packet_at, acted, taken_off, ended, play}
+use Rattle.packet_places.specs.Places.{KeepsItsOwn, CopiesStay, StaysElsewhere}
 use Rattle.packet_places.proofs.Copies.{IsDoneAt, AnyAt, SomeAt, keeps-same, run-somewhere, enter-there, handed-there, marked-there}
 use Rattle.packet_places.proofs.Nodes.{OnlyAt, learns-only, posted-only, arrived-only, ticked-only, cut-only, declares-only}
 
@@ -41,31 +40,36 @@ letters-by : (site : Site) (w : World) (node : ℕ) (sendings : List Sending) �
     → (letter : Letter) → IsAmong letter (letters_of site w sendings) → letter.sender ≡ node
 letters-by site w node sendings from letter among = let one = letter-from site w sendings letter among in one.sender ∙ from one.sending one.among
 
+-- in the midst of an event, away from a node all stays as it was
+record Keeps (node : ℕ) (s next : Underway) : Type 0 where
+  pub nodes : OnlyAt node s.wires next.wires
+  pub copies : CopiesStay node s.world next.world
+
 -- wires alone are changed
-wires-stay : {node : ℕ} (s : Packeted) (wires : Wires) → OnlyAt node s.wires wires → StaysElsewhere node s (record s { wires = wires })
-wires-stay s wires only = record {
+wires-stay : {node : ℕ} (s : Underway) (midst : Midst) → OnlyAt node s.wires midst → Keeps node s (record s { wires = midst })
+wires-stay s midst only = record {
   nodes = only;
   copies = λ number k before after there now away same.
       subst (λ (p : Pair). KeepsItsOwn (copy_of k before) (copy_of k p)) (some-same (sym there ∙ now)) (keeps-same (copy_of k before));
 }
 
 -- a change of the world at the node, and its letters
-done-stays : {node : ℕ} (s : Packeted) (done : Done) → IsDoneAt node s.world done → StaysElsewhere node s (after_done s done)
+done-stays : {node : ℕ} (s : Underway) (done : Done) → IsDoneAt node s.world done → Keeps node s (after_done s done)
 done-stays {node = node} s done at = record {
   nodes = posted-only node done.world.stopped (letters_of s.site done.world done.sendings) s.wires (letters-by s.site done.world node done.sendings at.sendings);
   copies = λ number k before after there now away same. at.copies number k before after there now away;
 }
 
 -- first the wires change at the node, and then something else there
-through : {node : ℕ} {next : Packeted} (s : Packeted) (wires : Wires) → OnlyAt node s.wires wires → StaysElsewhere node (record s { wires = wires }) next → StaysElsewhere node s next
-through s wires only stays = record { nodes = λ x n. stays.nodes x n ∙ only x n; copies = stays.copies }
+through : {node : ℕ} {next : Underway} (s : Underway) (midst : Midst) → OnlyAt node s.wires midst → Keeps node (record s { wires = midst }) next → Keeps node s next
+through s midst only stays = record { nodes = λ x n. stays.nodes x n ∙ only x n; copies = stays.copies }
 
-same-stays : {node : ℕ} (s : Packeted) → StaysElsewhere node s s
+same-stays : {node : ℕ} (s : Underway) → Keeps node s s
 same-stays s = wires-stay s s.wires (λ x n. refl)
 
 -- Marks
 
-marked-stays : (node processor : ℕ) (s : Packeted) → StaysElsewhere node s (after_marked node processor s (marked_world node processor s.world))
+marked-stays : (node processor : ℕ) (s : Underway) → Keeps node s (after_marked node processor s (marked_world node processor s.world))
 marked-stays node processor s = record {
   nodes = λ x n.
       posted-only node s.world.stopped
@@ -89,11 +93,11 @@ marked-stays node processor s = record {
           | inr again ↦ ap (λ (one : Sending). one.node) (among-map (λ message. record { node = node; message = message }) _ sending again).same
         ]
 
-record Marks (node processor : ℕ) (s next : Packeted) : Type 0 where
-  pub stays : StaysElsewhere node s next
+record Marks (node processor : ℕ) (s next : Underway) : Type 0 where
+  pub stays : Keeps node s next
   pub stopped : next.world.stopped ≡ s.world.stopped
 
-marks-stay : (node processor : ℕ) (s : Packeted) → Marks node processor s (marks node processor s)
+marks-stay : (node processor : ℕ) (s : Underway) → Marks node processor s (marks node processor s)
 marks-stay node processor s = by (slice_get s.world.stopped processor)
   where
     none : Marks node processor s s
@@ -108,7 +112,7 @@ marks-stay node processor s = by (slice_get s.world.stopped processor)
     by (Some false) = none
     by (Some true) = may (may_mark node processor s.world)
 
-told-stay : (node processor : ℕ) (s : Packeted) → Marks node processor s (marks_and_declares node processor s)
+told-stay : (node processor : ℕ) (s : Underway) → Marks node processor s (marks_and_declares node processor s)
 told-stay node processor s =
     let one = marks-stay node processor s in record {
       stays = record {
@@ -120,67 +124,71 @@ told-stay node processor s =
 
 -- Deliveries
 
-any-stays : {node : ℕ} (s : Packeted) (done : Option Done) → AnyAt node s.world done → StaysElsewhere node s (after_any s done)
+any-stays : {node : ℕ} (s : Underway) (done : Option Done) → AnyAt node s.world done → Keeps node s (after_any s done)
 any-stays s None at = same-stays s
 any-stays s (Some done) at = done-stays s done at
 
-handed-stays : (node : ℕ) (message : NodeMessage) (s : Packeted) → StaysElsewhere node s (handed node message s)
+handed-stays : (node : ℕ) (message : NodeMessage) (s : Underway) → Keeps node s (handed node message s)
 handed-stays node (Carrying message) s = any-stays s (handed_done s.site node message s.world) (handed-there node s.world s.site message)
 handed-stays node (Reporting from silent) s =
     wires-stay s (learns node (changed_at from (watching.reported silent)) s.wires) (learns-only node (changed_at from (watching.reported silent)) s.wires)
 handed-stays node (Declaring processor) s = (marks-stay node processor s).stays
 
-words-stay : (node : ℕ) (words : Option (List ℤ)) (s : Packeted) → StaysElsewhere node s (handed_words node words s)
+words-stay : (node : ℕ) (words : Option (List ℤ)) (s : Underway) → Keeps node s (handed_words node words s)
 words-stay node None s = same-stays s
 words-stay node (Some words) s = by (understood s.site words)
   where
-    by : (found : Option NodeMessage) → StaysElsewhere node s (handed_any node found s)
+    by : (found : Option NodeMessage) → Keeps node s (handed_any node found s)
     by None = same-stays s
     by (Some message) = handed-stays node message s
 
-without-only : (name : BusName) (k node : ℕ) (wires : Wires) → OnlyAt node wires (without_packet name k wires)
-without-only bus.X k node wires x n = refl
-without-only bus.Y k node wires x n = refl
-
 -- what an event makes, if it makes a state, stays elsewhere as it was
-abbrev Stays : ℕ → Packeted → Played Wires → Type 0
-Stays node s (Makes next) = StaysElsewhere node s next
-Stays node s Skips = Unit {0}
-Stays node s (WouldStop processor) = Unit {0}
+abbrev KeepsIf : ℕ → Underway → Played Midst → Type 0
+KeepsIf node s (Makes next) = Keeps node s next
+KeepsIf node s Skips = Unit {0}
+KeepsIf node s (WouldStop processor) = Unit {0}
 
-deliver-found : (name : BusName) (k : ℕ) (s : Packeted) (packet : Packet) → Stays packet.receiver s (deliver_played name k s (Some packet))
-deliver-found name k s packet = by (is_running s.world.stopped packet.receiver)
+abbrev StaysIf : ℕ → Packeted → Played Wires → Type 0
+StaysIf node s (Makes next) = StaysElsewhere node s next
+StaysIf node s Skips = Unit {0}
+StaysIf node s (WouldStop processor) = Unit {0}
+
+-- what is taken off a bus, and what is put on, is at no node
+over-stays : (node : ℕ) (s : Packeted) (wires : Wires) (played : Played Midst) → KeepsIf node (begun s) played → StaysIf node s (ended wires played)
+over-stays node s wires (Makes next) keeps = record { nodes = keeps.nodes; copies = keeps.copies }
+over-stays node s wires Skips keeps = tt
+over-stays node s wires (WouldStop processor) keeps = tt
+
+deliver-found : (name : BusName) (s : Underway) (packet : Packet) → KeepsIf packet.receiver s (deliver_acted name s (Some packet))
+deliver-found name s packet = by (is_running s.world.stopped packet.receiver)
   where
-    by : (test : Bool) → Stays packet.receiver s (Makes (if test then received name packet (record s { wires = without_packet name k s.wires })
-        else record s { wires = without_packet name k s.wires }))
-    by false = wires-stay s (without_packet name k s.wires) (without-only name k packet.receiver s.wires)
+    by : (test : Bool) → KeepsIf packet.receiver s (Makes (if test then received name packet s else s))
+    by false = same-stays s
     by true =
-        through s (arrived name packet (without_packet name k s.wires))
-        (λ x n. arrived-only name packet (without_packet name k s.wires) x n ∙ without-only name k packet.receiver s.wires x n)
-        (words-stay packet.receiver (completed packet (end_at (without_packet name k s.wires).nodes packet.receiver packet.sender)) (record s { wires = arrived name packet (without_packet name k s.wires) }))
+        through s (arrived name packet s.wires) (arrived-only name packet s.wires)
+        (words-stay packet.receiver (completed packet (end_at s.wires.nodes packet.receiver packet.sender)) (record s { wires = arrived name packet s.wires }))
 
 pub deliver-stays : (s next : Packeted) (y : Bool) (k : ℕ) (packet : Packet) → packet_at s (bus_named y) k ≡ Some packet → play s (Deliver y k) ≡ Makes next
     → StaysElsewhere packet.receiver s next
 deliver-stays s next y k packet there made =
-    subst (Stays packet.receiver s) (ap (deliver_played (bus_named y) k s) (sym there) ∙ made) (deliver-found (bus_named y) k s packet)
+    subst (StaysIf packet.receiver s) (ap (λ o. ended (taken_off (Deliver y k) s.wires) (deliver_acted (bus_named y) (begun s) o)) (sym there) ∙ made)
+    (over-stays packet.receiver s (taken_off (Deliver y k) s.wires) (deliver_acted (bus_named y) (begun s) (Some packet)) (deliver-found (bus_named y) (begun s) packet))
 
 pub lose-stays : (s next : Packeted) (y : Bool) (k node : ℕ) → play s (Lose y k) ≡ Makes next → StaysElsewhere node s next
-lose-stays s next y k node made = subst (Stays node s) made (by (packet_at s (bus_named y) k))
+lose-stays s next y k node made =
+    subst (StaysIf node s) made (over-stays node s (taken_off (Lose y k) s.wires) (acted s (Lose y k)) (by (packet_at s (bus_named y) k)))
   where
-    by : (found : Option Packet) → Stays node s (lose_played (bus_named y) k s found)
+    by : (found : Option Packet) → KeepsIf node (begun s) (lose_acted (begun s) found)
     by None = tt
-    by (Some packet) = wires-stay s (without_packet (bus_named y) k s.wires) (without-only (bus_named y) k node s.wires)
-
-put-only : (name : BusName) (packet : Packet) (node : ℕ) (wires : Wires) → OnlyAt node wires (put_on name packet wires)
-put-only bus.X packet node wires x n = refl
-put-only bus.Y packet node wires x n = refl
+    by (Some packet) = same-stays (begun s)
 
 pub repeat-stays : (s next : Packeted) (y : Bool) (k node : ℕ) → play s (Repeat y k) ≡ Makes next → StaysElsewhere node s next
-repeat-stays s next y k node made = subst (Stays node s) made (by (packet_at s (bus_named y) k))
+repeat-stays s next y k node made =
+    subst (StaysIf node s) made (over-stays node s (taken_off (Repeat y k) s.wires) (acted s (Repeat y k)) (by (packet_at s (bus_named y) k)))
   where
-    by : (found : Option Packet) → Stays node s (repeat_played (bus_named y) s found)
+    by : (found : Option Packet) → KeepsIf node (begun s) (repeat_acted (bus_named y) (begun s) found)
     by None = tt
-    by (Some packet) = wires-stay s (put_on (bus_named y) packet s.wires) (put-only (bus_named y) packet node s.wires)
+    by (Some packet) = wires-stay (begun s) (goes_over (bus_named y) packet (begun s).wires) (λ x n. refl)
 
 -- Runs and entries
 
@@ -192,16 +200,17 @@ run-stays s next number made = subst Somewhere made (by (run_done s.site number 
     Somewhere Skips = Unit {0}
     Somewhere (WouldStop processor) = Unit {0}
 
-    by : (done : Option Done) → SomeAt s.world done → Somewhere (made_by s done)
+    by : (done : Option Done) → SomeAt s.world done → Somewhere (ended s.wires (made_by (begun s) done))
     by None at = tt
-    by (Some done) (node, at) = (node, done-stays s done at)
+    by (Some done) (node, at) = (node, over-stays node s s.wires (Makes (after_done (begun s) done)) (done-stays (begun s) done at))
 
 pub enter-stays : (s next : Packeted) (terminal : ℕ) → play s (Enter terminal) ≡ Makes next → StaysElsewhere terminal_node s next
-enter-stays s next terminal made = subst (Stays terminal_node s) made (by (enter_done s.site terminal s.world) (enter-there s.site terminal s.world))
+enter-stays s next terminal made =
+    subst (StaysIf terminal_node s) made (over-stays terminal_node s s.wires (acted s (Enter terminal)) (by (enter_done s.site terminal s.world) (enter-there s.site terminal s.world)))
   where
-    by : (done : Option Done) → AnyAt terminal_node s.world done → Stays terminal_node s (made_by s done)
+    by : (done : Option Done) → AnyAt terminal_node s.world done → KeepsIf terminal_node (begun s) (made_by (begun s) done)
     by None at = tt
-    by (Some done) at = done-stays s done at
+    by (Some done) at = done-stays (begun s) done at
 
 -- Stops
 
@@ -249,11 +258,11 @@ stopped-place : (processor : ℕ) (k : Which) (pair : Pair) → (copy_of k (stop
 stopped-place processor First pair = refl
 stopped-place processor Second pair = refl
 
-pub fail-stays : (s next : Packeted) (processor node : ℕ) → play s (Fail processor) ≡ Makes next → StaysElsewhere node s next
-fail-stays s next processor node made = subst (Stays node s) made (by (slice_get s.world.stopped processor) refl)
+fail-keeps : (s : Underway) (processor node : ℕ) → KeepsIf node s (fail_acted processor s (stop_done processor s.world))
+fail-keeps s processor node = by (slice_get s.world.stopped processor) refl
   where
     stops : slice_get s.world.stopped processor ≡ Some false → (test : Bool)
-        → Stays node s (if test then WouldStop processor else Makes (record s { world = stopped_world processor s.world }))
+        → KeepsIf node s (if test then WouldStop processor else Makes (record s { world = stopped_world processor s.world }))
     stops runs true = tt
     stops runs false = record {
       nodes = λ x n. refl;
@@ -262,16 +271,19 @@ fail-stays s next processor node made = subst (Stays node s) made (by (slice_get
           (stop-copies processor s.world runs k before same);
     }
 
-    by : (found : Option Bool) → slice_get s.world.stopped processor ≡ found → Stays node s (fail_played processor s (stop_where processor s.world found))
+    by : (found : Option Bool) → slice_get s.world.stopped processor ≡ found → KeepsIf node s (fail_acted processor s (stop_where processor s.world found))
     by None runs = tt
     by (Some true) runs = tt
     by (Some false) runs = stops runs (has_stopped s.world.stopped)
 
+pub fail-stays : (s next : Packeted) (processor node : ℕ) → play s (Fail processor) ≡ Makes next → StaysElsewhere node s next
+fail-stays s next processor node made = subst (StaysIf node s) made (over-stays node s s.wires (acted s (Fail processor)) (fail-keeps (begun s) processor node))
+
 -- Ticks
 
 -- a stop, and then the mark and what is told of it
-held-stays : (node processor : ℕ) (s : Packeted) → slice_get s.world.stopped processor ≡ Some false
-    → StaysElsewhere node s (marks_and_declares node processor (record s { world = stopped_world processor s.world }))
+held-stays : (node processor : ℕ) (s : Underway) → slice_get s.world.stopped processor ≡ Some false
+    → Keeps node s (marks_and_declares node processor (record s { world = stopped_world processor s.world }))
 held-stays node processor s runs =
     let told = told-stay node processor (record s { world = stopped_world processor s.world }) in record {
       nodes = told.stays.nodes;
@@ -282,30 +294,33 @@ held-stays node processor s runs =
           (λ at. away (sym (stopped-place processor k before) ∙ at)) (ap (λ (stopped : List Bool). slice_get stopped (copy_of k (stopped_pair processor before)).processor) told.stopped));
     }
 
-pub tick-stays : (s next : Packeted) (node : ℕ) → play s (Tick node) ≡ Makes next → StaysElsewhere node s next
-tick-stays s next node made = subst (Stays node s) made (by (is_running s.world.stopped node))
+tick-keeps : (s : Underway) (node : ℕ) → KeepsIf node s (tick_acted node s)
+tick-keeps s node = by (is_running s.world.stopped node)
   where
     only : OnlyAt node s.wires (ticked s.site.processors node s.wires)
     only = ticked-only s.site.processors node s.wires
 
     stops : (processor : ℕ) → slice_get s.world.stopped processor ≡ Some false → (test : Bool)
-        → Stays node s (if test then WouldStop processor
+        → KeepsIf node s (if test then WouldStop processor
         else Makes (marks_and_declares node processor (record s { world = stopped_world processor s.world; wires = ticked s.site.processors node s.wires })))
     stops processor runs true = tt
     stops processor runs false =
         through s (ticked s.site.processors node s.wires) only (held-stays node processor (record s { wires = ticked s.site.processors node s.wires }) runs)
 
     pull : (processor : ℕ) (found : Option Bool) → slice_get s.world.stopped processor ≡ found
-        → Stays node s (pulled node processor (record s { wires = ticked s.site.processors node s.wires }) found)
+        → KeepsIf node s (pulled node processor (record s { wires = ticked s.site.processors node s.wires }) found)
     pull processor None runs = wires-stay s (ticked s.site.processors node s.wires) only
     pull processor (Some true) runs =
         through s (ticked s.site.processors node s.wires) only (told-stay node processor (record s { wires = ticked s.site.processors node s.wires })).stays
     pull processor (Some false) runs = stops processor runs (has_stopped s.world.stopped)
 
-    line : (found : Option ℕ) → Stays node s (pulls node (record s { wires = ticked s.site.processors node s.wires }) found)
+    line : (found : Option ℕ) → KeepsIf node s (pulls node (record s { wires = ticked s.site.processors node s.wires }) found)
     line None = wires-stay s (ticked s.site.processors node s.wires) only
     line (Some processor) = pull processor (slice_get s.world.stopped processor) refl
 
-    by : (test : Bool) → Stays node s (if test then pulls_its node (record s { wires = ticked s.site.processors node s.wires }) else Skips)
+    by : (test : Bool) → KeepsIf node s (if test then pulls_its node (record s { wires = ticked s.site.processors node s.wires }) else Skips)
     by false = tt
     by true = line (line_of node (record s { wires = ticked s.site.processors node s.wires }))
+
+pub tick-stays : (s next : Packeted) (node : ℕ) → play s (Tick node) ≡ Makes next → StaysElsewhere node s next
+tick-stays s next node made = subst (StaysIf node s) made (over-stays node s s.wires (acted s (Tick node)) (tick-keeps (begun s) node))

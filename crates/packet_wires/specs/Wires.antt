@@ -1,7 +1,7 @@
 -- What lies under the world of copies in the machine over packets: both buses and the nodes; and what a node sends, takes in and does at its ticks. Two buses,
 -- packets that are acknowledged and sent again over the other bus, and I'm-alive packets over both are Bartlett's; numbers and orders are this project's own.
-use Rattle.std.specs.Prelude.{ℕ, ◌==◌, Bool, true, false, ℤ, List, [], ◌∷◌, ◌++◌, slice_get, Option, Some, None, if◌then◌else◌}
-use Rattle.std.specs.List.{remove}
+use Rattle.std.specs.Prelude.{ℕ, ◌==◌, Bool, true, false, ℤ, List, [], ◌∷◌, ◌++◌, map, slice_get, Option, Some, None, if◌then◌else◌}
+use Rattle.std.specs.List.{filter, remove}
 use Rattle.wire.specs.declared.bus_name.BusName.{BusName}
 use Rattle.wire.specs.declared.bus_name.BusName.TheVariants as bus
 use Rattle.wire.specs.declared.packet.Packet.{Packet}
@@ -29,6 +29,20 @@ pub record Wires : Type 0 where
 abbrev pub wires_at_boot : ℕ → Wires
 wires_at_boot processors = record { x = []; y = []; nodes = nodes_at_boot processors }
 
+-- a packet that is sent, and the bus over which it goes
+pub record Outgoing : Type 0 where
+  pub bus : BusName
+  pub packet : Packet
+
+-- what an event sees of the wires: the nodes, and what it has sent so far, in its order. It sees no bus: what it sent is put on the buses when it is over
+pub record Midst : Type 0 where
+  pub nodes : List Node
+  pub out : List Outgoing
+
+-- an event begins with the nodes as they are, and nothing is sent
+abbrev pub nothing_sent : List Node → Midst
+nothing_sent nodes = record { nodes = nodes; out = [] }
+
 -- Buses
 
 abbrev pub on_bus : BusName → Wires → List Packet
@@ -44,75 +58,100 @@ abbrev pub bus_named : Bool → BusName
 bus_named false = bus.X
 bus_named true = bus.Y
 
--- a packet is put at the end of a bus that has room, and is lost otherwise
-abbrev pub put_on : BusName → Packet → Wires → Wires
-put_on name packet wires = with_bus name (sent packet (on_bus name wires)) wires
-
-abbrev pub put_any : BusName → Option Packet → Wires → Wires
-put_any name None wires = wires
-put_any name (Some packet) wires = put_on name packet wires
-
--- what a tick sends again takes the bus that is its turn
-abbrev pub put_again : Option Resent → Wires → Wires
-put_again None wires = wires
-put_again (Some resent) wires = put_on resent.bus resent.packet wires
-
 -- the bus without the packet at a position
 abbrev pub without_packet : BusName → ℕ → Wires → Wires
 without_packet name k wires = with_bus name (remove (on_bus name wires) k) wires
 
+abbrev pub is_bus : BusName → BusName → Bool
+is_bus bus.X bus.X = true
+is_bus bus.X bus.Y = false
+is_bus bus.Y bus.X = false
+is_bus bus.Y bus.Y = true
+
+-- of what goes out, the packets that go over this bus, in their order
+abbrev pub packets_over : BusName → List Outgoing → List Packet
+packets_over name out = map (λ one. one.packet) (filter (λ one. is_bus name one.bus) out)
+
+-- packets are put at the end of a bus one after the other: each where the bus then has room, and it is lost otherwise
+abbrev pub all_put : List Packet → List Packet → List Packet
+all_put [] on = on
+all_put (packet ∷ packets) on = all_put packets (sent packet on)
+
+-- the wires after an event: the nodes as it left them, and on each bus what it sent over it, behind what was there
+abbrev pub with_sent : Midst → Wires → Wires
+with_sent midst wires = record {
+  x = all_put (packets_over bus.X midst.out) wires.x;
+  y = all_put (packets_over bus.Y midst.out) wires.y;
+  nodes = midst.nodes;
+}
+
+-- Packets that are sent
+
+-- a packet is sent over a bus, after all that was sent before
+abbrev pub goes_over : BusName → Packet → Midst → Midst
+goes_over name packet midst = record midst { out = midst.out ++ record { bus = name; packet = packet } ∷ [] }
+
+abbrev pub any_goes_over : BusName → Option Packet → Midst → Midst
+any_goes_over name None midst = midst
+any_goes_over name (Some packet) midst = goes_over name packet midst
+
+-- what a tick sends again takes the bus that is its turn
+abbrev pub goes_again : Option Resent → Midst → Midst
+goes_again None midst = midst
+goes_again (Some resent) midst = goes_over resent.bus resent.packet midst
+
 -- Nodes and ends that are there
 
-abbrev pub at_node : (Node → Wires → Wires) → Option Node → Wires → Wires
-at_node does None wires = wires
-at_node does (Some node) wires = does node wires
+abbrev pub at_node : (Node → Midst → Midst) → Option Node → Midst → Midst
+at_node does None midst = midst
+at_node does (Some node) midst = does node midst
 
-abbrev pub at_end_of : (End → Wires → Wires) → Option End → Wires → Wires
-at_end_of does None wires = wires
-at_end_of does (Some e) wires = does e wires
+abbrev pub at_end_of : (End → Midst → Midst) → Option End → Midst → Midst
+at_end_of does None midst = midst
+at_end_of does (Some e) midst = does e midst
 
 -- what is done at the end that x has with y
-abbrev pub at_end : ℕ → ℕ → (Node → End → Wires → Wires) → Wires → Wires
-at_end x y does wires = at_node (λ node. at_end_of (does node) (slice_get node.ends y)) (slice_get wires.nodes x) wires
+abbrev pub at_end : ℕ → ℕ → (Node → End → Midst → Midst) → Midst → Midst
+at_end x y does midst = at_node (λ node. at_end_of (does node) (slice_get node.ends y)) (slice_get midst.nodes x) midst
 
-abbrev pub end_changed : ℕ → ℕ → Node → End → Wires → Wires
-end_changed x y node e wires = record wires { nodes = with_end x y node e wires.nodes }
+abbrev pub end_changed : ℕ → ℕ → Node → End → Midst → Midst
+end_changed x y node e midst = record midst { nodes = with_end x y node e midst.nodes }
 
-abbrev pub watch_changed : ℕ → (Watching → Watching) → Node → Wires → Wires
-watch_changed x change node wires = record wires { nodes = with_watch x node (change node.watch) wires.nodes }
+abbrev pub watch_changed : ℕ → (Watching → Watching) → Node → Midst → Midst
+watch_changed x change node midst = record midst { nodes = with_watch x node (change node.watch) midst.nodes }
 
 -- the node x learns something of the processors
-abbrev pub learns : ℕ → (Watching → Watching) → Wires → Wires
-learns x change wires = at_node (watch_changed x change) (slice_get wires.nodes x) wires
+abbrev pub learns : ℕ → (Watching → Watching) → Midst → Midst
+learns x change midst = at_node (watch_changed x change) (slice_get midst.nodes x) midst
 
 -- the same is done for each of these nodes in turn
-abbrev pub for_each : (ℕ → Wires → Wires) → List ℕ → Wires → Wires
-for_each does [] wires = wires
-for_each does (y ∷ ys) wires = for_each does ys (does y wires)
+abbrev pub for_each : (ℕ → Midst → Midst) → List ℕ → Midst → Midst
+for_each does [] midst = midst
+for_each does (y ∷ ys) midst = for_each does ys (does y midst)
 
 -- Messages that are sent
 
 -- a message is pushed at an end; what that sends goes over bus X
-abbrev pub push_at : ℕ → ℕ → List ℤ → Node → End → Wires → Wires
-push_at x y words node e wires = put_any bus.X (sent_by_push words e) (end_changed x y node (after_push words e) wires)
+abbrev pub push_at : ℕ → ℕ → List ℤ → Node → End → Midst → Midst
+push_at x y words node e midst = any_goes_over bus.X (sent_by_push words e) (end_changed x y node (after_push words e) midst)
 
 -- the node x sends y a message
-abbrev pub sends : ℕ → ℕ → NodeMessage → Wires → Wires
-sends x y message wires = at_end x y (push_at x y (words_of message)) wires
+abbrev pub sends : ℕ → ℕ → NodeMessage → Midst → Midst
+sends x y message midst = at_end x y (push_at x y (words_of message)) midst
 
 -- the node x sends each of these nodes a message
-abbrev pub sends_all : ℕ → NodeMessage → List ℕ → Wires → Wires
-sends_all x message ys wires = for_each (λ y. sends x y message) ys wires
+abbrev pub sends_all : ℕ → NodeMessage → List ℕ → Midst → Midst
+sends_all x message ys midst = for_each (λ y. sends x y message) ys midst
 
 -- a letter is sent by its sender, unless that has stopped
-abbrev pub posted : List Bool → Letter → Wires → Wires
-posted stopped letter wires =
-    if is_running stopped letter.sender then sends letter.sender letter.receiver (Carrying letter.message) wires else wires
+abbrev pub posted : List Bool → Letter → Midst → Midst
+posted stopped letter midst =
+    if is_running stopped letter.sender then sends letter.sender letter.receiver (Carrying letter.message) midst else midst
 
 -- letters are sent in their order
-abbrev pub all_posted : List Bool → List Letter → Wires → Wires
-all_posted stopped [] wires = wires
-all_posted stopped (letter ∷ letters) wires = all_posted stopped letters (posted stopped letter wires)
+abbrev pub all_posted : List Bool → List Letter → Midst → Midst
+all_posted stopped [] midst = midst
+all_posted stopped (letter ∷ letters) midst = all_posted stopped letters (posted stopped letter midst)
 
 -- Packets that come
 
@@ -129,59 +168,59 @@ heard_of sender kind.Alive watch = changed_at sender watching.heard watch
 heard_of sender (kind.Piece number piece) watch = watch
 heard_of sender (kind.Acknowledgement number) watch = watch
 
-abbrev pub arrive_at : BusName → Packet → Node → End → Wires → Wires
-arrive_at name packet node e wires =
-    put_any (bus_of_answer name packet.kind) (sent_by_packet packet e) (end_changed packet.receiver packet.sender node (after_packet packet e) wires)
+abbrev pub arrive_at : BusName → Packet → Node → End → Midst → Midst
+arrive_at name packet node e midst =
+    any_goes_over (bus_of_answer name packet.kind) (sent_by_packet packet e) (end_changed packet.receiver packet.sender node (after_packet packet e) midst)
 
 -- the receiver of a packet takes it in: first its end and the answer, then what it hears
-abbrev pub arrived : BusName → Packet → Wires → Wires
-arrived name packet wires =
-    learns packet.receiver (heard_of packet.sender packet.kind) (at_end packet.receiver packet.sender (arrive_at name packet) wires)
+abbrev pub arrived : BusName → Packet → Midst → Midst
+arrived name packet midst =
+    learns packet.receiver (heard_of packet.sender packet.kind) (at_end packet.receiver packet.sender (arrive_at name packet) midst)
 
 -- Ticks
 
 -- an I'm-alive packet goes over bus X and then one over bus Y, to a node that isn't marked down
-abbrev pub alive_at : Node → End → Wires → Wires
-alive_at node e wires = if e.down then wires else put_on bus.Y (packet_of e kind.Alive) (put_on bus.X (packet_of e kind.Alive) wires)
+abbrev pub alive_at : Node → End → Midst → Midst
+alive_at node e midst = if e.down then midst else goes_over bus.Y (packet_of e kind.Alive) (goes_over bus.X (packet_of e kind.Alive) midst)
 
 -- a processor tells the others that it is alive, in rising order; the node of the terminals tells none
-abbrev pub tells_alive : ℕ → ℕ → Wires → Wires
-tells_alive processors x wires = if x == terminal_node then wires else for_each (λ y. at_end x y alive_at) (others processors x) wires
+abbrev pub tells_alive : ℕ → ℕ → Midst → Midst
+tells_alive processors x midst = if x == terminal_node then midst else for_each (λ y. at_end x y alive_at) (others processors x) midst
 
 -- a processor reports a silent set to the others, where a check gave another one than the last
-abbrev pub reports : ℕ → ℕ → Option ProcessorSet → Wires → Wires
-reports processors x None wires = wires
-reports processors x (Some silent) wires = sends_all x (Reporting x silent) (others processors x) wires
+abbrev pub reports : ℕ → ℕ → Option ProcessorSet → Midst → Midst
+reports processors x None midst = midst
+reports processors x (Some silent) midst = sends_all x (Reporting x silent) (others processors x) midst
 
-abbrev pub check_at : ℕ → ℕ → Node → Wires → Wires
-check_at processors x node wires = reports processors x (told_by_tick node.watch) (watch_changed x watching.after_tick node wires)
+abbrev pub check_at : ℕ → ℕ → Node → Midst → Midst
+check_at processors x node midst = reports processors x (told_by_tick node.watch) (watch_changed x watching.after_tick node midst)
 
 -- a node counts its ticks; a processor checks at every second one, and reports
-abbrev pub checks : ℕ → ℕ → Wires → Wires
-checks processors x wires = at_node (check_at processors x) (slice_get wires.nodes x) wires
+abbrev pub checks : ℕ → ℕ → Midst → Midst
+checks processors x midst = at_node (check_at processors x) (slice_get midst.nodes x) midst
 
 -- an end ticks, and sends again what was outstanding at its last tick
-abbrev pub tick_at : ℕ → ℕ → Node → End → Wires → Wires
-tick_at x y node e wires = put_again (sent_by_tick e) (end_changed x y node (after_tick e) wires)
+abbrev pub tick_at : ℕ → ℕ → Node → End → Midst → Midst
+tick_at x y node e midst = goes_again (sent_by_tick e) (end_changed x y node (after_tick e) midst)
 
-abbrev pub resends : ℕ → Wires → Wires
-resends x wires = for_each (λ y. at_end x y (tick_at x y)) all_nodes wires
+abbrev pub resends : ℕ → Midst → Midst
+resends x midst = for_each (λ y. at_end x y (tick_at x y)) all_nodes midst
 
 -- what a tick of the node x sends, in this order: that it is alive, what its check found, and what is outstanding
-abbrev pub ticked : ℕ → ℕ → Wires → Wires
-ticked processors x wires = resends x (checks processors x (tells_alive processors x wires))
+abbrev pub ticked : ℕ → ℕ → Midst → Midst
+ticked processors x midst = resends x (checks processors x (tells_alive processors x midst))
 
 -- Marks
 
 -- an end is thrown away, with all that it holds
-abbrev pub down_at : ℕ → ℕ → Node → End → Wires → Wires
-down_at x y node e wires = end_changed x y node (after_down e) wires
+abbrev pub down_at : ℕ → ℕ → Node → End → Midst → Midst
+down_at x y node e midst = end_changed x y node (after_down e) midst
 
 -- the node x cuts the processor y off: it throws away its channels with it, and expects no more to hear of it
-abbrev pub cut_off : ℕ → ℕ → Wires → Wires
-cut_off x y wires = learns x (changed_at y watching.marked) (at_end x y (down_at x y) wires)
+abbrev pub cut_off : ℕ → ℕ → Midst → Midst
+cut_off x y midst = learns x (changed_at y watching.marked) (at_end x y (down_at x y) midst)
 
 -- the node x tells all others that a processor is down, first the processors and then the node of the terminals. It sends the one that is down nothing, as
 -- it has cut that one off
-abbrev pub declares : ℕ → ℕ → ℕ → Wires → Wires
-declares processors x processor wires = sends_all x (Declaring processor) (others processors x ++ terminal_node ∷ []) wires
+abbrev pub declares : ℕ → ℕ → ℕ → Midst → Midst
+declares processors x processor midst = sends_all x (Declaring processor) (others processors x ++ terminal_node ∷ []) midst

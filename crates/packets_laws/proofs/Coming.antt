@@ -1,6 +1,5 @@
 -- Whence comes what a packet completes.
 use Rattle.std.proofs.Common.{◌≡◌, ℕ, ℤ, true, List, Option, Some, None, subst}
-use Rattle.gd_words.proofs.Among.{among-at}
 use Rattle.wire.specs.declared.bus_name.BusName.{BusName}
 use Rattle.wire.specs.declared.packet.Packet.{Packet}
 use Rattle.world_semantics.specs.World.{is_running}
@@ -8,13 +7,14 @@ use Rattle.letters.specs.Routes.{Letter}
 use Rattle.message_layout.specs.Messages.{Carrying}
 use Rattle.packet_wires.specs.Nodes.{end_at}
 use Rattle.packet_wires.specs.Play.{Packeted, completed, packet_at}
-use Rattle.packet_wires.specs.Wires.{on_bus, arrived}
+use Rattle.packet_wires.specs.Wires.{arrived, nothing_sent}
 use Rattle.channel_laws.specs.Net.{Net}
-use Rattle.packet_nets.specs.Owing.{WasPushed, Ties}
+use Rattle.packet_nets.specs.Owing.{WasPushed, TiesAtRest, on_both}
 use Rattle.packet_nets.proofs.Arriving.{Arrives, hands_none, hands_other, hands_letter, hands_again}
 use Rattle.packet_nets.proofs.Sending.{Came, came}
+use Rattle.packets_laws.proofs.Playing.{stands-there}
 
-pub comes-right : (s : Packeted) (owed sent : List Letter) (T : Ties s.site s.world.stopped s.wires owed sent) (name : BusName) (k : ℕ) (p : Packet) (words : List ℤ)
+pub comes-right : (s : Packeted) (owed sent : List Letter) (T : TiesAtRest s.site s.world.stopped s.wires owed sent) (name : BusName) (k : ℕ) (p : Packet) (words : List ℤ)
     → packet_at s name k ≡ Some p → is_running s.world.stopped p.receiver ≡ true → completed p (end_at s.wires.nodes p.receiver p.sender) ≡ Some words
     → WasPushed s.site s.world.stopped sent p.sender p.receiver words
 comes-right s owed sent T name k p words at runs is =
@@ -30,5 +30,5 @@ comes-right s owed sent T name k p words at runs is =
     of next (Some words) (hands_letter message reads fits among taken o) = (Carrying message, reads, fits, among)
     of next (Some words) (hands_again message reads fits among o) = (Carrying message, reads, fits, among)
 
-    all : Came s.site s.world.stopped (arrived name p s.wires) owed sent p.sender p.receiver (completed p (end_at s.wires.nodes p.receiver p.sender))
-    all = came s.wires T name p (T.tied.flight name p (among-at (on_bus name s.wires) k p at)) runs
+    all : Came s.site s.world.stopped (on_both s.wires) (arrived name p (nothing_sent s.wires.nodes)) owed sent p.sender p.receiver (completed p (end_at s.wires.nodes p.receiver p.sender))
+    all = came (nothing_sent s.wires.nodes) T name p (T.tied.flight p (stands-there s name k p at)) runs

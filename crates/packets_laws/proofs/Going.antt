@@ -11,42 +11,42 @@ use Rattle.computed_changes.specs.Entered.{enter_done}
 use Rattle.computed_changes.specs.Handed.{handed_done}
 use Rattle.computed_changes.specs.Stopped.{marked_done, stopped_world, stop_where, stop_done}
 use Rattle.letters.specs.Idle.{OneStops}
-use Rattle.machine_states.specs.States.{Played, Makes, Skips, WouldStop}
+use Rattle.machine_states.specs.States.{State, Played, Makes, Skips, WouldStop}
 use Rattle.message_wires.specs.Play.{has_stopped}
 use Rattle.world_semantics.proofs.Lists.{Changed, is_new, is_same, changed}
 use Rattle.wires_laws.proofs.Stopping.{StopsNone, run-none, enter-none, handed-none, mark-none}
 use Rattle.message_layout.specs.Messages.{NodeMessage, Carrying, Reporting, Declaring}
 use Rattle.message_layout.specs.Reading.{understood}
-use Rattle.packet_wires.specs.Play.{Packeted, made_by, after_any, marked_by, marks, handed, handed_any, handed_words, completed, received, deliver_played, lose_played, repeat_played, fail_played, marks_and_declares, pulled, pulls, line_of, pulls_its, tick_played, packet_at, play}
+use Rattle.packet_wires.specs.Play.{Packeted, Underway, begun, made_by, after_any, marked_by, marks, handed, handed_any, handed_words, completed, received, deliver_acted, lose_acted, repeat_acted, fail_acted, marks_and_declares, pulled, pulls, line_of, pulls_its, tick_acted, packet_at, acted, taken_off, ended, play}
 use Rattle.packet_wires.specs.Nodes.{end_at}
 use Rattle.packet_wires.specs.Runs.{IsPlayed, played_none, played_more, skipped}
-use Rattle.packet_wires.specs.Wires.{Wires, bus_named, without_packet, arrived, ticked}
+use Rattle.packet_wires.specs.Wires.{Wires, Midst, bus_named, arrived, ticked}
 
 -- the site is the same, and so is who has stopped
-pub record Stays (s next : Packeted) : Type 0 where
+pub record Stays (s next : Underway) : Type 0 where
   pub site : next.site ≡ s.site
   pub stopped : next.world.stopped ≡ s.world.stopped
 
 -- an event stops no processor, or it stops one and none had stopped before
-pub data Goes (s : Packeted) : Played Wires → Type 0 where
+pub data Goes {W V : Type 0} (s : State W) : Played V → Type 0 where
   skips : Goes s Skips
   would_stop : (processor : ℕ) → Goes s (WouldStop processor)
-  stops_none : {next : Packeted} → Stays s next → Goes s (Makes next)
-  stops_one : {next : Packeted} (processor : ℕ) → next.site ≡ s.site → has_stopped s.world.stopped ≡ false → next.world.stopped ≡ slice_set s.world.stopped processor true
+  stops_none : {next : State V} → next.site ≡ s.site → next.world.stopped ≡ s.world.stopped → Goes s (Makes next)
+  stops_one : {next : State V} (processor : ℕ) → next.site ≡ s.site → has_stopped s.world.stopped ≡ false → next.world.stopped ≡ slice_set s.world.stopped processor true
       → Goes s (Makes next)
 
-made-goes : (s : Packeted) (done : Option Done) → StopsNone s.world done → Goes s (made_by s done)
+made-goes : (s : Underway) (done : Option Done) → StopsNone s.world done → Goes s (made_by s done)
 made-goes s None none = skips
-made-goes s (Some done) none = stops_none (record { site = refl; stopped = none })
+made-goes s (Some done) none = stops_none refl none
 
-marks-stay : (node processor : ℕ) (s : Packeted) → Stays s (marks node processor s)
+marks-stay : (node processor : ℕ) (s : Underway) → Stays s (marks node processor s)
 marks-stay node processor s = by (marked_done node processor s.world) (mark-none s.site s.world node processor)
   where
     by : (done : Option Done) → StopsNone s.world done → Stays s (marked_by node processor s done)
     by None none = record { site = refl; stopped = refl }
     by (Some done) none = record { site = refl; stopped = none }
 
-handed-stay : (node : ℕ) (told : NodeMessage) (s : Packeted) → Stays s (handed node told s)
+handed-stay : (node : ℕ) (told : NodeMessage) (s : Underway) → Stays s (handed node told s)
 handed-stay node (Carrying message) s = by (handed_done s.site node message s.world) (handed-none s.site s.world node message)
   where
     by : (done : Option Done) → StopsNone s.world done → Stays s (after_any s done)
@@ -55,7 +55,7 @@ handed-stay node (Carrying message) s = by (handed_done s.site node message s.wo
 handed-stay node (Reporting from set) s = record { site = refl; stopped = refl }
 handed-stay node (Declaring processor) s = marks-stay node processor s
 
-words-stay : (node : ℕ) (words : Option (List ℤ)) (s : Packeted) → Stays s (handed_words node words s)
+words-stay : (node : ℕ) (words : Option (List ℤ)) (s : Underway) → Stays s (handed_words node words s)
 words-stay node None s = record { site = refl; stopped = refl }
 words-stay node (Some words) s = by (understood s.site words)
   where
@@ -63,67 +63,76 @@ words-stay node (Some words) s = by (understood s.site words)
     by None = record { site = refl; stopped = refl }
     by (Some told) = handed-stay node told s
 
-deliver-goes : (name : BusName) (k : ℕ) (s : Packeted) (packet : Option Packet) → Goes s (deliver_played name k s packet)
-deliver-goes name k s None = skips
-deliver-goes name k s (Some p) = by (is_running s.world.stopped p.receiver)
+deliver-goes : (name : BusName) (s : Underway) (packet : Option Packet) → Goes s (deliver_acted name s packet)
+deliver-goes name s None = skips
+deliver-goes name s (Some p) = by (is_running s.world.stopped p.receiver)
   where
-    by : (test : Bool) → Goes s (Makes (if test then received name p (record s { wires = without_packet name k s.wires }) else record s { wires = without_packet name k s.wires }))
+    by : (test : Bool) → Goes s (Makes (if test then received name p s else s))
     by true =
-        let stay = words-stay p.receiver (completed p (end_at (without_packet name k s.wires).nodes p.receiver p.sender)) (record s { wires = arrived name p (without_packet name k s.wires) }) in
-        stops_none (record { site = stay.site; stopped = stay.stopped })
-    by false = stops_none (record { site = refl; stopped = refl })
+        let stay = words-stay p.receiver (completed p (end_at s.wires.nodes p.receiver p.sender)) (record s { wires = arrived name p s.wires }) in
+        stops_none stay.site stay.stopped
+    by false = stops_none refl refl
 
-fail-goes : (processor : ℕ) (s : Packeted) → Goes s (fail_played processor s (stop_done processor s.world))
+fail-goes : (processor : ℕ) (s : Underway) → Goes s (fail_acted processor s (stop_done processor s.world))
 fail-goes processor s = by (slice_get s.world.stopped processor)
   where
     first : (test : Bool) → has_stopped s.world.stopped ≡ test → Goes s (if test then WouldStop processor else Makes (record s { world = stopped_world processor s.world }))
     first true e = would_stop processor
     first false e = stops_one processor refl e refl
 
-    by : (stopped : Option Bool) → Goes s (fail_played processor s (stop_where processor s.world stopped))
+    by : (stopped : Option Bool) → Goes s (fail_acted processor s (stop_where processor s.world stopped))
     by None = skips
     by (Some true) = skips
     by (Some false) = first (has_stopped s.world.stopped) refl
 
-tick-goes : (node : ℕ) (s : Packeted) → Goes s (tick_played node s)
+tick-goes : (node : ℕ) (s : Underway) → Goes s (tick_acted node s)
 tick-goes node s = by (is_running s.world.stopped node)
   where
-    line : (wires : Wires) (line : Option ℕ) → Goes s (pulls node (record s { wires = wires }) line)
-    line wires None = stops_none (record { site = refl; stopped = refl })
-    line wires (Some processor) = at (slice_get s.world.stopped processor)
+    line : (midst : Midst) (line : Option ℕ) → Goes s (pulls node (record s { wires = midst }) line)
+    line midst None = stops_none refl refl
+    line midst (Some processor) = at (slice_get s.world.stopped processor)
       where
         first : (test : Bool) → has_stopped s.world.stopped ≡ test
-            → Goes s (if test then WouldStop processor else Makes (marks_and_declares node processor (record s { world = stopped_world processor s.world; wires = wires })))
+            → Goes s (if test then WouldStop processor else Makes (marks_and_declares node processor (record s { world = stopped_world processor s.world; wires = midst })))
         first true e = would_stop processor
         first false e =
-            let stay = marks-stay node processor (record s { world = stopped_world processor s.world; wires = wires }) in
+            let stay = marks-stay node processor (record s { world = stopped_world processor s.world; wires = midst }) in
             stops_one processor stay.site e stay.stopped
 
-        at : (stopped : Option Bool) → Goes s (pulled node processor (record s { wires = wires }) stopped)
-        at None = stops_none (record { site = refl; stopped = refl })
-        at (Some true) = let stay = marks-stay node processor (record s { wires = wires }) in stops_none (record { site = stay.site; stopped = stay.stopped })
+        at : (stopped : Option Bool) → Goes s (pulled node processor (record s { wires = midst }) stopped)
+        at None = stops_none refl refl
+        at (Some true) = let stay = marks-stay node processor (record s { wires = midst }) in stops_none stay.site stay.stopped
         at (Some false) = first (has_stopped s.world.stopped) refl
 
     by : (test : Bool) → Goes s (if test then pulls_its node (record s { wires = ticked s.site.processors node s.wires }) else Skips)
     by true = line (ticked s.site.processors node s.wires) (line_of node (record s { wires = ticked s.site.processors node s.wires }))
     by false = skips
 
+acted-goes : (s : Packeted) (event : Event) → Goes (begun s) (acted s event)
+acted-goes s (Run number) = made-goes (begun s) (run_done s.site number s.world) (run-none s.site s.world number)
+acted-goes s (Enter number) = made-goes (begun s) (enter_done s.site number s.world) (enter-none s.site s.world number)
+acted-goes s (Deliver y k) = deliver-goes (bus_named y) (begun s) (packet_at s (bus_named y) k)
+acted-goes s (Lose y k) = by (packet_at s (bus_named y) k)
+  where
+    by : (packet : Option Packet) → Goes (begun s) (lose_acted (begun s) packet)
+    by None = skips
+    by (Some packet) = stops_none refl refl
+acted-goes s (Repeat y k) = by (packet_at s (bus_named y) k)
+  where
+    by : (packet : Option Packet) → Goes (begun s) (repeat_acted (bus_named y) (begun s) packet)
+    by None = skips
+    by (Some packet) = stops_none refl refl
+acted-goes s (Tick node) = tick-goes node (begun s)
+acted-goes s (Fail processor) = fail-goes processor (begun s)
+
 pub play-goes : (s : Packeted) (event : Event) → Goes s (play s event)
-play-goes s (Run number) = made-goes s (run_done s.site number s.world) (run-none s.site s.world number)
-play-goes s (Enter number) = made-goes s (enter_done s.site number s.world) (enter-none s.site s.world number)
-play-goes s (Deliver y k) = deliver-goes (bus_named y) k s (packet_at s (bus_named y) k)
-play-goes s (Lose y k) = by (packet_at s (bus_named y) k)
+play-goes s event = by (acted s event) (acted-goes s event)
   where
-    by : (packet : Option Packet) → Goes s (lose_played (bus_named y) k s packet)
-    by None = skips
-    by (Some packet) = stops_none (record { site = refl; stopped = refl })
-play-goes s (Repeat y k) = by (packet_at s (bus_named y) k)
-  where
-    by : (packet : Option Packet) → Goes s (repeat_played (bus_named y) s packet)
-    by None = skips
-    by (Some packet) = stops_none (record { site = refl; stopped = refl })
-play-goes s (Tick node) = tick-goes node s
-play-goes s (Fail processor) = fail-goes processor s
+    by : (played : Played Midst) → Goes (begun s) played → Goes s (ended (taken_off event s.wires) played)
+    by Skips skips = skips
+    by (WouldStop _) (would_stop processor) = would_stop processor
+    by (Makes next) (stops_none same none) = stops_none same none
+    by (Makes next) (stops_one processor same first one) = stops_one processor same first one
 
 -- Over whole runs
 
@@ -139,7 +148,7 @@ played-site {site = site} (played_more {s = s} {next = next} event before e) = s
     by : (played : Played Wires) → Goes s played → s.site ≡ site → OfSite played
     by Skips skips was = tt
     by (WouldStop _) (would_stop processor) was = tt
-    by (Makes made) (stops_none stay) was = stay.site ∙ was
+    by (Makes made) (stops_none same none) was = same ∙ was
     by (Makes made) (stops_one processor same first one) was = same ∙ was
 played-site (skipped event before e) = played-site before
 
@@ -172,7 +181,7 @@ played-one (played_more {s = s} {next = next} event before e) = subst IsOne e (b
     by : (played : Played Wires) → Goes s played → OneStops s.world → IsOne played
     by Skips skips was = tt
     by (WouldStop _) (would_stop processor) was = tt
-    by (Makes made) (stops_none stay) was = subst (λ (stopped : List Bool). (one other : ℕ) → slice_get stopped one ≡ Some true → slice_get stopped other ≡ Some true → one ≡ other) (sym stay.stopped) was
+    by (Makes made) (stops_none same none) was = subst (λ (stopped : List Bool). (one other : ℕ) → slice_get stopped one ≡ Some true → slice_get stopped other ≡ Some true → one ≡ other) (sym none) was
     by (Makes made) (stops_one processor same first one) was =
         rw one (λ a b at there. sym (first-stopped s.world.stopped processor a first at) ∙ first-stopped s.world.stopped processor b first there)
 played-one (skipped event before e) = played-one before

@@ -19,7 +19,7 @@ use Rattle.wires_laws.proofs.Idle.{idle-both}
 use Rattle.packet_wires.specs.Idle.{bare, holds_nothing, is_quiet, all_quiet, is_idle}
 use Rattle.packet_wires.specs.Nodes.{numbers, all_nodes, end_at}
 use Rattle.packet_wires.specs.Play.{Packeted}
-use Rattle.packet_nets.specs.Owing.{carried, goes, between, IsOpen, Ties}
+use Rattle.packet_nets.specs.Owing.{carried, goes, between, IsOpen, TiesAtRest}
 use Rattle.packet_nets.proofs.Between.{between-yes, between-no, goes-there}
 use Rattle.packet_nets.proofs.Tied.{running-stands}
 
@@ -65,7 +65,7 @@ owed-between letter (one ∷ owed) (inr among) none = by (goes letter.sender let
     by true g rest = let bad : one.message ∷ between letter.sender letter.receiver owed ≡ [] = sym (between-yes letter.sender letter.receiver one owed g) ∙ none in absurd cc
     by false g rest = rest (sym (between-no letter.sender letter.receiver one owed g) ∙ none)
 
-module _ (s : Packeted) (owed sent : List Letter) (few : s.site.processors ≤ 16) (T : Ties s.site s.world.stopped s.wires owed sent) where
+module _ (s : Packeted) (owed sent : List Letter) (few : s.site.processors ≤ 16) (T : TiesAtRest s.site s.world.stopped s.wires owed sent) where
   -- quiet channels owe nothing between nodes that run
   none-owed : all_quiet s.world.stopped s.wires.nodes ≡ true → (letter : Letter) → IsAmong letter owed → is_running s.world.stopped letter.sender ≡ true
       → is_running s.world.stopped letter.receiver ≡ true → ⊥

@@ -12,8 +12,8 @@ use Rattle.link_control.specs.Ends.{End, handed_by_packet, handed_by_kind}
 use Rattle.world_semantics.specs.World.{is_running}
 use Rattle.machine_states.specs.States.{Played, Makes, Skips, WouldStop}
 use Rattle.packet_wires.specs.Nodes.{end_at}
-use Rattle.packet_wires.specs.Play.{Packeted, completed, handed_words, received, deliver_played, lose_played, repeat_played, packet_at, play}
-use Rattle.packet_wires.specs.Wires.{Wires, bus_named, without_packet, arrived}
+use Rattle.packet_wires.specs.Play.{Packeted, begun, completed, handed_words, received, deliver_acted, lose_acted, repeat_acted, packet_at, acted, taken_off, ended, play}
+use Rattle.packet_wires.specs.Wires.{Wires, Midst, bus_named, arrived}
 use Rattle.packets_laws.specs.Pieces.{HandsOver}
 
 -- a packet that completes a message is a last piece
@@ -49,31 +49,36 @@ completed-last packet None words is = absurd cc
 completed-last packet (Some e) words is = last-piece packet e words is
 
 -- what an event makes, if it makes a state, has the world of before, or the packet hands over
-abbrev Stays : Packeted → Type 0 → Played Wires → Type 0
+abbrev Stays : {W : Type 0} → Packeted → Type 0 → Played W → Type 0
 Stays s Or (Makes next) = (next.world ≡ s.world) ⊎ Or
 Stays s Or Skips = Unit {0}
 Stays s Or (WouldStop processor) = Unit {0}
 
-deliver-stays : (s : Packeted) (name : BusName) (k : ℕ) (found : Option Packet) → packet_at s name k ≡ found → Stays s (HandsOver s name k) (deliver_played name k s found)
+over-stays : (s : Packeted) (Or : Type 0) (wires : Wires) (played : Played Midst) → Stays s Or played → Stays s Or (ended wires played)
+over-stays s Or wires (Makes next) stays = stays
+over-stays s Or wires Skips stays = tt
+over-stays s Or wires (WouldStop processor) stays = tt
+
+deliver-stays : (s : Packeted) (name : BusName) (k : ℕ) (found : Option Packet) → packet_at s name k ≡ found → Stays s (HandsOver s name k) (deliver_acted name (begun s) found)
 deliver-stays s name k None there = tt
 deliver-stays s name k (Some packet) there = by (is_running s.world.stopped packet.receiver) refl
   where
-    handing : (runs : is_running s.world.stopped packet.receiver ≡ true) → (found : Option (List ℤ))
-        → completed packet (end_at (without_packet name k s.wires).nodes packet.receiver packet.sender) ≡ found
-        → Stays s (HandsOver s name k) (Makes (handed_words packet.receiver found (record s { wires = arrived name packet (without_packet name k s.wires) })))
+    handing : (runs : is_running s.world.stopped packet.receiver ≡ true) → (found : Option (List ℤ)) → completed packet (end_at s.wires.nodes packet.receiver packet.sender) ≡ found
+        → Stays s (HandsOver s name k) (Makes (handed_words packet.receiver found (record (begun s) { wires = arrived name packet (begun s).wires })))
     handing runs None whole = inl refl
     handing runs (Some words) whole =
-        let is = completed-last packet (end_at (without_packet name k s.wires).nodes packet.receiver packet.sender) words whole in
+        let is = completed-last packet (end_at s.wires.nodes packet.receiver packet.sender) words whole in
         inr (record { packet = packet; number = is.number; piece = is.piece; there = there; kind = is.kind; last = is.last; runs = runs })
 
     by : (test : Bool) → is_running s.world.stopped packet.receiver ≡ test
-        → Stays s (HandsOver s name k) (Makes (if test then received name packet (record s { wires = without_packet name k s.wires })
-        else record s { wires = without_packet name k s.wires }))
-    by true runs = handing runs (completed packet (end_at (without_packet name k s.wires).nodes packet.receiver packet.sender)) refl
+        → Stays s (HandsOver s name k) (Makes (if test then received name packet (begun s) else begun s))
+    by true runs = handing runs (completed packet (end_at s.wires.nodes packet.receiver packet.sender)) refl
     by false rests = inl refl
 
 pub deliver-hands : (s next : Packeted) (y : Bool) (k : ℕ) → play s (Deliver y k) ≡ Makes next → (next.world ≡ s.world) ⊎ HandsOver s (bus_named y) k
-deliver-hands s next y k e = subst (Stays s (HandsOver s (bus_named y) k)) e (deliver-stays s (bus_named y) k (packet_at s (bus_named y) k) refl)
+deliver-hands s next y k e =
+    subst (Stays s (HandsOver s (bus_named y) k)) e
+    (over-stays s (HandsOver s (bus_named y) k) (taken_off (Deliver y k) s.wires) (acted s (Deliver y k)) (deliver-stays s (bus_named y) k (packet_at s (bus_named y) k) refl))
 
 abbrev Keeps : Packeted → Played Wires → Type 0
 Keeps s (Makes next) = next.world ≡ s.world
@@ -83,13 +88,13 @@ Keeps s (WouldStop processor) = Unit {0}
 pub lose-keeps : (s next : Packeted) (y : Bool) (k : ℕ) → play s (Lose y k) ≡ Makes next → next.world ≡ s.world
 lose-keeps s next y k e = subst (Keeps s) e (by (packet_at s (bus_named y) k))
   where
-    by : (found : Option Packet) → Keeps s (lose_played (bus_named y) k s found)
+    by : (found : Option Packet) → Keeps s (ended (taken_off (Lose y k) s.wires) (lose_acted (begun s) found))
     by None = tt
     by (Some packet) = refl
 
 pub repeat-keeps : (s next : Packeted) (y : Bool) (k : ℕ) → play s (Repeat y k) ≡ Makes next → next.world ≡ s.world
 repeat-keeps s next y k e = subst (Keeps s) e (by (packet_at s (bus_named y) k))
   where
-    by : (found : Option Packet) → Keeps s (repeat_played (bus_named y) s found)
+    by : (found : Option Packet) → Keeps s (ended s.wires (repeat_acted (bus_named y) (begun s) found))
     by None = tt
     by (Some packet) = refl

@@ -36,51 +36,52 @@ use Rattle.message_layout.specs.Messages.{NodeMessage, Carrying, Reporting, Decl
 use Rattle.message_layout.specs.Reading.{understood}
 use Rattle.packet_wires.specs.Nodes.{Node}
 use Rattle.packet_wires.specs.Lines.{line_pulled}
-use Rattle.packet_wires.specs.Wires.{Wires, on_bus, bus_named, put_on, without_packet, all_posted, arrived, learns, ticked, cut_off}
-use Rattle.packet_wires.specs.Play.{Packeted, after_done, made_by, after_any, after_marked, marked_by, marks, declared, handed, handed_any, handed_words, received, deliver_played, lose_played, repeat_played, fail_played, marks_and_declares, pulled, pulls, line_of, pulls_its, packet_at, play}
+use Rattle.packet_wires.specs.Wires.{Wires, Midst, bus_named, goes_over, all_posted, arrived, learns, ticked, cut_off}
+use Rattle.packet_wires.specs.Play.{Packeted, Underway, begun, after_done, made_by, after_any, after_marked, marked_by, marks, declared, handed, handed_any, handed_words, received, deliver_acted, lose_acted, repeat_acted, fail_acted, marks_and_declares, pulled, pulls, line_of, pulls_its, tick_acted, packet_at, acted, taken_off, ended, play}
 use Rattle.message_layout.specs.Layout.{Fits}
-use Rattle.packet_nets.specs.Owing.{message_of, Owes, Ties}
-use Rattle.packets_laws.specs.Carried.{IsCarried}
+use Rattle.packet_nets.specs.Owing.{message_of, Owes, Ties, on_both}
+use Rattle.packets_laws.specs.Carried.{IsCarried, IsCarriedAtRest}
 use Rattle.packet_nets.proofs.Arriving.{Arrives, hands_none, hands_other, hands_letter, hands_again}
+use Rattle.packet_nets.proofs.Buses.{among-without}
 use Rattle.packet_nets.proofs.Owing.{stop-owes}
-use Rattle.packet_nets.proofs.Sending.{all-posted-ties, cut-ties, more-ties, watched-ties, Came, came}
+use Rattle.packet_nets.proofs.Sending.{all-posted-ties, cut-ties, more-ties, watched-ties, fewer-ties, rest-ties, Came, came}
 use Rattle.packet_nets.proofs.Ticking.{ticked-ties, down-ties, held-other}
-use Rattle.packet_nets.proofs.Tied.{stop-tied, without-tied, repeated-tied}
+use Rattle.packet_nets.proofs.Tied.{stop-tied, repeated-tied}
 use Rattle.packet_nets.proofs.Watches.{changed-watch, size-set}
 
--- some letters are owed, and some were sent, by which these events carry the state
-abbrev pub Carries : List Event → Packeted → Type 0
-Carries events s = (owed : List Letter) × (sent : List Letter) × IsCarried events s owed sent
+-- some letters are owed, and some were sent, by which these events carry the state, while these packets are on the buses
+abbrev pub Carries : List Event → List Packet → Underway → Type 0
+Carries events on s = (owed : List Letter) × (sent : List Letter) × IsCarried events on s owed sent
 
 -- after these events all that was ever sent fits the site
 abbrev pub FitAll : Site → List Event → Type 0
 FitAll site events = (post : Post) → HasPlayed site events post → (letter : Letter) → IsAmong letter post.sent → Fits site (Carrying letter.message)
 
 -- the state that an event makes, if it makes one, is carried in its turn
-abbrev pub GoesOn : List Event → Packeted → Played Wires → Type 0
-GoesOn events s (Makes next) = Carries events next
-GoesOn events s Skips = Carries events s
-GoesOn events s (WouldStop processor) = Unit {0}
+abbrev pub GoesOn : List Event → List Packet → Underway → Played Midst → Type 0
+GoesOn events on s (Makes next) = Carries events on next
+GoesOn events on s Skips = Carries events on s
+GoesOn events on s (WouldStop processor) = Unit {0}
 
 -- a change that stops nobody, and then its letters
-posted-on : (s : Packeted) (events : List Event) (world : World) (wires : Wires) (owed sent letters : List Letter) → FitAll s.site events → world.stopped ≡ s.world.stopped
-    → Ties s.site s.world.stopped wires owed sent → HasPlayed s.site events (with_letters letters (record { world = world; owed = owed; sent = sent }))
-    → Carries events (record s { world = world; wires = all_posted world.stopped letters wires })
-posted-on s events world wires owed sent letters fit same T played = (
+posted-on : {on : List Packet} (s : Underway) (events : List Event) (world : World) (midst : Midst) (owed sent letters : List Letter) → FitAll s.site events → world.stopped ≡ s.world.stopped
+    → Ties s.site s.world.stopped on midst owed sent → HasPlayed s.site events (with_letters letters (record { world = world; owed = owed; sent = sent }))
+    → Carries events on (record s { world = world; wires = all_posted world.stopped letters midst })
+posted-on {on = on} s events world midst owed sent letters fit same T played = (
   owed ++ letters,
   (letters ++ sent),
   record {
     played = played;
-    ties = all-posted-ties letters wires (λ letter among. (fit _ played letter (among-left letter letters sent among), among-left letter letters sent among))
-        (more-ties wires (letters ++ sent) (λ letter among. among-right letter letters sent among)
-        (subst (λ stopped. Ties s.site stopped wires owed sent) (sym same) T));
+    ties = all-posted-ties letters midst (λ letter among. (fit _ played letter (among-left letter letters sent among), among-left letter letters sent among))
+        (more-ties midst (letters ++ sent) (λ letter among. among-right letter letters sent among)
+        (subst (λ stopped. Ties s.site stopped on midst owed sent) (sym same) T));
   },
 )
 
 -- a stop of a processor that runs
-stopped-ties : (site : Site) (stopped : List Bool) (wires : Wires) (owed sent : List Letter) (processor : ℕ) → slice_get stopped processor ≡ Some false
-    → Ties site stopped wires owed sent → Ties site (slice_set stopped processor true) wires owed sent
-stopped-ties site stopped wires owed sent processor runs T = record {
+stopped-ties : {on : List Packet} (site : Site) (stopped : List Bool) (midst : Midst) (owed sent : List Letter) (processor : ℕ) → slice_get stopped processor ≡ Some false
+    → Ties site stopped on midst owed sent → Ties site (slice_set stopped processor true) on midst owed sent
+stopped-ties site stopped midst owed sent processor runs T = record {
   net = stopped_net processor T.net;
   tied = stop-tied stopped processor runs T.tied;
   owes = stop-owes T.owes processor runs;
@@ -88,22 +89,10 @@ stopped-ties site stopped wires owed sent processor runs T = record {
   places = size-set stopped processor true ∙ T.places;
 }
 
-without-ties : (site : Site) (stopped : List Bool) (wires : Wires) (owed sent : List Letter) (name : BusName) (k : ℕ) → Ties site stopped wires owed sent
-    → Ties site stopped (without_packet name k wires) owed sent
-without-ties site stopped wires owed sent bus.X k T = record { net = T.net; tied = without-tied bus.X k T.tied; owes = T.owes; watches = T.watches; places = T.places }
-without-ties site stopped wires owed sent bus.Y k T = record { net = T.net; tied = without-tied bus.Y k T.tied; owes = T.owes; watches = T.watches; places = T.places }
-
--- taking a packet off leaves the net as it is
-without-net : (site : Site) (stopped : List Bool) (wires : Wires) (owed sent : List Letter) (name : BusName) (k : ℕ) (T : Ties site stopped wires owed sent)
-    → (without-ties site stopped wires owed sent name k T).net ≡ T.net
-unfolding without-ties
-without-net site stopped wires owed sent bus.X k T = refl
-without-net site stopped wires owed sent bus.Y k T = refl
-
-repeated-ties : (site : Site) (stopped : List Bool) (wires : Wires) (owed sent : List Letter) (name : BusName) (packet : Packet) → IsAmong packet (on_bus name wires)
-    → Ties site stopped wires owed sent → Ties site stopped (put_on name packet wires) owed sent
-repeated-ties site stopped wires owed sent bus.X packet on T = record { net = T.net; tied = repeated-tied bus.X packet on T.tied; owes = T.owes; watches = T.watches; places = T.places }
-repeated-ties site stopped wires owed sent bus.Y packet on T = record { net = T.net; tied = repeated-tied bus.Y packet on T.tied; owes = T.owes; watches = T.watches; places = T.places }
+repeated-ties : {site : Site} {stopped : List Bool} {on : List Packet} {owed sent : List Letter} (midst : Midst) (name : BusName) (packet : Packet) → IsAmong packet on
+    → Ties site stopped on midst owed sent → Ties site stopped on (goes_over name packet midst) owed sent
+repeated-ties midst name packet among T =
+    record { net = T.net; tied = repeated-tied name packet among T.tied; owes = T.owes; watches = T.watches; places = T.places }
 
 -- a stop leaves other nodes running
 still-running : (stopped : List Bool) (processor node : ℕ) → processor ≢ node → is_running stopped node ≡ true → is_running (slice_set stopped processor true) node ≡ true
@@ -122,19 +111,19 @@ mark-gone node processor w done e = by (slice_get w.stopped processor) refl e
     by (Some true) at e = at
 
 -- a mark at a node that runs
-marked-on : (s : Packeted) (events : List Event) (owed sent : List Letter) (node processor : ℕ) (done : Done) → FitAll s.site events → is_running s.world.stopped node ≡ true
-    → marked_done node processor s.world ≡ Some done → Ties s.site s.world.stopped s.wires owed sent
+marked-on : {on : List Packet} (s : Underway) (events : List Event) (owed sent : List Letter) (node processor : ℕ) (done : Done) → FitAll s.site events → is_running s.world.stopped node ≡ true
+    → marked_done node processor s.world ≡ Some done → Ties s.site s.world.stopped on s.wires owed sent
     → HasPlayed s.site events (after_marking s.site node processor done.sendings done.world (record { world = s.world; owed = owed; sent = sent }))
-    → Carries events (after_marked node processor s done)
-marked-on s events owed sent node processor done fit runs e T played =
+    → Carries events on (after_marked node processor s done)
+marked-on {on = on} s events owed sent node processor done fit runs e T played =
     posted-on s events done.world (cut_off node processor s.wires) (without_those_between node processor owed) sent
     (letters_of s.site done.world (done.sendings ++ sent_again s.site s.world done.world node processor)) fit
     (subst (StopsNone s.world) e (mark-none s.site s.world node processor))
     (cut-ties s.wires node processor runs (mark-gone node processor s.world done e) T) played
 
--- A state that is carried after these events. Its letters carry messages that were sent, and where one comes in that changes nothing no change is
+-- A state that is carried after these events, and in the midst of one more. Its letters carry messages that were sent, and where one comes in that changes nothing no change is
 -- possible
-module _ (events : List Event) (s : Packeted) (owed sent : List Letter) (carried : IsCarried events s owed sent)
+module _ (events : List Event) (on : List Packet) (s : Underway) (owed sent : List Letter) (carried : IsCarried events on s owed sent)
     (honest : (letter : Letter) → IsAmong letter sent → IsSent s.world letter.message)
     (only : (letter : Letter) → IsAmong letter sent → handed_done s.site letter.receiver letter.message s.world ≡ None
     → IsIdleFor s.site s.world (Handing letter.receiver letter.message))
@@ -146,55 +135,45 @@ module _ (events : List Event) (s : Packeted) (owed sent : List Letter) (carried
   Same event = Plays s.site (Post_of owed) event (Post_of owed)
 
   -- the post stays the same, and the new wires are tied to it
-  calm : (event : Event) (wires : Wires) → Ties s.site s.world.stopped wires owed sent → Same event → Carries (events ++ event ∷ []) (record s { wires = wires })
-  calm event wires T plays = (owed, sent, record { played = played_more carried.played plays; ties = T })
+  calm : (event : Event) (midst : Midst) → Ties s.site s.world.stopped on midst owed sent → Same event → Carries (events ++ event ∷ []) on (record s { wires = midst })
+  calm event midst T plays = (owed, sent, record { played = played_more carried.played plays; ties = T })
 
-  T : Ties s.site s.world.stopped s.wires owed sent
+  T : Ties s.site s.world.stopped on s.wires owed sent
   T = carried.ties
 
   changes : (event : Event) (done : Done) → StopsNone s.world (Some done)
       → Plays s.site (Post_of owed) event (with_letters (letters_of s.site done.world done.sendings) (record { world = done.world; owed = owed; sent = sent }))
-      → Carries (events ++ event ∷ []) (after_done s done)
+      → Carries (events ++ event ∷ []) on (after_done s done)
   changes event done none plays =
       posted-on s (events ++ event ∷ []) done.world s.wires owed sent (letters_of s.site done.world done.sendings) (fit event) none carried.ties (played_more carried.played plays)
 
-  run-on : (number : ℕ) → GoesOn (events ++ Run number ∷ []) s (play s (Run number))
+  run-on : (number : ℕ) → GoesOn (events ++ Run number ∷ []) on s (made_by s (run_done s.site number s.world))
   run-on number = by (run_done s.site number s.world) refl (run-none s.site s.world number)
     where
-      by : (done : Option Done) → run_done s.site number s.world ≡ done → StopsNone s.world done → GoesOn (events ++ Run number ∷ []) s (made_by s done)
+      by : (done : Option Done) → run_done s.site number s.world ≡ done → StopsNone s.world done → GoesOn (events ++ Run number ∷ []) on s (made_by s done)
       by None e none = calm (Run number) s.wires carried.ties (plays_no_run (run-idle s.site number s.world e))
       by (Some done) e none = changes (Run number) done none (plays_run (run-may s.site number s.world done e))
 
-  enter-on : (number : ℕ) → GoesOn (events ++ Enter number ∷ []) s (play s (Enter number))
+  enter-on : (number : ℕ) → GoesOn (events ++ Enter number ∷ []) on s (made_by s (enter_done s.site number s.world))
   enter-on number = by (enter_done s.site number s.world) refl (enter-none s.site s.world number)
     where
-      by : (done : Option Done) → enter_done s.site number s.world ≡ done → StopsNone s.world done → GoesOn (events ++ Enter number ∷ []) s (made_by s done)
+      by : (done : Option Done) → enter_done s.site number s.world ≡ done → StopsNone s.world done → GoesOn (events ++ Enter number ∷ []) on s (made_by s done)
       by None e none =
           calm (Enter number) s.wires carried.ties
           (plays_no_enter (idle-where s.site s.world (Entering number) (enter_done s.site number s.world) (λ next sendings change. enter-only number s.world next sendings change) e))
       by (Some done) e none = changes (Enter number) done none (plays_enter (enter-may s.site number s.world done e))
 
-  without : (name : BusName) (k : ℕ) → Ties s.site s.world.stopped (without_packet name k s.wires) owed sent
-  without name k = without-ties s.site s.world.stopped s.wires owed sent name k carried.ties
+  lose-on : (y : Bool) (k : ℕ) (packet : Option Packet) → GoesOn (events ++ Lose y k ∷ []) on s (lose_acted s packet)
+  lose-on y k None = calm (Lose y k) s.wires carried.ties plays_loss
+  lose-on y k (Some packet) = calm (Lose y k) s.wires carried.ties plays_loss
 
-  lose-on : (y : Bool) (k : ℕ) → GoesOn (events ++ Lose y k ∷ []) s (play s (Lose y k))
-  lose-on y k = by (packet_at s (bus_named y) k)
-    where
-      by : (packet : Option Packet) → GoesOn (events ++ Lose y k ∷ []) s (lose_played (bus_named y) k s packet)
-      by None = calm (Lose y k) s.wires carried.ties plays_loss
-      by (Some packet) = calm (Lose y k) (without_packet (bus_named y) k s.wires) (without (bus_named y) k) plays_loss
+  repeat-on : (y : Bool) (k : ℕ) (packet : Option Packet) → ((p : Packet) → packet ≡ Some p → IsAmong p on)
+      → GoesOn (events ++ Repeat y k ∷ []) on s (repeat_acted (bus_named y) s packet)
+  repeat-on y k None stands = calm (Repeat y k) s.wires carried.ties plays_repeat
+  repeat-on y k (Some p) stands =
+      calm (Repeat y k) (goes_over (bus_named y) p s.wires) (repeated-ties s.wires (bus_named y) p (stands p refl) carried.ties) plays_repeat
 
-  on-bus : (name : BusName) (k : ℕ) (packet : Packet) → packet_at s name k ≡ Some packet → IsAmong packet (on_bus name s.wires)
-  on-bus name k packet e = among-at (on_bus name s.wires) k packet e
-
-  repeat-on : (y : Bool) (k : ℕ) → GoesOn (events ++ Repeat y k ∷ []) s (play s (Repeat y k))
-  repeat-on y k = by (packet_at s (bus_named y) k) refl
-    where
-      by : (packet : Option Packet) → packet_at s (bus_named y) k ≡ packet → GoesOn (events ++ Repeat y k ∷ []) s (repeat_played (bus_named y) s packet)
-      by None e = calm (Repeat y k) s.wires carried.ties plays_repeat
-      by (Some packet) e = calm (Repeat y k) (put_on (bus_named y) packet s.wires) (repeated-ties s.site s.world.stopped s.wires owed sent (bus_named y) packet (on-bus (bus_named y) k packet e) carried.ties) plays_repeat
-
-  fail-on : (processor : ℕ) → GoesOn (events ++ Fail processor ∷ []) s (play s (Fail processor))
+  fail-on : (processor : ℕ) → GoesOn (events ++ Fail processor ∷ []) on s (fail_acted processor s (stop_done processor s.world))
   fail-on processor = by (slice_get s.world.stopped processor) refl
     where
       idle : stop_done processor s.world ≡ None → IsIdleFor s.site s.world (Stopping processor)
@@ -202,7 +181,7 @@ module _ (events : List Event) (s : Packeted) (owed sent : List Letter) (carried
           idle-where s.site s.world (Stopping processor) (stop_done processor s.world) (λ next sendings change. stop-only processor s.world next sendings change) e
 
       stops : slice_get s.world.stopped processor ≡ Some false → Change s.site s.world (Stopping processor) [] (stopped_world processor s.world) → (test : Bool)
-          → GoesOn (events ++ Fail processor ∷ []) s (if test then WouldStop processor else Makes (record s { world = stopped_world processor s.world }))
+          → GoesOn (events ++ Fail processor ∷ []) on s (if test then WouldStop processor else Makes (record s { world = stopped_world processor s.world }))
       stops e change true = tt
       stops e change false = (
         owed,
@@ -214,7 +193,7 @@ module _ (events : List Event) (s : Packeted) (owed sent : List Letter) (carried
       )
 
       by : (stopped : Option Bool) → slice_get s.world.stopped processor ≡ stopped
-          → GoesOn (events ++ Fail processor ∷ []) s (fail_played processor s (stop_where processor s.world stopped))
+          → GoesOn (events ++ Fail processor ∷ []) on s (fail_acted processor s (stop_where processor s.world stopped))
       by (Some false) e =
           stops e (stop-may s.site processor s.world (record { world = stopped_world processor s.world; sendings = [] }) (rw e refl)) (has_stopped s.world.stopped)
       by (Some true) e = calm (Fail processor) s.wires carried.ties (plays_no_fail (idle (rw e refl)))
@@ -222,23 +201,23 @@ module _ (events : List Event) (s : Packeted) (owed sent : List Letter) (carried
 
   -- A packet is delivered
 
-  module _ (y : Bool) (k : ℕ) (p : Packet) (on : IsAmong p (on_bus (bus_named y) s.wires)) (runs : is_running s.world.stopped p.receiver ≡ true) where
+  module _ (y : Bool) (k : ℕ) (p : Packet) (stands : IsAmong p on) (runs : is_running s.world.stopped p.receiver ≡ true) where
     abbrev Now : Event
     Now = Deliver y k
 
-    abbrev next : Wires
-    next = arrived (bus_named y) p (without_packet (bus_named y) k s.wires)
+    abbrev next : Midst
+    next = arrived (bus_named y) p s.wires
 
     abbrev letter : Message → Letter
     letter message = record { sender = p.sender; receiver = p.receiver; message = message }
 
-    abbrev here : Packeted
+    abbrev here : Underway
     here = record s { wires = next }
 
-    abbrev Handed : Packeted → Type 0
-    Handed after = Carries (events ++ Deliver y k ∷ []) after
+    abbrev Handed : Underway → Type 0
+    Handed after = Carries (events ++ Deliver y k ∷ []) on after
 
-    take-on : (message : Message) (rest : List Letter) → IsTaken (letter message) owed rest → IsAmong (letter message) sent → Ties s.site s.world.stopped next rest sent
+    take-on : (message : Message) (rest : List Letter) → IsTaken (letter message) owed rest → IsAmong (letter message) sent → Ties s.site s.world.stopped on next rest sent
         → (done : Option Done) → handed_done s.site p.receiver message s.world ≡ done → StopsNone s.world done → Handed (after_any here done)
     take-on message rest taken among T None e none = (
       rest,
@@ -249,14 +228,14 @@ module _ (events : List Event) (s : Packeted) (owed sent : List Letter) (carried
         posted-on s (events ++ Deliver y k ∷ []) done.world next rest sent (letters_of s.site done.world done.sendings) (fit (Deliver y k)) none T
         (played_more carried.played (plays_hand (letter message) taken (handed-may s.site _ _ s.world done (honest (letter message) among) e)))
 
-    again-on : (message : Message) → IsAmong (letter message) sent → Ties s.site s.world.stopped next owed sent
+    again-on : (message : Message) → IsAmong (letter message) sent → Ties s.site s.world.stopped on next owed sent
         → (done : Option Done) → handed_done s.site p.receiver message s.world ≡ done → StopsNone s.world done → Handed (after_any here done)
     again-on message among T None e none = calm (Deliver y k) next T plays_nothing
     again-on message among T (Some done) e none =
         posted-on s (events ++ Deliver y k ∷ []) done.world next owed sent (letters_of s.site done.world done.sendings) (fit (Deliver y k)) none T
         (played_more carried.played (plays_again (letter message) among (handed-may s.site _ _ s.world done (honest (letter message) among) e)))
 
-    mark-on : (processor : ℕ) → Ties s.site s.world.stopped next owed sent → Handed (marks p.receiver processor here)
+    mark-on : (processor : ℕ) → Ties s.site s.world.stopped on next owed sent → Handed (marks p.receiver processor here)
     mark-on processor T = by (marked_done p.receiver processor s.world) refl
       where
         by : (done : Option Done) → marked_done p.receiver processor s.world ≡ done → Handed (marked_by p.receiver processor here done)
@@ -265,7 +244,7 @@ module _ (events : List Event) (s : Packeted) (owed sent : List Letter) (carried
             marked-on here (events ++ Deliver y k ∷ []) owed sent p.receiver processor done (fit (Deliver y k)) runs e T
             (played_more carried.played (plays_mark p.receiver processor (mark-may s.site p.receiver processor s.world done e)))
 
-    other-on : (told : NodeMessage) → message_of told ≡ None → Ties s.site s.world.stopped next owed sent → Handed (handed p.receiver told here)
+    other-on : (told : NodeMessage) → message_of told ≡ None → Ties s.site s.world.stopped on next owed sent → Handed (handed p.receiver told here)
     other-on (Carrying message) none T = absurd cc
     other-on (Reporting from set) none T =
         calm (Deliver y k) (learns p.receiver (changed_at from (watching.reported set)) next)
@@ -276,10 +255,10 @@ module _ (events : List Event) (s : Packeted) (owed sent : List Letter) (carried
         → Handed (handed_any p.receiver (understood s.site words) here)
     read-on words told e is = subst (λ o. Handed (handed_any p.receiver o here)) (sym e) is
 
-    arrive-on : (h : Option (List ℤ)) → Came s.site s.world.stopped next owed sent p.sender p.receiver h → Handed (handed_words p.receiver h here)
+    arrive-on : (h : Option (List ℤ)) → Came s.site s.world.stopped on next owed sent p.sender p.receiver h → Handed (handed_words p.receiver h here)
     arrive-on h c = by h c.arrived
       where
-        ties : (owed : List Letter) → Owes s.site s.world.stopped owed sent c.net → Ties s.site s.world.stopped next owed sent
+        ties : (owed : List Letter) → Owes s.site s.world.stopped owed sent c.net → Ties s.site s.world.stopped on next owed sent
         ties owed o = record { net = c.net; tied = c.tied; owes = o; watches = c.watches; places = c.places }
 
         by : (h : Option (List ℤ)) → Arrives s.site s.world.stopped owed sent c.net p.sender p.receiver h → Handed (handed_words p.receiver h here)
@@ -292,38 +271,32 @@ module _ (events : List Event) (s : Packeted) (owed sent : List Letter) (carried
             read-on words (Carrying message) reads
             (again-on message among (ties owed o) (handed_done s.site p.receiver message s.world) refl (handed-none s.site s.world p.receiver message))
 
-    received-on : Handed (received (bus_named y) p (record s { wires = without_packet (bus_named y) k s.wires }))
-    unfolding without
-    received-on = arrive-on _ (came (without_packet (bus_named y) k s.wires) (without (bus_named y) k) (bus_named y) p
-        (subst (λ n. IsAmong p n.flight) (sym (without-net s.site s.world.stopped s.wires owed sent (bus_named y) k carried.ties)) (carried.ties.tied.flight (bus_named y) p on)) runs)
+    received-on : Handed (received (bus_named y) p s)
+    received-on = arrive-on _ (came s.wires carried.ties (bus_named y) p (carried.ties.tied.flight p stands) runs)
 
-  deliver-on : (y : Bool) (k : ℕ) → GoesOn (events ++ Deliver y k ∷ []) s (play s (Deliver y k))
-  deliver-on y k = by (packet_at s (bus_named y) k) refl
+  deliver-on : (y : Bool) (k : ℕ) (packet : Option Packet) → ((p : Packet) → packet ≡ Some p → IsAmong p on)
+      → GoesOn (events ++ Deliver y k ∷ []) on s (deliver_acted (bus_named y) s packet)
+  deliver-on y k None stands = calm (Deliver y k) s.wires carried.ties plays_nothing
+  deliver-on y k (Some p) stands = by (is_running s.world.stopped p.receiver) refl
     where
-      run_or : (p : Packet) → IsAmong p (on_bus (bus_named y) s.wires) → (test : Bool) → is_running s.world.stopped p.receiver ≡ test
-          → Carries (events ++ Deliver y k ∷ []) (if test then received (bus_named y) p (record s { wires = without_packet (bus_named y) k s.wires })
-          else record s { wires = without_packet (bus_named y) k s.wires })
-      run_or p on true runs = received-on y k p on runs
-      run_or p on false rests = calm (Deliver y k) (without_packet (bus_named y) k s.wires) (without (bus_named y) k) plays_nothing
-
-      by : (packet : Option Packet) → packet_at s (bus_named y) k ≡ packet → GoesOn (events ++ Deliver y k ∷ []) s (deliver_played (bus_named y) k s packet)
-      by None e = calm (Deliver y k) s.wires carried.ties plays_nothing
-      by (Some p) e = run_or p (on-bus (bus_named y) k p e) (is_running s.world.stopped p.receiver) refl
+      by : (test : Bool) → is_running s.world.stopped p.receiver ≡ test → Carries (events ++ Deliver y k ∷ []) on (if test then received (bus_named y) p s else s)
+      by true runs = received-on y k p (stands p refl) runs
+      by false rests = calm (Deliver y k) s.wires carried.ties plays_nothing
 
   -- Ticks and lines
 
   module _ (node : ℕ) (runs : is_running s.world.stopped node ≡ true) where
-    abbrev after_tick : Wires
+    abbrev after_tick : Midst
     after_tick = ticked s.site.processors node s.wires
 
-    abbrev Ticks : Packeted → Type 0
-    Ticks after = Carries (events ++ Tick node ∷ []) after
+    abbrev Ticks : Underway → Type 0
+    Ticks after = Carries (events ++ Tick node ∷ []) on after
 
-    tick_ties : Ties s.site s.world.stopped (ticked s.site.processors node s.wires) owed sent
+    tick_ties : Ties s.site s.world.stopped on (ticked s.site.processors node s.wires) owed sent
     tick_ties = ticked-ties node runs s.wires carried.ties
 
     -- after the mark, the declarations are sent
-    told-on : (processor : ℕ) (one : Packeted) → one.site ≡ s.site → is_running one.world.stopped node ≡ true → slice_get one.world.stopped processor ≡ Some true → processor ≤ 15
+    told-on : (processor : ℕ) (one : Underway) → one.site ≡ s.site → is_running one.world.stopped node ≡ true → slice_get one.world.stopped processor ≡ Some true → processor ≤ 15
         → Ticks one → Ticks (declared node processor one)
     told-on processor one same alive gone few (now, ever, c) = (
       now,
@@ -333,12 +306,12 @@ module _ (events : List Event) (s : Packeted) (owed sent : List Letter) (carried
 
     -- the node marks the processor in a world in which that has stopped
     held-on : (w : World) (processor : ℕ) → is_running w.stopped node ≡ true → slice_get w.stopped processor ≡ Some true → processor ≤ 15
-        → Ties s.site w.stopped (ticked s.site.processors node s.wires) owed sent
+        → Ties s.site w.stopped on (ticked s.site.processors node s.wires) owed sent
         → ((post : Post) → MakesMarks s.site node (record { world = w; owed = owed; sent = sent }) post → Plays s.site (Post_of owed) (Tick node) post)
         → Ticks (marks_and_declares node processor (record s { world = w; wires = ticked s.site.processors node s.wires }))
     held-on w processor alive gone few T plays = by (marked_done node processor w) refl (mark-none s.site w node processor)
       where
-        one : Packeted
+        one : Underway
         one = record s { world = w; wires = ticked s.site.processors node s.wires }
 
         by : (done : Option Done) → marked_done node processor w ≡ done → StopsNone w done
@@ -352,12 +325,12 @@ module _ (events : List Event) (s : Packeted) (owed sent : List Letter) (carried
             (played_more carried.played (plays _ (one_mark processor (mark-may s.site node processor w done e) no_mark))))
 
     line-on : (line : Option ℕ) → ((processor : ℕ) → line ≡ Some processor → (processor ≢ node) × (processor ≤ 15))
-        → GoesOn (events ++ Tick node ∷ []) s (pulls node (record s { wires = ticked s.site.processors node s.wires }) line)
+        → GoesOn (events ++ Tick node ∷ []) on s (pulls node (record s { wires = ticked s.site.processors node s.wires }) line)
     line-on None other = (owed, sent, record { played = played_more carried.played (plays_tick runs no_mark); ties = tick_ties })
     line-on (Some processor) other = by (slice_get s.world.stopped processor) refl
       where
         stops : slice_get s.world.stopped processor ≡ Some false → Change s.site s.world (Stopping processor) [] (stopped_world processor s.world) → (test : Bool)
-            → GoesOn (events ++ Tick node ∷ []) s (if test then WouldStop processor
+            → GoesOn (events ++ Tick node ∷ []) on s (if test then WouldStop processor
             else Makes (marks_and_declares node processor (record s { world = stopped_world processor s.world; wires = ticked s.site.processors node s.wires })))
         stops e change true = tt
         stops e change false =
@@ -366,36 +339,77 @@ module _ (events : List Event) (s : Packeted) (owed sent : List Letter) (carried
             (λ post made. plays_tick_stop processor runs (other processor refl).0 change made)
 
         by : (stopped : Option Bool) → slice_get s.world.stopped processor ≡ stopped
-            → GoesOn (events ++ Tick node ∷ []) s (pulled node processor (record s { wires = ticked s.site.processors node s.wires }) stopped)
+            → GoesOn (events ++ Tick node ∷ []) on s (pulled node processor (record s { wires = ticked s.site.processors node s.wires }) stopped)
         by None e = (owed, sent, record { played = played_more carried.played (plays_tick runs no_mark); ties = tick_ties })
         by (Some true) e = held-on s.world processor runs e (other processor refl).1 tick_ties (λ post made. plays_tick runs made)
         by (Some false) e =
             stops e (stop-may s.site processor s.world (record { world = stopped_world processor s.world; sendings = [] }) (rw e refl)) (has_stopped s.world.stopped)
 
-    decided-other : (wires : Wires) (processor : ℕ) → option_and_then (line_pulled node) (slice_get wires.nodes node) ≡ Some processor → (processor ≢ node) × (processor ≤ 15)
-    decided-other wires processor is = by (slice_get wires.nodes node) is
+    decided-other : (midst : Midst) (processor : ℕ) → option_and_then (line_pulled node) (slice_get midst.nodes node) ≡ Some processor → (processor ≢ node) × (processor ≤ 15)
+    decided-other midst processor is = by (slice_get midst.nodes node) is
       where
         by : (one : Option Node) → option_and_then (line_pulled node) one ≡ Some processor → (processor ≢ node) × (processor ≤ 15)
         by None is = absurd cc
         by (Some knows) is = held-other node knows.watch 0 16 processor (omega arith) is
 
-    ticked-on : GoesOn (events ++ Tick node ∷ []) s (pulls_its node (record s { wires = ticked s.site.processors node s.wires }))
+    ticked-on : GoesOn (events ++ Tick node ∷ []) on s (pulls_its node (record s { wires = ticked s.site.processors node s.wires }))
     ticked-on = line-on (line_of node (record s { wires = ticked s.site.processors node s.wires })) (decided-other (ticked s.site.processors node s.wires))
 
-  tick-on : (node : ℕ) → GoesOn (events ++ Tick node ∷ []) s (play s (Tick node))
+  tick-on : (node : ℕ) → GoesOn (events ++ Tick node ∷ []) on s (tick_acted node s)
   tick-on node = by (is_running s.world.stopped node) refl
     where
       by : (test : Bool) → is_running s.world.stopped node ≡ test
-          → GoesOn (events ++ Tick node ∷ []) s (if test then pulls_its node (record s { wires = ticked s.site.processors node s.wires }) else Skips)
+          → GoesOn (events ++ Tick node ∷ []) on s (if test then pulls_its node (record s { wires = ticked s.site.processors node s.wires }) else Skips)
       by true runs = ticked-on node runs
       by false rests = calm (Tick node) s.wires carried.ties plays_no_tick
 
-  -- every event
-  pub plays-on : (event : Event) → GoesOn (events ++ event ∷ []) s (play s event)
-  plays-on (Run number) = run-on number
-  plays-on (Enter number) = enter-on number
-  plays-on (Deliver y k) = deliver-on y k
-  plays-on (Lose y k) = lose-on y k
-  plays-on (Repeat y k) = repeat-on y k
-  plays-on (Tick node) = tick-on node
-  plays-on (Fail processor) = fail-on processor
+-- A whole event
+
+-- the state after an event that is over is carried
+abbrev pub CarriesAtRest : List Event → Packeted → Type 0
+CarriesAtRest events s = Carries events (on_both s.wires) (begun s)
+
+abbrev pub GoesOnAtRest : List Event → Packeted → Played Wires → Type 0
+GoesOnAtRest events s (Makes next) = CarriesAtRest events next
+GoesOnAtRest events s Skips = CarriesAtRest events s
+GoesOnAtRest events s (WouldStop processor) = Unit {0}
+
+-- what is left on the buses when an event has taken its packet was there
+among-taken : (event : Event) (wires : Wires) (p : Packet) → IsAmong p (on_both (taken_off event wires)) → IsAmong p (on_both wires)
+among-taken (Run number) wires p among = among
+among-taken (Enter number) wires p among = among
+among-taken (Deliver y k) wires p among = among-without (bus_named y) k wires p among
+among-taken (Lose y k) wires p among = among-without (bus_named y) k wires p among
+among-taken (Repeat y k) wires p among = among
+among-taken (Tick node) wires p among = among
+among-taken (Fail processor) wires p among = among
+
+over-on : (events : List Event) (s : Packeted) (event : Event) (played : Played Midst) → GoesOn events (on_both s.wires) (begun s) played
+    → GoesOnAtRest events s (ended (taken_off event s.wires) played)
+over-on events s event Skips on = on
+over-on events s event (WouldStop processor) on = tt
+over-on events s event (Makes next) (owed, sent, c) =
+    (owed, sent, record { played = c.played; ties = rest-ties (taken_off event s.wires) next.wires (fewer-ties (among-taken event s.wires) c.ties) })
+
+-- a packet at a position of a bus is on the buses
+pub stands-there : (s : Packeted) (name : BusName) (k : ℕ) (p : Packet) → packet_at s name k ≡ Some p → IsAmong p (on_both s.wires)
+stands-there s bus.X k p at = among-left p s.wires.x s.wires.y (among-at s.wires.x k p at)
+stands-there s bus.Y k p at = among-right p s.wires.x s.wires.y (among-at s.wires.y k p at)
+
+pub plays-on : (events : List Event) (s : Packeted) (owed sent : List Letter) → IsCarriedAtRest events s owed sent
+    → ((letter : Letter) → IsAmong letter sent → IsSent s.world letter.message)
+    → ((letter : Letter) → IsAmong letter sent → handed_done s.site letter.receiver letter.message s.world ≡ None
+    → IsIdleFor s.site s.world (Handing letter.receiver letter.message))
+    → ((event : Event) → FitAll s.site (events ++ event ∷ [])) → (event : Event) → GoesOnAtRest (events ++ event ∷ []) s (play s event)
+plays-on events s owed sent carried honest only fit event = over-on (events ++ event ∷ []) s event (acted s event) (by event)
+  where
+    by : (event : Event) → GoesOn (events ++ event ∷ []) (on_both s.wires) (begun s) (acted s event)
+    by (Run number) = run-on events (on_both s.wires) (begun s) owed sent carried honest only fit number
+    by (Enter number) = enter-on events (on_both s.wires) (begun s) owed sent carried honest only fit number
+    by (Deliver y k) =
+        deliver-on events (on_both s.wires) (begun s) owed sent carried honest only fit y k (packet_at s (bus_named y) k) (stands-there s (bus_named y) k)
+    by (Lose y k) = lose-on events (on_both s.wires) (begun s) owed sent carried honest only fit y k (packet_at s (bus_named y) k)
+    by (Repeat y k) =
+        repeat-on events (on_both s.wires) (begun s) owed sent carried honest only fit y k (packet_at s (bus_named y) k) (stands-there s (bus_named y) k)
+    by (Tick node) = tick-on events (on_both s.wires) (begun s) owed sent carried honest only fit node
+    by (Fail processor) = fail-on events (on_both s.wires) (begun s) owed sent carried honest only fit processor

@@ -26,15 +26,15 @@ use Rattle.world_semantics.specs.World.{is_running}
 use Rattle.packets_laws.proofs.Coming.{comes-right}
 use Rattle.packet_wires.specs.Runs.{IsPlayed, played_none, played_more, skipped}
 use Rattle.packet_nets.specs.Owing.{WasPushed}
-use Rattle.packets_laws.specs.Carried.{IsCarried}
+use Rattle.packets_laws.specs.Carried.{IsCarriedAtRest}
 use Rattle.letters.specs.Idle.{IsIdle}
 use Rattle.packet_wires.specs.Idle.{is_idle}
 use Rattle.packets_laws.proofs.Going.{played-site}
 use Rattle.packets_laws.proofs.Idle.{idle-post}
-use Rattle.packets_laws.proofs.Playing.{Carries, GoesOn, FitAll, plays-on}
+use Rattle.packets_laws.proofs.Playing.{CarriesAtRest, GoesOnAtRest, FitAll, plays-on}
 use Rattle.packet_nets.proofs.Ticking.{begins}
 
-module _ (events : List Event) (few : length events < 4294967296) (s : Packeted) (owed sent : List Letter) (fit : IsFit s.site) (carried : IsCarried events s owed sent) where
+module _ (events : List Event) (few : length events < 4294967296) (s : Packeted) (owed sent : List Letter) (fit : IsFit s.site) (carried : IsCarriedAtRest events s owed sent) where
   abbrev post : Post
   post = record { world = s.world; owed = owed; sent = sent }
 
@@ -55,8 +55,8 @@ laid-apart : (site : Site) → IsLaidOut site → HasCopiesApart site
 laid-apart site out number spec there = (out.places number spec there).2
 
 module _ (site : Site) (fit : IsFit site) (small : IsSmall site) (out : IsLaidOut site) where
-  goes-on : (events : List Event) (s : Packeted) (event : Event) → length (events ++ event ∷ []) < 4294967296 → s.site ≡ site → Carries events s
-      → GoesOn (events ++ event ∷ []) s (play s event)
+  goes-on : (events : List Event) (s : Packeted) (event : Event) → length (events ++ event ∷ []) < 4294967296 → s.site ≡ site → CarriesAtRest events s
+      → GoesOnAtRest (events ++ event ∷ []) s (play s event)
   goes-on events s event few same (owed, sent, carried) =
       let fits = subst IsFit (sym same) fit in
       let less : length events < 4294967296 = omega (arith, few, length-append events (event ∷ [])) in
@@ -67,14 +67,14 @@ module _ (site : Site) (fit : IsFit site) (small : IsSmall site) (out : IsLaidOu
       all other = subst (λ one. FitAll one (events ++ other ∷ [])) (sym same)
           (λ post played letter among. all-fit site fit small out (events ++ other ∷ []) post (omega (arith, few, length-append events (event ∷ []), length-append events (other ∷ []))) played letter among)
 
-  pub played-carried : {events : List Event} {s : Packeted} → length events < 4294967296 → IsPlayed site events s → Carries events s
+  pub played-carried : {events : List Event} {s : Packeted} → length events < 4294967296 → IsPlayed site events s → CarriesAtRest events s
   played-carried few played_none = ([], [], record { played = posts.played_none; ties = begins site })
   played-carried few (played_more {events = events} {s = s} event before e) =
       let less : length events < 4294967296 = omega (arith, few, length-append events (event ∷ [])) in
-      subst (GoesOn (events ++ event ∷ []) s) e (goes-on events s event few (played-site before) (played-carried less before))
+      subst (GoesOnAtRest (events ++ event ∷ []) s) e (goes-on events s event few (played-site before) (played-carried less before))
   played-carried few (skipped {events = events} {s = s} event before e) =
       let less : length events < 4294967296 = omega (arith, few, length-append events (event ∷ [])) in
-      subst (GoesOn (events ++ event ∷ []) s) e (goes-on events s event few (played-site before) (played-carried less before))
+      subst (GoesOnAtRest (events ++ event ∷ []) s) e (goes-on events s event few (played-site before) (played-carried less before))
 
   module _ (events : List Event) (s : Packeted) (few : length events < 4294967296) (played : IsPlayed site events s) where
     -- there is a post for the state, which is idle if the state is
