@@ -20,7 +20,7 @@ impl Model for ShownLog {
     ghost use Rattle.std.specs.Prelude.{◌≡◌, List};
     ghost use Rattle.tal_tree.specs.declared.act.Shown.{Shown};
     ghost use Rattle.number_ranges.specs.HasRoom.{HasNext};
-ghost use Rattle.node_copies.specs.ShownCounts.{replies_in, writes_in};
+    ghost use Rattle.node_copies.specs.ShownCounts.{replies_in, writes_in};
 
     ghost Value = { List Shown };
 

@@ -27,8 +27,7 @@ put_if-put_list-requires t c =
     let yes = c.as_slice-yes.result.now in
     let other = c.as_slice-no.result.now in
     let is : c.args.statement.now.what ≡ If c.in-If.test yes other =
-    c.in-If.is ∙ ap₂ (λ (ss rs : List Statement). If c.in-If.test ss rs) (sym c.as_slice-yes.ensures) (sym c.as_slice-no.ensures) in
-    (
+    c.in-If.is ∙ ap₂ (λ (ss rs : List Statement). If c.in-If.test ss rs) (sym c.as_slice-yes.ensures) (sym c.as_slice-no.ensures) in (
       omega (arith, c.decreases, count-if c.args.statement.now c.in-If.test yes other is),
       (small-first c.args.statement.now c.requires.small c.in-If.test yes other is, few-first c.args.statement.now c.requires.few c.in-If.test yes other is),
     )
@@ -38,8 +37,7 @@ put_if-put_list-requires-2 t c =
     let yes = c.as_slice-yes.result.now in
     let other = c.as_slice-no.result.now in
     let is : c.args.statement.now.what ≡ If c.in-If.test yes other =
-    c.in-If.is ∙ ap₂ (λ (ss rs : List Statement). If c.in-If.test ss rs) (sym c.as_slice-yes.ensures) (sym c.as_slice-no.ensures) in
-    (
+    c.in-If.is ∙ ap₂ (λ (ss rs : List Statement). If c.in-If.test ss rs) (sym c.as_slice-yes.ensures) (sym c.as_slice-no.ensures) in (
       omega (arith, c.decreases, count-if c.args.statement.now c.in-If.test yes other is),
       (small-second c.args.statement.now c.requires.small c.in-If.test yes other is, few-second c.args.statement.now c.requires.few c.in-If.test yes other is),
     )
@@ -47,8 +45,7 @@ put_if-put_list-requires-2 t c =
 pub put_while-put_list-requires : goal.put_while-put_list-requires
 put_while-put_list-requires t c =
     let body = c.as_slice-body.result.now in
-    let is : c.args.statement.now.what ≡ While c.in-While.test body = c.in-While.is ∙ ap (While c.in-While.test) (sym c.as_slice-body.ensures) in
-    (
+    let is : c.args.statement.now.what ≡ While c.in-While.test body = c.in-While.is ∙ ap (While c.in-While.test) (sym c.as_slice-body.ensures) in (
       omega (arith, c.decreases, count-while c.args.statement.now c.in-While.test body is),
       (small-while c.args.statement.now c.requires.small c.in-While.test body is, few-while c.args.statement.now c.requires.few c.in-While.test body is),
     )
