@@ -3,7 +3,6 @@ ghost use Rattle.pair_machine.specs.Seen.{pairs_in};
 ghost use Rattle.machine_views.specs.Seen.{AreNumbered};
 ghost use Rattle.machine_views.specs.Views.{awaited_by, copy_view, copy_views, each_at, file_number};
 
-use crate::byte::byte;
 use crate::process::image_of_everything;
 use crate::views::{Awaited, CopyView};
 use checkpoint_image::FileNumber;
@@ -56,7 +55,7 @@ fn view_of(alloc: Global, process: u8, copy: &NodeCopy) -> Result<CopyView, NoMe
 {
     let control = copy.control();
     let state = image_of_everything(alloc, control.behaviour())?;
-    let files = file_numbers(alloc, control.next())?;
+    let files = file_numbers(alloc, control)?;
     let receive = control.receive().block(alloc)?;
     let waiting = waiting_requests(alloc, copy.waiting())?;
     Ok(CopyView {
@@ -92,13 +91,14 @@ fn awaited(control: &CopyControl<Process>) -> Option<Awaited>
 }
 
 /// The number of the next request on each file.
-fn file_numbers(alloc: Global, next: &[u32]) -> Result<List<FileNumber>, NoMemory>
-    ensures { IfOk result (λ numbers. numbers ≡ each_at file_number 0 next.now) }
+fn file_numbers(alloc: Global, control: &CopyControl<Process>) -> Result<List<FileNumber>, NoMemory>
+    ensures { IfOk result (λ numbers. numbers ≡ each_at file_number 0 control.now.core.next) }
 {
+    let next = control.next();
     let mut numbers = List::new(alloc);
-    for (place, next) in next.iter().enumerate() {
-        let file = byte(place)?;
-        numbers.push(FileNumber { file, next: *next })?;
+    for file in 0..control.files() {
+        let next = next[usize::from(file)];
+        numbers.push(FileNumber { file, next })?;
     }
     Ok(numbers)
 }

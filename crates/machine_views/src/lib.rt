@@ -5,7 +5,6 @@
 //! `view_of` of its world (`specs/Views.antt`), and the laws of `laws.rt` on what that says.
 #![tactic(auto)]
 
-mod byte;
 mod copies;
 pub mod guards;
 pub mod laws;

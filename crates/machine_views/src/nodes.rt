@@ -1,11 +1,10 @@
 ghost use Rattle.std.specs.Prelude.{◌≡◌, ◌++◌, map, IfOk, OnOk};
 ghost use Rattle.machine_views.specs.Views.{mark_of, marks_by, marks_in, stopped_in, terminal_view};
 
-use crate::byte::byte;
 use crate::views::{Mark, TerminalView};
 use gd_words::{List, NoMemory};
 use node_copies::Marks;
-use pair_machine::Terminal;
+use pair_machine::{Pairs, Terminal};
 use std::alloc::Global;
 
 /// How many processors a site can have, and how many nodes: the terminals are on a node of their own.
@@ -14,13 +13,13 @@ const PROCESSORS: u8 = 16;
 const NODES: u8 = 17;
 
 /// The processors that have stopped.
-pub(crate) fn stopped(alloc: Global, stopped: &[bool]) -> Result<List<u8>, NoMemory>
-    ensures { IfOk result (λ processors. processors ≡ stopped_in stopped.now) }
+pub(crate) fn stopped(alloc: Global, machine: &Pairs) -> Result<List<u8>, NoMemory>
+    ensures { IfOk result (λ processors. processors ≡ stopped_in machine.now.state.world.stopped) }
 {
+    let stopped = machine.stopped();
     let mut processors = List::new(alloc);
-    for (place, has_stopped) in stopped.iter().enumerate() {
-        if *has_stopped {
-            let processor = byte(place)?;
+    for processor in 0..machine.processors() {
+        if stopped[usize::from(processor)] {
             processors.push(processor)?;
         }
     }

@@ -1,11 +1,9 @@
 ghost use Rattle.std.specs.Prelude.{◌≡◌, ◌++◌, IfOk, OnOk};
 ghost use Rattle.pair_machine.specs.Seen.{pairs_in};
 ghost use Rattle.machine_views.specs.Seen.{AreNumbered};
-ghost use Rattle.machine_views.specs.Views.{each_at, sector_view, sector_views};
+ghost use Rattle.machine_views.specs.Views.{each_at, sector_views};
 
-use crate::byte::byte;
 use crate::views::SectorView;
-use disc_device::Stored;
 use gd_words::{List, NoMemory};
 use process_copies::ProcessCopies;
 use std::alloc::Global;
@@ -20,23 +18,21 @@ pub(crate) fn sectors(
 {
     let mut views = List::new(alloc);
     for process in processes {
-        add_sectors(process.number(), process.sectors(), &mut views)?;
+        add_sectors(process, &mut views)?;
     }
     Ok(views)
 }
 
 /// The sectors of a process are added to `views`.
-fn add_sectors(
-    process: u8,
-    sectors: &[Stored],
-    views: &mut List<SectorView>,
-) -> Result<(), NoMemory>
-    ensures { OnOk result (views.new ≡ views.old ++ each_at (sector_view process) 0 sectors.now) }
+fn add_sectors(process: &ProcessCopies, views: &mut List<SectorView>) -> Result<(), NoMemory>
+    ensures { OnOk result (views.new ≡ views.old ++ sector_views process.now.number process.now.pair) }
 {
-    for (place, stored) in sectors.iter().enumerate() {
-        let sector = byte(place)?;
+    let number = process.number();
+    let sectors = process.sectors();
+    for sector in 0..process.sector_count() {
+        let stored = &sectors[usize::from(sector)];
         views.push(SectorView {
-            process,
+            process: number,
             sector,
             words: stored.words,
             number: stored.number,

@@ -14,7 +14,7 @@ pub fn view(alloc: Global, machine: &Pairs) -> Result<View, NoMemory>
     ensures { IfOk result (λ view. view ≡ view_of machine.now.state.world) }
 {
     let processes = machine.processes();
-    let stopped = stopped(alloc, machine.stopped())?;
+    let stopped = stopped(alloc, machine)?;
     let down = down(alloc, machine.marks())?;
     let copies = copies(alloc, processes)?;
     let terminals = terminals(alloc, machine.terminals())?;
