@@ -3,9 +3,9 @@ use Rattle.std.proofs.Common.{◌≡◌, ℕ, zero, suc, arith, refl}
 use Rattle.tal_tree.specs.declared.expression.Cond.{Truth}
 use Rattle.tal_tree.specs.declared.expression.Expr.{Minus, Two}
 use Rattle.tal_tree.specs.declared.expression.Op.TheVariants.{Add, Sub, Mul}
-use Rattle.code_room.specs.Waiting.{waiting_of, waiting_of_test}
+use Rattle.tal_code.specs.Waiting.{waiting_of, waiting_of_test}
 use Rattle.code_room.specs.Examples.{one, differences, sum_of_products, nested, chained_tests, nested_tests}
-use Rattle.code_room.proofs.Layers.{for-minus, for-two, waiting-two, waiting-and, waiting-or}
+use Rattle.tal_code.proofs.Waits.{for-minus, for-two, waiting-two, waiting-and, waiting-or}
 
 pub differences_wait : (n : ℕ) → waiting_of (differences n) ≡ 0
 differences_wait zero = refl

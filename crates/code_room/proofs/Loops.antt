@@ -8,8 +8,8 @@ use Rattle.tal_tree.specs.declared.expression.Rel.TheVariants as rel
 use Rattle.tal_tree.specs.declared.expression.Variable.{Variable}
 use Rattle.tal_tree.specs.declared.expression.Variable.TheVariants as variable
 use Rattle.tal_values.specs.Spots.{spot_of}
-use Rattle.code_room.specs.Waiting.{waiting_of, waiting_for, waiting_of_test}
-use Rattle.code_room.proofs.Layers.{waiting-read, waiting-two}
+use Rattle.tal_code.specs.Waiting.{waiting_of, waiting_for, waiting_of_test}
+use Rattle.tal_code.proofs.Waits.{waiting-read, waiting-two}
 
 none : (v : Variable) → waiting_of (Read (spot_of v)) ≡ 0
 none (variable.Local place) = waiting-read (spot_of (variable.Local place))

@@ -13,10 +13,11 @@ use Rattle.tal_code.specs.declared.step.Step.TheVariants as step
 use Rattle.tal_code.specs.Parts.{Part, Valued, Tested, PartStack, nothing, with_part, parts_after, parts_after_all}
 use Rattle.tal_code.specs.Room.{LowFrom, IsLow}
 use Rattle.tal_code.specs.Words.{operand_expr}
-use Rattle.code_room.specs.Waiting.{waiting_of, waiting_for, waiting_of_test}
+use Rattle.tal_code.specs.Waiting.{waiting_of, waiting_for, waiting_of_test}
 use Rattle.code_room.specs.Steps.{spot_operand, operand_of, two_steps, compare_steps, steps_of, steps_of_test}
 use Rattle.code_room.proofs.ByParts.{IsByParts, by_parts, IsByTestParts, by_test_parts}
-use Rattle.code_room.proofs.Layers.{for-read, for-minus, for-two, waiting-read, waiting-minus, waiting-two, waiting-not, waiting-and, waiting-or, operand-read, operand-minus, operand-two, steps-read, steps-minus, steps-two, steps-not, steps-and, steps-or}
+use Rattle.tal_code.proofs.Waits.{for-read, for-minus, for-two, waiting-read, waiting-minus, waiting-two, waiting-not, waiting-and, waiting-or}
+use Rattle.code_room.proofs.Layers.{operand-read, operand-minus, operand-two, steps-read, steps-minus, steps-two, steps-not, steps-and, steps-or}
 
 after-append : (xs ys : List Step) (s : PartStack) → parts_after_all (xs ++ ys) s ≡ parts_after_all ys (parts_after_all xs s)
 after-append [] ys s = refl

@@ -11,7 +11,7 @@ use Rattle.tal_rules.specs.Texts.{headed_text, files_by, entered, after_procedur
 use Rattle.tal_trees.specs.Programs.{tree_of, trees_of, tree_of_procedure}
 use Rattle.tal_reader.specs.Reads.{Reads}
 use Rattle.tal_pieces.proofs.Texts.LaterLevels.{after_heading, after_locals, after_lines}
-use Rattle.code_room.specs.Waiting.{WaitsBelow}
+use Rattle.tal_code.specs.Waiting.{WaitsBelow}
 use Rattle.code_room.proofs.Statements.{WaitFew, body_few}
 
 module _ (globals files : Declarations) (most : ℕ) where

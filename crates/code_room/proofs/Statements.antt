@@ -23,7 +23,7 @@ use Rattle.tal_trees.specs.Expressions.{value_of_expr, cond_of_expr, target_of_s
 use Rattle.tal_trees.specs.Programs.{body_statements}
 use Rattle.tal_trees.specs.Statements.{answer_of, assign_by, statements_of, else_statements, row_statements}
 use Rattle.tal_laws.proofs.Everywhere.{Everywhere, everywhere_append, among_append, everywhere_one}
-use Rattle.code_room.specs.Waiting.{waiting_of, waiting_of_spot, waiting_of_all, waiting_of_answer, waiting_at}
+use Rattle.tal_code.specs.Waiting.{waiting_of, waiting_of_spot, waiting_of_all, waiting_of_answer, waiting_at}
 use Rattle.code_room.proofs.Layers.{for-more}
 use Rattle.code_room.proofs.Values.{few_expr, few_aim, few_test}
 

@@ -7,7 +7,7 @@ ghost use Rattle.tal_tree.specs.declared.expression.Spot.{Local, Simple, Element
 ghost use Rattle.tal_tree.specs.declared.expression.Variable.TheVariants as variable;
 ghost use Rattle.tal_tree.specs.declared.statement.What.{What-F};
 ghost use Rattle.tal_code.specs.Room.{IsLow};
-ghost use Rattle.code_room.specs.Waiting.{waiting_of, waiting_of_test, waiting_at, WaitsBelow};
+ghost use Rattle.tal_code.specs.Waiting.{waiting_of, waiting_of_test, waiting_at, WaitsBelow};
 ghost use Rattle.code_room.specs.Steps.{steps_of};
 ghost use Rattle.code_room.specs.Examples.{one, differences, sum_of_products, nested, chained_tests, nested_tests, deep_inside};
 

@@ -9,7 +9,7 @@ ghost use Rattle.tal_values.specs.Spots.{spot_of};
 ghost use Rattle.tal_code.specs.Parts.{Valued, Tested, PartStack, nothing, built, with_part};
 ghost use Rattle.tal_code.specs.Room.{LowFrom, RoomFrom, IsLow};
 ghost use Rattle.tal_reader.specs.Reads.{Reads};
-ghost use Rattle.code_room.specs.Waiting.{waiting_of, waiting_for, waiting_of_test, WaitsBelow};
+ghost use Rattle.tal_code.specs.Waiting.{waiting_of, waiting_for, waiting_of_test, WaitsBelow};
 ghost use Rattle.code_room.specs.Steps.{steps_of, steps_of_test};
 
 /// The steps of an expression compute it, and those of a condition that.

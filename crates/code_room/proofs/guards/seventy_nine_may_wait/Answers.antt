@@ -1,6 +1,6 @@
 use Rattle.std.proofs.Common.{◌<◌, arith}
 use Rattle.tal_code.specs.Parts.{Valued}
-use Rattle.code_room.specs.Waiting.{waiting_of}
+use Rattle.tal_code.specs.Waiting.{waiting_of}
 use Rattle.code_room.specs.Steps.{steps_of}
 use Rattle.code_room.specs.Examples.{nested}
 use Rattle.code_room.proofs.Guarded.{nested_wait}

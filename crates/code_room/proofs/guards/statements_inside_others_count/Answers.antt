@@ -7,7 +7,7 @@ use Rattle.tal_tree.specs.declared.statement.What.TheVariants as what
 use Rattle.tal_tree.specs.declared.statement.What.TheViews.{rolls-Assign}
 use Rattle.tal_laws.proofs.Layers.{layer_of}
 use denote.Hole.Carrier.{hidden}
-use Rattle.code_room.specs.Waiting.{waiting_of, waiting_at}
+use Rattle.tal_code.specs.Waiting.{waiting_of, waiting_at}
 use Rattle.code_room.specs.Examples.{nested, numbered}
 use Rattle.code_room.proofs.Guarded.{nested_wait}
 use Rattle.code_room.proofs.guards.statements_inside_others_count.Goals as goal

@@ -1,6 +1,6 @@
 use Rattle.tal_code.specs.Parts.{Valued, Tested}
 use Rattle.tal_code.proofs.Room.{all-room}
-use Rattle.code_room.specs.Waiting.{waiting_of, waiting_of_test}
+use Rattle.tal_code.specs.Waiting.{waiting_of, waiting_of_test}
 use Rattle.code_room.specs.Steps.{steps_of, steps_of_test}
 use Rattle.code_room.proofs.Low.{computed, tested, low_where_few}
 use Rattle.code_room.proofs.laws.there_is_room_where_few_wait.Goals as goal
