@@ -2,5 +2,6 @@ pub mod Buses
 pub mod Lines
 pub mod Marks
 pub mod Rooms
+pub mod Takeover
 pub mod Twice
 pub mod Words

@@ -1,7 +1,9 @@
 -- States of the machine over packets at which its rules are seen.
-use Rattle.std.specs.Prelude.{ℕ, true, false, List, [], ◌∷◌}
+use Rattle.std.specs.Prelude.{ℕ, ℤ, true, false, List, [], ◌∷◌, map}
+use Rattle.std.specs.Option.{option_map, unwrap_or}
 use Rattle.schedule.specs.declared.event.Event.{Event}
 use Rattle.schedule.specs.declared.event.Event.TheVariants as event
+use Rattle.wire.specs.declared.bus_name.BusName.{BusName}
 use Rattle.wire.specs.declared.packet.Packet.{Packet}
 use Rattle.wire.specs.declared.packet.PacketKind.{PacketKind}
 use Rattle.wire.specs.declared.packet.PacketKind.TheVariants as kind
@@ -10,10 +12,11 @@ use Rattle.alive_regroup.specs.declared.neighbour.Neighbour.TheVariants.{Up}
 use Rattle.alive_regroup.specs.Sets.{nobody}
 use Rattle.alive_regroup.specs.Watching as watching
 use Rattle.alive_regroup.specs.Watching.{changed_at}
-use Rattle.packet_wires.specs.Nodes.{never_reloaded}
-use Rattle.packet_wires.specs.Wires.{Wires, nothing_sent, learns}
-use Rattle.packet_wires.specs.Play.{Packeted}
-use Rattle.packet_wires.specs.Sights.{end_of}
+use Rattle.letter_guards.specs.Worlds.{site, taking_over}
+use Rattle.packet_wires.specs.Nodes.{end_at, never_reloaded, nodes_at_boot}
+use Rattle.packet_wires.specs.Wires.{Wires, Outgoing, nothing_sent, learns}
+use Rattle.packet_wires.specs.Play.{Packeted, Underway, marks}
+use Rattle.packet_wires.specs.Sights.{Sight, end_of, sight}
 use Rattle.packet_wires.specs.Examples.{adder_at_boot, rounds, taken_over, three_at_boot, times, up_to_checkpoint}
 
 abbrev pub packet : ℕ → ℕ → PacketKind → Packet
@@ -61,3 +64,15 @@ none_stopped = record three_at_boot { wires = two_lost }
 -- the node of the terminals was told that processor 0 is down
 abbrev pub told : Packeted
 told = end_of taken_over (event.Deliver false 6 ∷ [])
+
+-- what goes out of an event, as it is seen, each packet with its bus
+abbrev pub outgoing : List Outgoing → List (BusName × Sight)
+outgoing out = map (λ one. (one.bus, sight one.packet)) out
+
+-- the node 3, on which a disc takes over and a bank keeps a reply and awaits one, marks processor 2
+abbrev pub takeover : Underway
+takeover = marks 3 2 (record { site = site; world = taking_over; wires = nothing_sent (nodes_at_boot 4) })
+
+-- what the node 3 has still to send another one, whole messages
+abbrev pub queued : ℕ → List (List ℤ)
+queued receiver = unwrap_or (option_map (λ e. e.sending.queue) (end_at takeover.wires.nodes 3 receiver)) []

@@ -6,16 +6,18 @@ ghost use Rattle.wire.specs.declared.bus_name.BusName.TheVariants.{X, Y};
 ghost use Rattle.wire.specs.declared.packet.Packet.{Packet};
 ghost use Rattle.wire.specs.declared.packet.PacketKind.TheVariants as kind;
 ghost use Rattle.machine_states.specs.States.{Skips, WouldStop};
-ghost use Rattle.message_layout.specs.Messages.{Declaring};
+ghost use Rattle.message_layout.specs.Messages.{Carrying, Declaring};
+ghost use Rattle.message_layout.specs.Layout.{words_of};
 ghost use Rattle.message_layout.specs.Reading.{understood};
+ghost use Rattle.letter_guards.specs.Worlds.{bank_asks, disc_tells, user_is_told};
 ghost use Rattle.packet_wires.specs.Idle.{is_idle, holds_nothing};
 ghost use Rattle.packet_wires.specs.Nodes.{Node, end_at};
 ghost use Rattle.world_semantics.specs.World.{has_marked};
-ghost use Rattle.packet_wires.specs.Play.{Packeted, Underway, begun, count_on, handed, kind_at, play, sender_at};
+ghost use Rattle.packet_wires.specs.Play.{Packeted, Underway, begun, count_on, handed, kind_at, play, sender_at, sent_by};
 ghost use Rattle.packet_wires.specs.Sights.{acknowledged, alive, end_of, last, piece, seen};
 ghost use Rattle.packet_wires.specs.Wires.{Midst, Wires, all_put, goes_over, nothing_sent, on_bus, packets_over, with_sent};
 ghost use Rattle.packet_wires.specs.Examples.{adder_at_boot, after_four, held, served, taken_over, up_to_checkpoint};
-ghost use Rattle.packet_guards.specs.States.{after_three, first_muted, first_piece_again, laden, none_stopped, one_gone, second_silent, stray, ticks, told};
+ghost use Rattle.packet_guards.specs.States.{after_three, first_muted, first_piece_again, laden, none_stopped, one_gone, outgoing, queued, second_silent, stray, takeover, ticks, told};
 
 /// An event names a packet by its position on its bus from 0, and takes that one alone; a repeat puts it at the end. Past the last
 /// position nothing is done.
@@ -63,6 +65,8 @@ pub fn each_packet_takes_its_bus()
 pub fn a_tick_sends_in_order()
     ensures report { (seen (end_of after_three (event.Tick 0 ∷ []))).x ≡ alive 0 1 ∷ alive 0 2 ∷ last 0 1 1 ∷ last 0 2 1 ∷ [] }
     ensures alive_y { (seen (end_of after_three (event.Tick 0 ∷ []))).y ≡ alive 0 1 ∷ alive 0 2 ∷ [] }
+    ensures out { outgoing (sent_by after_three (event.Tick 0))
+        ≡ (X, alive 0 1) ∷ (Y, alive 0 1) ∷ (X, alive 0 2) ∷ (Y, alive 0 2) ∷ (X, last 0 1 1) ∷ (X, last 0 2 1) ∷ [] }
     ensures again { (seen first_piece_again).y ≡ alive 0 1 ∷ alive 0 1 ∷ piece 0 1 1 ∷ [] }
     ensures terminals { seen (end_of adder_at_boot (ticks 16 4)) ≡ record { x = []; y = [] } }
 {}
@@ -100,6 +104,14 @@ pub fn all_others_are_told()
 /// The acknowledgement goes before what the hand-over sends: told that processor 0 is down, the node of the terminals asks processor 1.
 pub fn an_acknowledgement_goes_first()
     ensures { (seen told).x ≡ last 0 1 3 ∷ alive 1 0 ∷ alive 1 0 ∷ alive 1 0 ∷ alive 1 0 ∷ last 1 0 1 ∷ acknowledged 16 1 1 ∷ last 16 1 1 ∷ [] }
+{}
+
+/// What a copy that takes over tells those whose requests waited goes before what its node asks and tells again. What goes to one
+/// node goes in that order too: the later message waits in the queue.
+pub fn a_takeover_tells_first()
+    ensures out { outgoing takeover.wires.out ≡ (X, last 3 16 1) ∷ (X, last 3 3 1) ∷ [] }
+    ensures told { queued 16 ≡ words_of (Carrying disc_tells) ∷ [] }
+    ensures again { queued 3 ≡ words_of (Carrying bank_asks) ∷ words_of (Carrying user_is_told) ∷ [] }
 {}
 
 /// A mark throws the channel away, and packets of the marked node are dropped: no acknowledgement goes.
