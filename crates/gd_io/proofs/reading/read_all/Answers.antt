@@ -3,8 +3,8 @@ use Rattle.std.proofs.lemmas.List.{length-append, length-take}
 use Rattle.gd_io.proofs.Known.{Consumes-keeps, Consumes-more, too_long, failed, memory_ran_out}
 use Rattle.gd_io.proofs.reading.read_all.Goals as goal
 
-pub returns-then-is_err-clause-bytes : goal.returns-then-is_err-clause-bytes
-returns-then-is_err-clause-bytes g c =
+pub returns-in-Err-clause-bytes : goal.returns-in-Err-clause-bytes
+returns-in-Err-clause-bytes g c =
     let fits : c.in-Got.n ≤ length c.take.new.room = c.in-Got.ensures.bytes.0 in
     let piece = take c.in-Got.n c.take.new.room in
     memory_ran_out c.args.most _ _ (c.loop-room.bytes.items ++ piece)
