@@ -9,13 +9,22 @@ const TAKE: Act = Act::Take {
     opener: 0,
 };
 
+/// An act of the process enters the kept acts, where the position has a number after it.
+fn enter(share: &mut CopyShare, act: Act, kept: &mut KeptActs) -> Result<(), Fail> {
+    if share.position() == u64::MAX {
+        return Err(Fail::from("no position is left"));
+    }
+    share.enter(1, act, kept)?;
+    Ok(())
+}
+
 #[test]
 fn what_is_held_is_kept_with_the_mark(rt: HostRuntime) -> Result<(), Fail> {
     let mut kept = KeptActs::new(rt.alloc())?;
     let mut share = CopyShare::new(rt.alloc());
-    share.enter(1, STEP, &mut kept)?;
-    share.enter(1, TAKE, &mut kept)?;
-    share.enter(1, STEP, &mut kept)?;
+    enter(&mut share, STEP, &mut kept)?;
+    enter(&mut share, TAKE, &mut kept)?;
+    enter(&mut share, STEP, &mut kept)?;
     kept.keep(Act::Enter(0))?;
     assert!(rt; kept.as_slice() == [STEP, Act::Enter(0)].as_slice());
     assert!(rt; share.held() == [TAKE, STEP].as_slice());
@@ -36,19 +45,19 @@ fn what_was_kept_is_done_anew(rt: HostRuntime) -> Result<(), Fail> {
     let mut kept = KeptActs::new(rt.alloc())?;
     let mut first = CopyShare::new(rt.alloc());
     let mut second = CopyShare::new(rt.alloc());
-    first.enter(1, TAKE, &mut kept)?;
+    enter(&mut first, TAKE, &mut kept)?;
     let base = first.cover(1, &mut kept)?;
     assert_eq!(rt; base, 2);
     assert_eq!(rt; first.position(), 1);
     first.pass(1, &mut kept)?;
-    first.enter(1, STEP, &mut kept)?;
-    first.enter(1, TAKE, &mut kept)?;
+    enter(&mut first, STEP, &mut kept)?;
+    enter(&mut first, TAKE, &mut kept)?;
     first.let_go();
     second.take_over(base);
     assert_eq!(rt; second.position(), 2);
-    second.enter(1, STEP, &mut kept)?;
+    enter(&mut second, STEP, &mut kept)?;
     assert!(rt; kept.as_slice() == [TAKE, STEP, STEP].as_slice());
-    second.enter(1, TAKE, &mut kept)?;
+    enter(&mut second, TAKE, &mut kept)?;
     assert!(rt; second.held() == [TAKE].as_slice());
     first.close(&mut kept)?;
     second.close(&mut kept)?;
