@@ -14,8 +14,8 @@ ghost use Rattle.computed_changes.specs.Handed.{awaits, is_of_last};
 ghost use Rattle.node_copies.specs.Receiving.{after_early_request, after_request, copy_applying};
 ghost use Rattle.node_copies.specs.Records as happened;
 ghost use Rattle.node_copies.specs.Seen.{told_by};
-ghost use Rattle.process_copies.specs.Handing.{NamesOpener, checkpoint_step, reply_step, reply_step_where, request_step};
-ghost use Rattle.process_copies.specs.Handing.{step_by, step_on, taken_step, taken_step_where};
+ghost use Rattle.process_copies.specs.Handing.{NamesOpener, checkpoint_step, reply_step, reply_step_where};
+ghost use Rattle.process_copies.specs.Handing.{request_step, step_by, step_on, taken_step, taken_step_where};
 ghost use Rattle.process_copies.specs.Receiving.{Settles, core_by, got_step, is_awaiting, other_covering, pair_covering, placed_with, repeated_at};
 ghost use Rattle.process_copies.specs.Seen.{placed_after, records_after, sent_by};
 

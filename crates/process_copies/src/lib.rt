@@ -3,8 +3,8 @@
 //! Below stand `node_copies` with one copy and the records of what happened, `disc_device` with sectors, and `posted_letters` with
 //! messages. The layer above uses that each call makes of the process and the records what `specs/Steps.antt` and
 //! `specs/Handing.antt` compute, or what the world's own definitions say of stops and marks, and the laws of `laws.rt`, by which that
-//! is what the world of copies computes. What changes numbers requires that they have successors (`number_ranges`), and a request
-//! that comes in that its opener is there.
+//! is what the world of copies computes. What may raise numbers requires that they have successors
+//! (`number_ranges`). A request that comes in must name an opener that is there.
 #![tactic(auto)]
 
 mod asking_again;
