@@ -1,5 +1,6 @@
 -- What is read can be loaded.
 use Rattle.std.specs.Prelude.{ℕ, List}
+use Rattle.code_room.proofs.Read.{read_waits_below}
 use Rattle.tal_interp.specs.Sound.{IsLoadable}
 use Rattle.tal_laws.proofs.Ordered.{read_is_numbered, read_is_ordered}
 use Rattle.tal_laws.proofs.Regular.{read_is_regular}
@@ -13,4 +14,5 @@ read-is-loadable text program reads = record {
   ordered = read_is_ordered text program reads;
   limits = read_is_within text program reads;
   regular = read_is_regular text program reads;
+  waiting = read_waits_below text program reads;
 }

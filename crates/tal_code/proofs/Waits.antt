@@ -3,7 +3,7 @@ use Rattle.std.proofs.Common.{◌≡◌, ◌+◌, ◌≤◌, arith, List, [], �
 use Rattle.std.specs.Prelude.{max}
 use Rattle.tal_tree.specs.Rows.{read-is, minus-is, two-is, not-is, and-is, or-is}
 use Rattle.tal_tree.specs.declared.expression.Op.{Op}
-use Rattle.tal_tree.specs.declared.expression.Cond.{Cond, Not}
+use Rattle.tal_tree.specs.declared.expression.Cond.{Cond, Not, And, Or}
 use Rattle.tal_tree.specs.declared.expression.Expr.{Expr, Read, Minus, Two}
 use Rattle.tal_tree.specs.declared.expression.Spot.{Spot}
 use Rattle.tal_values.specs.declared.chain.Tail.{Tail}
@@ -25,9 +25,15 @@ waiting-two op left right = ap waiting_of (two-is op left right)
 pub waiting-not : (inner : Cond) → waiting_of_test (Not inner) ≡ waiting_of_test inner
 waiting-not inner = ap waiting_of_test (not-is inner)
 
+pub waiting-and : (left right : Cond) → waiting_of_test (And left right) ≡ max (waiting_of_test left) (waiting_of_test right + 1)
+waiting-and left right = ap waiting_of_test (and-is left right)
+
+pub waiting-or : (left right : Cond) → waiting_of_test (Or left right) ≡ max (waiting_of_test left) (waiting_of_test right + 1)
+waiting-or left right = ap waiting_of_test (or-is left right)
+
 pub waiting-joined : (j : Junction) (left right : Cond) → waiting_of_test (joined j left right) ≡ max (waiting_of_test left) (waiting_of_test right + 1)
-waiting-joined junction.And left right = ap waiting_of_test (and-is left right)
-waiting-joined junction.Or left right = ap waiting_of_test (or-is left right)
+waiting-joined junction.And left right = waiting-and left right
+waiting-joined junction.Or left right = waiting-or left right
 
 pub for-read : (spot : Spot) → waiting_for (Read spot) ≡ one_more (is_variable spot) (waiting_of_spot spot)
 for-read spot = ap waiting_for (read-is spot)
