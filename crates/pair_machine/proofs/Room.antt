@@ -116,9 +116,9 @@ first-counted sending rest s all same counted =
     by (Some letter) = posted-grows (letters_of s.site s.world rest) (posted letter s.wires)
 
 -- a letter that is posted has a number with a successor where it is counted
-pub posted-next : (sending : Sending) (receiver : ℕ) (s : Whole) → receiver_of s.site s.world sending.node sending.message ≡ Some receiver
+pub posted_next : (sending : Sending) (receiver : ℕ) (s : Whole) → receiver_of s.site s.world sending.node sending.message ≡ Some receiver
     → AreCounted (sent_all (sending ∷ []) s) → HasNextLong s.wires.count
-posted-next sending receiver s found counted =
+posted_next sending receiver s found counted =
     let all : AreCounted (record s { wires = all_posted (cons_option (letter_by sending (Some receiver)) []) s.wires }) =
     subst (λ there. AreCounted (record s { wires = all_posted (cons_option (letter_by sending there) []) s.wires })) found counted in
     omega (arith, all)

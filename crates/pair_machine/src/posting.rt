@@ -50,6 +50,7 @@ impl Whole {
     }
 
     /// A message is sent at a node: a letter is posted to where the node finds the receiver.
+    #[tactic(auto, using(crate::proofs::Room::posted_next))]
     pub(crate) fn post(&mut self, sending: Sending) -> Result<(), NoMemory>
         requires { AreCounted (sent_all (sending ∷ []) self.old) }
         ensures { OnOk result (self.new ≡ sent_all (sending ∷ []) self.old) }
