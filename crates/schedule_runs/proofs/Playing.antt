@@ -12,7 +12,9 @@ use Rattle.machine_states.specs.States.{WouldStop}
 use Rattle.number_ranges.specs.HasRoom.{HasRoom, HasRoomForLetters}
 use Rattle.number_laws.proofs.Counts.{letters-within}
 use Rattle.number_laws.proofs.Played.{room-within}
+use Rattle.number_laws.proofs.Requests.{openers-there}
 use Rattle.plain_semantics.specs.SiteLimits.{KeepsSiteLimits}
+use Rattle.pair_machine.specs.Room.{OpenersAreThere}
 use Rattle.pair_machine.specs.Seen.{Standing}
 use Rattle.schedule_runs.specs.Ends.{EndsAs, IsEndOf, IsRunOf, IsTried}
 use Rattle.schedule_runs.specs.Lengths.{AsksForFewEvents}
@@ -166,3 +168,9 @@ pub letters_have_room : (site : Site) (lines : List Line) (stop : Option Stop) (
 letters_have_room site lines stop schedule machine n limits processors playing few =
     letters-within site limits.processes limits.terminals processors playing.events machine.state (played playing.plays)
     (subst (λ m. m < 4294967294) (sym playing.counted) few)
+
+-- and requests name openers that are there
+pub openers_are_there : (site : Site) (lines : List Line) (stop : Option Stop) (schedule : Scheduled) (machine : Standing) (n : ℕ)
+    → IsPlaying site lines stop schedule machine n → OpenersAreThere machine.state
+openers_are_there site lines stop schedule machine n playing =
+    λ packet among request asks. openers-there site playing.events machine.state (played playing.plays) packet request among asks

@@ -1,6 +1,7 @@
 ghost use Rattle.std.specs.Prelude.{◌≡◌, false, IfOk};
 ghost use Rattle.message_wires.specs.Idle.{is_idle};
 ghost use Rattle.number_ranges.specs.HasRoom.{HasRoom, HasRoomForLetters};
+ghost use Rattle.pair_machine.specs.Room.{OpenersAreThere};
 ghost use Rattle.process_copies.specs.Starting.{IsStartable};
 ghost use Rattle.schedule_runs.specs.Ends.{IsEndOf, IsRunOf, IsTried};
 ghost use Rattle.schedule_runs.specs.Lengths.{AsksForFewEvents};
@@ -61,8 +62,9 @@ fn sizes_of(site: &Site) -> Sizes
 
 /// Plays an event. Answers the second processor that it would stop, and then nothing changes.
 fn tried(machine: &mut Pairs, event: Event) -> Result<Option<u8>, NoMemory>
-    requires numbers { HasRoom machine.old.state }
+    requires room { HasRoom machine.old.state }
     requires letters { HasRoomForLetters machine.old.state }
+    requires openers { OpenersAreThere machine.old.state }
     ensures tried { IfOk result (λ second. IsTried machine.old.state event machine.new.state second) }
     ensures whole { IfOk result (λ second. machine.new.is_broken ≡ false) }
 {

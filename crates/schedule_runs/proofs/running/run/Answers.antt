@@ -6,7 +6,7 @@ use Rattle.player.specs.declared.standing.Sizes.{Sizes}
 use Rattle.schedule_runs.specs.Runs.{sizes_of}
 use Rattle.std.proofs.lemmas.Result.{IfOk-weaker}
 use Rattle.schedule_runs.specs.declared.ran.Ran.{Ran}
-use Rattle.schedule_runs.proofs.Playing.{IsPlaying, begins, few_played, goes_on, letters_have_room, numbers_have_room, runs_out, runs_to_stop}
+use Rattle.schedule_runs.proofs.Playing.{IsPlaying, begins, few_played, goes_on, letters_have_room, numbers_have_room, openers_are_there, runs_out, runs_to_stop}
 use Rattle.schedule_runs.proofs.running.run.Goals as goal
 
 last : (n : ℕ) → n < 4294967294 → n < 4294967295
@@ -43,8 +43,8 @@ loop-event-preserved c =
       c.loop-event.invariant.2,
     )
 
-pub tried-requires-clause-numbers : goal.tried-requires-clause-numbers
-tried-requires-clause-numbers c =
+pub tried-requires-clause-room : goal.tried-requires-clause-room
+tried-requires-clause-room c =
     numbers_have_room c.args.site.now c.args.lines.now c.args.stop c.loop-event.schedule c.loop-event.machine c.loop-event.played c.loop-event.invariant.0
     c.loop-event.invariant.1
 
@@ -52,6 +52,10 @@ pub tried-requires-clause-letters : goal.tried-requires-clause-letters
 tried-requires-clause-letters c =
     letters_have_room c.args.site.now c.args.lines.now c.args.stop c.loop-event.schedule c.loop-event.machine c.loop-event.played
     c.requires.startable.limits c.loop-event.invariant.2 c.loop-event.invariant.0 c.loop-event.invariant.1
+
+pub tried-requires-clause-openers : goal.tried-requires-clause-openers
+tried-requires-clause-openers c =
+    openers_are_there c.args.site.now c.args.lines.now c.args.stop c.loop-event.schedule c.loop-event.machine c.loop-event.played c.loop-event.invariant.0
 
 pub returns : goal.returns
 returns c =
