@@ -76,10 +76,10 @@ fn play_step<B: Behaviour>(
         Step::Come(applies) => Ok(comes(copy, sent) == applies),
         Step::Learn => Ok(learn(copy)),
         Step::Pass => Ok(pass(copy)),
-        Step::Ask(number, word) => ask(copy, number, word),
+        Step::Ask(number, word) => Ok(ask(copy, number, word)),
         Step::Answer(opener, number, word) => Ok(answer(copy, opener, number, word)),
         Step::Repeat(opener, number, word) => repeat(alloc, copy, opener, number, word),
-        Step::TakeOver(era) => take_over(copy, era),
+        Step::TakeOver(era) => Ok(take_over(copy, era)),
     }
 }
 

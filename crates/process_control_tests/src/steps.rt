@@ -1,5 +1,6 @@
-ghost use Rattle.std.specs.Prelude.{◌≡◌, ◌<◌, length, IfOk, IsTrue};
+ghost use Rattle.std.specs.Prelude.{◌≡◌, ◌<◌, ◌+◌, ◌^◌, ℕ, length, IfOk, IsTrue};
 ghost use Rattle.process_semantics.specs.Process.{point};
+ghost use Rattle.world_semantics.specs.Core.{next_on};
 
 use checkpoint_image::{Behaviour, ImageMessage, Standing, TakenMessage};
 use gd_words::{NoMemory, Request, Words};
@@ -75,7 +76,7 @@ pub fn send<B: Behaviour>(
     copy: &mut CopyControl<B>,
 ) -> Result<Option<ImageMessage>, NoMemory> {
     match settled(copy) {
-        Point::Mark => {
+        Point::Mark if copy.number() < u32::MAX => {
             let message = copy.checkpoint_out(alloc, 1)?;
             Ok(Some(message))
         }
@@ -108,23 +109,24 @@ pub fn pass<B: Behaviour>(copy: &mut CopyControl<B>) -> bool {
     }
 }
 
+/// Whether there is a number after the next one of each file.
+fn has_room<B: Behaviour>(copy: &CopyControl<B>) -> bool
+    ensures { IsTrue result → (file : ℕ) → next_on copy.now.core file + 1 < 2 ^ 32 }
+{
+    copy.next().iter().all(|number| *number < u32::MAX)
+}
+
 /// Asks on its file 1 under this number, and gets its own word back, which is this one.
-pub fn ask<B: Behaviour>(
-    copy: &mut CopyControl<B>,
-    number: u32,
-    word: i16,
-) -> Result<bool, NoMemory> {
+pub fn ask<B: Behaviour>(copy: &mut CopyControl<B>, number: u32, word: i16) -> bool {
     match settled(copy) {
-        Point::Ask => {
-            let asking = copy.ask()?;
-            Ok(
-                get(copy, &asking.words)
-                    && asking.file == 1
-                    && asking.number == number
-                    && asking.words.get(0) == Some(word),
-            )
+        Point::Ask if has_room(copy) => {
+            let asking = copy.ask();
+            get(copy, &asking.words)
+                && asking.file == 1
+                && asking.number == number
+                && asking.words.get(0) == Some(word)
         }
-        _ => Ok(false),
+        _ => false,
     }
 }
 
@@ -175,12 +177,12 @@ pub fn repeat<B: Behaviour>(
 }
 
 /// Takes over, into this era.
-pub fn take_over<B: Behaviour>(copy: &mut CopyControl<B>, era: u32) -> Result<bool, NoMemory> {
+pub fn take_over<B: Behaviour>(copy: &mut CopyControl<B>, era: u32) -> bool {
     match copy.role() {
-        Role::Watching => {
-            copy.take_over()?;
-            Ok(copy.era() == era && copy.number() == 0)
+        Role::Watching if copy.era() < u32::MAX => {
+            copy.take_over();
+            copy.era() == era && copy.number() == 0
         }
-        _ => Ok(false),
+        _ => false,
     }
 }
