@@ -190,7 +190,7 @@ impl<B: Behaviour> CopyControl<B> {
         self.core.take(request);
     }
 
-    /// Asks on a file, and awaits the reply from now on. The number of the next request on it has 32 bits.
+    /// Asks on a file, and awaits the reply from now on. The number after that of this request has 32 bits.
     pub fn ask(&mut self) -> Asking
         requires point { point self.old.core.state ≡ Ask }
         requires number { next_on self.old.core (asked_file self.old.core.state) + 1 < 2 ^ 32 }
