@@ -1,5 +1,5 @@
 -- The plan that the lines of a schedule give.
-use Rattle.std.proofs.Common.{◌≡◌, ◌∙◌, ℕ, true, false, List, [], ◌∷◌, Option, Some, None, refl, ap, ap₂, sym, subst}
+use Rattle.std.proofs.Common.{◌≡◌, ◌∙◌, ℕ, true, false, List, [], ◌∷◌, Option, Some, None, refl, ap, ap₂, sym}
 use Rattle.std.specs.Option.{IfSome, option_map}
 use Rattle.schedule.specs.declared.event.Counts.{Counts}
 use Rattle.schedule.specs.declared.event.Event.{Event}
@@ -9,7 +9,7 @@ use Rattle.player.specs.declared.standing.Sizes.{Sizes}
 use Rattle.player.specs.declared.standing.Move.{Move}
 use Rattle.player.specs.declared.stop.Stop.{Stop}
 use Rattle.player.specs.Lines.{begun, event_of, next_event, stands_after}
-use Rattle.schedule_runs.specs.Runs.{Agenda, Plan, planned_by, stopped_by}
+use Rattle.schedule_runs.specs.Runs.{Plan, planned_by, stopped_by}
 use Rattle.schedule_runs.specs.Seen.{IsBegun, Scheduled, event_in}
 
 -- where the line gives an event, that is the plan

@@ -1,5 +1,5 @@
 -- The events of a schedule are events that were played.
-use Rattle.std.proofs.Common.{◌≡◌, List, Option, inl, inr, subst, sym}
+use Rattle.std.proofs.Common.{List, Option, inl, inr, subst, sym}
 use Rattle.tal_tree.specs.declared.site.Site.{Site}
 use Rattle.schedule.specs.declared.event.Event.{Event}
 use Rattle.schedule.specs.declared.line.Line.{Line}

@@ -1,4 +1,4 @@
-use Rattle.std.proofs.Common.{◌≡◌, sym}
+use Rattle.std.proofs.Common.{sym}
 use Rattle.player.specs.Lines.{next_event}
 use Rattle.schedule_runs.specs.Runs.{coming, counts_of, planned_by}
 use Rattle.schedule_runs.proofs.Planning.{stays-event, stays-agenda, stops-event, stops-agenda}

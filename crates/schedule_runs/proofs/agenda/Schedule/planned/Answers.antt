@@ -2,7 +2,7 @@ use Rattle.std.proofs.Common.{◌≡◌, ◌∙◌, Some, None, Option, refl, su
 use Rattle.std.specs.Option.{IfSome}
 use Rattle.player.specs.Lines.{next_event}
 use Rattle.schedule_runs.specs.Runs.{Plan, counts_of}
-use Rattle.schedule_runs.specs.Seen.{Scheduled, event_in}
+use Rattle.schedule_runs.specs.Seen.{event_in}
 use Rattle.schedule_runs.proofs.Planning.{gives-event, gives-agenda, goes_on, is_over}
 use Rattle.schedule_runs.proofs.agenda.Schedule.planned.Goals as goal
 
