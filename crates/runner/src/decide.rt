@@ -186,7 +186,7 @@ fn report_of(
         ran: run(alloc, &site, lines.as_slice(), stop)?,
     };
     let sectors = sectors_after(alloc, site.get(), run.shown())?;
-    let stopped = stopped_processors(alloc, run.ran.machine.stopped())?;
+    let stopped = stopped_processors(alloc, &run.ran.machine)?;
     Ok(Report {
         site,
         run,

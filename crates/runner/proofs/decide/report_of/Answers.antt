@@ -1,7 +1,7 @@
-use Rattle.std.proofs.Common.{◌∙◌, ap, subst}
+use Rattle.std.proofs.Common.{◌∙◌, ap, subst, sym}
 use Rattle.schedule_runs.specs.Ends.{IsRunOf}
+use Rattle.schedule_runs.specs.Lengths.{AsksForFewEvents}
 use Rattle.shown_sectors.specs.Sectors.{sectors_after}
-use Rattle.runner.specs.Stopped.{stopped_from}
 use Rattle.runner.proofs.Reported.{reported}
 use Rattle.runner.proofs.decide.report_of.Goals as goal
 
@@ -17,4 +17,10 @@ returns-clause-run c =
     (c.a_run_of_an_accepted_site_keeps_possible_acts.ensures c.args.deck.site c.args.deck.lines c.args.stop c.in_ok-run.field-0 accepted laid_out run)
     (c.in_ok-sectors.ensures ∙ ap (λ site. sectors_after site c.shown.result.now) (c.get.ensures ∙ c.in_ok-site.ensures)
     ∙ ap (sectors_after c.args.deck.site) c.shown.ensures)
-    (c.in_ok-stopped.ensures ∙ ap (stopped_from 0) c.stopped.ensures)
+    c.in_ok-stopped.ensures
+
+pub run-requires-clause-few : goal.run-requires-clause-few
+run-requires-clause-few c =
+    subst (λ lines. AsksForFewEvents c.in_ok-site.site lines c.args.stop) (sym c.as_slice.ensures)
+    (subst (λ site. AsksForFewEvents site c.args.deck.lines c.args.stop) (sym c.in_ok-site.ensures)
+    (c.an_accepted_deck_meets_the_premises.ensures.few c.requires.spelt.0 c.args.deck c.args.stop c.requires.spelt.1))
