@@ -14,8 +14,9 @@ use deck_reader::{
 };
 use schedule_lengths::a_schedule_asks_for_few_events;
 
-/// The programs of a deck that bytes spell can be judged, the machine of copies starts on its site, and its processes are laid out
-/// over its processors. Its schedule asks for few events. Where all its programs are accepted, its site is an accepted one.
+/// The programs of a deck that bytes spell can be judged, the machine of copies starts on its site, and its processes are
+/// laid out over its processors. Its schedule asks for few events. Where all its programs are accepted, its site is an
+/// accepted one.
 pub fn an_accepted_deck_meets_the_premises()
     ensures judgeable { (bytes : List ℕ) (deck : Deck) → Decks bytes deck → AreJudgeable deck.site.processes }
     ensures startable { (bytes : List ℕ) (deck : Deck) → Decks bytes deck → IsStartable deck.site }

@@ -34,5 +34,6 @@ pub fn a_tick_only_adds_letters()
 /// Each request on the bus names one of the openers of the process that it is for: whoever sends one is such an opener.
 pub fn requests_name_their_openers()
     ensures { (site : Site) (events : List Event) (s : Whole) → IsPlayed site events s → (packet : Sent) (request : Request)
-        → IsAmong packet s.wires.bus → packet.letter.message ≡ Asking request → request.opener < length (openers_of s.site request.process) }
+        → IsAmong packet s.wires.bus → packet.letter.message ≡ Asking request
+        → request.opener < length (openers_of s.site request.process) }
 {}
