@@ -4,3 +4,4 @@ pub mod Still
 pub mod Sweeps
 pub mod Told
 pub mod Waiting
+pub mod Writes

@@ -5,3 +5,4 @@ pub mod Rounds
 pub mod Standing
 pub mod Stillness
 pub mod Wiring
+pub mod Writes

@@ -1,4 +1,3 @@
-use gd_words::NoMemory;
 use tal_tree::Shown;
 use thiserror::Error;
 
@@ -7,19 +6,6 @@ use thiserror::Error;
 pub enum ActFault {
     #[error("the act isn't possible")]
     NotPossible,
-    #[error("memory ran out")]
-    NoMemory(NoMemory),
-}
-
-impl From<NoMemory> for ActFault {
-    ghost use Rattle.std.specs.Prelude.{◌≡◌};
-    ghost use Rattle.plain_machine.specs.declared.outcome.ActFault.TheVariants as fault;
-
-    ghost from_gives = { λ memory answered. answered ≡ fault.NoMemory memory };
-
-    fn from(memory: NoMemory) -> ActFault {
-        ActFault::NoMemory(memory)
-    }
 }
 
 /// What became of an act that was tried.

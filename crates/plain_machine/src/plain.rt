@@ -1,7 +1,8 @@
-ghost use Rattle.std.specs.Prelude.{◌≡◌, ◌≢◌, ◌↔◌, Err, IfOk, IsTrue, Some, None};
+ghost use Rattle.std.specs.Prelude.{◌≡◌, ◌≤◌, ◌+◌, ◌↔◌, IfOk, OnErr, IsErr, IsTrue, Some, None};
 ghost use Rattle.plain_semantics.specs.Machine.{made, plain_start, IsStill};
 ghost use Rattle.plain_machine.specs.Machines.{listed};
 ghost use Rattle.plain_machine.specs.Standing.{IsPlayable};
+ghost use Rattle.plain_machine.specs.Writes.{HasRoomFor, most_write};
 
 use crate::outcome::{ActFault, Outcome};
 use crate::state::State;
@@ -34,21 +35,24 @@ impl<'a> Plain<'a> {
     /// The machine of a site at its beginning.
     pub fn start(alloc: Global, site: &'a Site) -> Result<Plain<'a>, NoMemory>
         requires { IsPlayable site.now }
-        ensures { IfOk result (λ plain. plain ≡ record { site = site.now; state = plain_start site.now }) }
+        ensures plain { IfOk result (λ plain. plain ≡ record { site = site.now; state = plain_start site.now }) }
+        ensures writes { IfOk result (λ plain. most_write plain.state.processes ≡ 0) }
     {
         let wires = Wires::new(alloc, site)?;
         let state = State::start(alloc, site)?;
         Ok(Plain { wires, state })
     }
 
-    /// Makes an act, and answers what it shows. A disc whose writes have no number of 32 bits left answers want of memory.
+    /// Makes an act, and answers what it shows. The numbers of the last writes of discs, which have 32 bits, have nexts.
     pub fn act(&mut self, act: Act) -> Result<Option<Shown>, ActFault>
+        requires { HasRoomFor 1 self.old.state }
         ensures made { IfOk result (λ shown. made self.old.site self.old.state act ≡ Some (record { plain = self.new.state; shown = listed shown })) }
-        ensures not_possible { result ≡ Err ActFault.NotPossible → made self.old.site self.old.state act ≡ None }
-        ensures unchanged { result ≡ Err ActFault.NotPossible → self.new ≡ self.old }
+        ensures not_possible { IsErr result → made self.old.site self.old.state act ≡ None }
+        ensures unchanged { OnErr result (self.new ≡ self.old) }
         ensures site { self.new.site ≡ self.old.site }
+        ensures writes { most_write self.new.state.processes ≤ most_write self.old.state.processes + 1 }
     {
-        match self.state.made(&self.wires, act)? {
+        match self.state.made(&self.wires, act) {
             Outcome::Impossible => Err(ActFault::NotPossible),
             Outcome::Quiet => Ok(None),
             Outcome::Shows(shown) => Ok(Some(shown)),

@@ -1,4 +1,5 @@
-ghost use Rattle.std.specs.Prelude.{◌≡◌, ◌≤◌, IfOk, OnOk, length, map, replicate, slice_set};
+ghost use Rattle.std.specs.Prelude.{◌≡◌, ◌≤◌, ◌<◌, IfOk, length, map, replicate, slice_set};
+ghost use Rattle.checkpoint_image.specs.Behaving.{last_write_of};
 ghost use Rattle.plain_semantics.specs.Openers.{openers_of};
 ghost use Rattle.plain_semantics.specs.SiteLimits.{KeepsSiteLimits};
 ghost use Rattle.process_semantics.specs.State.{zeros};
@@ -130,20 +131,18 @@ impl PlainProcess {
         self.process.answered()
     }
 
-    /// Acts on the disc device, and tells what it did. A disc whose writes have no number left answers want of memory.
-    pub(crate) fn device(&mut self) -> Result<DeviceCall, NoMemory>
-        requires { point self.old.state ≡ Point.Device }
-        ensures call { IfOk result (λ call. call ≡ call_of self.old.state) }
-        ensures state { OnOk result (self.new ≡ record self.old { state = after_device self.old.state (found_by self.old.sectors (call_of self.old.state)); sectors = written_by self.old.sectors (call_of self.old.state) }) }
+    /// Acts on the disc device, and tells what it did. The number of its last write has a next.
+    pub(crate) fn device(&mut self) -> DeviceCall
+        requires stands { point self.old.state ≡ Point.Device }
+        requires room { last_write_of self.old.state < 4294967295 }
+        ensures call { result ≡ call_of self.old.state }
+        ensures state { self.new ≡ record self.old { state = after_device self.old.state (found_by self.old.sectors (call_of self.old.state)); sectors = written_by self.old.sectors (call_of self.old.state) } }
     {
-        if self.process.last_write() == u32::MAX {
-            return Err(NoMemory);
-        }
         let call = self.process.device();
         let found = found_by(&self.sectors, &call);
         self.process.device_done(&found);
         write(&mut self.sectors, &call);
-        Ok(call)
+        call
     }
 
     /// Takes the request with these words, which waits in the slot of this place.

@@ -1,8 +1,9 @@
-ghost use Rattle.std.specs.Prelude.{◌≡◌, length, IfOk, OnOk};
+ghost use Rattle.std.specs.Prelude.{◌≡◌, ◌*◌, length, IfOk, OnOk};
 ghost use Rattle.plain_machine.specs.Rounds.{run_start, tried, swept, enter_of, next_move, print_of, round, rounds_on};
 ghost use Rattle.plain_machine.specs.Lines.{happened, line_played, repeated};
 ghost use Rattle.plain_machine.specs.Standing.{IsPlayable};
 ghost use Rattle.plain_machine.specs.Stillness.{is_still};
+ghost use Rattle.plain_machine.specs.Writes.{HasRoomFor, line_acts, round_acts};
 
 use crate::outcome::Outcome;
 use crate::state::{Move, State};
@@ -56,9 +57,10 @@ impl Ran {
 
     /// Makes an act and keeps it with what it shows, where it is possible.
     fn try_act(&mut self, wires: &Wires<'_>, act: Act) -> Result<(), NoMemory>
+        requires { HasRoomFor 1 self.old.plain }
         ensures { OnOk result (self.new ≡ tried wires.now act self.old) }
     {
-        match self.state.made(wires, act)? {
+        match self.state.made(wires, act) {
             Outcome::Impossible => {}
             Outcome::Quiet => self.acts.push(act)?,
             Outcome::Shows(shown) => {
@@ -71,9 +73,10 @@ impl Ran {
 
     /// Makes the Take or Step of a process and keeps it with what it shows, where it is possible.
     fn try_move(&mut self, wires: &Wires<'_>, process: u8) -> Result<(), NoMemory>
+        requires { HasRoomFor 1 self.old.plain }
         ensures { OnOk result (self.new ≡ tried wires.now (next_move self.old.plain process) self.old) }
     {
-        let Move { act, outcome } = self.state.make_move(wires, process)?;
+        let Move { act, outcome } = self.state.make_move(wires, process);
         match outcome {
             Outcome::Impossible => {}
             Outcome::Quiet => self.acts.push(act)?,
@@ -86,6 +89,7 @@ impl Ran {
     }
 
     fn try_enters(&mut self, wires: &Wires<'_>) -> Result<(), NoMemory>
+        requires { HasRoomFor (length wires.now.terminals) self.old.plain }
         ensures { OnOk result (self.new ≡ swept wires.now enter_of 0 (length wires.now.terminals) self.old) }
     {
         for terminal in 0..wires.terminal_count() {
@@ -95,6 +99,7 @@ impl Ran {
     }
 
     fn try_moves(&mut self, wires: &Wires<'_>) -> Result<(), NoMemory>
+        requires { HasRoomFor (length wires.now.processes) self.old.plain }
         ensures { OnOk result (self.new ≡ swept wires.now next_move 0 (length wires.now.processes) self.old) }
     {
         for process in 0..wires.process_count() {
@@ -104,6 +109,7 @@ impl Ran {
     }
 
     fn try_prints(&mut self, wires: &Wires<'_>) -> Result<(), NoMemory>
+        requires { HasRoomFor (length wires.now.terminals) self.old.plain }
         ensures { OnOk result (self.new ≡ swept wires.now print_of 0 (length wires.now.terminals) self.old) }
     {
         for terminal in 0..wires.terminal_count() {
@@ -114,6 +120,7 @@ impl Ran {
 
     /// Plays a line of a schedule: events that this machine has not make nothing.
     pub(crate) fn play(&mut self, wires: &Wires<'_>, line: Line) -> Result<(), NoMemory>
+        requires { HasRoomFor (line_acts wires.now line) self.old.plain }
         ensures { OnOk result (self.new ≡ line_played wires.now line self.old) }
     {
         match line {
@@ -126,6 +133,7 @@ impl Ran {
 
     /// Makes what an event asks for and keeps it with what it shows, where it is possible.
     fn try_event(&mut self, wires: &Wires<'_>, event: Event) -> Result<(), NoMemory>
+        requires { HasRoomFor 1 self.old.plain }
         ensures { OnOk result (self.new ≡ happened wires.now event self.old) }
     {
         match event {
@@ -137,6 +145,7 @@ impl Ran {
 
     /// Makes what an event asks for so many times. Once it is not possible, it stays so.
     fn try_events(&mut self, wires: &Wires<'_>, event: Event, times: u32) -> Result<(), NoMemory>
+        requires { HasRoomFor times self.old.plain }
         ensures { OnOk result (self.new ≡ repeated wires.now event times self.old) }
     {
         for _ in 0..times {
@@ -151,6 +160,7 @@ impl Ran {
 
     /// Plays so many rounds. Once one makes no act, the others make none.
     fn play_rounds(&mut self, wires: &Wires<'_>, rounds: u32) -> Result<(), NoMemory>
+        requires { HasRoomFor (rounds * round_acts wires.now) self.old.plain }
         ensures { OnOk result (self.new ≡ rounds_on wires.now rounds self.old) }
     {
         for _ in 0..rounds {
@@ -164,6 +174,7 @@ impl Ran {
     }
 
     fn play_round(&mut self, wires: &Wires<'_>) -> Result<(), NoMemory>
+        requires { HasRoomFor (round_acts wires.now) self.old.plain }
         ensures { OnOk result (self.new ≡ round wires.now self.old) }
     {
         self.try_enters(wires)?;

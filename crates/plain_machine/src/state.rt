@@ -1,4 +1,4 @@
-ghost use Rattle.std.specs.Prelude.{◌≡◌, ◌+◌, IfOk, OnOk, IfSome, Some, is_some, length, map, slice_get, slice_set};
+ghost use Rattle.std.specs.Prelude.{◌≡◌, ◌+◌, IfOk, IfSome, Some, is_some, length, map, slice_get, slice_set};
 ghost use Rattle.std.specs.Option.{option_copied};
 ghost use Rattle.process_semantics.specs.Process as process;
 ghost use Rattle.tal_tree.specs.declared.site.Who.TheVariants as who;
@@ -8,6 +8,7 @@ ghost use Rattle.plain_semantics.specs.SiteLimits.{KeepsSiteLimits};
 ghost use Rattle.plain_machine.specs.Outcomes.{Settles, shown_in};
 ghost use Rattle.plain_machine.specs.Standing.{AreLoadable, IsPlayable, IsAt};
 ghost use Rattle.plain_machine.specs.Rounds.{enter_of, next_move, print_of};
+ghost use Rattle.plain_machine.specs.Writes.{HasRoomFor};
 ghost use Rattle.plain_machine.specs.Stillness.{has_waiting, is_answered, none_of, is_still};
 
 use crate::outcome::Outcome;
@@ -58,25 +59,24 @@ impl State {
     }
 
     /// Makes an act, where it is possible.
-    pub(crate) fn made(&mut self, wires: &Wires<'_>, act: Act) -> Result<Outcome, NoMemory>
-        ensures { IfOk result (λ outcome. Settles (made wires.now self.old act) self.old outcome self.new) }
+    pub(crate) fn made(&mut self, wires: &Wires<'_>, act: Act) -> Outcome
+        requires { HasRoomFor 1 self.old }
+        ensures { Settles (made wires.now self.old act) self.old result self.new }
     {
         match act {
             Act::Step(process) => self.step(wires, process),
-            Act::Take { process, opener } => {
-                let outcome = self.take(usize::from(process), usize::from(opener));
-                Ok(outcome)
-            }
-            Act::Enter(terminal) => Ok(self.enter(wires, usize::from(terminal))),
-            Act::Print(terminal) => Ok(self.print(wires, terminal)),
+            Act::Take { process, opener } => self.take(usize::from(process), usize::from(opener)),
+            Act::Enter(terminal) => self.enter(wires, usize::from(terminal)),
+            Act::Print(terminal) => self.print(wires, terminal),
         }
     }
 
-    fn step(&mut self, wires: &Wires<'_>, process: u8) -> Result<Outcome, NoMemory>
-        ensures { IfOk result (λ outcome. Settles (step_made wires.now process self.old (slice_get self.old.processes process)) self.old outcome self.new) }
+    fn step(&mut self, wires: &Wires<'_>, process: u8) -> Outcome
+        requires { HasRoomFor 1 self.old }
+        ensures { Settles (step_made wires.now process self.old (slice_get self.old.processes process)) self.old result self.new }
     {
         match self.processes.as_slice().get(usize::from(process)) {
-            None => Ok(Outcome::Impossible),
+            None => Outcome::Impossible,
             Some(one) => {
                 let point = one.at();
                 self.step_at(wires, process, point)
@@ -84,32 +84,33 @@ impl State {
         }
     }
 
-    fn step_at(&mut self, wires: &Wires<'_>, process: u8, point: Point) -> Result<Outcome, NoMemory>
-        requires { IsAt process point self.old }
-        ensures { IfOk result (λ outcome. IfSome (slice_get self.old.processes process) (λ one. Settles (step_at wires.now process one self.old point) self.old outcome self.new)) }
+    fn step_at(&mut self, wires: &Wires<'_>, process: u8, point: Point) -> Outcome
+        requires stands { IsAt process point self.old }
+        requires room { HasRoomFor 1 self.old }
+        ensures { IfSome (slice_get self.old.processes process) (λ one. Settles (step_at wires.now process one self.old point) self.old result self.new) }
     {
         let number = usize::from(process);
         match point {
             Point::Inner => {
                 self.inner(number);
-                Ok(Outcome::Quiet)
+                Outcome::Quiet
             }
             Point::Ask => {
                 self.ask(wires, number);
-                Ok(Outcome::Quiet)
+                Outcome::Quiet
             }
-            Point::Await => Ok(self.get(wires, number)),
+            Point::Await => self.get(wires, number),
             Point::Answer => {
                 self.answer(number);
-                Ok(Outcome::Quiet)
+                Outcome::Quiet
             }
             Point::Mark => {
                 self.mark(number);
-                Ok(Outcome::Quiet)
+                Outcome::Quiet
             }
             Point::Device => self.device(process),
-            Point::Take => Ok(Outcome::Impossible),
-            Point::Ended => Ok(Outcome::Impossible),
+            Point::Take => Outcome::Impossible,
+            Point::Ended => Outcome::Impossible,
         }
     }
 
@@ -172,16 +173,17 @@ impl State {
         }
     }
 
-    fn device(&mut self, server: u8) -> Result<Outcome, NoMemory>
-        requires { IsAt server Point.Device self.old }
-        ensures { IfOk result (λ outcome. IfSome (slice_get self.old.processes server) (λ one. Settles (Some (device_made server one self.old (process.call_of one.state))) self.old outcome self.new)) }
+    fn device(&mut self, server: u8) -> Outcome
+        requires stands { IsAt server Point.Device self.old }
+        requires room { HasRoomFor 1 self.old }
+        ensures { IfSome (slice_get self.old.processes server) (λ one. Settles (Some (device_made server one self.old (process.call_of one.state))) self.old result self.new) }
     {
         let number = usize::from(server);
         if number >= self.processes.len() {
-            return Ok(Outcome::Impossible);
+            return Outcome::Impossible;
         }
-        let call = self.processes[number].device()?;
-        Ok(shown_by(server, call))
+        let call = self.processes[number].device();
+        shown_by(server, call)
     }
 
     fn take(&mut self, number: usize, place: usize) -> Outcome
@@ -260,27 +262,28 @@ impl State {
     }
 
     /// Makes the Take or Step that a process may make next, where it is possible.
-    pub(crate) fn make_move(&mut self, wires: &Wires<'_>, process: u8) -> Result<Move, NoMemory>
-        ensures act { IfOk result (λ move. move.act ≡ next_move self.old process) }
-        ensures outcome { IfOk result (λ move. Settles (made wires.now self.old (next_move self.old process)) self.old move.outcome self.new) }
+    pub(crate) fn make_move(&mut self, wires: &Wires<'_>, process: u8) -> Move
+        requires { HasRoomFor 1 self.old }
+        ensures act { result.act ≡ next_move self.old process }
+        ensures outcome { Settles (made wires.now self.old (next_move self.old process)) self.old result.outcome self.new }
     {
         match self.processes.as_slice().get(usize::from(process)) {
             None => {
                 let act = Act::Step(process);
                 let outcome = Outcome::Impossible;
-                Ok(Move { act, outcome })
+                Move { act, outcome }
             }
             Some(one) => match one.at() {
                 Point::Take => {
                     let opener = one.first_waiting();
                     let act = Act::Take { process, opener };
                     let outcome = self.take_slot(usize::from(process), usize::from(opener));
-                    Ok(Move { act, outcome })
+                    Move { act, outcome }
                 }
                 point => {
                     let act = Act::Step(process);
-                    let outcome = self.step_at(wires, process, point)?;
-                    Ok(Move { act, outcome })
+                    let outcome = self.step_at(wires, process, point);
+                    Move { act, outcome }
                 }
             },
         }
