@@ -1,3 +1,6 @@
+ghost use Rattle.std.specs.Prelude.{◌+◌, ◌≤◌};
+ghost use Rattle.plain_machine.specs.Writes.{HasRoomFor, most_write};
+
 use crate::bank::bank_site;
 use plain_machine::{Plain, play_lines};
 use plain_semantics::{Opener, opener_at, opener_of, openers};
@@ -103,7 +106,10 @@ fn lines_make_the_acts_that_they_ask_for(rt: HostRuntime) -> Result<(), Fail> {
 }
 
 /// What came of an act: whether it was possible, and whether it showed something.
-fn made(plain: &mut Plain<'_>, act: Act) -> (bool, bool) {
+fn made(plain: &mut Plain<'_>, act: Act) -> (bool, bool)
+    requires { HasRoomFor 1 plain.old.state }
+    ensures { most_write plain.new.state.processes ≤ most_write plain.old.state.processes + 1 }
+{
     match plain.act(act) {
         Err(_) => (false, false),
         Ok(None) => (true, false),

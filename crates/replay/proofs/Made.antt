@@ -2,7 +2,7 @@
 use Rattle.std.proofs.Common.{◌≡◌, List, [], ◌∷◌, ◌++◌, Option, Some, is_some, sym, ap, subst, ◌∙◌}
 use Rattle.std.specs.Option.{option_map, unwrap_or}
 use Rattle.plain_machine.specs.Machines.{Machine}
-use Rattle.plain_semantics.specs.Machine.{IsNoneLeft, IsPossible, IsStill, Made, made, made_all, made_before, plain_start, shown_by}
+use Rattle.plain_semantics.specs.Machine.{IsStill, Made, made, made_all, made_before, plain_start, shown_by}
 use Rattle.plain_semantics.proofs.Runs.{made_all-snoc}
 use Rattle.shown_sectors.specs.Sectors.{sectors_after}
 use Rattle.tal_tree.specs.declared.act.Act.{Act}
@@ -11,7 +11,7 @@ use Rattle.tal_tree.specs.declared.site.Site.{Site}
 use Rattle.trace_print.specs.ReportText.{report_text}
 use Rattle.trace_print.specs.declared.closing.End.{End}
 use Rattle.trace_print.specs.declared.closing.End.TheVariants.{Idle}
-use Rattle.replay.specs.Replays.{GoesOn, IsBegun, IsMade, IsReplayed, text_of}
+use Rattle.replay.specs.Replays.{GoesOn, IsMade, IsReplayed, text_of}
 use Rattle.replay.specs.declared.replayed.Replay.{Replay}
 
 -- one act more

@@ -1,5 +1,5 @@
 -- What is promised of a report that is replayed.
-use Rattle.std.specs.Prelude.{◌≡◌, ℕ, List, [], ◌∷◌, ◌++◌, length, Some, codes}
+use Rattle.std.specs.Prelude.{◌≡◌, ℕ, List, ◌∷◌, ◌++◌, length, Some, codes}
 use Rattle.deck_reader.specs.Decks.{Decks}
 use Rattle.deck_reader.specs.declared.deck.Deck.{Deck}
 use Rattle.plain_semantics.specs.Machine.{IsNoneLeft, IsPossible, made_all, plain_start, shown_by}

@@ -1,8 +1,9 @@
 //! Makes the acts of a report, and compares what they show with what it tells.
-ghost use Rattle.std.specs.Prelude.{◌≡◌, ◌++◌, ◌∷◌, [], List, length, IfOk, OnOk};
+ghost use Rattle.std.specs.Prelude.{◌≡◌, ◌+◌, ◌<◌, ◌≤◌, ◌++◌, ◌∷◌, [], List, length, IfOk, OnOk};
 ghost use Rattle.tal_tree.specs.declared.act.Act.{Act};
 ghost use Rattle.plain_machine.specs.Machines.{listed};
 ghost use Rattle.plain_machine.specs.Standing.{IsPlayable};
+ghost use Rattle.plain_machine.specs.Writes.{HasRoomFor, most_write};
 ghost use Rattle.plain_semantics.specs.Machine.{IsStill};
 ghost use Rattle.plain_semantics.specs.SiteLimits.{KeepsSiteLimits};
 ghost use Rattle.trace_print.specs.declared.closing.End.TheVariants.{Idle};
@@ -31,8 +32,10 @@ pub struct Replay<'a> {
     end: Option<End>,
 }
 
-/// Replays the report that follows a deck and the line `REPORT`, and answers how many acts it tells.
+/// Replays the report that follows a deck and the line `REPORT`, and answers how many acts it tells. The input isn't so long
+/// that acts of its lines might write more often than there are numbers of 32 bits.
 pub fn replay_input(alloc: Global, input: &[u8]) -> Result<usize, Difference>
+    requires { length input.now < 4294967296 }
     ensures { IfOk result (Replays input.now) }
 {
     let Some((text, report)) = parts_of(input) else {
@@ -47,7 +50,8 @@ pub fn replay_input(alloc: Global, input: &[u8]) -> Result<usize, Difference>
 
 /// Replays a report of a site, and answers how many acts it tells.
 fn replay_on(alloc: Global, site: &Site, report: &[u8]) -> Result<usize, Difference>
-    requires { IsPlayable site.now }
+    requires playable { IsPlayable site.now }
+    requires short { length report.now < 4294967296 }
     ensures { IfOk result (λ count. (acts : List Act) × IsReplayed site.now report.now acts × (length acts ≡ count)) }
 {
     let mut replay = Replay::start(alloc, site)?;
@@ -63,7 +67,8 @@ fn replay_on(alloc: Global, site: &Site, report: &[u8]) -> Result<usize, Differe
 impl<'a> Replay<'a> {
     fn start(alloc: Global, site: &'a Site) -> Result<Replay<'a>, NoMemory>
         requires { IsPlayable site.now }
-        ensures { IfOk result (IsBegun site.now) }
+        ensures begun { IfOk result (IsBegun site.now) }
+        ensures writes { IfOk result (λ replay. most_write replay.plain.state.processes ≡ 0) }
     {
         let plain = Plain::start(alloc, site)?;
         Ok(Replay {
@@ -79,6 +84,7 @@ impl<'a> Replay<'a> {
     fn read(&mut self, site: &Site, report: &[u8]) -> Result<(), Difference>
         requires limits { KeepsSiteLimits site.now }
         requires made { IsMade self.old }
+        requires room { HasRoomFor (length report.now) self.old.plain.state }
         ensures { OnOk result (GoesOn self.old self.new) }
     {
         let mut rest = report;
@@ -95,8 +101,10 @@ impl<'a> Replay<'a> {
     }
 
     fn go_on(&mut self, told: ReportLine, number: usize) -> Result<(), Difference>
-        requires { IsMade self.old }
-        ensures { OnOk result (GoesOn self.old self.new) }
+        requires made { IsMade self.old }
+        requires room { HasRoomFor 1 self.old.plain.state }
+        ensures made { OnOk result (GoesOn self.old self.new) }
+        ensures writes { OnOk result (most_write self.new.plain.state.processes ≤ most_write self.old.plain.state.processes + 1) }
     {
         match told {
             ReportLine::Shown => Ok(()),
@@ -113,8 +121,10 @@ impl<'a> Replay<'a> {
     }
 
     fn make(&mut self, act: Act, number: usize) -> Result<(), Difference>
-        requires { IsMade self.old }
-        ensures { OnOk result (GoesOn self.old self.new) }
+        requires made { IsMade self.old }
+        requires room { HasRoomFor 1 self.old.plain.state }
+        ensures made { OnOk result (GoesOn self.old self.new) }
+        ensures writes { OnOk result (most_write self.new.plain.state.processes ≤ most_write self.old.plain.state.processes + 1) }
     {
         match self.plain.act(act) {
             Ok(shown) => {
@@ -122,7 +132,6 @@ impl<'a> Replay<'a> {
                 Ok(())
             }
             Err(ActFault::NotPossible) => Err(Difference::Impossible(number)),
-            Err(ActFault::NoMemory(memory)) => Err(Difference::NoMemory(memory)),
         }
     }
 

@@ -42,8 +42,8 @@ module _ (site wires : Site) (lines : List Line) (k : ℕ) (other : Line) (ran n
 pub loop-line-preserved : goal.loop-line-preserved
 loop-line-preserved c = (
   c.loop-line.invariant.0
-  ∙ rest-played c.args.site.now c.args.wires.now c.args.lines.now c.loop-line.line-index _ c.loop-line.ran c.play.new.self c.requires.wires c.loop-line-test.true
-    c.in_ok-play.ensures,
+      ∙ rest-played c.args.site.now c.args.wires.now c.args.lines.now c.loop-line.line-index _ c.loop-line.ran c.play.new.self c.requires.wires c.loop-line-test.true
+      c.in_ok-play.ensures,
   rest-within c.args.site.now c.args.wires.now c.args.lines.now c.loop-line.line-index _ c.loop-line.ran c.play.new.self c.requires.wires c.loop-line-test.true
-    c.in_ok-play.ensures c.loop-line.invariant.1,
+      c.in_ok-play.ensures c.loop-line.invariant.1,
 )

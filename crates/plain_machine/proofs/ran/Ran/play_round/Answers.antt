@@ -1,5 +1,5 @@
 use Rattle.std.proofs.Common.{ap, length, arith}
-use Rattle.plain_machine.specs.Rounds.{Ran, swept, enter_of, next_move}
+use Rattle.plain_machine.specs.Rounds.{Ran, enter_of, next_move}
 use Rattle.plain_machine.specs.Writes.{most_write}
 use Rattle.plain_machine.proofs.Writes.{swept-within}
 use Rattle.plain_machine.proofs.ran.Ran.play_round.Goals as goal

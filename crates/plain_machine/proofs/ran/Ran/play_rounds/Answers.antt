@@ -17,16 +17,16 @@ returns-then-len-before c =
 
 pub loop-preserved : goal.loop-preserved
 loop-preserved c = (
-      c.loop.invariant.0 ∙ rounds_on-more c.args.wires.now c.loop.counter c.args.rounds c.loop.self c.loop-test.true
+  c.loop.invariant.0 ∙ rounds_on-more c.args.wires.now c.loop.counter c.args.rounds c.loop.self c.loop-test.true
       ∙ ap (rounds_on c.args.wires.now (c.args.rounds - (c.loop.counter + 1))) (sym c.in_ok-play_round.ensures),
-      omega (
-        arith,
-        c.loop.invariant.1,
-        round-within c.args.wires.now c.loop.self,
-        ap (λ (ran : Ran). most_write ran.plain.processes) c.in_ok-play_round.ensures,
-        times-more c.loop.counter (round_acts c.args.wires.now),
-      ),
-    )
+  omega (
+    arith,
+    c.loop.invariant.1,
+    round-within c.args.wires.now c.loop.self,
+    ap (λ (ran : Ran). most_write ran.plain.processes) c.in_ok-play_round.ensures,
+    times-more c.loop.counter (round_acts c.args.wires.now),
+  ),
+)
 
 pub play_round-requires : goal.play_round-requires
 play_round-requires c =

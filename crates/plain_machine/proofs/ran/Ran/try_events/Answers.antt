@@ -18,15 +18,15 @@ returns-then-len-before c =
 
 pub loop-preserved : goal.loop-preserved
 loop-preserved c = (
-      c.loop.invariant.0 ∙ repeated-more c.args.wires.now c.args.event c.loop.counter c.args.times c.loop.self c.loop-test.true
+  c.loop.invariant.0 ∙ repeated-more c.args.wires.now c.args.event c.loop.counter c.args.times c.loop.self c.loop-test.true
       ∙ ap (repeated c.args.wires.now c.args.event (c.args.times - (c.loop.counter + 1))) (sym c.in_ok-try_event.ensures),
-      omega (
-        arith,
-        c.loop.invariant.1,
-        happened-within c.args.wires.now c.args.event c.loop.self,
-        ap (λ (ran : Ran). most_write ran.plain.processes) c.in_ok-try_event.ensures,
-      ),
-    )
+  omega (
+    arith,
+    c.loop.invariant.1,
+    happened-within c.args.wires.now c.args.event c.loop.self,
+    ap (λ (ran : Ran). most_write ran.plain.processes) c.in_ok-try_event.ensures,
+  ),
+)
 
 pub try_event-requires : goal.try_event-requires
 try_event-requires c =

@@ -9,9 +9,9 @@ pub loop-process-preserved : goal.loop-process-preserved
 loop-process-preserved c =
     let within : c.loop-process.process < length c.args.wires.now.processes = omega (arith, c.loop-process-test.true, c.process_count-process-end.ensures) in (
       c.loop-process.invariant.0
-      ∙ swept-more c.args.wires.now next_move c.loop-process.process (length c.args.wires.now.processes) c.loop-process.self within
-      ∙ ap (swept c.args.wires.now next_move (c.loop-process.process + 1) (length c.args.wires.now.processes - (c.loop-process.process + 1)))
-      (sym c.in_ok-try_move.ensures),
+          ∙ swept-more c.args.wires.now next_move c.loop-process.process (length c.args.wires.now.processes) c.loop-process.self within
+          ∙ ap (swept c.args.wires.now next_move (c.loop-process.process + 1) (length c.args.wires.now.processes - (c.loop-process.process + 1)))
+          (sym c.in_ok-try_move.ensures),
       omega (
         arith,
         c.loop-process.invariant.1,

@@ -9,8 +9,8 @@ pub loop-terminal-preserved : goal.loop-terminal-preserved
 loop-terminal-preserved c =
     let within : c.loop-terminal.terminal < length c.args.wires.now.terminals = omega (arith, c.loop-terminal-test.true, c.terminal_count-terminal-end.ensures) in (
       c.loop-terminal.invariant.0
-      ∙ swept-more c.args.wires.now print_of c.loop-terminal.terminal (length c.args.wires.now.terminals) c.loop-terminal.self within
-      ∙ ap (swept c.args.wires.now print_of (c.loop-terminal.terminal + 1) (length c.args.wires.now.terminals - (c.loop-terminal.terminal + 1))) (sym c.in_ok-try_act.ensures),
+          ∙ swept-more c.args.wires.now print_of c.loop-terminal.terminal (length c.args.wires.now.terminals) c.loop-terminal.self within
+          ∙ ap (swept c.args.wires.now print_of (c.loop-terminal.terminal + 1) (length c.args.wires.now.terminals - (c.loop-terminal.terminal + 1))) (sym c.in_ok-try_act.ensures),
       omega (
         arith,
         c.loop-terminal.invariant.1,
