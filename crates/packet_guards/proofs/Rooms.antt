@@ -1,30 +1,12 @@
 -- The room of a bus.
-use Rattle.std.proofs.Common.{◌≡◌, ◌≤◌, ◌+◌, suc, Bool, nat_lt, if◌then◌else◌, List, [], ◌∷◌, ◌++◌, length, refl, sym, ap, ◌∙◌, arith, length-append}
-use Rattle.std.proofs.lemmas.Bool.{le-leb}
-use Rattle.std.proofs.lemmas.List.{append-nil, append_assoc}
+use Rattle.std.proofs.Common.{◌≡◌, ◌≤◌, ◌+◌, List, [], ◌∷◌, ◌++◌, length, refl, ap, ◌∙◌, arith, length-append}
 use Rattle.wire.specs.declared.bus_name.BusName.{BusName}
 use Rattle.wire.specs.declared.bus_name.BusName.TheVariants.{X, Y}
 use Rattle.wire.specs.declared.packet.Packet.{Packet}
 use Rattle.bus_model.specs.Packets.{sent}
+use Rattle.packet_wires.proofs.Rooms.{sent-there, sent-full, all-there, all-full}
 use Rattle.packet_wires.specs.Nodes.{Node}
 use Rattle.packet_wires.specs.Wires.{Wires, Midst, on_bus, packets_over, all_put, with_sent, goes_over, nothing_sent}
-
-sent-there : (packet : Packet) (on : List Packet) → suc (length on) ≤ 4096 → sent packet on ≡ on ++ packet ∷ []
-sent-there packet on low = ap (λ (b : Bool). if b then on ++ packet ∷ [] else on) (le-leb (suc (length on)) 4096 low)
-
-sent-full : (packet : Packet) (on : List Packet) → length on ≡ 4096 → sent packet on ≡ on
-sent-full packet on same = ap (λ n. if nat_lt n 4096 then on ++ packet ∷ [] else on) same
-
-all-there : (packets on : List Packet) → length on + length packets ≤ 4096 → all_put packets on ≡ on ++ packets
-all-there [] on low = sym (append-nil on)
-all-there (packet ∷ packets) on low =
-    ap (all_put packets) (sent-there packet on (omega (arith, low)))
-    ∙ all-there packets (on ++ packet ∷ []) (omega (arith, low, length-append on (packet ∷ [])))
-    ∙ append_assoc on (packet ∷ []) packets
-
-all-full : (packets on : List Packet) → length on ≡ 4096 → all_put packets on ≡ on
-all-full [] on same = refl
-all-full (packet ∷ packets) on same = ap (all_put packets) (sent-full packet on same) ∙ all-full packets on same
 
 pub room : (name : BusName) (midst : Midst) (wires : Wires) → length (on_bus name wires) + length (packets_over name midst.out) ≤ 4096
     → on_bus name (with_sent midst wires) ≡ on_bus name wires ++ packets_over name midst.out

@@ -3,6 +3,8 @@ pub mod Between
 pub mod Buses
 pub mod Nodes
 pub mod Owing
+pub mod Passing
+pub mod Resting
 pub mod Sending
 pub mod Ticking
 pub mod Tied

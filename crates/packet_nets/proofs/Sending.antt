@@ -1,5 +1,5 @@
 -- All that nodes send and take in keeps what the net owes.
-use Rattle.std.proofs.Common.{◌≡◌, ◌≤◌, ◌<◌, inl, inr, ℕ, ℤ, Bool, true, false, if◌then◌else◌, List, [], ◌∷◌, ◌++◌, length, Option, Some, None, slice_get, refl, ap, sym, subst, ◌∙◌, arith}
+use Rattle.std.proofs.Common.{◌≡◌, ◌≤◌, ◌<◌, inl, inr, ℕ, ℤ, Bool, true, false, not, if◌then◌else◌, List, [], ◌∷◌, ◌++◌, length, Option, Some, None, slice_get, refl, ap, sym, subst, ◌∙◌, arith}
 use Rattle.std.specs.Option.{option_to_list, option_and_then, option_map}
 use Rattle.std.proofs.lemmas.List.{append-nil, append_assoc}
 use Rattle.gd_words.specs.Members.{IsAmong}
@@ -37,7 +37,7 @@ use Rattle.packet_nets.proofs.Tied as tied
 use Rattle.packet_nets.proofs.Tied.{end-is, end-tied, watched-tied, down-tied, fewer-tied, rest-tied, running-stands, stopped-stands, out-any}
 
 -- No message is without words
-filled : (told : NodeMessage) → 0 < length (words_of told)
+pub filled : (told : NodeMessage) → 0 < length (words_of told)
 filled (Carrying (Asking request)) = omega arith
 filled (Carrying (Replying reply)) = omega arith
 filled (Carrying (Checkpointing message)) = omega arith
@@ -50,27 +50,27 @@ filled (Declaring processor) = omega arith
 module _ {stopped : List Bool} {on : List Packet} {midst : Midst} {n : Net} (t : IsTied stopped on midst n) (x y : ℕ) (node : Node) (e : End)
     (at : slice_get midst.nodes x ≡ Some node) (has : slice_get node.ends y ≡ Some e) (runs : is_running stopped x ≡ true) where
   -- the net has the same end
-  is-net : n.ends x y ≡ e
+  pub is-net : n.ends x y ≡ e
   is-net = end-is t x y node e e at has runs
 
   -- the end stays the same, and sends nothing
-  still-tied : (name : BusName) (sent : Option Packet) (same : End) → same ≡ e → sent ≡ None → IsTied stopped on (any_goes_over name sent (end_changed x y node same midst)) n
+  pub still-tied : (name : BusName) (sent : Option Packet) (same : End) → same ≡ e → sent ≡ None → IsTied stopped on (any_goes_over name sent (end_changed x y node same midst)) n
   still-tied name sent same is none =
       end-tied t x y node e same at has runs name sent n t.whole refl
       (sym (put-own x y n.ends) ∙ ap (λ d. put x y d n.ends) (is-net ∙ sym is)) (sym (append-nil n.flight) ∙ ap (λ o. n.flight ++ option_to_list o) (sym none)) (ap (λ (d : End). d.down) is)
 
   -- an end that isn't down, of a node that runs
-  up : e.down ≡ false → Runs n x y
-  up d = (t.stood x ∙ running-stands stopped x runs, ap (λ (d : End). d.down) is-net ∙ d)
+  pub up : e.down ≡ false → Runs n x y
+  up d = (t.stood x ∙ ap not runs, ap (λ (d : End). d.down) is-net ∙ d)
 
-  push-tied : (words : List ℤ) → 0 < length words → e.down ≡ false
+  pub push-tied : (words : List ℤ) → 0 < length words → e.down ≡ false
       → IsTied stopped on (any_goes_over bus.X (sent_by_push words e) (end_changed x y node (after_push words e) midst)) (pushed_net x y words n)
   push-tied words some d =
       end-tied t x y node e (after_push words e) at has runs bus.X (sent_by_push words e) (pushed_net x y words n) (whole-goes (pushes x y words some (up d)) t.whole) refl
       (ap (λ d. put x y (after_push words d) n.ends) is-net) (ap (λ d. n.flight ++ option_to_list (sent_by_push words d)) is-net)
       (ap (λ (d : End). d.down) (when-up e (record e { sending = pushed words e.sending }) d))
 
-  tick-tied : (sent : Option Resent) → sent_by_tick e ≡ sent → e.down ≡ false → IsTied stopped on (goes_again sent (end_changed x y node (after_tick e) midst)) (ticked_net x y n)
+  pub tick-tied : (sent : Option Resent) → sent_by_tick e ≡ sent → e.down ≡ false → IsTied stopped on (goes_again sent (end_changed x y node (after_tick e) midst)) (ticked_net x y n)
   tick-tied sent is d = by sent is
     where
       with_packet : (name : BusName) (packet : Option Packet) → option_map packet_in (sent_by_tick e) ≡ packet
@@ -84,7 +84,7 @@ module _ {stopped : List Bool} {on : List Packet} {midst : Midst} {n : Net} (t :
       by None is = with_packet bus.X None (ap (option_map packet_in) is)
       by (Some resent) is = with_packet resent.bus (Some resent.packet) (ap (option_map packet_in) is)
 
-  live-tied : e.down ≡ false → IsTied stopped on (goes_over bus.Y (packet_of e kind.Alive) (goes_over bus.X (packet_of e kind.Alive) midst)) (alive_net x y n)
+  pub live-tied : e.down ≡ false → IsTied stopped on (goes_over bus.Y (packet_of e kind.Alive) (goes_over bus.X (packet_of e kind.Alive) midst)) (alive_net x y n)
   live-tied d = record {
     shape = t.shape;
     whole = whole-goes (lives x y (up d)) t.whole;
@@ -112,7 +112,7 @@ module _ {stopped : List Bool} {on : List Packet} {midst : Midst} {n : Net} (t :
         | inr sent ↦ now one sent
       ]
 
-  arrive-tied : (name : BusName) (p : Packet) → p.receiver ≡ x → p.sender ≡ y → IsAmong p n.flight → e.down ≡ false
+  pub arrive-tied : (name : BusName) (p : Packet) → p.receiver ≡ x → p.sender ≡ y → IsAmong p n.flight → e.down ≡ false
       → IsTied stopped on (any_goes_over name (sent_by_packet p e) (end_changed x y node (after_packet p e) midst)) (arrived_net x y p n)
   arrive-tied name p r s among d =
       end-tied t x y node e (after_packet p e) at has runs name (sent_by_packet p e) (arrived_net x y p n)
@@ -129,13 +129,13 @@ module _ {stopped : List Bool} {on : List Packet} {midst : Midst} {n : Net} (t :
 -- What is tied and owed, together
 
 -- nodes that there may be have their ends
-absent : {stopped : List Bool} {on : List Packet} {midst : Midst} {n : Net} (t : IsTied stopped on midst n) (x y : ℕ) → end_at midst.nodes x y ≡ None → x ≤ 16 → y ≤ 16 → ⊥
+pub absent : {stopped : List Bool} {on : List Packet} {midst : Midst} {n : Net} (t : IsTied stopped on midst n) (x y : ℕ) → end_at midst.nodes x y ≡ None → x ≤ 16 → y ≤ 16 → ⊥
 absent t x y e low few = let one = t.shape x y low few in let bad : None ≡ Some one.0 = sym e ∙ one.1 in absurd cc
 
-no-node : (midst : Midst) (x y : ℕ) → slice_get midst.nodes x ≡ None → end_at midst.nodes x y ≡ None
+pub no-node : (midst : Midst) (x y : ℕ) → slice_get midst.nodes x ≡ None → end_at midst.nodes x y ≡ None
 no-node midst x y e = ap (option_and_then (λ (node : Node). slice_get node.ends y)) e
 
-no-end : (midst : Midst) (x y : ℕ) (node : Node) → slice_get midst.nodes x ≡ Some node → slice_get node.ends y ≡ None → end_at midst.nodes x y ≡ None
+pub no-end : (midst : Midst) (x y : ℕ) (node : Node) → slice_get midst.nodes x ≡ Some node → slice_get node.ends y ≡ None → end_at midst.nodes x y ≡ None
 no-end midst x y node at e = ap (option_and_then (λ (node : Node). slice_get node.ends y)) at ∙ e
 
 is-end : (midst : Midst) (x y : ℕ) (node : Node) (e : End) → slice_get midst.nodes x ≡ Some node → slice_get node.ends y ≡ Some e → end_at midst.nodes x y ≡ Some e

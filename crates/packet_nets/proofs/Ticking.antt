@@ -10,7 +10,7 @@ use Rattle.std.proofs.lemmas.Option.{slice_get_within}
 use Rattle.tal_tree.specs.declared.site.Site.{Site}
 use Rattle.wire.specs.declared.packet.Packet.{Packet}
 use Rattle.link_control.specs.Ends.{End, new_end}
-use Rattle.channel_laws.specs.Net.{quiet_net}
+use Rattle.channel_laws.specs.Net.{Net, IsWhole, quiet_net}
 use Rattle.channel_laws.proofs.Nets.{whole-quiet}
 use Rattle.alive_regroup.specs.declared.neighbour.Neighbour.{Neighbour}
 use Rattle.alive_regroup.specs.declared.neighbour.Neighbour.TheVariants.{Absent}
@@ -21,11 +21,12 @@ use Rattle.world_semantics.proofs.Lists.{some-same}
 use Rattle.letters.specs.Routes.{Letter}
 use Rattle.message_layout.specs.Messages.{NodeMessage, Reporting, Declaring}
 use Rattle.packet_wires.specs.Nodes.{Node, end_at, numbers, all_nodes, others, never_reloaded, node_at_boot, nodes_at_boot}
-use Rattle.packet_wires.specs.Lines.{first_held}
+use Rattle.packet_wires.specs.Lines.{first_held, line_pulled}
 use Rattle.packet_wires.specs.Wires.{Midst, wires_at_boot, at_node, at_end, watch_changed, for_each, sends, sends_all, alive_at, tells_alive, reports, check_at, checks, tick_at, ticked, declares}
 use Rattle.message_layout.specs.Layout.{Fits}
-use Rattle.packet_nets.specs.Tied.{stands, IsWatch}
+use Rattle.packet_nets.specs.Tied.{IsWatch}
 use Rattle.packet_nets.specs.Owing.{Ties, TiesAtRest}
+use Rattle.packet_nets.specs.Passing.{IsNet}
 use Rattle.packet_nets.proofs.Sending.{sends-ties, tick-ties, live-ties, each-ties, watched-ties}
 use Rattle.packet_nets.proofs.Watches.{ticked-watch, size-map}
 
@@ -162,15 +163,20 @@ size-numbers b (suc n) = ap suc (size-numbers b n)
 
 pub begins : (site : Site) → TiesAtRest site (replicate site.processors false) (wires_at_boot site.processors) [] []
 begins site = record {
-  net = quiet_net (λ x. 0);
+  net = record (quiet_net (λ x. 0)) { stopped = λ x. not (is_running (replicate site.processors false) x) };
   tied = record {
     shape = λ x y low few. (
       new_end x y never_reloaded,
       ap (option_and_then (λ (node : Node). slice_get node.ends y)) (numbered (node_at_boot site.processors) 0 17 x (omega (arith, low)) ∙ ap (λ k. Some (node_at_boot site.processors k)) (omega arith))
           ∙ numbered (λ other. new_end x other never_reloaded) 0 17 y (omega (arith, few)) ∙ ap (λ k. Some (new_end x k never_reloaded)) (omega arith),
     );
-    whole = whole-quiet (λ x. 0);
-    stood = λ x. sym (none site.processors x);
+    whole = record {
+      joint = quiet.joint;
+      named = quiet.named;
+      tied = λ a b live. record { sending = refl; receiving = refl };
+      flight = quiet.flight;
+    };
+    stood = λ x. refl;
     ends = λ x y e runs is. has_end x y e is;
     flight = λ p among. among;
     out = λ one among. among;
@@ -181,10 +187,8 @@ begins site = record {
   places = size-numbers false site.processors;
 }
   where
-    none : (n x : ℕ) → stands (replicate n false) x ≡ false
-    none zero x = refl
-    none (suc n) zero = refl
-    none (suc n) (suc x) = none n x
+    quiet : IsWhole (quiet_net (λ x. 0))
+    quiet = whole-quiet (λ x. 0)
 
     has_end : (x y : ℕ) (e : End) → end_at (nodes_at_boot site.processors) x y ≡ Some e → new_end x y never_reloaded ≡ e
     has_end x y e is = by (slice_get (nodes_at_boot site.processors) x) refl is
@@ -205,3 +209,15 @@ begins site = record {
         first : (k : ℕ) (test : Bool) → nat_lt k site.processors ≡ test → site.processors ≤ k → at_first x site.processors k ≡ Absent
         first k true e far = let low = leb-true (suc k) site.processors e in absurd (omega (arith, low, far))
         first k false e far = rw e refl
+
+pub begins-net : (site : Site) → (n : Net) × IsNet (replicate site.processors false) (wires_at_boot site.processors) n
+unfolding begins
+begins-net site = ((begins site).net, record { tied = (begins site).tied; held = λ p among. among; senders = λ p among. absurd among })
+
+-- the line that a node pulls is that of another processor
+pub pulled-other : (node : ℕ) (nodes : List Node) (processor : ℕ) → option_and_then (line_pulled node) (slice_get nodes node) ≡ Some processor → (processor ≢ node) × (processor ≤ 15)
+pulled-other node nodes processor is = by (slice_get nodes node) is
+  where
+    by : (one : Option Node) → option_and_then (line_pulled node) one ≡ Some processor → (processor ≢ node) × (processor ≤ 15)
+    by None is = absurd cc
+    by (Some knows) is = held-other node knows.watch 0 16 processor (omega arith) is

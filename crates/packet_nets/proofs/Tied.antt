@@ -1,7 +1,8 @@
 -- The tie of midst to a net, kept step by step.
 use Rattle.std.proofs.lemmas.Bool.{eqb-true}
+use Rattle.std.proofs.lemmas.Option.{slice_get_within}
 use Rattle.world_semantics.proofs.Lists.{set-there, set-other}
-use Rattle.std.proofs.Common.{◌≡◌, ◌≤◌, ◌⊎◌, inl, inr, ℕ, Bool, true, false, if◌then◌else◌, ◌==◌, List, [], ◌∷◌, ◌++◌, Option, Some, None, slice_get, slice_set, refl, ap, sym, subst, ◌∙◌, eq-eqb}
+use Rattle.std.proofs.Common.{◌≡◌, ◌≤◌, ◌⊎◌, inl, inr, ℕ, Bool, true, false, not, if◌then◌else◌, ◌==◌, List, [], ◌∷◌, ◌++◌, Option, Some, None, slice_get, slice_set, refl, ap, sym, subst, ◌∙◌, eq-eqb, length, arith}
 use Rattle.std.specs.Option.{option_to_list, unwrap_or}
 use Rattle.gd_words.specs.Members.{IsAmong}
 use Rattle.gd_words.proofs.Among.{among-left, among-right, among-either}
@@ -12,7 +13,7 @@ use Rattle.link_control.specs.Ends.{End, after_down}
 use Rattle.alive_regroup.specs.Watching.{Watching}
 use Rattle.channel_laws.specs.Net.{Net, IsWhole, put, stopped_net, marked_net, stops, marks}
 use Rattle.channel_laws.proofs.Nets.{put-same, put-all, whole-goes}
-use Rattle.world_semantics.specs.World.{is_running, runs_by}
+use Rattle.world_semantics.specs.World.{is_running, runs_by, terminal_node}
 use Rattle.packet_wires.specs.Nodes.{Node, end_at, with_end}
 use Rattle.packet_wires.specs.Wires.{Wires, Midst, Outgoing, nothing_sent, on_bus, packets_over, all_put, with_sent, goes_over, any_goes_over, end_changed, watch_changed, learns, at_node}
 use Rattle.packet_nets.specs.Tied.{stands, IsTied}
@@ -31,6 +32,18 @@ running-stands stopped x r = by (slice_get stopped x) r
 
 pub stopped-stands : (stopped : List Bool) (x : ℕ) → slice_get stopped x ≡ Some true → stands stopped x ≡ true
 stopped-stands stopped x e = ap (λ o. unwrap_or o false) e
+
+-- who has stopped doesn't run
+pub gone-rests : (stopped : List Bool) (x : ℕ) → slice_get stopped x ≡ Some true → is_running stopped x ≡ false
+gone-rests stopped x e = ap (runs_by x) e
+
+-- nodes that run are numbered up to 16, as processors are fewer
+pub running-low : (stopped : List Bool) (x : ℕ) → length stopped ≤ 16 → is_running stopped x ≡ true → x ≤ 16
+running-low stopped x few runs = by (slice_get stopped x) refl runs
+  where
+    by : (one : Option Bool) → slice_get stopped x ≡ one → runs_by x one ≡ true → x ≤ 16
+    by None e r = let same = eqb-true x terminal_node r in omega (arith, same)
+    by (Some one) e r = let low = slice_get_within stopped x one e in omega (arith, low, few)
 
 pub stands-stopped : (stopped : List Bool) (x : ℕ) → stands stopped x ≡ true → slice_get stopped x ≡ Some true
 stands-stopped stopped x e = by (slice_get stopped x) e
@@ -228,10 +241,10 @@ module _ (stopped : List Bool) (processor : ℕ) (runs : slice_get stopped proce
     down = λ a b is. stop-stands b (t.down a b is);
   }
     where
-      by : (a : ℕ) (test : Bool) → (a == processor) ≡ test → (if test then true else n.stopped a) ≡ stands later a
-      by a true e = subst (λ c. true ≡ stands later c) (sym (eqb-true a processor e)) (sym (stopped-stands later processor now))
+      by : (a : ℕ) (test : Bool) → (a == processor) ≡ test → (if test then true else n.stopped a) ≡ not (is_running later a)
+      by a true e = subst (λ c. true ≡ not (is_running later c)) (sym (eqb-true a processor e)) (ap not (sym (gone-rests later processor now)))
       by a false e =
-          t.stood a ∙ ap (λ o. unwrap_or o false) (sym (set-other stopped processor a true (λ s. let here : (a == processor) ≡ true = eq-eqb a processor (sym s) in absurd cc)))
+          t.stood a ∙ ap (λ o. not (runs_by a o)) (sym (set-other stopped processor a true (λ s. let here : (a == processor) ≡ true = eq-eqb a processor (sym s) in absurd cc)))
 
 -- One end is thrown away
 
@@ -243,7 +256,7 @@ module _ {stopped : List Bool} {on : List Packet} {midst : Midst} {n : Net} (t :
   pub down-tied : IsTied stopped on (end_changed x y node (after_down e0) midst) (marked_net x y n)
   down-tied = record {
     shape = shape;
-    whole = whole-goes (marks x y (t.stood y ∙ stopped-stands stopped y gone)) t.whole;
+    whole = whole-goes (marks x y (t.stood y ∙ ap not (gone-rests stopped y gone))) t.whole;
     stood = t.stood;
     ends = has_end;
     flight = t.flight;

@@ -1,5 +1,5 @@
 -- The wires of a state as a net of channels.
-use Rattle.std.specs.Prelude.{◌≡◌, ◌≤◌, ℕ, Bool, true, false, List, length, slice_get, Some}
+use Rattle.std.specs.Prelude.{◌≡◌, ◌≤◌, ℕ, Bool, true, false, not, List, length, slice_get, Some}
 use Rattle.std.specs.Option.{unwrap_or}
 use Rattle.gd_words.specs.Members.{IsAmong}
 use Rattle.wire.specs.declared.packet.Packet.{Packet}
@@ -17,12 +17,12 @@ abbrev pub stands : List Bool → ℕ → Bool
 stands stopped x = unwrap_or (slice_get stopped x) false
 
 -- the wires in the midst of an event are those of a net, while these packets are on the buses: between nodes up to 16 each has an end with each; the net is
--- whole, and its nodes have stopped where the world's have; the ends of a node that runs are the net's; what is on the buses and what the event has sent is in
+-- whole, and its nodes have stopped where the world's don't run; the ends of a node that runs are the net's; what is on the buses and what the event has sent is in
 -- flight in the net, which forgets no packet; and who is cut off has stopped
 pub record IsTied (stopped : List Bool) (on : List Packet) (midst : Midst) (n : Net) : Type 0 where
   pub shape : (x y : ℕ) → x ≤ 16 → y ≤ 16 → (e : End) × (end_at midst.nodes x y ≡ Some e)
   pub whole : IsWhole n
-  pub stood : (x : ℕ) → n.stopped x ≡ stands stopped x
+  pub stood : (x : ℕ) → n.stopped x ≡ not (is_running stopped x)
   pub ends : (x y : ℕ) (e : End) → is_running stopped x ≡ true → end_at midst.nodes x y ≡ Some e → n.ends x y ≡ e
   pub flight : (p : Packet) → IsAmong p on → IsAmong p n.flight
   pub out : (one : Outgoing) → IsAmong one midst.out → IsAmong one.packet n.flight

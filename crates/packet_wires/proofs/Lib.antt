@@ -1,3 +1,4 @@
 pub mod Held
+pub mod Rooms
 pub mod Served
 pub mod Stopped

@@ -1,6 +1,6 @@
 -- What each event makes of a state in the machine over packets: the world of copies, with both buses and the nodes under it. It takes its packet off a bus;
 -- then it changes world and nodes, which see no bus; and when it is over, what it sent is put on the buses.
-use Rattle.std.specs.Prelude.{ℕ, Bool, true, false, ℤ, if◌then◌else◌, List, [], ◌++◌, length, slice_get, Option, Some, None}
+use Rattle.std.specs.Prelude.{◌≤◌, ℕ, ◌+◌, Bool, true, false, ℤ, if◌then◌else◌, List, [], ◌++◌, length, slice_get, Option, Some, None}
 use Rattle.std.specs.Option.{option_and_then, option_map}
 use Rattle.tal_tree.specs.declared.site.Site.{Site}
 use Rattle.schedule.specs.declared.event.Event.{Event}
@@ -24,7 +24,7 @@ use Rattle.message_layout.specs.Messages.{NodeMessage, Carrying, Reporting, Decl
 use Rattle.message_layout.specs.Reading.{understood}
 use Rattle.packet_wires.specs.Nodes.{end_at}
 use Rattle.packet_wires.specs.Lines.{line_pulled}
-use Rattle.packet_wires.specs.Wires.{Wires, Outgoing, Midst, nothing_sent, wires_at_boot, on_bus, bus_named, without_packet, with_sent, goes_over, all_posted, arrived, learns, ticked, cut_off, declares}
+use Rattle.packet_wires.specs.Wires.{Wires, Outgoing, Midst, nothing_sent, wires_at_boot, on_bus, bus_named, without_packet, packets_over, with_sent, goes_over, all_posted, arrived, learns, ticked, cut_off, declares}
 
 -- a state over packets
 abbrev pub Packeted : Type 0
@@ -202,6 +202,10 @@ out_of (WouldStop processor) = []
 
 abbrev pub sent_by : Packeted → Event → List Outgoing
 sent_by s event = out_of (acted s event)
+
+-- an event is clear: each bus has room for all that it sends over it
+abbrev pub IsClear : Packeted → Event → Type 0
+IsClear s event = (name : BusName) → length (on_bus name (taken_off event s.wires)) + length (packets_over name (sent_by s event)) ≤ 4096
 
 -- What is told of the buses
 

@@ -39,7 +39,7 @@ made-goes : (s : Underway) (done : Option Done) → StopsNone s.world done → G
 made-goes s None none = skips
 made-goes s (Some done) none = stops_none refl none
 
-marks-stay : (node processor : ℕ) (s : Underway) → Stays s (marks node processor s)
+pub marks-stay : (node processor : ℕ) (s : Underway) → Stays s (marks node processor s)
 marks-stay node processor s = by (marked_done node processor s.world) (mark-none s.site s.world node processor)
   where
     by : (done : Option Done) → StopsNone s.world done → Stays s (marked_by node processor s done)

@@ -1,17 +1,15 @@
 -- Idle over packets, and idle as a post.
-use Rattle.std.proofs.Common.{◌≡◌, ◌≤◌, ◌<◌, inl, inr, ℕ, zero, suc, ◌+◌, ℤ, Bool, true, false, not, ◌||◌, List, [], ◌∷◌, ◌++◌, length, Option, Some, None, slice_get, refl, sym, ap, subst, ◌∙◌, arith}
+use Rattle.std.proofs.Common.{◌≡◌, ◌≤◌, ◌<◌, inl, inr, ℕ, zero, suc, ◌+◌, ℤ, Bool, true, false, not, ◌||◌, List, [], ◌∷◌, ◌++◌, Some, refl, sym, ap, subst, ◌∙◌, arith}
 use Rattle.std.specs.List.{list_all}
 use Rattle.std.specs.Cmp.Derive.{both_true}
-use Rattle.std.proofs.lemmas.Bool.{eqb-true}
 use Rattle.std.proofs.lemmas.List.{append-nil, append_cancel_left}
-use Rattle.std.proofs.lemmas.Option.{slice_get_within}
 use Rattle.gd_words.specs.Members.{IsAmong}
 use Rattle.channel_laws.specs.Net.{Runs}
 use Rattle.channel_laws.specs.Way.{Way, IsJoint, total}
 use Rattle.channel_laws.proofs.Places.{total-append, none-left}
 use Rattle.link_control.specs.Ends.{End, Sending, is_none, is_empty}
 use Rattle.world_semantics.proofs.Roles.{both-true}
-use Rattle.world_semantics.specs.World.{is_running, runs_by, terminal_node}
+use Rattle.world_semantics.specs.World.{is_running}
 use Rattle.letters.specs.Idle.{IsIdle}
 use Rattle.letters.specs.Routes.{Letter}
 use Rattle.message_wires.specs.Idle as whole
@@ -21,7 +19,7 @@ use Rattle.packet_wires.specs.Nodes.{numbers, all_nodes, end_at}
 use Rattle.packet_wires.specs.Play.{Packeted}
 use Rattle.packet_nets.specs.Owing.{carried, goes, between, IsOpen, TiesAtRest}
 use Rattle.packet_nets.proofs.Between.{between-yes, between-no, goes-there}
-use Rattle.packet_nets.proofs.Tied.{running-stands}
+use Rattle.packet_nets.proofs.Tied.{running-low, running-stands}
 
 -- a way whose sender holds nothing has handed over all that was pushed
 all-handed : (w : Way) → IsJoint w → w.sender.queue ≡ [] → w.out ≡ w.pushes
@@ -45,14 +43,6 @@ all-numbers test from (suc many) all (suc k) low = ap test (omega arith) ∙ all
 all-nodes : (test : ℕ → Bool) → list_all test all_nodes ≡ true → (k : ℕ) → k ≤ 16 → test k ≡ true
 all-nodes test all k low = ap test (omega arith) ∙ all-numbers test 0 17 all k (omega (arith, low))
 
--- nodes that run are numbered up to 16
-node-low : (stopped : List Bool) (x : ℕ) → length stopped ≤ 16 → is_running stopped x ≡ true → x ≤ 16
-node-low stopped x few runs = by (slice_get stopped x) refl runs
-  where
-    by : (one : Option Bool) → slice_get stopped x ≡ one → runs_by x one ≡ true → x ≤ 16
-    by None e r = let same = eqb-true x terminal_node r in omega (arith, same)
-    by (Some one) e r = let low = slice_get_within stopped x one e in omega (arith, low, few)
-
 -- an owed letter counts among those of its sender and receiver
 owed-between : (letter : Letter) (owed : List Letter) → IsAmong letter owed → between letter.sender letter.receiver owed ≡ [] → ⊥
 owed-between letter [] among none = among
@@ -75,10 +65,10 @@ module _ (s : Packeted) (owed sent : List Letter) (few : s.site.processors ≤ 1
       x = letter.sender
 
       low : letter.sender ≤ 16
-      low = node-low s.world.stopped letter.sender (omega (arith, few, T.places)) sends
+      low = running-low s.world.stopped letter.sender (omega (arith, few, T.places)) sends
 
       low_too : letter.receiver ≤ 16
-      low_too = node-low s.world.stopped letter.receiver (omega (arith, few, T.places)) receives
+      low_too = running-low s.world.stopped letter.receiver (omega (arith, few, T.places)) receives
 
       -- nobody has cut off a node that runs
       up : (a b : ℕ) → is_running s.world.stopped b ≡ true → (T.net.ends a b).down ≡ false
@@ -92,7 +82,7 @@ module _ (s : Packeted) (owed sent : List Letter) (few : s.site.processors ≤ 1
       opens = record { sender = low; receiver = low_too; runs = sends; there = up letter.sender letter.receiver receives; back = up letter.receiver letter.sender sends }
 
       live : Runs T.net letter.sender letter.receiver
-      live = (T.tied.stood letter.sender ∙ running-stands s.world.stopped letter.sender sends, up letter.sender letter.receiver receives)
+      live = (T.tied.stood letter.sender ∙ ap not sends, up letter.sender letter.receiver receives)
 
       it : (e : End) × (end_at s.wires.nodes letter.sender letter.receiver ≡ Some e)
       it = T.tied.shape letter.sender letter.receiver low low_too

@@ -1,5 +1,5 @@
 -- Every event does to the post what it makes of the state.
-use Rattle.std.proofs.Common.{◌≡◌, ◌≢◌, ◌≤◌, ℕ, Bool, true, false, if◌then◌else◌, ℤ, List, [], ◌∷◌, ◌++◌, Option, Some, None, slice_get, slice_set, refl, sym, ap, subst, ◌∙◌, option_and_then, arith}
+use Rattle.std.proofs.Common.{◌≡◌, ◌≢◌, ◌≤◌, ℕ, Bool, true, false, if◌then◌else◌, ℤ, List, [], ◌∷◌, ◌++◌, Option, Some, None, slice_get, slice_set, refl, sym, ap, subst, ◌∙◌}
 use Rattle.gd_words.specs.Members.{IsAmong}
 use Rattle.gd_words.proofs.Among.{among-at, among-left, among-right}
 use Rattle.tal_tree.specs.declared.site.Site.{Site}
@@ -34,8 +34,6 @@ use Rattle.message_wires.specs.Play.{has_stopped}
 use Rattle.wires_laws.proofs.Stopping.{StopsNone, run-none, enter-none, handed-none, mark-none}
 use Rattle.message_layout.specs.Messages.{NodeMessage, Carrying, Reporting, Declaring}
 use Rattle.message_layout.specs.Reading.{understood}
-use Rattle.packet_wires.specs.Nodes.{Node}
-use Rattle.packet_wires.specs.Lines.{line_pulled}
 use Rattle.packet_wires.specs.Wires.{Wires, Midst, bus_named, goes_over, all_posted, arrived, learns, ticked, cut_off}
 use Rattle.packet_wires.specs.Play.{Packeted, Underway, begun, after_done, made_by, after_any, after_marked, marked_by, marks, declared, handed, handed_any, handed_words, received, deliver_acted, lose_acted, repeat_acted, fail_acted, marks_and_declares, pulled, pulls, line_of, pulls_its, tick_acted, packet_at, acted, taken_off, ended, play}
 use Rattle.message_layout.specs.Layout.{Fits}
@@ -45,7 +43,7 @@ use Rattle.packet_nets.proofs.Arriving.{Arrives, hands_none, hands_other, hands_
 use Rattle.packet_nets.proofs.Buses.{among-without}
 use Rattle.packet_nets.proofs.Owing.{stop-owes}
 use Rattle.packet_nets.proofs.Sending.{all-posted-ties, cut-ties, more-ties, watched-ties, fewer-ties, rest-ties, Came, came}
-use Rattle.packet_nets.proofs.Ticking.{ticked-ties, down-ties, held-other}
+use Rattle.packet_nets.proofs.Ticking.{ticked-ties, down-ties, pulled-other}
 use Rattle.packet_nets.proofs.Tied.{stop-tied, repeated-tied}
 use Rattle.packet_nets.proofs.Watches.{changed-watch, size-set}
 
@@ -95,14 +93,14 @@ repeated-ties midst name packet among T =
     record { net = T.net; tied = repeated-tied name packet among T.tied; owes = T.owes; watches = T.watches; places = T.places }
 
 -- a stop leaves other nodes running
-still-running : (stopped : List Bool) (processor node : ℕ) → processor ≢ node → is_running stopped node ≡ true → is_running (slice_set stopped processor true) node ≡ true
+pub still-running : (stopped : List Bool) (processor node : ℕ) → processor ≢ node → is_running stopped node ≡ true → is_running (slice_set stopped processor true) node ≡ true
 still-running stopped processor node n runs = ap (runs_by node) (set-other stopped processor node true n) ∙ runs
 
-now-stopped : (stopped : List Bool) (processor : ℕ) → slice_get stopped processor ≡ Some false → slice_get (slice_set stopped processor true) processor ≡ Some true
+pub now-stopped : (stopped : List Bool) (processor : ℕ) → slice_get stopped processor ≡ Some false → slice_get (slice_set stopped processor true) processor ≡ Some true
 now-stopped stopped processor e = set-there stopped processor false true e
 
 -- a mark is made of a stopped processor alone
-mark-gone : (node processor : ℕ) (w : World) (done : Done) → marked_done node processor w ≡ Some done → slice_get w.stopped processor ≡ Some true
+pub mark-gone : (node processor : ℕ) (w : World) (done : Done) → marked_done node processor w ≡ Some done → slice_get w.stopped processor ≡ Some true
 mark-gone node processor w done e = by (slice_get w.stopped processor) refl e
   where
     by : (one : Option Bool) → slice_get w.stopped processor ≡ one → mark_where node processor w one ≡ Some done → slice_get w.stopped processor ≡ Some true
@@ -345,15 +343,8 @@ module _ (events : List Event) (on : List Packet) (s : Underway) (owed sent : Li
         by (Some false) e =
             stops e (stop-may s.site processor s.world (record { world = stopped_world processor s.world; sendings = [] }) (rw e refl)) (has_stopped s.world.stopped)
 
-    decided-other : (midst : Midst) (processor : ℕ) → option_and_then (line_pulled node) (slice_get midst.nodes node) ≡ Some processor → (processor ≢ node) × (processor ≤ 15)
-    decided-other midst processor is = by (slice_get midst.nodes node) is
-      where
-        by : (one : Option Node) → option_and_then (line_pulled node) one ≡ Some processor → (processor ≢ node) × (processor ≤ 15)
-        by None is = absurd cc
-        by (Some knows) is = held-other node knows.watch 0 16 processor (omega arith) is
-
     ticked-on : GoesOn (events ++ Tick node ∷ []) on s (pulls_its node (record s { wires = ticked s.site.processors node s.wires }))
-    ticked-on = line-on (line_of node (record s { wires = ticked s.site.processors node s.wires })) (decided-other (ticked s.site.processors node s.wires))
+    ticked-on = line-on (line_of node (record s { wires = ticked s.site.processors node s.wires })) (pulled-other node (ticked s.site.processors node s.wires).nodes)
 
   tick-on : (node : ℕ) → GoesOn (events ++ Tick node ∷ []) on s (tick_acted node s)
   tick-on node = by (is_running s.world.stopped node) refl
@@ -375,7 +366,7 @@ GoesOnAtRest events s Skips = CarriesAtRest events s
 GoesOnAtRest events s (WouldStop processor) = Unit {0}
 
 -- what is left on the buses when an event has taken its packet was there
-among-taken : (event : Event) (wires : Wires) (p : Packet) → IsAmong p (on_both (taken_off event wires)) → IsAmong p (on_both wires)
+pub among-taken : (event : Event) (wires : Wires) (p : Packet) → IsAmong p (on_both (taken_off event wires)) → IsAmong p (on_both wires)
 among-taken (Run number) wires p among = among
 among-taken (Enter number) wires p among = among
 among-taken (Deliver y k) wires p among = among-without (bus_named y) k wires p among

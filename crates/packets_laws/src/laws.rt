@@ -1,5 +1,5 @@
 //! Laws of what is played over packets.
-ghost use Rattle.std.specs.Prelude.{◌≡◌, ◌⊎◌, ◌<◌, ℕ, ℤ, Bool, true, List, length, slice_get, Some};
+ghost use Rattle.std.specs.Prelude.{◌≡◌, ◌≤◌, ◌⊎◌, ◌<◌, ℕ, ℤ, Bool, true, List, length, slice_get, Some};
 ghost use Rattle.gd_words.specs.Members.{IsAmong};
 ghost use Rattle.wire.specs.declared.bus_name.BusName.{BusName};
 ghost use Rattle.wire.specs.declared.packet.Packet.{Packet};
@@ -15,12 +15,14 @@ ghost use Rattle.letters.specs.Posts.{HasPlayed};
 ghost use Rattle.letters.specs.Routes.{Letter};
 ghost use Rattle.machine_states.specs.States.{Makes};
 ghost use Rattle.letters_layout.specs.Fitting.{IsSmall};
+ghost use Rattle.channel_laws.specs.Net.{Net};
 ghost use Rattle.packet_wires.specs.Idle.{is_idle};
 ghost use Rattle.packet_wires.specs.Nodes.{end_at};
-ghost use Rattle.packet_wires.specs.Play.{Packeted, completed, packet_at, play};
+ghost use Rattle.packet_wires.specs.Play.{Packeted, completed, packet_at, packeted_at_boot, play};
 ghost use Rattle.packet_wires.specs.Runs.{IsPlayed};
 ghost use Rattle.packet_wires.specs.Wires.{bus_named};
 ghost use Rattle.packet_nets.specs.Owing.{WasPushed};
+ghost use Rattle.packets_laws.specs.Passing.{IsNetOf, IsPassed};
 ghost use Rattle.packets_laws.specs.Pieces.{HandsOver};
 
 /// Whatever fewer than 4,294,967,296 events play over packets, they do to a post of the same world; so it is a run of the world.
@@ -62,4 +64,13 @@ pub fn only_what_has_stopped_is_marked()
 /// Whatever is played, no second processor stops.
 pub fn a_second_processor_never_stops()
     ensures { (site : Site) (events : List Event) (s : Packeted) → IsPlayed site events s → OneStops s.world }
+{}
+
+/// What is played goes on in the net of channels: at the beginning the wires are those of a net, and each event leads from the net
+/// of its state to that of the next one, by steps of the net between any two nodes that still run after it.
+pub fn what_is_played_goes_on_in_the_net()
+    ensures begins { (site : Site) → (n : Net) × IsNetOf (packeted_at_boot site) n }
+    ensures event { (s : Packeted) (event : Event) (next : Packeted) (n : Net) (a b : ℕ) → length s.world.stopped ≤ 16 → IsNetOf s n
+        → play s event ≡ Makes next → is_running next.world.stopped a ≡ true → is_running next.world.stopped b ≡ true
+        → IsPassed a b s event next n }
 {}
