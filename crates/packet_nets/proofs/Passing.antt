@@ -1,5 +1,5 @@
 -- What nodes send and take in goes on in the net.
-use Rattle.std.proofs.Common.{◌≡◌, ◌≢◌, ◌≤◌, ◌<◌, ◌⊎◌, inl, inr, ℕ, ℤ, Bool, true, false, not, if◌then◌else◌, ◌==◌, List, [], ◌∷◌, ◌++◌, length, Option, Some, None, slice_get, slice_set, refl, ap, sym, subst, ◌∙◌, option_map}
+use Rattle.std.proofs.Common.{◌≡◌, ◌≢◌, ◌≤◌, ◌<◌, ◌⊎◌, inl, inr, ℕ, zero, suc, ◌+◌, ℤ, Bool, true, false, not, if◌then◌else◌, ◌==◌, List, [], ◌∷◌, ◌++◌, length, Option, Some, None, slice_get, slice_set, refl, ap, sym, subst, ◌∙◌, arith, option_map}
 use Rattle.std.specs.Option.{option_to_list}
 use Rattle.gd_words.specs.Members.{IsAmong}
 use Rattle.gd_words.proofs.Among.{among-left, among-right, among-either, among-one}
@@ -15,17 +15,17 @@ use Rattle.alive_regroup.specs.declared.set.ProcessorSet.{ProcessorSet}
 use Rattle.alive_regroup.specs.Watching as watching
 use Rattle.alive_regroup.specs.Watching.{Watching, changed_at, told_by_tick}
 use Rattle.channel_laws.specs.Net.{Net, Runs, packet_in, pushed_net, arrived_net, ticked_net, alive_net, stopped_net, marked_net}
-use Rattle.channel_laws.specs.Rounds.{Passes, by_push, by_packet, by_drop, by_tick, by_alive, by_stop, by_mark}
+use Rattle.channel_laws.specs.Rounds.{Passes, nothing, by_push, by_packet, by_drop, by_tick, by_alive, by_stop, by_mark}
 use Rattle.world_semantics.specs.World.{is_running, terminal_node}
 use Rattle.letters.specs.Routes.{Letter}
 use Rattle.message_layout.specs.Messages.{NodeMessage, Carrying, Reporting, Declaring}
 use Rattle.message_layout.specs.Layout.{words_of}
-use Rattle.packet_wires.specs.Nodes.{Node, end_at, all_nodes, others}
+use Rattle.packet_wires.specs.Nodes.{Node, end_at, numbers, all_nodes, others}
 use Rattle.packet_wires.specs.Wires.{Midst, goes_over, any_goes_over, goes_again, at_node, at_end_of, at_end, end_changed, watch_changed, learns, for_each, push_at, sends, sends_all, posted, all_posted, bus_of_answer, heard_of, arrive_at, arrived, alive_at, tells_alive, reports, check_at, checks, tick_at, ticked, down_at, cut_off, declares}
 use Rattle.packet_nets.specs.Tied.{IsTied}
-use Rattle.packet_nets.specs.Passing.{GoesOut, IsPassing}
+use Rattle.packet_nets.specs.Passing.{GoesOut, IsPassing, IsCut}
 use Rattle.packet_nets.proofs.Sending.{filled, absent, no-node, no-end, is-net, still-tied, up, push-tied, tick-tied, live-tied, arrive-tied}
-use Rattle.packet_nets.proofs.Tied.{watched-tied, down-tied, stop-tied, repeated-tied, gone-rests, running-low}
+use Rattle.packet_nets.proofs.Tied.{watched-tied, down-tied, stop-tied, repeated-tied, gone-rests, running-low, running-stands}
 use Rattle.packet_nets.proofs.Watches.{size-set}
 
 -- Whose a packet is
@@ -112,6 +112,21 @@ held-more on came more midst p wider (inr (inr before)) = inr (inr (wider before
 
 module _ {a b : ℕ} {stopped : List Bool} {on : List Packet} {start : Net} where
   module _ {came : List Packet} (midst : Midst) (P : IsPassing a b stopped on start came midst) (x y : ℕ) (node : Node) (e0 e : End) (name : BusName) (sent : Option Packet) where
+    grown-held : (more : List Packet) → ((p : Packet) → IsAmong p came → IsAmong p more) → (next : Net) → next.flight ≡ P.net.flight ++ option_to_list sent
+        → (p : Packet) → IsAmong p next.flight → IsHeld on more (any_goes_over name sent (end_changed x y node e midst)) p
+    grown-held more wider next flight p among = by (among-either p P.net.flight (option_to_list sent) (subst (IsAmong p) flight among))
+      where
+        by : IsAmong p P.net.flight ⊎ IsAmong p (option_to_list sent) → IsHeld on more (any_goes_over name sent (end_changed x y node e midst)) p
+        by (inl before) = held-on on more name sent (end_changed x y node e midst) p (held-more on came more (end_changed x y node e midst) p (wider p) (P.held p before))
+        by (inr now) = inr (inl (goes-new name sent (end_changed x y node e midst) p now))
+
+    grown-senders : (next : Net) → next.flight ≡ P.net.flight ++ option_to_list sent → ((p : Packet) → IsAmong p (option_to_list sent) → p.sender ≤ 16)
+        → (p : Packet) → IsAmong p next.flight → p.sender ≤ 16
+    grown-senders next flight own p among = elim (among-either p P.net.flight (option_to_list sent) (subst (IsAmong p) flight among)) [
+      | inl before ↦ P.senders p before
+      | inr now ↦ own p now
+    ]
+
     -- an end changes and sends, and the net with it
     grown : (more : List Packet) → ((p : Packet) → IsAmong p came → IsAmong p more) → (next : Net) → next.flight ≡ P.net.flight ++ option_to_list sent
         → IsTied stopped on (any_goes_over name sent (end_changed x y node e midst)) next → Passes a b start more next
@@ -120,17 +135,10 @@ module _ {a b : ℕ} {stopped : List Bool} {on : List Packet} {start : Net} wher
       net = next;
       tied = tied;
       passes = passes;
-      held = λ p among. held p (among-either p P.net.flight (option_to_list sent) (subst (IsAmong p) flight among));
-      senders = λ p among. elim (among-either p P.net.flight (option_to_list sent) (subst (IsAmong p) flight among)) [
-        | inl before ↦ P.senders p before
-        | inr now ↦ own p now
-      ];
+      held = grown-held more wider next flight;
+      senders = grown-senders next flight own;
       few = P.few;
     }
-      where
-        held : (p : Packet) → IsAmong p P.net.flight ⊎ IsAmong p (option_to_list sent) → IsHeld on more (any_goes_over name sent (end_changed x y node e midst)) p
-        held p (inl before) = held-on on more name sent (end_changed x y node e midst) p (held-more on came more (end_changed x y node e midst) p (wider p) (P.held p before))
-        held p (inr now) = inr (inl (goes-new name sent (end_changed x y node e midst) p now))
 
     -- the net stays
     kept-net : IsTied stopped on (any_goes_over name sent (end_changed x y node e midst)) P.net → IsPassing a b stopped on start came (any_goes_over name sent (end_changed x y node e midst))
@@ -175,28 +183,31 @@ module _ {a b : ℕ} {stopped : List Bool} {on : List Packet} {start : Net} wher
           (push-tied P.tied x y node e at has runs words some d) (by_push x y words some (up P.tied x y node e at has runs d) P.passes)
           (own-end midst P x y node e at has runs (sent_by_push words e) (of-push words e))
 
-  tick-passes : {came : List Packet} (x y : ℕ) → is_running stopped x ≡ true → (midst : Midst) → IsPassing a b stopped on start came midst → IsPassing a b stopped on start came (at_end x y (tick_at x y) midst)
+  tick-flight : {came : List Packet} (midst : Midst) (P : IsPassing a b stopped on start came midst) (x y : ℕ) (node : Node) (e : End) → slice_get midst.nodes x ≡ Some node
+      → slice_get node.ends y ≡ Some e → is_running stopped x ≡ true → (sent : Option Packet) → option_map packet_in (sent_by_tick e) ≡ sent
+      → (ticked_net x y P.net).flight ≡ P.net.flight ++ option_to_list sent
+  tick-flight midst P x y node e at has runs sent is =
+      ap (λ o. P.net.flight ++ option_to_list (option_map packet_in (sent_by_tick o))) (is-net P.tied x y node e at has runs) ∙ ap (λ o. P.net.flight ++ option_to_list o) is
+
+  tick-own : {came : List Packet} (midst : Midst) (P : IsPassing a b stopped on start came midst) (x y : ℕ) (node : Node) (e : End) → slice_get midst.nodes x ≡ Some node
+      → slice_get node.ends y ≡ Some e → is_running stopped x ≡ true → (sent : Option Packet) → option_map packet_in (sent_by_tick e) ≡ sent
+      → (p : Packet) → IsAmong p (option_to_list sent) → p.sender ≤ 16
+  tick-own midst P x y node e at has runs sent is = own-end midst P x y node e at has runs sent (subst (IsOf e) is (of-tick e))
+
+  tick-passes : {came : List Packet} (x y : ℕ) → is_running stopped x ≡ true → (midst : Midst) → IsPassing a b stopped on start came midst
+      → IsPassing a b stopped on start came (at_end x y (tick_at x y) midst)
   tick-passes {came = came} x y runs midst P = at-end-passes x y (tick_at x y) midst P (λ node e at has. by node e at has e.down refl (sent_by_tick e) refl)
     where
-      flight : (node : Node) (e : End) → slice_get midst.nodes x ≡ Some node → slice_get node.ends y ≡ Some e → (sent : Option Packet) → option_map packet_in (sent_by_tick e) ≡ sent
-          → (ticked_net x y P.net).flight ≡ P.net.flight ++ option_to_list sent
-      flight node e at has sent is =
-          ap (λ o. P.net.flight ++ option_to_list (option_map packet_in (sent_by_tick o))) (is-net P.tied x y node e at has runs) ∙ ap (λ o. P.net.flight ++ option_to_list o) is
-
-      own : (node : Node) (e : End) → slice_get midst.nodes x ≡ Some node → slice_get node.ends y ≡ Some e → (sent : Option Packet) → option_map packet_in (sent_by_tick e) ≡ sent
-          → (p : Packet) → IsAmong p (option_to_list sent) → p.sender ≤ 16
-      own node e at has sent is = own-end midst P x y node e at has runs sent (subst (IsOf e) is (of-tick e))
-
       by : (node : Node) (e : End) → slice_get midst.nodes x ≡ Some node → slice_get node.ends y ≡ Some e → (d : Bool) → e.down ≡ d → (sent : Option Resent) → sent_by_tick e ≡ sent
           → IsPassing a b stopped on start came (goes_again sent (end_changed x y node (after_tick e) midst))
       by node e at has true d None is = kept-net midst P x y node e (after_tick e) bus.X None (still-tied P.tied x y node e at has runs bus.X None (after_tick e) (rw d refl) refl)
       by node e at has true d (Some resent) is = let none : None ≡ Some resent = sym (rw d refl) ∙ is in absurd cc
       by node e at has false d None is =
-          grown midst P x y node e (after_tick e) bus.X None came (λ p among. among) (ticked_net x y P.net) (flight node e at has None (ap (option_map packet_in) is))
-          (tick-tied P.tied x y node e at has runs None is d) (by_tick x y (up P.tied x y node e at has runs d) P.passes) (own node e at has None (ap (option_map packet_in) is))
+          grown midst P x y node e (after_tick e) bus.X None came (λ p among. among) (ticked_net x y P.net) (tick-flight midst P x y node e at has runs None (ap (option_map packet_in) is))
+          (tick-tied P.tied x y node e at has runs None is d) (by_tick x y (up P.tied x y node e at has runs d) P.passes) (tick-own midst P x y node e at has runs None (ap (option_map packet_in) is))
       by node e at has false d (Some resent) is =
-          grown midst P x y node e (after_tick e) resent.bus (Some resent.packet) came (λ p among. among) (ticked_net x y P.net) (flight node e at has (Some resent.packet) (ap (option_map packet_in) is))
-          (tick-tied P.tied x y node e at has runs (Some resent) is d) (by_tick x y (up P.tied x y node e at has runs d) P.passes) (own node e at has (Some resent.packet) (ap (option_map packet_in) is))
+          grown midst P x y node e (after_tick e) resent.bus (Some resent.packet) came (λ p among. among) (ticked_net x y P.net) (tick-flight midst P x y node e at has runs (Some resent.packet) (ap (option_map packet_in) is))
+          (tick-tied P.tied x y node e at has runs (Some resent) is d) (by_tick x y (up P.tied x y node e at has runs d) P.passes) (tick-own midst P x y node e at has runs (Some resent.packet) (ap (option_map packet_in) is))
 
   live-passes : {came : List Packet} (x y : ℕ) → is_running stopped x ≡ true → (midst : Midst) → IsPassing a b stopped on start came midst → IsPassing a b stopped on start came (at_end x y alive_at midst)
   live-passes {came = came} x y runs midst P = at-end-passes x y alive_at midst P (λ node e at has. by node e at has e.down refl)
@@ -355,11 +366,10 @@ module _ {a b : ℕ} {stopped : List Bool} {on : List Packet} {start : Net} wher
       one true runs = sends-passes letter.sender letter.receiver (Carrying letter.message) runs midst P
       one false rests = P
 
-  pub ticked-passes : {came : List Packet} (processors x : ℕ) → is_running stopped x ≡ true → (midst : Midst) → IsPassing a b stopped on start came midst
-      → IsPassing a b stopped on start came (ticked processors x midst)
-  ticked-passes {came = came} processors x runs midst P =
-      each-passes (λ y. at_end x y (tick_at x y)) (λ y midst P. tick-passes x y runs midst P) all_nodes (checks processors x (tells_alive processors x midst))
-      (checked (tells_alive processors x midst) (alive (x == terminal_node)))
+  -- what goes out before the ends tick
+  checked-passes : {came : List Packet} (processors x : ℕ) → is_running stopped x ≡ true → (midst : Midst) → IsPassing a b stopped on start came midst
+      → IsPassing a b stopped on start came (checks processors x (tells_alive processors x midst))
+  checked-passes {came = came} processors x runs midst P = checked (tells_alive processors x midst) (alive (x == terminal_node))
     where
       alive : (test : Bool) → IsPassing a b stopped on start came (if test then midst else for_each (λ y. at_end x y alive_at) (others processors x) midst)
       alive true = P
@@ -379,6 +389,12 @@ module _ {a b : ℕ} {stopped : List Bool} {on : List Packet} {start : Net} wher
               (subst (λ (o : Option Node). IsPassing a b stopped on start came (at_node (watch_changed x watching.after_tick) o midst)) at
               (watched-passes x watching.after_tick midst P))
 
+  pub ticked-passes : {came : List Packet} (processors x : ℕ) → is_running stopped x ≡ true → (midst : Midst) → IsPassing a b stopped on start came midst
+      → IsPassing a b stopped on start came (ticked processors x midst)
+  ticked-passes processors x runs midst P =
+      each-passes (λ y. at_end x y (tick_at x y)) (λ y midst P. tick-passes x y runs midst P) all_nodes (checks processors x (tells_alive processors x midst))
+      (checked-passes processors x runs midst P)
+
   pub declares-passes : {came : List Packet} (processors x processor : ℕ) → is_running stopped x ≡ true → (midst : Midst) → IsPassing a b stopped on start came midst
       → IsPassing a b stopped on start came (declares processors x processor midst)
   declares-passes processors x processor runs midst P = sends-all-passes x (Declaring processor) (others processors x ++ terminal_node ∷ []) runs midst P
@@ -394,3 +410,69 @@ stop-passes {stopped = stopped} processor runs one other P = record {
   senders = P.senders;
   few = subst (λ k. k ≤ 16) (sym (size-set stopped processor true)) P.few;
 }
+
+-- A tick of the node a, cut where its end with b ticks
+
+numbers-have : (from many k : ℕ) → k < many → IsAmong (from + k) (numbers from many)
+numbers-have from zero k low = absurd (omega (arith, low))
+numbers-have from (suc many) zero low = inl (omega arith)
+numbers-have from (suc many) (suc k) low = inr (subst (λ j. IsAmong j (numbers (from + 1) many)) (omega arith) (numbers-have (from + 1) many k (omega (arith, low))))
+
+module _ {a b : ℕ} {stopped : List Bool} {on : List Packet} {start : Net} (runs : is_running stopped a ≡ true) (other : is_running stopped b ≡ true) where
+  own-tick : (midst : Midst) → IsPassing a b stopped on start [] midst → IsCut a b stopped on start (at_end a b (tick_at a b) midst)
+  own-tick midst P = by_node (slice_get midst.nodes a) refl
+    where
+      Cut : Midst → Type 0
+      Cut next = IsCut a b stopped on start next
+
+      missing : end_at midst.nodes a b ≡ None → ⊥
+      missing none = absent P.tied a b none (running-low stopped a P.few runs) (running-low stopped b P.few other)
+
+      ticks : (node : Node) (e : End) → slice_get midst.nodes a ≡ Some node → slice_get node.ends b ≡ Some e → e.down ≡ false → (name : BusName) (sent : Option Packet)
+          → option_map packet_in (sent_by_tick e) ≡ sent → IsTied stopped on (any_goes_over name sent (end_changed a b node (after_tick e) midst)) (ticked_net a b P.net)
+          → Cut (any_goes_over name sent (end_changed a b node (after_tick e) midst))
+      ticks node e at has d name sent is tied = record {
+        middle = P.net;
+        first = P.passes;
+        rest = record {
+          net = ticked_net a b P.net;
+          tied = tied;
+          passes = nothing;
+          held = grown-held midst P a b node e (after_tick e) name sent [] (λ p none. none) (ticked_net a b P.net) (tick-flight midst P a b node e at has runs sent is);
+          senders = grown-senders midst P a b node e (after_tick e) name sent (ticked_net a b P.net) (tick-flight midst P a b node e at has runs sent is)
+              (tick-own midst P a b node e at has runs sent is);
+          few = P.few;
+        };
+      }
+
+      here : (node : Node) (e : End) → slice_get midst.nodes a ≡ Some node → slice_get node.ends b ≡ Some e → (d : Bool) → e.down ≡ d → (sent : Option Resent) → sent_by_tick e ≡ sent
+          → Cut (goes_again sent (end_changed a b node (after_tick e) midst))
+      here node e at has true d sent is =
+          absurd (let bad : true ≡ false = sym (P.tied.down a b (ap (λ (o : End). o.down) (is-net P.tied a b node e at has runs) ∙ d)) ∙ running-stands stopped b other in cc)
+      here node e at has false d None is = ticks node e at has d bus.X None (ap (option_map packet_in) is) (tick-tied P.tied a b node e at has runs None is d)
+      here node e at has false d (Some resent) is =
+          ticks node e at has d resent.bus (Some resent.packet) (ap (option_map packet_in) is) (tick-tied P.tied a b node e at has runs (Some resent) is d)
+
+      by_end : (node : Node) → slice_get midst.nodes a ≡ Some node → (one : Option End) → slice_get node.ends b ≡ one → Cut (at_end_of (tick_at a b node) one midst)
+      by_end node at None has = absurd (missing (no-end midst a b node at has))
+      by_end node at (Some e) has = here node e at has e.down refl (sent_by_tick e) refl
+
+      by_node : (one : Option Node) → slice_get midst.nodes a ≡ one → Cut (at_node (λ node. at_end_of (tick_at a b node) (slice_get node.ends b)) one midst)
+      by_node None at = absurd (missing (no-node midst a b at))
+      by_node (Some node) at = by_end node at (slice_get node.ends b) refl
+
+  each-cut : (ys : List ℕ) → IsAmong b ys → (midst : Midst) → IsPassing a b stopped on start [] midst
+      → IsCut a b stopped on start (for_each (λ y. at_end a y (tick_at a y)) ys midst)
+  each-cut [] among midst P = absurd among
+  each-cut (y ∷ ys) (inl same) midst P =
+      let cut = subst (λ k. IsCut a b stopped on start (at_end a k (tick_at a k) midst)) same (own-tick midst P) in record {
+        middle = cut.middle;
+        first = cut.first;
+        rest = each-passes (λ y. at_end a y (tick_at a y)) (λ y midst P. tick-passes a y runs midst P) ys (at_end a y (tick_at a y) midst) cut.rest;
+      }
+  each-cut (y ∷ ys) (inr among) midst P = each-cut ys among (at_end a y (tick_at a y) midst) (tick-passes a y runs midst P)
+
+  pub ticked-cut : (processors : ℕ) (midst : Midst) → IsPassing a b stopped on start [] midst → IsCut a b stopped on start (ticked processors a midst)
+  ticked-cut processors midst P =
+      each-cut all_nodes (let low = running-low stopped b P.few other in subst (λ k. IsAmong k all_nodes) (omega arith) (numbers-have 0 17 b (omega (arith, low))))
+      (checks processors a (tells_alive processors a midst)) (checked-passes processors a runs midst P)

@@ -1,8 +1,8 @@
 -- What goes on in the net of channels while an event is played.
-use Rattle.std.specs.Prelude.{◌≡◌, ◌≤◌, ◌⊎◌, ℕ, Bool, List, length}
+use Rattle.std.specs.Prelude.{◌≡◌, ◌≤◌, ◌⊎◌, ℕ, Bool, List, [], length}
 use Rattle.gd_words.specs.Members.{IsAmong}
 use Rattle.wire.specs.declared.packet.Packet.{Packet}
-use Rattle.channel_laws.specs.Net.{Net}
+use Rattle.channel_laws.specs.Net.{Net, ticked_net}
 use Rattle.channel_laws.specs.Rounds.{Passes}
 use Rattle.packet_wires.specs.Wires.{Wires, Midst, Outgoing, nothing_sent}
 use Rattle.packet_nets.specs.Tied.{IsTied}
@@ -27,3 +27,9 @@ pub record IsPassing (a b : ℕ) (stopped : List Bool) (on : List Packet) (start
   pub held : (p : Packet) → IsAmong p net.flight → IsAmong p on ⊎ GoesOut p midst.out ⊎ IsAmong p came
   pub senders : (p : Packet) → IsAmong p net.flight → p.sender ≤ 16
   pub few : length stopped ≤ 16
+
+-- the same of a tick of the node a, cut where its end with b ticks: what went on before that, and what since
+pub record IsCut (a b : ℕ) (stopped : List Bool) (on : List Packet) (start : Net) (midst : Midst) : Type 0 where
+  pub middle : Net
+  pub first : Passes a b start [] middle
+  pub rest : IsPassing a b stopped on (ticked_net a b middle) [] midst

@@ -11,7 +11,8 @@ use Rattle.wire.specs.declared.bus_name.BusName.TheVariants as bus
 use Rattle.wire.specs.declared.packet.Packet.{Packet}
 use Rattle.alive_regroup.specs.Watching as watching
 use Rattle.alive_regroup.specs.Watching.{changed_at}
-use Rattle.channel_laws.specs.Net.{Net}
+use Rattle.channel_laws.specs.Net.{Net, ticked_net}
+use Rattle.channel_laws.specs.Rounds.{Passes}
 use Rattle.world_semantics.specs.Running.{Done, run_done}
 use Rattle.world_semantics.specs.World.{is_running, runs_by}
 use Rattle.computed_changes.specs.Entered.{enter_done}
@@ -28,11 +29,12 @@ use Rattle.packet_wires.specs.Nodes.{end_at}
 use Rattle.packet_wires.specs.Play.{Packeted, Underway, begun, made_by, after_any, marked_by, marks, handed, handed_any, handed_words, completed, received, deliver_acted, lose_acted, repeat_acted, fail_acted, marks_and_declares, pulled, pulls, line_of, pulls_its, tick_acted, packet_at, acted, taken_off, ended, out_of, play}
 use Rattle.packet_wires.specs.Wires.{Wires, Midst, bus_named, on_bus, packets_over, without_packet, all_posted, arrived, ticked, cut_off}
 use Rattle.packet_nets.specs.Owing.{on_both}
-use Rattle.packet_nets.specs.Passing.{IsPassing}
-use Rattle.packet_nets.proofs.Passing.{come-passes, drop-passes, watched-passes, cut-passes, again-passes, posted-passes, ticked-passes, declares-passes, stop-passes}
+use Rattle.packet_nets.specs.Passing.{IsPassing, IsCut}
+use Rattle.packet_nets.proofs.Passing.{come-passes, drop-passes, watched-passes, cut-passes, again-passes, posted-passes, ticked-passes, declares-passes, stop-passes, ticked-cut}
 use Rattle.packet_nets.proofs.Resting.{begins-passing, rest-lost, rest-net, rest-clear}
 use Rattle.packet_nets.proofs.Ticking.{pulled-other}
-use Rattle.packets_laws.specs.Passing.{delivered, TakesToDeliver, IsNetOf, IsPassed}
+use Rattle.packet_nets.proofs.Tied.{stop-running}
+use Rattle.packets_laws.specs.Passing.{delivered, TakesToDeliver, IsNetOf, IsPassed, IsTickPassed}
 use Rattle.packets_laws.proofs.Going.{marks-stay}
 use Rattle.packets_laws.proofs.Playing.{among-taken, stands-there, mark-gone, still-running, now-stopped}
 
@@ -238,3 +240,85 @@ over-passes a b s event n (Makes after) is leads = λ one other.
 pub event-passes : (s : Packeted) (event : Event) (next : Packeted) (n : Net) (a b : ℕ) → length s.world.stopped ≤ 16 → IsNetOf s n → play s event ≡ Makes next
     → is_running next.world.stopped a ≡ true → is_running next.world.stopped b ≡ true → IsPassed a b s event next n
 event-passes s event next n a b few N made = subst (PassesIf a b s event n) made (over-passes a b s event n (acted s event) refl (acted-leads a b s event n few N))
+
+-- A tick of the node a, cut where its end with b ticks
+
+abbrev CutsIf : ℕ → ℕ → List Packet → Net → Played Midst → Type 0
+CutsIf a b on start (Makes s) = is_running s.world.stopped a ≡ true → is_running s.world.stopped b ≡ true → IsCut a b s.world.stopped on start s.wires
+CutsIf a b on start Skips = Unit {0}
+CutsIf a b on start (WouldStop processor) = Unit {0}
+
+-- who runs in what is made ran before
+abbrev Ran : ℕ → Underway → Played Midst → Type 0
+Ran b s (Makes next) = is_running next.world.stopped b ≡ true → is_running s.world.stopped b ≡ true
+Ran b s Skips = Unit {0}
+Ran b s (WouldStop processor) = Unit {0}
+
+-- what goes on after the cut leads on from it
+cut-on : (a b : ℕ) (on : List Packet) (start middle : Net) (played : Played Midst) → Passes a b start [] middle → LeadsOn a b on (ticked_net a b middle) [] played → CutsIf a b on start played
+cut-on a b on start middle (Makes s) first leads = λ one other. record { middle = middle; first = first; rest = leads one other }
+cut-on a b on start middle Skips first leads = tt
+cut-on a b on start middle (WouldStop processor) first leads = tt
+
+-- who runs after a node pulled its line ran before
+ran-before : (b node : ℕ) (s : Underway) (line : Option ℕ) → Ran b s (pulls node s line)
+ran-before b node s None = λ other. other
+ran-before b node s (Some processor) = by (slice_get s.world.stopped processor) refl
+  where
+    stops : slice_get s.world.stopped processor ≡ Some false → (test : Bool)
+        → Ran b s (if test then WouldStop processor else Makes (marks_and_declares node processor (record s { world = stopped_world processor s.world })))
+    stops at true = tt
+    stops at false = λ other.
+        let same = (marks-stay node processor (record s { world = stopped_world processor s.world })).stopped in
+        stop-running s.world.stopped processor at b (subst (λ ones. is_running ones b ≡ true) same other)
+
+    by : (stopped : Option Bool) → slice_get s.world.stopped processor ≡ stopped → Ran b s (pulled node processor s stopped)
+    by None at = λ other. other
+    by (Some true) at = λ other. subst (λ ones. is_running ones b ≡ true) (marks-stay node processor s).stopped other
+    by (Some false) at = stops at (has_stopped s.world.stopped)
+
+tick-cuts : (a b : ℕ) (on : List Packet) (start : Net) (s : Underway) → Passing a b on start [] s → CutsIf a b on start (tick_acted a s)
+tick-cuts a b on start s P = by (is_running s.world.stopped a) refl
+  where
+    whole : is_running s.world.stopped a ≡ true → (played : Played Midst) → pulls_its a (record s { wires = ticked s.site.processors a s.wires }) ≡ played
+        → Ran b (record s { wires = ticked s.site.processors a s.wires }) played → CutsIf a b on start played
+    whole runs Skips is ran = tt
+    whole runs (WouldStop processor) is ran = tt
+    whole runs (Makes next) is ran = λ one other.
+        let cut = ticked-cut runs (ran other) s.site.processors s.wires P in
+        cut-on a b on start cut.middle (Makes next) cut.first (subst (LeadsOn a b on (ticked_net a b cut.middle) []) is
+        (line-leads a (record s { wires = ticked s.site.processors a s.wires }) (line_of a (record s { wires = ticked s.site.processors a s.wires }))
+        (λ processor line. (pulled-other a (ticked s.site.processors a s.wires).nodes processor line).0) runs cut.rest)) one other
+
+    by : (test : Bool) → is_running s.world.stopped a ≡ test
+        → CutsIf a b on start (if test then pulls_its a (record s { wires = ticked s.site.processors a s.wires }) else Skips)
+    by false rests = tt
+    by true runs =
+        whole runs (pulls_its a (record s { wires = ticked s.site.processors a s.wires })) refl
+        (ran-before b a (record s { wires = ticked s.site.processors a s.wires }) (line_of a (record s { wires = ticked s.site.processors a s.wires })))
+
+abbrev TicksIf : ℕ → ℕ → Packeted → Net → Played Wires → Type 0
+TicksIf a b s n (Makes next) = is_running next.world.stopped a ≡ true → is_running next.world.stopped b ≡ true → IsTickPassed a b s next n
+TicksIf a b s n Skips = Unit {0}
+TicksIf a b s n (WouldStop processor) = Unit {0}
+
+over-ticks : (a b : ℕ) (s : Packeted) (n : Net) (played : Played Midst) → tick_acted a (begun s) ≡ played → CutsIf a b (on_both s.wires) n played
+    → TicksIf a b s n (ended s.wires played)
+over-ticks a b s n Skips is cuts = tt
+over-ticks a b s n (WouldStop processor) is cuts = tt
+over-ticks a b s n (Makes after) is cuts = λ one other.
+    let cut = cuts one other in record {
+      middle = cut.middle;
+      first = cut.first;
+      last = cut.rest.net;
+      rest = cut.rest.passes;
+      lost = rest-lost s.wires s.wires after.wires cut.rest (λ p among. among);
+      net = rest-net s.wires s.wires after.wires cut.rest (λ p among. among);
+      clear = λ clear. rest-clear s.wires s.wires after.wires cut.rest (λ p among. among)
+          (λ name. subst (λ out. length (on_bus name s.wires) + length (packets_over name out) ≤ 4096) (ap out_of is) (clear name)) (λ p among. inl among);
+    }
+
+pub tick-passed : (s next : Packeted) (n : Net) (a b : ℕ) → length s.world.stopped ≤ 16 → IsNetOf s n → play s (Tick a) ≡ Makes next → is_running next.world.stopped a ≡ true
+    → is_running next.world.stopped b ≡ true → IsTickPassed a b s next n
+tick-passed s next n a b few N made =
+    subst (TicksIf a b s n) made (over-ticks a b s n (tick_acted a (begun s)) refl (tick-cuts a b (on_both s.wires) n (begun s) (begins-passing s.wires few N)))

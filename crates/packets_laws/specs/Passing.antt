@@ -1,10 +1,10 @@
 -- What goes on in the net of channels when an event is played.
-use Rattle.std.specs.Prelude.{◌≡◌, ◌≤◌, ℕ, List, length, Option, Some, None}
+use Rattle.std.specs.Prelude.{◌≡◌, ◌≤◌, ℕ, List, [], length, Option, Some, None}
 use Rattle.gd_words.specs.Members.{IsAmong}
 use Rattle.schedule.specs.declared.event.Event.{Event}
 use Rattle.schedule.specs.declared.event.Event.TheVariants.{Run, Enter, Deliver, Lose, Repeat, Tick, Fail}
 use Rattle.wire.specs.declared.packet.Packet.{Packet}
-use Rattle.channel_laws.specs.Net.{Net, Goes}
+use Rattle.channel_laws.specs.Net.{Net, Goes, ticked_net}
 use Rattle.channel_laws.specs.Rounds.{Passes}
 use Rattle.packet_wires.specs.Play.{Packeted, IsClear, packet_at}
 use Rattle.packet_wires.specs.Wires.{bus_named}
@@ -50,3 +50,13 @@ pub record IsPassed (a b : ℕ) (s : Packeted) (event : Event) (next : Packeted)
   pub net : IsNetOf next (as_on_buses next middle)
   pub clear : IsClear s event → TakesToDeliver event → Passes a b n came (as_on_buses next middle)
   pub few : length next.world.stopped ≤ 16
+
+-- the same of a tick of the node a, cut where its end with b ticks: what went on before that, and what since
+pub record IsTickPassed (a b : ℕ) (s next : Packeted) (n : Net) : Type 0 where
+  pub middle : Net
+  pub first : Passes a b n [] middle
+  pub last : Net
+  pub rest : Passes a b (ticked_net a b middle) [] last
+  pub lost : Goes last (as_on_buses next last)
+  pub net : IsNetOf next (as_on_buses next last)
+  pub clear : IsClear s (Tick a) → Passes a b (ticked_net a b middle) [] (as_on_buses next last)

@@ -5,7 +5,7 @@ ghost use Rattle.wire.specs.declared.bus_name.BusName.{BusName};
 ghost use Rattle.wire.specs.declared.packet.Packet.{Packet};
 ghost use Rattle.tal_tree.specs.declared.site.Site.{Site};
 ghost use Rattle.schedule.specs.declared.event.Event.{Event};
-ghost use Rattle.schedule.specs.declared.event.Event.TheVariants.{Deliver, Lose, Repeat};
+ghost use Rattle.schedule.specs.declared.event.Event.TheVariants.{Deliver, Lose, Repeat, Tick};
 ghost use Rattle.world_semantics.specs.Follows.{IsRun};
 ghost use Rattle.world_semantics.specs.World.{Mark, is_running};
 ghost use Rattle.headline.specs.Fit.{IsFit};
@@ -22,7 +22,7 @@ ghost use Rattle.packet_wires.specs.Play.{Packeted, completed, packet_at, packet
 ghost use Rattle.packet_wires.specs.Runs.{IsPlayed};
 ghost use Rattle.packet_wires.specs.Wires.{bus_named};
 ghost use Rattle.packet_nets.specs.Owing.{WasPushed};
-ghost use Rattle.packets_laws.specs.Passing.{IsNetOf, IsPassed};
+ghost use Rattle.packets_laws.specs.Passing.{IsNetOf, IsPassed, IsTickPassed};
 ghost use Rattle.packets_laws.specs.Pieces.{HandsOver};
 
 /// Whatever fewer than 4,294,967,296 events play over packets, they do to a post of the same world; so it is a run of the world.
@@ -67,10 +67,13 @@ pub fn a_second_processor_never_stops()
 {}
 
 /// What is played goes on in the net of channels: at the beginning the wires are those of a net, and each event leads from the net
-/// of its state to that of the next one, by steps of the net between any two nodes that still run after it.
+/// of its state to that of the next one, by steps of the net between any two nodes that still run after it. On the way of a tick
+/// each end of its node ticks with a node that runs.
 pub fn what_is_played_goes_on_in_the_net()
     ensures begins { (site : Site) → (n : Net) × IsNetOf (packeted_at_boot site) n }
     ensures event { (s : Packeted) (event : Event) (next : Packeted) (n : Net) (a b : ℕ) → length s.world.stopped ≤ 16 → IsNetOf s n
         → play s event ≡ Makes next → is_running next.world.stopped a ≡ true → is_running next.world.stopped b ≡ true
         → IsPassed a b s event next n }
+    ensures tick { (s next : Packeted) (n : Net) (a b : ℕ) → length s.world.stopped ≤ 16 → IsNetOf s n → play s (Tick a) ≡ Makes next
+        → is_running next.world.stopped a ≡ true → is_running next.world.stopped b ≡ true → IsTickPassed a b s next n }
 {}
