@@ -2,6 +2,7 @@ ghost use Rattle.runner.specs.Numbers.{number_of};
 ghost use Rattle.runner.specs.RunEnds.{acts_in, load_counts, shown_in, status_of_run};
 ghost use Rattle.std.specs.Prelude.{◌≡◌};
 
+use gd_words::NoMemory;
 use path_semantics::Refusal;
 use schedule_runs::{Ending, Ran};
 use tal_tree::{Act, DeckFault, Shown};
