@@ -1,0 +1,8 @@
+use Rattle.schedule_sweeps.proofs.Sweeping.{row-more}
+use Rattle.schedule_sweeps.proofs.rows.row_of.Goals as goal
+
+pub loop-after-preserved : goal.loop-after-preserved
+loop-after-preserved c = row-more _ _ _ _ _ _ _ c.loop-after.invariant c.in_ok-kind.ensures c.add.ensures
+
+pub kind_of_run-requires-clause-asks : goal.kind_of_run-requires-clause-asks
+kind_of_run-requires-clause-asks c = c.requires.asks (record { processor = c.args.processor; after = c.loop-after.after })
