@@ -41,6 +41,7 @@ module _ (task : Task) (deck : Deck) (able : can_stop task deck.site ≡ true) (
   of-deck (due.DeckRefused fault) is = inr is.1.1
   of-deck (due.Accepted site) is = inr is.1.1
   of-deck (due.Report report) is = inr is.1.1
+  of-deck (due.Swept rows) is = inr is.1.1
 
   module _ (bytes : List ℕ) (spelt : Decks bytes deck) where
     -- a deck that the bytes spell too is the same one
@@ -55,6 +56,7 @@ module _ (task : Task) (deck : Deck) (able : can_stop task deck.site ≡ true) (
     of-bytes (due.Accepted site) (other, too, is) = of-spelt other (due.Accepted site) too is
     of-bytes (due.ProgramRefused refused) (other, too, is) = of-spelt other (due.ProgramRefused refused) too is
     of-bytes (due.Report report) (other, too, is) = of-spelt other (due.Report report) too is
+    of-bytes (due.Swept rows) (other, too, is) = of-spelt other (due.Swept rows) too is
 
     -- what is read of a source is what it told
     of-told : (found : List ℕ) (decided : Due) → bytes ≡ found → IsDueOfBytes task found decided → IsGood task deck decided
@@ -68,3 +70,4 @@ module _ (task : Task) (deck : Deck) (able : can_stop task deck.site ≡ true) (
     of-source before now (due.Accepted site) (found, told, is) read = of-told found (due.Accepted site) told is
     of-source before now (due.ProgramRefused refused) (found, told, is) read = of-told found (due.ProgramRefused refused) told is
     of-source before now (due.Report report) (found, told, is) read = of-told found (due.Report report) told is
+    of-source before now (due.Swept rows) (found, told, is) read = of-told found (due.Swept rows) told is

@@ -4,7 +4,7 @@ use Rattle.std.specs.Prelude.{⊤, Bool, IfSome, Result, Ok, Err}
 use Rattle.gd_words.specs.Memory.{no_memory}
 use Rattle.command_words.specs.Asked.{IsInRange, asked_by}
 use Rattle.command_words.specs.declared.asked.Command.{Command}
-use Rattle.command_words.specs.declared.asked.Command.TheVariants.{Check, Load, Run}
+use Rattle.command_words.specs.declared.asked.Command.TheVariants.{Check, Load, Run, Sweep}
 use Rattle.command_words.proofs.Ranges.{asked_in_range}
 use Rattle.deck_reader.specs.Decks.{Decks}
 use Rattle.deck_reader.specs.declared.deck.Deck.{Deck}
@@ -18,7 +18,7 @@ use Rattle.schedule_runs.specs.declared.ran.Ending.{Ending}
 use Rattle.schedule_runs.specs.declared.ran.Ending.TheVariants as ending
 use Rattle.single_stops.proofs.Runs.{never-second}
 use Rattle.verdicts.specs.Refused.{AreAccepted}
-use Rattle.runner.specs.Decided.{IsDue, IsDueOfRun, IsDueOn, IsReportOf}
+use Rattle.runner.specs.Decided.{IsDue, IsDueOfRun, IsDueOfSweep, IsDueOn, IsReportOf}
 use Rattle.runner.specs.RunEnds.{status_of_run}
 use Rattle.runner.specs.Tasks.{can_stop, load_task}
 use Rattle.runner.specs.Written.{outcome_of, status_of}
@@ -57,6 +57,19 @@ deck-checked words bytes before now deck decided asked spelt accepted (inr is) r
     go : IsGood task.Check deck decided → (decided ≡ due.Accepted deck.site) ⊎ (decided ≡ due.NoMemory no_memory)
     go (inl none) = inr none
     go (inr is) = inl is
+
+good-sweep : (deck : Deck) (runs : ℕ) (decided : Due) → IsGood (task.Sweep runs) deck decided → IsDueOfSweep deck runs decided
+good-sweep deck runs decided (inl none) = subst (IsDueOfSweep deck runs) (sym none) tt
+good-sweep deck runs decided (inr is) = is
+
+pub deck-swept : (words : List (List ℕ)) (bytes : List ℕ) (before now runs : ℕ) (deck : Deck) (decided : Due)
+    → asked_by words ≡ Some (Sweep runs) → Decks bytes deck → AreAccepted deck.site.processes
+    → IsDue words (Some bytes) before now decided → decided ≢ due.ReadFault → IsDueOfSweep deck runs decided
+deck-swept words bytes before now runs deck decided asked spelt accepted (inl none) read = good-sweep deck runs decided (inl none)
+deck-swept words bytes before now runs deck decided asked spelt accepted (inr is) read =
+    good-sweep deck runs decided
+    (of-source (task.Sweep runs) deck refl accepted bytes spelt before now decided
+    (subst (λ (c : Option Command). IsDueOn c (Some bytes) before now decided) asked is) read)
 
 pub load-run : (words : List (List ℕ)) (left : Option (List ℕ)) (before now count : ℕ) (decided : Due) → asked_by words ≡ Some (Load count)
     → IsDue words left before now decided → IsDueOfRun (load_deck count) None (Counts count) decided
@@ -130,3 +143,17 @@ check-ends words bytes before now deck decided (Err fault) outcome asked spelt a
 check-ends words bytes before now deck decided (Ok done) outcome asked spelt accepted is same sure =
     subst (λ (o : Outcome). IsStatusOfCheck o.status) (sym same)
     (checked-status decided deck (deck-checked words bytes before now deck decided asked spelt accepted is (none-failed decided done outcome same sure)))
+
+swept-status : (deck : Deck) (runs : ℕ) (decided : Due) → IsDueOfSweep deck runs decided → IsStatusOfCheck (status_of decided)
+swept-status deck runs (due.Swept rows) is = tt
+swept-status deck runs (due.NoMemory _) is = tt
+swept-status deck runs _ is = absurd is
+
+pub sweep-ends : (words : List (List ℕ)) (bytes : List ℕ) (before now runs : ℕ) (deck : Deck) (decided : Due) (result : Result ⊤ WriteFault) (outcome : Outcome)
+    → asked_by words ≡ Some (Sweep runs) → Decks bytes deck → AreAccepted deck.site.processes
+    → IsDue words (Some bytes) before now decided → outcome ≡ outcome_of decided result → outcome.status ≢ status.ReadFault → IsStatusOfCheck outcome.status
+sweep-ends words bytes before now runs deck decided (Err fault) outcome asked spelt accepted is same sure =
+    subst (λ (o : Outcome). IsStatusOfCheck o.status) (sym same) tt
+sweep-ends words bytes before now runs deck decided (Ok done) outcome asked spelt accepted is same sure =
+    subst (λ (o : Outcome). IsStatusOfCheck o.status) (sym same)
+    (swept-status deck runs decided (deck-swept words bytes before now runs deck decided asked spelt accepted is (none-failed decided done outcome same sure)))

@@ -2,3 +2,4 @@ pub mod Accepted
 pub mod Commands
 pub mod Faults
 pub mod OneDue
+mod OneSweep

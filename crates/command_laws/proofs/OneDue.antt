@@ -10,7 +10,7 @@ use Rattle.tal_tree.specs.declared.site.Site.{Site}
 use Rattle.path_semantics.specs.Accepted.{IsAccepted}
 use Rattle.command_words.specs.Asked.{asked_by}
 use Rattle.command_words.specs.declared.asked.Command.{Command}
-use Rattle.command_words.specs.declared.asked.Command.TheVariants.{Check, Load, Run}
+use Rattle.command_words.specs.declared.asked.Command.TheVariants.{Check, Load, Run, Sweep}
 use Rattle.deck_reader.specs.Decks.{Decks}
 use Rattle.deck_reader.specs.Refusals.{IsRefusalOf}
 use Rattle.deck_reader.specs.declared.deck.Deck.{Deck}
@@ -26,7 +26,7 @@ use Rattle.single_runs.proofs.Runs.{one-run}
 use Rattle.statement_lines.specs.Lines.{lines_of}
 use Rattle.verdicts.specs.Refused.{AreAccepted, IsFirstRefused, program_at}
 use Rattle.verdicts.specs.declared.refused.RefusedProgram.{RefusedProgram}
-use Rattle.runner.specs.Decided.{IsDue, IsDueOfAccepted, IsDueOfBytes, IsDueOfDeck, IsDueOfRun, IsDueOfSource, IsDueOn, IsReportOf}
+use Rattle.runner.specs.Decided.{IsDue, IsDueOfAccepted, IsDueOfBytes, IsDueOfDeck, IsDueOfRun, IsDueOfSource, IsDueOfSweep, IsDueOn, IsReportOf}
 use Rattle.runner.specs.RunEnds.{shown_in}
 use Rattle.runner.specs.Stopped.{stopped_from}
 use Rattle.runner.specs.Tasks.{can_stop, load_task}
@@ -41,6 +41,7 @@ use Rattle.runner.specs.declared.task.Telling.{Telling}
 use Rattle.runner.specs.declared.task.Telling.TheVariants.{Lines}
 use Rattle.command_laws.specs.OneDue.{IsSameDue, IsSameRefusal}
 use Rattle.command_laws.proofs.Accepted.{only-wanting}
+use Rattle.command_laws.proofs.OneSweep.{one-sweep}
 
 -- Reports
 
@@ -110,6 +111,7 @@ is-free (due.DeckRefused fault) = tt
 is-free (due.ProgramRefused refused) = tt
 is-free (due.Accepted site) = tt
 is-free (due.Report report) = tt
+is-free (due.Swept rows) = tt
 
 failing-is-free : (one : Due) → IsSameDue one due.ReadFault
 failing-is-free due.Usage = tt
@@ -119,6 +121,7 @@ failing-is-free (due.DeckRefused fault) = tt
 failing-is-free (due.ProgramRefused refused) = tt
 failing-is-free (due.Accepted site) = tt
 failing-is-free (due.Report report) = tt
+failing-is-free (due.Swept rows) = tt
 
 not-both : (test : Bool) → test ≡ true → test ≡ false → ⊥
 not-both test is isnt = absurd (cc)
@@ -139,6 +142,7 @@ of-deck task deck due.ReadFault is = good is.0 is.1.0 is.1.1
 of-deck task deck (due.DeckRefused fault) is = good is.0 is.1.0 is.1.1
 of-deck task deck (due.Accepted site) is = good is.0 is.1.0 is.1.1
 of-deck task deck (due.Report report) is = good is.0 is.1.0 is.1.1
+of-deck task deck (due.Swept rows) is = good is.0 is.1.0 is.1.1
 
 same-run : (deck : Deck) (stop : Option Stop) (tells : Telling) (one other : Due) → IsDueOfRun deck stop tells one → IsDueOfRun deck stop tells other
     → IsSameDue one other
@@ -149,8 +153,16 @@ same-run deck stop tells (due.Report report) (due.Report other) is two =
 same-run deck stop tells (due.Report report) _ is two = absurd two
 same-run deck stop tells _ other is two = absurd is
 
+same-sweep : (deck : Deck) (runs : ℕ) (one other : Due) → IsDueOfSweep deck runs one → IsDueOfSweep deck runs other → IsSameDue one other
+same-sweep deck runs (due.NoMemory _) other is two = tt
+same-sweep deck runs one (due.NoMemory _) is two = is-free one
+same-sweep deck runs (due.Swept rows) (due.Swept others) is two = ap due.Swept (one-sweep deck.site deck.lines runs rows others is two)
+same-sweep deck runs (due.Swept rows) _ is two = absurd two
+same-sweep deck runs _ other is two = absurd is
+
 same-accepted : (task : Task) (deck : Deck) (one other : Due) → IsDueOfAccepted task deck one → IsDueOfAccepted task deck other → IsSameDue one other
 same-accepted (task.Run tells stop) deck one other is two = same-run deck stop tells one other is two
+same-accepted (task.Sweep runs) deck one other is two = same-sweep deck runs one other is two
 same-accepted task.Check deck one other is two =
     subst (λ (d : Due). IsSameDue d other) (sym is) (subst (λ (d : Due). IsSameDue (due.Accepted deck.site) d) (sym two) refl)
 
@@ -190,6 +202,7 @@ of-bytes task bytes due.ReadFault (deck, is_spelt, is) = of-spelt task bytes dec
 of-bytes task bytes (due.ProgramRefused found) (deck, is_spelt, is) = of-spelt task bytes deck (due.ProgramRefused found) is_spelt is
 of-bytes task bytes (due.Accepted site) (deck, is_spelt, is) = of-spelt task bytes deck (due.Accepted site) is_spelt is
 of-bytes task bytes (due.Report report) (deck, is_spelt, is) = of-spelt task bytes deck (due.Report report) is_spelt is
+of-bytes task bytes (due.Swept rows) (deck, is_spelt, is) = of-spelt task bytes deck (due.Swept rows) is_spelt is
 
 same-of-bytes : (task : Task) (bytes : List ℕ) (one other : Due) → IsOfBytes task bytes one → IsOfBytes task bytes other → IsSameDue one other
 same-of-bytes task bytes _ other short two = tt
@@ -219,6 +232,7 @@ of-source task bytes before now (due.DeckRefused fault) (found, told, is) = of-t
 of-source task bytes before now (due.ProgramRefused refusal) (found, told, is) = of-told task bytes found (due.ProgramRefused refusal) told is
 of-source task bytes before now (due.Accepted site) (found, told, is) = of-told task bytes found (due.Accepted site) told is
 of-source task bytes before now (due.Report report) (found, told, is) = of-told task bytes found (due.Report report) told is
+of-source task bytes before now (due.Swept rows) (found, told, is) = of-told task bytes found (due.Swept rows) told is
 
 same-of-source : (task : Task) (bytes : List ℕ) (one other : Due) → IsOfSource task bytes one → IsOfSource task bytes other → IsSameDue one other
 same-of-source task bytes one other (read is) (read two) = same-of-bytes task bytes one other is two
@@ -230,6 +244,7 @@ same-of-source task bytes _ (due.DeckRefused fault) failing two = tt
 same-of-source task bytes _ (due.ProgramRefused refusal) failing two = tt
 same-of-source task bytes _ (due.Accepted site) failing two = tt
 same-of-source task bytes _ (due.Report report) failing two = tt
+same-of-source task bytes _ (due.Swept rows) failing two = tt
 
 -- Words
 
@@ -244,6 +259,8 @@ same-asked (Some (Run acts stop)) bytes before now earlier later one other is tw
     (of-source (task.Run (Lines acts) stop) bytes earlier later other two)
 same-asked (Some Check) bytes before now earlier later one other is two =
     same-of-source task.Check bytes one other (of-source task.Check bytes before now one is) (of-source task.Check bytes earlier later other two)
+same-asked (Some (Sweep runs)) bytes before now earlier later one other is two =
+    same-of-source (task.Sweep runs) bytes one other (of-source (task.Sweep runs) bytes before now one is) (of-source (task.Sweep runs) bytes earlier later other two)
 same-asked (Some (Load requests)) bytes before now earlier later one other is two =
     same-of-bytes (load_task requests) (load_text requests) one other (of-bytes (load_task requests) (load_text requests) one is)
     (of-bytes (load_task requests) (load_text requests) other two)

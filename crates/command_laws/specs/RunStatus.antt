@@ -2,7 +2,7 @@
 use Rattle.runner.specs.declared.outcome.Status.{Status}
 use Rattle.runner.specs.declared.outcome.Status.TheVariants as status
 
--- a check: all programs were accepted, a write failed, or memory ran out
+-- a check or a sweep: all programs were accepted, a write failed, or memory ran out
 abbrev pub IsStatusOfCheck : Status → Type 0
 IsStatusOfCheck status.Done = Unit {0}
 IsStatusOfCheck status.WriteFault = Unit {0}

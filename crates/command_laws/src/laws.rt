@@ -1,13 +1,13 @@
 ghost use Rattle.std.specs.Prelude.{◌≡◌, ◌≢◌, ◌⊎◌, ℕ, Bool, true, List, Option, Some, None, length};
 ghost use Rattle.gd_words.specs.Memory.{no_memory};
 ghost use Rattle.command_words.specs.Asked.{asked_by};
-ghost use Rattle.command_words.specs.declared.asked.Command.TheVariants.{Check, Load, Run};
+ghost use Rattle.command_words.specs.declared.asked.Command.TheVariants.{Check, Load, Run, Sweep};
 ghost use Rattle.deck_reader.specs.Decks.{Decks};
 ghost use Rattle.deck_reader.specs.declared.deck.Deck.{Deck};
 ghost use Rattle.gd_io.specs.Faults.{HasRisen};
 ghost use Rattle.load_laws.specs.LoadDeck.{load_deck};
 ghost use Rattle.player.specs.declared.stop.Stop.{Stop};
-ghost use Rattle.runner.specs.Decided.{IsDue, IsDueOfRun, IsReportOf};
+ghost use Rattle.runner.specs.Decided.{IsDue, IsDueOfRun, IsDueOfSweep, IsReportOf};
 ghost use Rattle.runner.specs.Ends.{Ends};
 ghost use Rattle.runner.specs.Tasks.{can_stop};
 ghost use Rattle.runner.specs.Written.{text_of};
@@ -55,6 +55,22 @@ pub fn no_accepted_deck_is_refused_a_check<S: Source, K: Sink>()
     ensures { (words : List (List ℕ)) (source source_now : S) (sink sink_now : K) (outcome : Outcome)
         → Ends S.left S.faults S.sure K.held K.faults K.sure words source source_now sink sink_now outcome
         → (bytes : List ℕ) (deck : Deck) → asked_by words ≡ Some Check
+        → S.left source ≡ Some bytes → S.sure source → Decks bytes deck → AreAccepted deck.site.processes → IsStatusOfCheck outcome.status }
+{}
+
+/// Where the words ask for a sweep, and the source tells bytes that spell a deck whose programs are accepted, what is due is the row of
+/// each of its processors, unless reading fails or memory runs out.
+pub fn an_accepted_deck_is_swept()
+    ensures { (words : List (List ℕ)) (bytes : List ℕ) (before now runs : ℕ) (deck : Deck) (decided : Due)
+        → asked_by words ≡ Some (Sweep runs) → Decks bytes deck → AreAccepted deck.site.processes
+        → IsDue words (Some bytes) before now decided → decided ≢ due.ReadFault → IsDueOfSweep deck runs decided }
+{}
+
+/// So such a command ends well, where the source is sure of itself, unless memory runs out or a write fails.
+pub fn no_accepted_deck_is_refused_a_sweep<S: Source, K: Sink>()
+    ensures { (words : List (List ℕ)) (source source_now : S) (sink sink_now : K) (outcome : Outcome)
+        → Ends S.left S.faults S.sure K.held K.faults K.sure words source source_now sink sink_now outcome
+        → (bytes : List ℕ) (runs : ℕ) (deck : Deck) → asked_by words ≡ Some (Sweep runs)
         → S.left source ≡ Some bytes → S.sure source → Decks bytes deck → AreAccepted deck.site.processes → IsStatusOfCheck outcome.status }
 {}
 

@@ -1,4 +1,4 @@
-//! A command whose words, deck and programs are good is never refused: it ends with a run or a verdict, unless memory runs out or a
+//! A command whose words, deck and programs are good is never refused: it ends with a run, a sweep or a verdict, unless memory runs out or a
 //! read or a write fails; and a load is such a command. A fault with which a command ends was counted, and what is due of a command is one.
 //!
 //! Below stand `runner`, whose definitions say what is due and how a command ends, `deck_reader`, `verdicts` and `discipline` with the
@@ -10,6 +10,7 @@ pub mod laws;
 
 pub use laws::{
     a_deck_has_one_report, a_load_is_never_refused, a_load_is_run, an_accepted_deck_is_checked,
-    an_accepted_deck_is_run, faults_were_counted, no_accepted_deck_is_refused,
-    no_accepted_deck_is_refused_a_check, what_is_due_is_one,
+    an_accepted_deck_is_run, an_accepted_deck_is_swept, faults_were_counted,
+    no_accepted_deck_is_refused, no_accepted_deck_is_refused_a_check,
+    no_accepted_deck_is_refused_a_sweep, what_is_due_is_one,
 };

@@ -5,10 +5,10 @@ use Rattle.std.specs.List.{after_first, before_first}
 use Rattle.std.specs.Str.{bytes_eq}
 use Rattle.std.proofs.lemmas.Bool.{and_parts, leb-true}
 use Rattle.clap.specs.Words.{Row, Text, first_of}
-use Rattle.command_words.specs.Asked.{IsInRange, acts_in, asked_by, check_as, command_as, command_in, load_as, load_of, run_as, stop_at, stop_of}
+use Rattle.command_words.specs.Asked.{IsInRange, acts_in, asked_by, check_as, command_as, command_in, load_as, load_of, run_as, stop_at, stop_of, sweep_as, sweep_of}
 use Rattle.command_words.specs.Line.{parse_of}
 use Rattle.command_words.specs.Numbers.{number_of}
-use Rattle.command_words.specs.declared.asked.Command.TheVariants.{Run, Load}
+use Rattle.command_words.specs.declared.asked.Command.TheVariants.{Run, Load, Sweep}
 use Rattle.player.specs.declared.stop.Stop.{Stop}
 
 load : (number : Option ℕ) → IfSome (load_of number) IsInRange
@@ -18,6 +18,14 @@ load (Some n) = go (nat_le 1 n && nat_le n 200) refl
     go : (holds : Bool) → (nat_le 1 n && nat_le n 200) ≡ holds → IfSome (if holds then Some (Load n) else None) IsInRange
     go false e = tt
     go true e = let parts = and_parts (nat_le 1 n) (nat_le n 200) e in (leb-true 1 n parts.0, leb-true n 200 parts.1)
+
+sweep : (number : Option ℕ) → IfSome (sweep_of number) IsInRange
+sweep None = tt
+sweep (Some n) = go (nat_le 1 n && nat_le n 10000) refl
+  where
+    go : (holds : Bool) → (nat_le 1 n && nat_le n 10000) ≡ holds → IfSome (if holds then Some (Sweep n) else None) IsInRange
+    go false e = tt
+    go true e = let parts = and_parts (nat_le 1 n) (nat_le n 10000) e in (leb-true 1 n parts.0, leb-true n 10000 parts.1)
 
 stop_in : (processor after : Option ℕ) → IfSome (stop_at processor after) (λ stop. stop.processor ≤ 15)
 stop_in None after = tt
@@ -53,18 +61,26 @@ loaded (Some number) true fail = tt
 loaded (Some number) false (Some fail) = tt
 loaded (Some number) false None = load (number_of number)
 
-by_mode : (runs checks loads : Bool) (number : Option Text) (acts : Bool) (fail : Option Text)
-    → IfSome (if runs then run_as number acts fail else if checks then check_as number acts fail else if loads then load_as number acts fail else None) IsInRange
-by_mode true checks loads number acts fail = run number acts fail
-by_mode false true loads number acts fail = check number acts fail
-by_mode false false true number acts fail = loaded number acts fail
-by_mode false false false number acts fail = tt
+swept : (number : Option Text) (acts : Bool) (fail : Option Text) → IfSome (sweep_as number acts fail) IsInRange
+swept None acts fail = tt
+swept (Some number) true fail = tt
+swept (Some number) false (Some fail) = tt
+swept (Some number) false None = sweep (number_of number)
+
+by_mode : (runs checks loads sweeps : Bool) (number : Option Text) (acts : Bool) (fail : Option Text)
+    → IfSome (if runs then run_as number acts fail else if checks then check_as number acts fail
+    else if loads then load_as number acts fail else if sweeps then sweep_as number acts fail else None) IsInRange
+by_mode true checks loads sweeps number acts fail = run number acts fail
+by_mode false true loads sweeps number acts fail = check number acts fail
+by_mode false false true sweeps number acts fail = loaded number acts fail
+by_mode false false false true number acts fail = swept number acts fail
+by_mode false false false false number acts fail = tt
 
 moded : (mode number : Option Text) (acts : Bool) (fail : Option Text)
     → IfSome (option_and_then (λ mode. command_as mode number acts fail) mode) IsInRange
 moded None number acts fail = tt
 moded (Some mode) number acts fail =
-    by_mode (bytes_eq mode (codes "run")) (bytes_eq mode (codes "check")) (bytes_eq mode (codes "load")) number acts fail
+    by_mode (bytes_eq mode (codes "run")) (bytes_eq mode (codes "check")) (bytes_eq mode (codes "load")) (bytes_eq mode (codes "sweep")) number acts fail
 
 pub in_range : (rows : List Row) → IfSome (command_in rows) IsInRange
 in_range rows = moded (first_of (codes "mode") rows) (first_of (codes "number") rows) (acts_in rows) (first_of (codes "fail") rows)

@@ -7,7 +7,7 @@ use Rattle.clap.specs.Words.{Row, Text, first_of}
 use Rattle.command_words.specs.Line.{parse_of}
 use Rattle.command_words.specs.Numbers.{number_of}
 use Rattle.command_words.specs.declared.asked.Command.{Command}
-use Rattle.command_words.specs.declared.asked.Command.TheVariants.{Run, Check, Load}
+use Rattle.command_words.specs.declared.asked.Command.TheVariants.{Run, Check, Load, Sweep}
 use Rattle.player.specs.declared.stop.Stop.{Stop}
 
 -- a stop of P, which is at most 15, just before the event that K events precede
@@ -40,12 +40,23 @@ abbrev pub load_as : Option Text → Bool → Option Text → Option Command
 load_as (Some number) false None = load_of (number_of number)
 load_as _ _ _ = None
 
+-- `sweep` of 1 to 10,000
+abbrev pub sweep_of : Option ℕ → Option Command
+sweep_of (Some n) = if nat_le 1 n && nat_le n 10000 then Some (Sweep n) else None
+sweep_of None = None
+
+-- `sweep` takes a number, and no flag
+abbrev pub sweep_as : Option Text → Bool → Option Text → Option Command
+sweep_as (Some number) false None = sweep_of (number_of number)
+sweep_as _ _ _ = None
+
 -- what a mode asks for with this number, with or without `--acts`, and with this value of `--fail`
 abbrev pub command_as : Text → Option Text → Bool → Option Text → Option Command
 command_as mode number acts fail =
     if bytes_eq mode (codes "run") then run_as number acts fail
     else if bytes_eq mode (codes "check") then check_as number acts fail
-    else if bytes_eq mode (codes "load") then load_as number acts fail else None
+    else if bytes_eq mode (codes "load") then load_as number acts fail
+    else if bytes_eq mode (codes "sweep") then sweep_as number acts fail else None
 
 -- whether `--acts` is given, which gives it the value `true`
 abbrev pub acts_in : List Row → Bool
@@ -61,9 +72,10 @@ command_in rows = option_and_then
 abbrev pub asked_by : List Text → Option Command
 asked_by words = option_and_then command_in (parse_of words)
 
--- a stop is of a processor up to 15, and a load is of 1 to 200
+-- a stop is of a processor up to 15, a load is of 1 to 200, and a sweep of 1 to 10,000
 abbrev pub IsInRange : Command → Type 0
 IsInRange (Run acts None) = Unit {0}
 IsInRange (Run acts (Some stop)) = stop.processor ≤ 15
 IsInRange Check = Unit {0}
 IsInRange (Load n) = (1 ≤ n) × (n ≤ 200)
+IsInRange (Sweep n) = (1 ≤ n) × (n ≤ 10000)

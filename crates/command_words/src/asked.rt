@@ -1,6 +1,6 @@
 ghost use Rattle.std.specs.Prelude.{◌≡◌, IfOk, IfSome, map, option_map, string_bytes};
 ghost use Rattle.clap.specs.Words.{found_of, rows_of};
-ghost use Rattle.command_words.specs.Asked.{IsInRange, acts_in, asked_by, check_as, command_as, command_in, load_as, load_of, run_as, stop_at, stop_of};
+ghost use Rattle.command_words.specs.Asked.{IsInRange, acts_in, asked_by, check_as, command_as, command_in, load_as, load_of, run_as, stop_at, stop_of, sweep_as, sweep_of};
 
 use crate::line::{parsed, text_of};
 use crate::numbers::number_of;
@@ -19,6 +19,9 @@ pub enum Command {
     Check,
     /// To play the deck that is made for this number, 1 to 200.
     Load(u32),
+    /// To judge the programs of a deck, and, where all are accepted, to play it once for each of its processors and each number of events
+    /// below this one, 1 to 10,000, with a stop of that processor after so many.
+    Sweep(u32),
 }
 
 /// The command that the words ask for, the program's name first; none where they ask for none.
@@ -60,6 +63,7 @@ fn command_as(mode: &str, number: Option<&str>, acts: bool, fail: Option<&str>) 
         "run" => run_as(number, acts, fail),
         "check" => check_as(number, acts, fail),
         "load" => load_as(number, acts, fail),
+        "sweep" => sweep_as(number, acts, fail),
         _ => None,
     }
 }
@@ -103,6 +107,24 @@ fn load_of(number: Option<u32>) -> Option<Command>
 {
     match number {
         Some(n) if 1 <= n && n <= 200 => Some(Command::Load(n)),
+        _ => None,
+    }
+}
+
+fn sweep_as(number: Option<&str>, acts: bool, fail: Option<&str>) -> Option<Command>
+    ensures { result ≡ sweep_as (option_map (λ s. s.now) number.entry) acts (option_map (λ s. s.now) fail.entry) }
+{
+    match (number, acts, fail) {
+        (Some(number), false, None) => sweep_of(number_of(number)),
+        _ => None,
+    }
+}
+
+fn sweep_of(number: Option<u32>) -> Option<Command>
+    ensures { result ≡ sweep_of number }
+{
+    match number {
+        Some(n) if 1 <= n && n <= 10_000 => Some(Command::Sweep(n)),
         _ => None,
     }
 }

@@ -1,7 +1,7 @@
 ghost use Rattle.std.specs.Prelude.{◌≡◌, true, false, [], ◌∷◌, Some, None, codes};
 ghost use Rattle.command_words.specs.Asked.{asked_by};
 ghost use Rattle.command_words.specs.Guarded.{asked, run_with_stop};
-ghost use Rattle.command_words.specs.declared.asked.Command.TheVariants.{Run, Check, Load};
+ghost use Rattle.command_words.specs.declared.asked.Command.TheVariants.{Run, Check, Load, Sweep};
 
 /// `run` alone, with its flags in any order, with the value of `--fail` as a word of its own or after `=`, and before `--`.
 pub fn run_is_asked_for()
@@ -21,6 +21,19 @@ pub fn check_and_load_are_asked_for()
     ensures greatest { asked (codes "load" ∷ codes "0200" ∷ []) ≡ Some (Load 200) }
 {}
 
+/// `sweep` alone with a number of one to nine digits, which is from 1 to 10,000 and may begin with zeros.
+pub fn sweep_is_asked_for()
+    ensures least { asked (codes "sweep" ∷ codes "1" ∷ []) ≡ Some (Sweep 1) }
+    ensures greatest { asked (codes "sweep" ∷ codes "010000" ∷ []) ≡ Some (Sweep 10000) }
+    ensures missing { asked (codes "sweep" ∷ []) ≡ None }
+    ensures zero { asked (codes "sweep" ∷ codes "0" ∷ []) ≡ None }
+    ensures above { asked (codes "sweep" ∷ codes "10001" ∷ []) ≡ None }
+    ensures ten_digits { asked (codes "sweep" ∷ codes "0000000001" ∷ []) ≡ None }
+    ensures two { asked (codes "sweep" ∷ codes "1" ∷ codes "2" ∷ []) ≡ None }
+    ensures acts { asked (codes "sweep" ∷ codes "1" ∷ codes "--acts" ∷ []) ≡ None }
+    ensures fail { asked (codes "sweep" ∷ codes "1" ∷ codes "--fail" ∷ codes "1:7" ∷ []) ≡ None }
+{}
+
 /// There is a mode, and just one.
 pub fn modes_are_wanted()
     ensures no_name { asked_by [] ≡ None }
@@ -32,7 +45,7 @@ pub fn modes_are_wanted()
     ensures help { asked (codes "--help" ∷ []) ≡ None }
 {}
 
-/// `load` alone has a number, which has one to nine digits and is from 1 to 200.
+/// `run` and `check` have no number. That of `load` has one to nine digits and is from 1 to 200.
 pub fn numbers_are_of_load()
     ensures run { asked (codes "run" ∷ codes "3" ∷ []) ≡ None }
     ensures check { asked (codes "check" ∷ codes "3" ∷ []) ≡ None }

@@ -7,6 +7,8 @@ ghost use Rattle.trace_print.specs.EndLine.{end_line, usage_line};
 ghost use Rattle.trace_print.specs.FaultLine.{fault_line, fault_numbers};
 ghost use Rattle.trace_print.specs.LoadLines.{load_lines};
 ghost use Rattle.trace_print.specs.NumbersText.{numbers_text};
+ghost use Rattle.trace_print.specs.RowLine.{row_line, sweep_text};
+ghost use Rattle.run_table.specs.declared.table.ProcessorRow.{ProcessorRow};
 ghost use Rattle.trace_print.specs.StopLine.{stop_lines};
 
 /// A fault of the deck is told by its line in the deck, 0 for none, and its number; a limit has its own number after these.
@@ -50,6 +52,14 @@ pub fn a_fault_has_its_line()
 pub fn a_load_has_its_lines()
     ensures { load_lines (record { requests = 50; writes = 800; replies = 799 })
         ≡ (codes "LOAD " ++ decimal 50 ++ 10 ∷ []) ++ (codes "W " ++ decimal 800 ++ 10 ∷ []) ++ (codes "R " ++ decimal 799 ++ 10 ∷ []) }
+{}
+
+/// A row of a sweep is told by its processor, how many runs there were, and how many of them were idle, cut, and before a second stop. The rows come in
+/// their order, and the end comes last.
+pub fn a_sweep_has_its_lines()
+    ensures row { row_line (record { processor = 2; row = record { runs = 9; idle = 4; cut = 3; second = 5 } }) ≡ codes "F" ++ numbers_text (2 ∷ 9 ∷ 4 ∷ 3 ∷ 5 ∷ []) ++ 10 ∷ [] }
+    ensures more { (one : ProcessorRow) (rest : List ProcessorRow) → sweep_text (one ∷ rest) ≡ row_line one ++ sweep_text rest }
+    ensures end { sweep_text [] ≡ codes "END swept" ++ 10 ∷ [] }
 {}
 
 /// Processors that have stopped have a line each.

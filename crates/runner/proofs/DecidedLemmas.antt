@@ -66,6 +66,7 @@ read_fault_only (due.NoMemory _) (Ok done) e = absurd (cc)
 read_fault_only (due.DeckRefused fault) (Ok done) e = absurd (cc)
 read_fault_only (due.ProgramRefused refused) (Ok done) e = absurd (cc)
 read_fault_only (due.Accepted site) (Ok done) e = absurd (cc)
+read_fault_only (due.Swept rows) (Ok done) e = absurd (cc)
 read_fault_only (due.Report report) (Ok done) e = absurd (run_read report.run.ran.ending e)
 read_fault_only decided (Err fault) e = absurd (cc)
 
@@ -78,25 +79,30 @@ pub accepted_is_due : (task : Task) (deck : Deck) (decided : Due) → AreAccepte
     → IsDueOfPrograms task deck decided
 accepted_is_due (task.Run acts stop) deck (due.ProgramRefused refused) accepted is = absurd is
 accepted_is_due task.Check deck (due.ProgramRefused refused) accepted is = absurd (cc)
+accepted_is_due (task.Sweep runs) deck (due.ProgramRefused refused) accepted is = absurd is
 accepted_is_due task deck (due.NoMemory _) accepted is = tt
 accepted_is_due task deck due.Usage accepted is = (accepted, is)
 accepted_is_due task deck due.ReadFault accepted is = (accepted, is)
 accepted_is_due task deck (due.DeckRefused fault) accepted is = (accepted, is)
 accepted_is_due task deck (due.Accepted site) accepted is = (accepted, is)
 accepted_is_due task deck (due.Report report) accepted is = (accepted, is)
+accepted_is_due task deck (due.Swept rows) accepted is = (accepted, is)
 
 -- the usage, a read fault or a fault of the deck is due of no accepted programs
 no_usage : (task : Task) (deck : Deck) → IsDueOfAccepted task deck due.Usage → ⊥
 no_usage (task.Run acts stop) deck is = is
 no_usage task.Check deck is = cc
+no_usage (task.Sweep runs) deck is = is
 
 no_read_fault : (task : Task) (deck : Deck) → IsDueOfAccepted task deck due.ReadFault → ⊥
 no_read_fault (task.Run acts stop) deck is = is
 no_read_fault task.Check deck is = cc
+no_read_fault (task.Sweep runs) deck is = is
 
 no_deck_fault : (task : Task) (deck : Deck) (f : DeckFault) → IsDueOfAccepted task deck (due.DeckRefused f) → ⊥
 no_deck_fault (task.Run acts stop) deck f is = is
 no_deck_fault task.Check deck f is = cc
+no_deck_fault (task.Sweep runs) deck f is = is
 
 -- what is due of the programs of a deck on which the stop can be made
 pub programs_are_due : (task : Task) (deck : Deck) (decided : Due) → can_stop task deck.site ≡ true → IsDueOfPrograms task deck decided
@@ -108,6 +114,7 @@ programs_are_due task deck (due.DeckRefused fault) can is = (can, is)
 programs_are_due task deck (due.ProgramRefused refused) can is = (can, is)
 programs_are_due task deck (due.Accepted site) can is = (can, is)
 programs_are_due task deck (due.Report report) can is = (can, is)
+programs_are_due task deck (due.Swept rows) can is = (can, is)
 
 -- what is due of the deck that bytes spell
 pub deck_is_due : (task : Task) (bytes : List ℕ) (deck : Deck) (decided : Due) → Decks bytes deck → IsDueOfDeck task deck decided
@@ -119,6 +126,7 @@ deck_is_due task bytes deck due.ReadFault decks is = (deck, decks, is)
 deck_is_due task bytes deck (due.ProgramRefused refused) decks is = (deck, decks, is)
 deck_is_due task bytes deck (due.Accepted site) decks is = (deck, decks, is)
 deck_is_due task bytes deck (due.Report report) decks is = (deck, decks, is)
+deck_is_due task bytes deck (due.Swept rows) decks is = (deck, decks, is)
 
 -- no read fault is due of bytes
 bytes_are_read : (task : Task) (bytes : List ℕ) → IsDueOfBytes task bytes due.ReadFault → ⊥
@@ -137,3 +145,4 @@ bytes_are_due task left before now bytes (due.DeckRefused f) told is = (bytes, t
 bytes_are_due task left before now bytes (due.ProgramRefused refused) told is = (bytes, told, is)
 bytes_are_due task left before now bytes (due.Accepted site) told is = (bytes, told, is)
 bytes_are_due task left before now bytes (due.Report report) told is = (bytes, told, is)
+bytes_are_due task left before now bytes (due.Swept rows) told is = (bytes, told, is)

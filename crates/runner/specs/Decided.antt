@@ -15,6 +15,7 @@ use Rattle.player.specs.declared.stop.Stop.{Stop}
 use Rattle.plain_semantics.specs.Machine.{IsPossible, IsNoneLeft, shown_by}
 use Rattle.schedule_runs.specs.Ends.{IsRunOf}
 use Rattle.schedule_runs.specs.declared.ran.Ending.TheVariants.{Idle}
+use Rattle.schedule_sweeps.specs.Sweeps.{IsSweepOf}
 use Rattle.shown_sectors.specs.Sectors.{sectors_after}
 use Rattle.verdicts.specs.Refused.{AreAccepted, IsFirstRefused}
 use Rattle.runner.specs.RunEnds.{acts_in, shown_in}
@@ -50,10 +51,17 @@ IsDueOfRun deck stop tells (due.Report report) = IsReportOf deck stop report × 
 IsDueOfRun deck stop tells (due.NoMemory _) = Unit {0}
 IsDueOfRun deck stop tells _ = ⊥
 
+-- what is due of a deck that is swept: the row of each of its processors
+abbrev pub IsDueOfSweep : Deck → ℕ → Due → Type 0
+IsDueOfSweep deck runs (due.Swept rows) = IsSweepOf deck.site deck.lines runs rows
+IsDueOfSweep deck runs (due.NoMemory _) = Unit {0}
+IsDueOfSweep deck runs _ = ⊥
+
 -- what is due of a deck whose programs are all accepted, by what is to be done with it
 abbrev pub IsDueOfAccepted : Task → Deck → Due → Type 0
 IsDueOfAccepted (task.Run tells stop) deck decided = IsDueOfRun deck stop tells decided
 IsDueOfAccepted task.Check deck decided = decided ≡ due.Accepted deck.site
+IsDueOfAccepted (task.Sweep runs) deck decided = IsDueOfSweep deck runs decided
 
 -- what is due of the programs of a deck: the first that is refused, or else what is due by what is to be done, and then all are accepted
 abbrev pub IsDueOfPrograms : Task → Deck → Due → Type 0
@@ -92,6 +100,7 @@ IsDueOfSource task left before now decided = (bytes : List ℕ) × IsTold left b
 abbrev pub IsDueOfCommand : Command → Option (List ℕ) → ℕ → ℕ → Due → Type 0
 IsDueOfCommand (command.Run acts stop) left before now decided = IsDueOfSource (task.Run (telling.Lines acts) stop) left before now decided
 IsDueOfCommand command.Check left before now decided = IsDueOfSource task.Check left before now decided
+IsDueOfCommand (command.Sweep runs) left before now decided = IsDueOfSource (task.Sweep runs) left before now decided
 IsDueOfCommand (command.Load requests) left before now decided = IsDueOfBytes (load_task requests) (load_text requests) decided
 
 -- what is due by what is asked for: the usage where that is nothing
@@ -109,14 +118,16 @@ reads_deck None = false
 reads_deck (Some (command.Run acts stop)) = true
 reads_deck (Some command.Check) = true
 reads_deck (Some (command.Load requests)) = false
+reads_deck (Some (command.Sweep runs)) = true
 
--- what is due only once the deck was read to its end: a report or a verdict, a refusal for what the deck says, or the usage, where the deck hasn't the processor
+-- what is due only once the deck was read to its end: a report, a sweep or a verdict, a refusal for what the deck says, or the usage, where the deck hasn't the processor
 -- that is to stop
 abbrev pub IsOfWholeDeck : Due → Type 0
 IsOfWholeDeck due.Usage = Unit {0}
 IsOfWholeDeck (due.Report report) = Unit {0}
 IsOfWholeDeck (due.ProgramRefused refused) = Unit {0}
 IsOfWholeDeck (due.Accepted site) = Unit {0}
+IsOfWholeDeck (due.Swept rows) = Unit {0}
 IsOfWholeDeck (due.DeckRefused TooLong) = ⊥
 IsOfWholeDeck (due.DeckRefused fault) = Unit {0}
 IsOfWholeDeck _ = ⊥

@@ -2,7 +2,7 @@
 use Rattle.std.specs.Prelude.{ℕ, Bool, true, nat_lt, Some, None}
 use Rattle.tal_tree.specs.declared.site.Site.{Site}
 use Rattle.runner.specs.declared.task.Task.{Task}
-use Rattle.runner.specs.declared.task.Task.TheVariants.{Run, Check}
+use Rattle.runner.specs.declared.task.Task.TheVariants.{Run, Check, Sweep}
 use Rattle.runner.specs.declared.task.Telling.TheVariants.{Counts}
 
 -- whether the stop, where there is one, is of a processor of the site
@@ -10,6 +10,7 @@ abbrev pub can_stop : Task → Site → Bool
 can_stop (Run tells (Some stop)) site = nat_lt stop.processor site.processors
 can_stop (Run tells None) site = true
 can_stop Check site = true
+can_stop (Sweep runs) site = true
 
 -- to run the load deck with so many requests of each terminal, and to count what is shown
 abbrev pub load_task : ℕ → Task

@@ -7,6 +7,7 @@ use Rattle.tal_tree.specs.declared.act.Act.{Act}
 use Rattle.trace_print.specs.EndLine.{usage_line}
 use Rattle.trace_print.specs.FaultLine.{fault_line, IsOfDeck}
 use Rattle.trace_print.specs.ReportText.{load_report_text, report_text}
+use Rattle.trace_print.specs.RowLine.{sweep_text}
 use Rattle.trace_print.specs.VerdictText.{accepted_text, refusal_text}
 use Rattle.runner.specs.RunEnds.{acts_in, end_of, load_counts, shown_in, status_of_run}
 use Rattle.runner.specs.declared.due.Due.{Due}
@@ -42,6 +43,7 @@ text_of (due.DeckRefused fault) = fault_line fault
 text_of (due.ProgramRefused refused) = refusal_text refused.site refused.found.process refused.found.refusal refused.found.lines
 text_of (due.Accepted site) = accepted_text site
 text_of (due.Report report) = text_of_run report
+text_of (due.Swept rows) = sweep_text rows
 
 abbrev pub status_of : Due → Status
 status_of due.Usage = status.Usage
@@ -51,6 +53,7 @@ status_of (due.DeckRefused fault) = status.DeckRefused fault
 status_of (due.ProgramRefused refused) = status.Refused refused.found.process refused.found.refusal
 status_of (due.Accepted site) = status.Done
 status_of (due.Report report) = status_of_run report.run.ran.ending
+status_of (due.Swept rows) = status.Done
 
 abbrev pub run_of : Due → Option RunEnd
 run_of (due.Report report) = Some report.run

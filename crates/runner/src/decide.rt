@@ -6,12 +6,13 @@ ghost use Rattle.plain_semantics.specs.SiteLimits.{KeepsSiteLimits};
 ghost use Rattle.verdicts.specs.Refused.{AreAccepted};
 ghost use Rattle.runner.specs.Tasks.{load_task};
 ghost use Rattle.runner.specs.Written.{CanBeWritten};
-ghost use Rattle.runner.specs.Decided.{IsDue, IsDueOfCommand, IsDueOfSource, IsDueOfBytes, IsDueOfDeck, IsDueOfPrograms, IsDueOfAccepted, IsDueOfRun};
+ghost use Rattle.runner.specs.Decided.{IsDue, IsDueOfCommand, IsDueOfSource, IsDueOfBytes, IsDueOfDeck, IsDueOfPrograms, IsDueOfAccepted, IsDueOfRun, IsDueOfSweep};
 ghost use Rattle.runner.specs.Decided.{IsReportOf, IsSpelt, IsOfWholeDeck, due_of_fault, reads_deck};
 
 use crate::due::{Due, RefusedSite, Report};
 use crate::outcome::RunEnd;
 use crate::stopped::stopped_processors;
+use crate::sweep::swept;
 use crate::task::{Task, Telling};
 use accepted_decks::{
     a_run_of_an_accepted_site_keeps_possible_acts, an_accepted_deck_meets_the_premises,
@@ -62,6 +63,7 @@ fn due_of_command<S: Source>(alloc: Global, command: Command, source: &mut S) ->
         }
         Command::Check => due_of_source(alloc, Task::Check, source),
         Command::Load(requests) => due_of_load(alloc, requests),
+        Command::Sweep(runs) => due_of_source(alloc, Task::Sweep { runs }, source),
     }
 }
 
@@ -150,6 +152,18 @@ fn due_of_accepted(alloc: Global, task: Task, deck: Deck) -> Due
             let Deck { site, lines: _ } = deck;
             Due::Accepted(site)
         }
+        Task::Sweep { runs } => due_of_sweep(alloc, deck, runs),
+    }
+}
+
+fn due_of_sweep(alloc: Global, deck: Deck, runs: u32) -> Due
+    requires { IsSpelt deck }
+    ensures due { IsDueOfSweep deck runs result }
+    ensures written { CanBeWritten result }
+{
+    match swept(alloc, deck, runs) {
+        Err(memory) => Due::NoMemory(memory),
+        Ok(table) => Due::Swept(table),
     }
 }
 

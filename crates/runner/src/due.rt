@@ -2,6 +2,7 @@ use crate::outcome::RunEnd;
 use crate::task::Telling;
 use gd_words::{List, NoMemory};
 use logs::Shared;
+use run_table::Table;
 use shown_sectors::SectorWords;
 use tal_tree::{DeckFault, Site};
 use verdicts::RefusedProgram;
@@ -19,6 +20,8 @@ pub enum Due {
     /// All programs of the site are accepted, and no more was asked.
     Accepted(Site),
     Report(Report),
+    /// The runs of a sweep were made, and these are the rows of the processors.
+    Swept(Table),
 }
 
 /// A run that was made: its site, the run, what stands on the sectors that were written, the processors that have stopped, and

@@ -15,7 +15,8 @@ use schedule_runs::Ending;
 use std::alloc::Global;
 use tal_tree::Act;
 use trace_print::{
-    End, write_checked, write_fault, write_load_report, write_refusal, write_report, write_usage,
+    End, write_checked, write_fault, write_load_report, write_refusal, write_report, write_sweep,
+    write_usage,
 };
 use verdicts::RefusedProgram;
 
@@ -38,7 +39,8 @@ pub fn exit_number<S: Source, K: Sink>(
 /// act, and where all are accepted it runs the deck's schedule on the machine of copies and writes the report; `run --acts` tells
 /// the acts that the run keeps besides, and `run --fail P:K` stops a processor. Any other words give the usage, and so does a
 /// processor that the deck hasn't. `load N` reads no deck: it runs the load deck with N requests of each terminal, and tells in place of
-/// each write and reply how many there were.
+/// each write and reply how many there were. `sweep N` judges a deck as `run` does, runs it once for each of its processors and each
+/// number of events below N, with a stop of that processor after so many, and tells for each processor how its runs ended.
 pub fn command<S: Source, K: Sink>(
     alloc: Global,
     words: &[String],
@@ -62,6 +64,7 @@ fn write_due<K: Sink>(sink: &mut K, due: &Due) -> Result<(), WriteFault>
         Due::ProgramRefused(refused) => write_refused(sink, refused),
         Due::Accepted(site) => write_checked(sink, site),
         Due::Report(report) => write_run(sink, report),
+        Due::Swept(table) => write_sweep(sink, table.rows()),
         Due::ReadFault => Ok(()),
         Due::NoMemory(_) => Ok(()),
     }
@@ -147,6 +150,7 @@ fn done(due: Due) -> Outcome
         Due::DeckRefused(fault) => Outcome::without_run(Status::DeckRefused(fault)),
         Due::ProgramRefused(refused) => Outcome::without_run(status_of_refused(refused)),
         Due::Accepted(_) => Outcome::without_run(Status::Done),
+        Due::Swept(_) => Outcome::without_run(Status::Done),
         Due::Report(report) => Outcome {
             status: report.run.status(),
             run: Some(report.run),
@@ -178,6 +182,7 @@ fn cut_off(due: Due) -> Outcome
         Due::DeckRefused(_) => None,
         Due::ProgramRefused(_) => None,
         Due::Accepted(_) => None,
+        Due::Swept(_) => None,
     };
     Outcome {
         status: Status::WriteFault,

@@ -27,7 +27,7 @@ impl Outcome {
 /// How a call ended.
 #[derive(Drop)]
 pub enum Status {
-    /// The run ended idle, or all programs are accepted and no more was asked.
+    /// The run ended idle, or all programs are accepted and no more was asked, or all runs of a sweep were made.
     Done,
     /// The words are no command, or the processor that is to stop isn't one of the deck.
     Usage,

@@ -21,6 +21,9 @@ pub enum Task {
     Run { tells: Telling, stop: Option<Stop> },
     /// To judge its programs.
     Check,
+    /// To judge its programs, and, where all are accepted, to run its schedule so many times for each of its processors, with a stop of
+    /// that processor after 0, 1, 2 and more events beside those of the schedule, and to count how the runs end.
+    Sweep { runs: u32 },
 }
 
 impl Task {
@@ -48,6 +51,7 @@ impl Task {
                 stop: None,
             } => true,
             Task::Check => true,
+            Task::Sweep { runs: _ } => true,
         }
     }
 }

@@ -1,4 +1,4 @@
-ghost use Rattle.std.specs.Prelude.{◌≡◌, ℕ, [], ⊤, Ok, Err, Some, None, true, false};
+ghost use Rattle.std.specs.Prelude.{◌≡◌, ℕ, [], ⊤, List, Ok, Err, Some, None, true, false};
 ghost use Rattle.gd_words.specs.Memory.{no_memory};
 ghost use Rattle.tal_tree.specs.declared.fault.DeckFault.{DeckFault};
 ghost use Rattle.tal_tree.specs.declared.site.Site.{Site};
@@ -6,6 +6,8 @@ ghost use Rattle.path_semantics.specs.declared.reason.Refusal.{Refusal};
 ghost use Rattle.gd_io.specs.declared.writing.WriteFault.{WriteFault};
 ghost use Rattle.trace_print.specs.EndLine.{usage_line};
 ghost use Rattle.trace_print.specs.FaultLine.{fault_line};
+ghost use Rattle.trace_print.specs.RowLine.{sweep_text};
+ghost use Rattle.run_table.specs.declared.table.ProcessorRow.{ProcessorRow};
 ghost use Rattle.trace_print.specs.VerdictText.{accepted_text, refusal_text};
 ghost use Rattle.runner.specs.Written.{outcome_of, run_of, status_of, text_of};
 ghost use Rattle.runner.specs.declared.due.Due.{Due};
@@ -23,6 +25,7 @@ pub fn what_is_due_is_written()
     ensures refused { (refused : RefusedSite) → (text_of (due.ProgramRefused refused) ≡ refusal_text refused.site refused.found.process refused.found.refusal refused.found.lines)
         × (status_of (due.ProgramRefused refused) ≡ status.Refused refused.found.process refused.found.refusal) }
     ensures accepted { (site : Site) → (text_of (due.Accepted site) ≡ accepted_text site) × (status_of (due.Accepted site) ≡ status.Done) }
+    ensures swept { (rows : List ProcessorRow) → (text_of (due.Swept rows) ≡ sweep_text rows) × (status_of (due.Swept rows) ≡ status.Done) }
 {}
 
 /// A write fault changes the status and not the run; and only a report has one.
@@ -31,4 +34,5 @@ pub fn a_write_fault_leaves_the_run()
     ensures fault { (decided : Due) (fault : WriteFault) → outcome_of decided (Err fault) ≡ record { status = status.WriteFault; run = run_of decided } }
     ensures report { (report : Report) → run_of (due.Report report) ≡ Some report.run }
     ensures accepted { (site : Site) → run_of (due.Accepted site) ≡ None }
+    ensures swept { (rows : List ProcessorRow) → run_of (due.Swept rows) ≡ None }
 {}

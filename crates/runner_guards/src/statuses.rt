@@ -7,7 +7,7 @@ ghost use Rattle.runner.specs.Numbers.{number_of};
 ghost use Rattle.runner.specs.Stopped.{stopped_from};
 ghost use Rattle.runner.specs.Tasks.{can_stop, load_task};
 ghost use Rattle.runner.specs.declared.outcome.Status.TheVariants as status;
-ghost use Rattle.runner.specs.declared.task.Task.TheVariants.{Check, Run};
+ghost use Rattle.runner.specs.declared.task.Task.TheVariants.{Check, Run, Sweep};
 ghost use Rattle.runner.specs.declared.task.Telling.{Telling};
 ghost use Rattle.runner.specs.declared.task.Telling.TheVariants.{Counts};
 
@@ -29,11 +29,12 @@ pub fn stopped_processors_are_told()
     ensures { stopped_from 0 (false ∷ true ∷ false ∷ true ∷ []) ≡ 1 ∷ 3 ∷ [] }
 {}
 
-/// A processor can stop that the site has; a load runs with no stop, and is counted.
+/// A processor can stop that the site has; a load runs with no stop, and is counted; a sweep stops what the site has.
 pub fn a_task_is_that_of_its_command()
     ensures has { (site : Site) (tells : Telling) → can_stop (Run tells (Some (record { processor = 2; after = 9 }))) (record site { processors = 3 }) ≡ true }
     ensures has_not { (site : Site) (tells : Telling) → can_stop (Run tells (Some (record { processor = 3; after = 0 }))) (record site { processors = 3 }) ≡ false }
     ensures no_stop { (site : Site) (tells : Telling) → can_stop (Run tells None) site ≡ true }
     ensures check { (site : Site) → can_stop Check site ≡ true }
+    ensures sweep { (site : Site) (runs : ℕ) → can_stop (Sweep runs) site ≡ true }
     ensures load { (requests : ℕ) → load_task requests ≡ Run (Counts requests) None }
 {}

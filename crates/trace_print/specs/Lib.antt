@@ -4,6 +4,7 @@ pub mod FaultLine
 pub mod LoadLines
 pub mod NumbersText
 pub mod ReportText
+pub mod RowLine
 pub mod SectorLine
 pub mod ShownLine
 pub mod StopLine

@@ -1,10 +1,10 @@
 //! The lines of a report: what a run shows, or for a load its counts, the sectors that were written, the processors that stopped, the acts that it kept and how
-//! it ended; which programs are accepted, and why one is refused; a deck's fault; and the usage. Each is one exact text that goes
+//! it ended; the rows of a sweep; which programs are accepted, and why one is refused; a deck's fault; and the usage. Each is one exact text that goes
 //! out by one call of `put_all`. Nothing here takes memory.
 //!
 //! Below stand `gd_io`, whose relation `Puts` is what each call here says of its sink, `tal_tree` with what the lines tell of,
-//! `plain_semantics` with the openers that acts name, `path_semantics` with the reasons of refusals, and `shown_sectors`. The crates
-//! above use the texts, `report_text`, `load_report_text`, `accepted_text`, `refusal_text`, `fault_line`, `end_line` and `usage_line`, and join other
+//! `plain_semantics` with the openers that acts name, `path_semantics` with the reasons of refusals, `shown_sectors`, and `run_table` with the
+//! rows. The crates above use the texts, `report_text`, `load_report_text`, `sweep_text`, `accepted_text`, `refusal_text`, `fault_line`, `end_line` and `usage_line`, and join other
 //! texts by the lemmas of `gd_io` on `Puts`.
 #![tactic(auto)]
 
@@ -14,6 +14,7 @@ pub mod fault;
 mod line;
 pub mod load;
 pub mod report;
+pub mod rows;
 pub mod sectors;
 pub mod shown;
 pub mod stops;
@@ -24,6 +25,7 @@ pub use closing::{End, write_end, write_usage};
 pub use fault::write_fault;
 pub use load::{LoadCounts, write_load};
 pub use report::{write_load_report, write_report};
+pub use rows::{write_row, write_sweep};
 pub use sectors::{write_all_sectors, write_sector};
 pub use shown::{write_all_shown, write_shown};
 pub use stops::{write_all_stops, write_stop};

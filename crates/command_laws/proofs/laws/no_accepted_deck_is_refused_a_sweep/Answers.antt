@@ -1,0 +1,11 @@
+use Rattle.std.proofs.Common.{List, ℕ, Option, subst}
+use Rattle.runner.specs.Decided.{IsDue}
+use Rattle.command_laws.proofs.Commands.{sweep-ends}
+use Rattle.command_laws.proofs.laws.no_accepted_deck_is_refused_a_sweep.Goals as goal
+
+pub returns : goal.returns
+returns g c = λ words source source_now sink sink_now outcome ends bytes runs deck asked told sure spelt accepted.
+    let before = g.S.Source.faults source in
+    let now = g.S.Source.faults source_now in
+    sweep-ends words bytes before now runs deck ends.decided ends.is_written.result outcome asked spelt accepted
+    (subst (λ (left : Option (List ℕ)). IsDue words left before now ends.decided) told ends.is_due) ends.is_written.is (ends.no_read_fault sure)

@@ -1,0 +1,22 @@
+ghost use Rattle.std.specs.Prelude.{IfOk};
+ghost use Rattle.runner.specs.Decided.{IsSpelt};
+ghost use Rattle.schedule_sweeps.specs.Sweeps.{IsSweepOf};
+
+use accepted_decks::an_accepted_deck_meets_the_premises;
+use deck_reader::Deck;
+use gd_words::NoMemory;
+use logs::Shared;
+use run_table::Table;
+use schedule_sweeps::sweep;
+use std::alloc::Global;
+
+/// The rows of a sweep of a deck.
+pub(crate) fn swept(alloc: Global, deck: Deck, runs: u32) -> Result<Table, NoMemory>
+    requires { IsSpelt deck }
+    ensures { IfOk result (IsSweepOf deck.site deck.lines runs) }
+{
+    an_accepted_deck_meets_the_premises();
+    let Deck { site, lines } = deck;
+    let site = Shared::new(alloc, site)?;
+    sweep(alloc, &site, lines.as_slice(), runs)
+}
