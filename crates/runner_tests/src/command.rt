@@ -40,18 +40,33 @@ struct Ended {
     text: Vec<u8>,
 }
 
-/// Runs the words over ends in memory, of which the calls with these numbers fail. After want of memory nothing is written.
+/// Which calls of the ends in memory fail, counted from 1, and how many bytes there is room for.
+#[derive(Clone, Copy)]
+struct Limits<'a> {
+    reads: &'a [u64],
+    writes: &'a [u64],
+    room: usize,
+}
+
+/// No call fails, and there is room for all.
+const NONE: Limits<'static> = Limits {
+    reads: &[],
+    writes: &[],
+    room: 100_000,
+};
+
+/// Runs the words over ends in memory with these limits. After want of memory nothing is written.
 fn run_words(
     alloc: Global,
     words: &[&str],
     deck: List<u8>,
-    reads: &[u64],
-    writes: &[u64],
+    limits: Limits<'_>,
 ) -> Result<Ended, Fail> {
     let called = called(alloc, words)?;
-    let mut source = MemorySource::new(deck, List::from_vec(Vec::from_slice(alloc, reads)?));
-    let failing = List::from_vec(Vec::from_slice(alloc, writes)?);
-    let mut sink = MemorySink::new(alloc, 100_000, failing)?;
+    let failing = List::from_vec(Vec::from_slice(alloc, limits.reads)?);
+    let mut source = MemorySource::new(deck, failing);
+    let failing = List::from_vec(Vec::from_slice(alloc, limits.writes)?);
+    let mut sink = MemorySink::new(alloc, limits.room, failing)?;
     let number = exit_number(alloc, called.as_slice(), &mut source, &mut sink);
     let text = Vec::from_slice(alloc, sink.bytes())?;
     if number == 8 && text.is_empty() {
@@ -68,26 +83,48 @@ fn ends_with(
     number: u8,
     text: &[u8],
 ) -> Result<bool, Fail> {
-    let end = run_words(alloc, words, deck, &[], &[])?;
+    let end = run_words(alloc, words, deck, NONE)?;
     Ok(end.number == number && end.text.as_slice() == text)
 }
 
+/// What the run of the deck that is tried with failing ends writes, by three writes.
+const BOTH_REPLIES: &[u8] = b"R $T1 1: 5\nR $T1 2: 12\nEND idle\n";
+
+/// Where each read fails nothing is written, and where each write does the lines before it are.
 #[test]
 fn ends_as_the_ends_allow(rt: HostRuntime) -> Result<(), Fail> {
     let never: &[u64] = &[];
-    let first: &[u64] = &[1];
-    let second: &[u64] = &[2];
-    let both = b"R $T1 1: 5\nR $T1 2: 12\nEND idle\n".as_slice();
     let cases = [
-        (never, never, 0, both),
-        (never, second, 7, b"R $T1 1: 5\n".as_slice()),
-        (first, never, 6, b"".as_slice()),
+        (never, never, 0, BOTH_REPLIES),
+        (never, &[1], 7, b"".as_slice()),
+        (never, &[2], 7, b"R $T1 1: 5\n".as_slice()),
+        (never, &[3], 7, b"R $T1 1: 5\nR $T1 2: 12\n".as_slice()),
+        (&[1], never, 6, b"".as_slice()),
+        (&[2], never, 6, b"".as_slice()),
     ];
     for (reads, writes, number, text) in cases {
+        let limits = Limits {
+            reads,
+            writes,
+            room: 100_000,
+        };
         let deck = deck(rt.alloc(), 0, BOTH)?;
-        let end = run_words(rt.alloc(), &["run"], deck, reads, writes)?;
+        let end = run_words(rt.alloc(), &["run"], deck, limits)?;
         assert!(rt; end.number == number);
         assert!(rt; end.text.as_slice() == text);
+    }
+    Ok(())
+}
+
+/// A sink with less room than the text gets a first part of it.
+#[test]
+fn writes_what_there_is_room_for(rt: HostRuntime) -> Result<(), Fail> {
+    for room in 0..BOTH_REPLIES.len() {
+        let limits = Limits { room, ..NONE };
+        let deck = deck(rt.alloc(), 0, BOTH)?;
+        let end = run_words(rt.alloc(), &["run"], deck, limits)?;
+        assert!(rt; end.number == 7);
+        assert!(rt; end.text.len() <= room && BOTH_REPLIES.starts_with(end.text.as_slice()));
     }
     Ok(())
 }
