@@ -19,7 +19,7 @@ ghost use Rattle.runner.specs.declared.due.Due.TheVariants as due;
 ghost use Rattle.runner.specs.declared.due.RefusedSite.{RefusedSite};
 ghost use Rattle.runner.specs.declared.due.Report.{Report};
 ghost use Rattle.runner.specs.declared.task.Task.{Task};
-ghost use Rattle.runner.specs.declared.task.Task.TheVariants.{Check, Run};
+ghost use Rattle.runner.specs.declared.task.Task.TheVariants.{Check, Run, Sweep};
 ghost use Rattle.runner.specs.declared.task.Telling.{Telling};
 ghost use Rattle.runner.specs.declared.task.Telling.TheVariants.{Lines};
 
@@ -56,6 +56,8 @@ pub fn a_command_reads_its_deck()
         → IsDueOfSource (Run (Lines true) stop) left before now decided }
     ensures check { (left : Option (List ℕ)) (before now : ℕ) (decided : Due) → IsDueOfCommand command.Check left before now decided
         → IsDueOfSource Check left before now decided }
+    ensures sweep { (runs : ℕ) (left : Option (List ℕ)) (before now : ℕ) (decided : Due) → IsDueOfCommand (command.Sweep runs) left before now decided
+        → IsDueOfSource (Sweep runs) left before now decided }
     ensures load { (requests : ℕ) (left : Option (List ℕ)) (before now : ℕ) (decided : Due) → IsDueOfCommand (command.Load requests) left before now decided
         → IsDueOfBytes (load_task requests) (load_text requests) decided }
 {}
