@@ -1,0 +1,9 @@
+pub mod Added
+pub mod Items
+pub mod Law
+pub mod Looked
+pub mod Meant
+pub mod NewNames
+pub mod Parsed
+pub mod Played
+pub mod Ready
