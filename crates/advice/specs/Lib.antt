@@ -1,0 +1,4 @@
+pub mod Advice
+pub mod Answer
+pub mod Choice
+pub mod Due
