@@ -1,0 +1,11 @@
+pub mod Accepting
+pub mod Answered
+pub mod Breaking
+pub mod Layers
+pub mod OneAnswer
+pub mod Proper
+pub mod SameAnswer
+pub mod SameBounds
+pub mod SamePaths
+pub mod SameStatements
+pub mod Unmendable
