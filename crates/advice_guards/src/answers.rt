@@ -1,0 +1,19 @@
+ghost use Rattle.std.specs.Prelude.{◌≡◌, [], ◌∷◌};
+ghost use Rattle.advice.specs.Answer.{checkpoints_of, IsAnswer};
+ghost use Rattle.advice_guards.specs.Programs.{serving, two_lists, at, marks};
+
+/// The CHECKPOINTs of a program in the order of its text.
+pub fn checkpoints_are_all_in_order()
+    ensures nested { checkpoints_of serving ≡ at 4 marks ∷ [] }
+    ensures several { checkpoints_of two_lists ≡ at 2 marks ∷ at 3 marks ∷ at 5 marks ∷ [] }
+{}
+
+/// The answers to a server, and to a program with three CHECKPOINTs of which one has an empty list.
+pub fn answers_are_told()
+    ensures server { IsAnswer serving (record { lists = record { statement = 4; line = 14; items = 0 ∷ 5 ∷ 6 ∷ []; files = 1 ∷ [] } ∷ []; depths = 1 ∷ 1 ∷ [] }) }
+    ensures several { IsAnswer two_lists (record {
+      lists = record { statement = 2; line = 12; items = 0 ∷ []; files = [] } ∷ record { statement = 3; line = 13; items = []; files = [] }
+          ∷ record { statement = 5; line = 15; items = 1 ∷ []; files = [] } ∷ [];
+      depths = 1 ∷ 1 ∷ [];
+    }) }
+{}
