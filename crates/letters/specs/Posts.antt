@@ -1,5 +1,5 @@
 -- Posts: a world with its letters. What each event of a schedule does to both together, said once for machines of whole messages and of packets.
-use Rattle.std.specs.Prelude.{◌≡◌, ◌≢◌, ℕ, ◌==◌, ◌&&◌, Bool, true, not, ◌||◌, List, [], ◌∷◌, ◌++◌}
+use Rattle.std.specs.Prelude.{◌≡◌, ◌≢◌, ℕ, Bool, true, not, List, [], ◌∷◌, ◌++◌}
 use Rattle.std.specs.List.{filter}
 use Rattle.gd_words.specs.Members.{IsAmong}
 use Rattle.tal_tree.specs.declared.site.Site.{Site}
@@ -9,7 +9,7 @@ use Rattle.world_semantics.specs.World.{World, boot, is_running}
 use Rattle.world_semantics.specs.Messages.{Sending, Running, Entering, Handing, Stopping, Marking}
 use Rattle.world_semantics.specs.Rules.{Change}
 use Rattle.world_semantics.specs.Follows.{IsIdleFor}
-use Rattle.letters.specs.Routes.{Letter, letters_of}
+use Rattle.letters.specs.Routes.{Letter, is_between, letters_of}
 use Rattle.letters.specs.Again.{sent_again}
 
 -- a world, the letters that are owed: sent and not yet handed over, the oldest first, and all letters that were ever sent, in whatever order
@@ -29,11 +29,6 @@ with_letters letters post = record post { owed = post.owed ++ letters; sent = le
 -- the post after its world changed: what was sent is owed, by the routes of the world after the change
 abbrev pub after_change : Site → List Sending → World → Post → Post
 after_change site sendings next post = with_letters (letters_of site next sendings) (record post { world = next })
-
--- whether a letter is between two nodes
-abbrev pub is_between : ℕ → ℕ → Letter → Bool
-is_between one other letter =
-    (letter.sender == one && letter.receiver == other) || (letter.sender == other && letter.receiver == one)
 
 abbrev pub without_those_between : ℕ → ℕ → List Letter → List Letter
 without_those_between one other letters = filter (λ letter. not (is_between one other letter)) letters

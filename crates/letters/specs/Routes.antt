@@ -1,6 +1,6 @@
 -- The routes of nodes, and letters. That a node sends to the first copy of a process until it has marked that one's processor is Bartlett's: the system
 -- keeps a table of where each process is. That a route is read off the marks is our own form of it.
-use Rattle.std.specs.Prelude.{ℕ, ◌==◌, if◌then◌else◌, List, filter_map, slice_get, Option, Some, None}
+use Rattle.std.specs.Prelude.{ℕ, ◌==◌, ◌&&◌, ◌||◌, Bool, if◌then◌else◌, List, filter_map, slice_get, Option, Some, None}
 use Rattle.std.specs.Option.{option_map, option_and_then}
 use Rattle.tal_tree.specs.declared.site.Site.{Site}
 use Rattle.tal_tree.specs.declared.site.OpenerSpec.{OpenerSpec}
@@ -44,6 +44,11 @@ pub record Letter : Type 0 where
   pub sender : ℕ
   pub receiver : ℕ
   pub message : Message
+
+-- whether a letter is between two nodes
+abbrev pub is_between : ℕ → ℕ → Letter → Bool
+is_between one other letter =
+    (letter.sender == one && letter.receiver == other) || (letter.sender == other && letter.receiver == one)
 
 -- the letter of a sending, by the routes of this world
 abbrev pub letter_of : Site → World → Sending → Option Letter

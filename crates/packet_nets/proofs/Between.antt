@@ -7,8 +7,8 @@ use Rattle.std.proofs.lemmas.List.{map-append}
 use Rattle.std.proofs.lemmas.List.Elements.{filter_map-append, filter-append}
 use Rattle.world_semantics.proofs.Roles.{both-true}
 use Rattle.world_semantics.specs.Messages.{Message}
-use Rattle.letters.specs.Posts.{is_between, without_those_between, IsTaken, takes_first, takes_later}
-use Rattle.letters.specs.Routes.{Letter}
+use Rattle.letters.specs.Posts.{without_those_between, IsTaken, takes_first, takes_later}
+use Rattle.letters.specs.Routes.{Letter, is_between}
 use Rattle.message_layout.specs.Messages.{NodeMessage, Carrying, Reporting, Declaring}
 use Rattle.message_layout.specs.Layout.{words_of, IsWithin}
 use Rattle.message_layout.proofs.Again.{written-again}

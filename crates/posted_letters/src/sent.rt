@@ -1,5 +1,5 @@
 ghost use Rattle.std.specs.Prelude.{◌≡◌, ◌&&◌, ◌||◌, not, IfOk};
-ghost use Rattle.letters.specs.Posts.{is_between};
+ghost use Rattle.letters.specs.Routes.{is_between};
 ghost use Rattle.message_wires.specs.Wires.{is_of};
 ghost use Rattle.world_semantics.specs.World.{is_running};
 

@@ -22,8 +22,8 @@ use Rattle.headline.specs.Fit.{IsFit}
 use Rattle.headline.proofs.Changing.{acts_by, causes-one, passes-one}
 use Rattle.headline.proofs.Kept.{IsGood}
 use Rattle.letters.specs.Again.{is_rerouted, is_moved, sent_again}
-use Rattle.letters.specs.Posts.{Post, is_between, without_those_between, after_marking}
-use Rattle.letters.specs.Routes.{Letter, route_of, home_of, receiver_of, letters_of}
+use Rattle.letters.specs.Posts.{Post, without_those_between, after_marking}
+use Rattle.letters.specs.Routes.{Letter, home_of, is_between, letters_of, receiver_of, route_of}
 use Rattle.awaited_requests.specs.Awaited.{IsAwaited, by_copy, by_terminal}
 use Rattle.awaited_requests.specs.Seats.{IsLaidOut, AreSeated}
 use Rattle.awaited_requests.specs.Served.{reply_of, request_of, IsServed, route_stopped, is_owed, is_seen, AreServed}

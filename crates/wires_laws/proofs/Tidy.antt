@@ -6,8 +6,8 @@ use Rattle.std.proofs.lemmas.List.{map-append, append-nil, append_assoc}
 use Rattle.gd_words.specs.Members.{IsAmong}
 use Rattle.gd_words.proofs.Among.{among-either}
 use Rattle.world_semantics.proofs.Members.{among-filter}
-use Rattle.letters.specs.Routes.{Letter}
-use Rattle.letters.specs.Posts.{is_between, without_those_between, IsTaken, takes_first, takes_later}
+use Rattle.letters.specs.Routes.{Letter, is_between}
+use Rattle.letters.specs.Posts.{without_those_between, IsTaken, takes_first, takes_later}
 use Rattle.message_wires.specs.Wires.{Sent, Wires, has_room, put_on, posted, all_posted, is_of, without_number, paid, paid_between, without_packet, repeated_packet, is_due, put_again, wires_again}
 use Rattle.message_wires.specs.Runs.{letters_in}
 use Rattle.wires_laws.specs.Carried.{IsOn, AreTidy}
