@@ -3,6 +3,7 @@ pub mod Entered
 pub mod Files
 pub mod Fitting
 pub mod Homes
+pub mod Lifted
 pub mod Made
 pub mod Only
 pub mod Outcomes

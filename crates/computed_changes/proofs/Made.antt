@@ -1,5 +1,5 @@
 -- What is computed for a message that is handed over is permitted, where the message was sent.
-use Rattle.std.proofs.Common.{◌≡◌, ℕ, ◌+◌, ◌==◌, Bool, true, false, Option, Some, None, option_map, slice_get, refl, sym, subst, ◌∙◌}
+use Rattle.std.proofs.Common.{◌≡◌, ℕ, ◌+◌, ◌==◌, Bool, true, false, Option, Some, None, slice_get, refl, sym, subst, ◌∙◌}
 use Rattle.std.proofs.lemmas.Bool.{eqb-true}
 use Rattle.gd_words.specs.Members.{IsAmong}
 use Rattle.gd_words.specs.declared.message.Request.{Request}
@@ -29,9 +29,12 @@ use Rattle.world_semantics.proofs.Lists.{some-same}
 use Rattle.world_semantics.proofs.Roles.{both-true}
 use Rattle.world_semantics.proofs.Running.{enters-as}
 use Rattle.computed_changes.specs.Fitting.{depths_of, put_where, put_fitting}
-use Rattle.computed_changes.specs.Handed.{is_to, asked_done, awaits, got_where, got_done, awaits_at, printed_where, printed_done, printed_at, replied_to, replied_done, is_next_for, applied_done, applied_where, checkpoint_done, is_of_last, acknowledged_where, taken_done, handed_done}
+use Rattle.computed_changes.specs.Checkpoints.{is_next_for, is_of_last}
+use Rattle.computed_changes.specs.Handed.{handed_done, replied_done, replied_to}
+use Rattle.computed_changes.specs.Replies.{awaits, awaits_at, is_to, printed_at, printed_done, printed_where}
 use Rattle.computed_changes.specs.Laws.{IsSent}
 use Rattle.computed_changes.proofs.Homes.{at-copy}
+use Rattle.computed_changes.proofs.Lifted.{acknowledged_where, applied_made, applied_where, asked_done, checkpoint_done, got_done, got_where, taken_done}
 use Rattle.computed_changes.proofs.Placed.{is-to}
 
 -- a change that is made where a message is handed over
@@ -107,7 +110,7 @@ printed-here site node number reply w sent false here done e = absurd (cc)
 replied-to : (site : Site) (node : ℕ) (reply : Reply) (w : World) → IsAmong reply w.replies → (one : Who) (done : Done)
     → replied_to site node reply w one ≡ Some done → MayHand site node (Replying reply) w done
 replied-to site node reply w sent (who.File number file) done e =
-    let at = at-copy node _ (slice_get w.processes number) done e in
+    let at = at-copy site number node (Replying reply) w (slice_get w.processes number) done e in
     subst (λ n. MayHand site n (Replying reply) w done) at.here (got-may site number reply at.k at.pair w at.there sent _ refl done at.made)
 replied-to site node reply w sent (who.Terminal number) done e = printed-here site node number reply w sent _ refl done e
 
@@ -123,12 +126,13 @@ put-in core image true applied e = e
 put-in core image false applied e = absurd (cc)
 
 applied-may : (site : Site) (message : ImageMessage) (k : Which) (pair : Pair) (w : World) → slice_get w.processes message.process ≡ Some pair
-    → IsAmong message pair.checkpoints → (copy_of k pair).role ≡ Watching → (next : Bool) → is_next_for (copy_of k pair) message ≡ next → (done : Done)
+    → IsAmong message pair.checkpoints → (copy_of k pair).role ≡ Watching → (next : Bool) → is_next_for (copy_of k pair).era (copy_of k pair).number message ≡ next
+    → (done : Done)
     → applied_where site message k pair w next ≡ Some done → MayHand site (copy_of k pair).processor (Checkpointing message) w done
 applied-may site message k pair w there sent role true n done e = by (put_fitting (depths_of site message.process) (copy_of k pair).core message.image) refl e
   where
     by : (applied : Option Core) → put_fitting (depths_of site message.process) (copy_of k pair).core message.image ≡ applied
-        → option_map (applied_done message k pair w) applied ≡ Some done → MayHand site (copy_of k pair).processor (Checkpointing message) w done
+        → applied_made message k pair w applied ≡ Some done → MayHand site (copy_of k pair).processor (Checkpointing message) w done
     by None p e = absurd (cc)
     by (Some applied) p e =
         let b = both-true (message.era == (copy_of k pair).era) _ n in
@@ -146,7 +150,8 @@ checkpoint-may site message k pair w there sent Gone role done e = absurd (cc)
 -- That a checkpoint was taken
 
 acknowledged-may : (site : Site) (taken : TakenMessage) (k : Which) (pair : Pair) (w : World) → slice_get w.processes taken.process ≡ Some pair
-    → IsAmong taken pair.takens → (copy_of k pair).role ≡ Acting → (last : Bool) → is_of_last (copy_of k pair) taken ≡ last → (done : Done)
+    → IsAmong taken pair.takens → (copy_of k pair).role ≡ Acting → (last : Bool) → is_of_last (copy_of k pair).sent (copy_of k pair).era (copy_of k pair).number taken ≡ last
+    → (done : Done)
     → acknowledged_where taken k pair w last ≡ Some done → MayHand site (copy_of k pair).processor (Taking taken) w done
 acknowledged-may site taken k pair w there sent role true l done e =
     let b = both-true (copy_of k pair).sent _ l in
@@ -167,14 +172,14 @@ taken-may site taken k pair w there sent Gone role done e = absurd (cc)
 pub handed-may : (site : Site) (node : ℕ) (message : Message) (w : World) (done : Done) → IsSent w message → handed_done site node message w ≡ Some done
     → Change site w (Handing node message) done.sendings done.world
 handed-may site node (Asking request) w done sent e =
-    let at = at-copy node _ (slice_get w.processes request.process) done e in
+    let at = at-copy site request.process node (Asking request) w (slice_get w.processes request.process) done e in
     subst (λ n. MayHand site n (Asking request) w done) at.here (asked-may site request at.k at.pair w at.there sent _ refl done at.made)
 handed-may site node (Replying reply) w done sent e = replied-may site node reply w sent _ done e
 handed-may site node (Checkpointing message) w done (pair, there, sent) e =
-    let at = at-copy node _ (slice_get w.processes message.process) done e in
+    let at = at-copy site message.process node (Checkpointing message) w (slice_get w.processes message.process) done e in
     let among = subst (λ (p : Pair). IsAmong message p.checkpoints) (some-same (sym there ∙ at.there)) sent in
     subst (λ n. MayHand site n (Checkpointing message) w done) at.here (checkpoint-may site message at.k at.pair w at.there among _ refl done at.made)
 handed-may site node (Taking taken) w done (pair, there, sent) e =
-    let at = at-copy node _ (slice_get w.processes taken.process) done e in
+    let at = at-copy site taken.process node (Taking taken) w (slice_get w.processes taken.process) done e in
     let among = subst (λ (p : Pair). IsAmong taken p.takens) (some-same (sym there ∙ at.there)) sent in
     subst (λ n. MayHand site n (Taking taken) w done) at.here (taken-may site taken at.k at.pair w at.there among _ refl done at.made)

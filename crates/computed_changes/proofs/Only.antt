@@ -16,16 +16,19 @@ use Rattle.world_semantics.specs.Core.{Core, Deed, next_on, put_in, Advances, ge
 use Rattle.world_semantics.specs.Kept.{Enters}
 use Rattle.world_semantics.specs.declared.which.Which.{Which}
 use Rattle.world_semantics.specs.World.{Copy, Pair, Terminal, World, terminal_node, copy_of, other_of, with_copy, with_pair}
-use Rattle.world_semantics.specs.Messages.{Message, Replying, Checkpointing, Taking, Sending, sent_at, Cause, Handing}
+use Rattle.world_semantics.specs.Messages.{Message, Asking, Replying, Checkpointing, Taking, Sending, sent_at, Cause, Handing}
 use Rattle.world_semantics.specs.Own.{Around, around, Causes, by_inner, by_take, by_ask, by_answer, by_device, by_write, by_reply}
 use Rattle.world_semantics.specs.Passes.{Passes, by_send, by_pass_again, by_pass, by_apply, by_acknowledge, taken_of, after_applying, kept_at_mark}
 use Rattle.world_semantics.specs.Rules.{Change, by_own, by_checkpoint, by_request, by_early_request, by_enter, by_print, by_stop, by_mark, after_own}
-use Rattle.world_semantics.specs.Running.{Done, own_done}
+use Rattle.world_semantics.specs.Running.{Done}
 use Rattle.world_semantics.proofs.Running.{enters-only}
 use Rattle.computed_changes.specs.Fitting.{depths_of, fits}
-use Rattle.computed_changes.specs.Handed.{asked_done, own_got, awaits, got_where, got_done, awaits_at, printed_where, replied_done, is_next_for, applied_where, applied_done, checkpoint_done, is_of_last, acknowledged_where, taken_done, handed_done}
+use Rattle.computed_changes.specs.Checkpoints.{is_next_for, is_of_last}
+use Rattle.computed_changes.specs.Handed.{handed_done, replied_done}
+use Rattle.computed_changes.specs.Replies.{awaits, awaits_at, printed_where}
 use Rattle.computed_changes.specs.Laws.{FitsWhereItComes}
 use Rattle.computed_changes.proofs.Homes.{AreApart, at-found}
+use Rattle.computed_changes.proofs.Lifted.{acknowledged_where, applied_done, applied_where, asked_done, checkpoint_done, got_done, got_made, got_where, taken_done}
 use Rattle.computed_changes.proofs.Placed.{opener-placed}
 use Rattle.computed_changes.proofs.Reached.{AllApart, AreNamed, AllNamed}
 
@@ -61,10 +64,10 @@ got-only : (site : Site) (number : ℕ) (reply : Reply) (k : Which) (pair : Pair
     → (copy_of k pair).role ≡ Acting → process.point (copy_of k pair).core.state ≡ point.Await
     → opener_of site (who.File number (process.asked_file (copy_of k pair).core.state)) ≡ Some (record { server = reply.process; place = reply.opener })
     → reply.number + 1 ≡ next_on (copy_of k pair).core (process.asked_file (copy_of k pair).core.state)
-    → handed_done site (copy_of k pair).processor (Replying reply) w ≡ Some (own_done number k pair w (own_got number reply k pair w))
+    → handed_done site (copy_of k pair).processor (Replying reply) w ≡ Some (got_made number reply k pair w)
 got-only site number reply k pair w found apart role stands opens last =
     ap (replied_done site (copy_of k pair).processor reply w) (opener-placed site (who.File number (process.asked_file (copy_of k pair).core.state)) reply.process reply.opener opens)
-    ∙ at-found (copy_of k pair).processor (λ j p. got_done site number reply j p w (copy_of j p).role) (slice_get w.processes number) pair k found apart refl
+    ∙ at-found site number (copy_of k pair).processor (Replying reply) w (slice_get w.processes number) pair k found apart refl
     ∙ ap (got_done site number reply k pair w) role
     ∙ ap (got_where number reply k pair w) (awaited site number (copy_of k pair).core reply stands opens last)
 
@@ -105,16 +108,16 @@ apply-only : (site : Site) (message : ImageMessage) (k : Which) (pair : Pair) (w
     → put_in (copy_of k pair).core message.image ≡ Some applied → fits (depths_of site message.process) (copy_of k pair).core message.image ≡ true
     → handed_done site (copy_of k pair).processor (Checkpointing message) w ≡ Some (applied_done message k pair w applied)
 apply-only site message k pair w applied found apart role era number is fitting =
-    let next : is_next_for (copy_of k pair) message ≡ true = rw (eq-eqb _ _ era, eq-eqb _ _ number) refl in
-    at-found (copy_of k pair).processor (λ j p. checkpoint_done site message j p w (copy_of j p).role) (slice_get w.processes message.process) pair k found apart refl
+    let next : is_next_for (copy_of k pair).era (copy_of k pair).number message ≡ true = rw (eq-eqb _ _ era, eq-eqb _ _ number) refl in
+    at-found site message.process (copy_of k pair).processor (Checkpointing message) w (slice_get w.processes message.process) pair k found apart refl
     ∙ ap (checkpoint_done site message k pair w) role ∙ ap (applied_where site message k pair w) next ∙ rw (fitting, is) refl
 
 taken-only : (site : Site) (taken : TakenMessage) (k : Which) (pair : Pair) (w : World) → slice_get w.processes taken.process ≡ Some pair → AreApart pair
     → (copy_of k pair).role ≡ Acting → (copy_of k pair).sent ≡ true → taken.era ≡ (copy_of k pair).era → taken.number ≡ (copy_of k pair).number
     → handed_done site (copy_of k pair).processor (Taking taken) w ≡ acknowledged_where taken k pair w true
 taken-only site taken k pair w found apart role sent era number =
-    let last : is_of_last (copy_of k pair) taken ≡ true = rw (sent, eq-eqb _ _ era, eq-eqb _ _ number) refl in
-    at-found (copy_of k pair).processor (λ j p. taken_done taken j p w (copy_of j p).role) (slice_get w.processes taken.process) pair k found apart refl
+    let last : is_of_last (copy_of k pair).sent (copy_of k pair).era (copy_of k pair).number taken ≡ true = rw (sent, eq-eqb _ _ era, eq-eqb _ _ number) refl in
+    at-found site taken.process (copy_of k pair).processor (Taking taken) w (slice_get w.processes taken.process) pair k found apart refl
     ∙ ap (taken_done taken k pair w) role ∙ ap (acknowledged_where taken k pair w) last
 
 passes-only : (site : Site) (w : World) {number node : ℕ} {message : Message} {kept : List Act} {pair next : Pair} {cause : Cause} {sendings : List Sending}
@@ -150,11 +153,11 @@ change-only {site = site} w next node message cause sendings r apart named fitti
     passes-only site w found (apart number pair found) (named number pair found) r fitting p
 change-only {site = site} w next node message cause sendings r apart named fitting (by_request request k pair i found role) =
     handed-as site w r
-    (at-found (copy_of k pair).processor (λ j p. asked_done request j p w (copy_of j p).role) (slice_get w.processes request.process) pair k found
+    (at-found site request.process (copy_of k pair).processor (Asking request) w (slice_get w.processes request.process) pair k found
     (apart request.process pair found) refl ∙ ap (asked_done request k pair w) role)
 change-only {site = site} w next node message cause sendings r apart named fitting (by_early_request request k pair i found role) =
     handed-as site w r
-    (at-found (copy_of k pair).processor (λ j p. asked_done request j p w (copy_of j p).role) (slice_get w.processes request.process) pair k found
+    (at-found site request.process (copy_of k pair).processor (Asking request) w (slice_get w.processes request.process) pair k found
     (apart request.process pair found) refl ∙ ap (asked_done request k pair w) role)
 change-only w next node message cause sendings r apart named fitting (by_enter number terminal opener t f q o) = absurd (cc)
 change-only {site = site} w next node message cause sendings r apart named fitting (by_print number terminal reply found awaits i opens last) =

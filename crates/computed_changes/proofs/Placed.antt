@@ -11,7 +11,7 @@ use Rattle.plain_semantics.specs.Openers.{openers_of, opener_of, opener_on, open
 use Rattle.world_semantics.proofs.Lists.{some-same}
 use Rattle.world_semantics.proofs.Roles.{both-true}
 use Rattle.world_semantics.proofs.Moves.{opener-is}
-use Rattle.computed_changes.specs.Handed.{is_to}
+use Rattle.computed_changes.specs.Replies.{is_to}
 
 same-who : (one other : Who) → same_who one other ≡ true → one ≡ other
 same-who (who.File p f) (who.File q g) e =

@@ -1,5 +1,5 @@
 -- Words for the laws of computed changes: what they need of a site and of the message that comes.
-use Rattle.std.specs.Prelude.{◌≡◌, ◌≢◌, ℕ, true, slice_get, Some}
+use Rattle.std.specs.Prelude.{◌≡◌, ◌≢◌, ◌<◌, ℕ, true, length, slice_get, Some}
 use Rattle.std.specs.Option.{option_map}
 use Rattle.gd_words.specs.Members.{IsAmong}
 use Rattle.gd_words.specs.declared.message.Reply.{Reply}
@@ -21,6 +21,13 @@ HasCopiesApart site = (number : ℕ) (spec : ProcessSpec) → slice_get site.pro
 pub record IsCopyAt (w : World) (node number : ℕ) (k : Which) (pair : Pair) : Type 0 where
   pub there : slice_get w.processes number ≡ Some pair
   pub here : copy_in node pair ≡ Some k
+
+-- a request that comes to the process of this number names one of its openers
+abbrev pub NamesOpener : Site → ℕ → Message → Type 0
+NamesOpener site number (Asking request) = request.opener < length (openers_of site number)
+NamesOpener site number (Replying reply) = Unit {0}
+NamesOpener site number (Checkpointing message) = Unit {0}
+NamesOpener site number (Taking taken) = Unit {0}
 
 -- a reply goes to this opener
 abbrev pub GoesTo : Site → Reply → Who → Type 0

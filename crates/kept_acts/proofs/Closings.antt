@@ -5,7 +5,7 @@ use Rattle.std.proofs.lemmas.List.{append-nil, reverse-append}
 use Rattle.tal_tree.specs.declared.act.Act.{Act}
 use Rattle.world_semantics.specs.World.{Pair}
 use Rattle.world_semantics.specs.Kept.{held_by}
-use Rattle.kept_acts.specs.Shares.{closed_by, closed_by_all}
+use Rattle.world_semantics.specs.Shares.{closed_by, closed_by_all}
 
 closes-one : (kept : List Act) (pair : Pair) → reverse (closed_by kept pair) ≡ reverse kept ++ held_by pair
 closes-one kept pair =

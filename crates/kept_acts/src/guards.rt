@@ -2,7 +2,7 @@ ghost use Rattle.std.specs.Prelude.{◌≡◌, ◌<◌, ◌≤◌, ℕ, ◌+◌,
 ghost use Rattle.tal_tree.specs.declared.act.Act.{Act};
 ghost use Rattle.tal_tree.specs.declared.act.Act.TheVariants.{Enter, Step, Take};
 ghost use Rattle.world_semantics.specs.Kept.{own_acts};
-ghost use Rattle.kept_acts.specs.Shares.{Share, covered, covering, entering, passing, share_from};
+ghost use Rattle.world_semantics.specs.Shares.{Share, covered, covering, entering, passing, share_from};
 
 /// What a copy does anew that holds nothing adds nothing, whatever act it is: the copy only comes one further.
 pub fn what_is_done_anew_adds_nothing()

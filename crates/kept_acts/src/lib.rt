@@ -3,8 +3,7 @@
 //!
 //! Below stand `logs` with `Log`, and `world_semantics` with the definition of the kept acts. The layer above uses that `KeptActs` is
 //! the list of the kept acts with the newest first, as in the world of copies, and that each call of `CopyShare` changes position,
-//! held acts and kept acts exactly as `specs/Shares.antt` says, which the laws here show to be what that world says. Want of memory
-//! changes nothing.
+//! held acts and kept acts exactly as that world's `Shares` say. Want of memory changes nothing.
 #![tactic(auto)]
 
 mod counting;

@@ -1,5 +1,5 @@
 ghost use Rattle.std.specs.Prelude.{◌≡◌, ◌<◌, ◌+◌, ◌^◌, reverse, IfOk, OnOk, OnErr};
-ghost use Rattle.kept_acts.specs.Shares.{closing, covered, covering, entering, letting_go, passing, share_from};
+ghost use Rattle.world_semantics.specs.Shares.{closing, covered, covering, entering, letting_go, passing, share_from};
 
 use crate::kept::KeptActs;
 use gd_words::NoMemory;
@@ -18,7 +18,7 @@ pub struct CopyShare {
 
 impl Model for CopyShare {
     ghost use Rattle.std.specs.Coded.{codes};
-    ghost use Rattle.kept_acts.specs.Shares.{Share};
+    ghost use Rattle.world_semantics.specs.Shares.{Share};
 
     ghost Value = { Share };
 

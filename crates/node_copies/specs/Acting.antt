@@ -1,20 +1,16 @@
 -- What a copy of a process does by itself where it runs, and what it leaves around it: the device, and the records of what happened. The rules are those
 -- of the world of copies.
-use Rattle.std.specs.Prelude.{◌≡◌, ℕ, if◌then◌else◌, List, [], ◌∷◌, Option, Some, None, slice_get}
+use Rattle.std.specs.Prelude.{◌≡◌, ℕ, List, [], ◌∷◌, Option, Some, None, slice_get}
 use Rattle.std.specs.Option.{option_and_then}
-use Rattle.gd_words.specs.declared.device.DeviceCall.{DeviceCall}
 use Rattle.gd_words.specs.declared.message.Request.{Request}
 use Rattle.tal_tree.specs.declared.site.Site.{Site}
 use Rattle.process_semantics.specs.declared.point.Point.{Point}
 use Rattle.plain_semantics.specs.declared.slot.Opener.{Opener}
 use Rattle.disc_device.specs.declared.stored.Stored.{Stored}
-use Rattle.world_semantics.specs.World.{Copy}
 use Rattle.world_semantics.specs.Messages.{sent_at}
-use Rattle.world_semantics.specs.Own.{Around, is_new_write}
-use Rattle.world_semantics.specs.Passes.{after_mark}
-use Rattle.world_semantics.specs.Running.{Own, around_write, entered, own_at}
-use Rattle.kept_acts.specs.Shares.{passing, share_of, with_share}
-use Rattle.node_copies.specs.Records.{Records}
+use Rattle.world_semantics.specs.Own.{Around, around_with}
+use Rattle.world_semantics.specs.Running.{Own, copy_acted, own_at, records_acted}
+use Rattle.world_semantics.specs.Records.{Records}
 use Rattle.node_copies.specs.Seen.{CopyAndDepths, told_by}
 use Rattle.node_copies.specs.declared.step.Step.{Step}
 
@@ -24,10 +20,6 @@ pub record Scene : Type 0 where
   pub sectors : List Stored
   pub records : Records
 
-abbrev pub around_with : List Request → List Stored → Records → Around
-around_with waiting sectors records =
-    record { waiting = waiting; sectors = sectors; requests = records.requests; replies = records.replies; shown = records.shown }
-
 -- what an act of the copy finds around its core
 abbrev pub around_in : Scene → Around
 around_in scene = around_with scene.one.copy.waiting scene.sectors scene.records
@@ -36,25 +28,13 @@ around_in scene = around_with scene.one.copy.waiting scene.sectors scene.records
 abbrev pub own_in : Site → ℕ → Scene → Point → Option Own
 own_in site number scene stands = own_at site number scene.one.copy.core (around_in scene) stands
 
-abbrev pub copy_acted : ℕ → Scene → Own → Copy
-copy_acted number scene own =
-    record (entered number own.done scene.records.kept scene.one.copy).copy { core = own.core; waiting = own.after.waiting }
-
-abbrev pub records_acted : ℕ → Scene → Own → Records
-records_acted number scene own = record {
-  requests = own.after.requests;
-  replies = own.after.replies;
-  shown = own.after.shown;
-  kept = (entered number own.done scene.records.kept scene.one.copy).kept;
-}
-
 -- the step that is told is this act of the copy, or none: what it sends, and the copy, the sectors and the records after it
 abbrev pub HasActed : ℕ → Option Own → Step → Scene → Scene → Type 0
 HasActed number None step before after = (told_by step ≡ None) × (after ≡ before)
 HasActed number (Some own) step before after =
     (told_by step ≡ Some (sent_at before.one.copy.processor own.messages))
-    × ((after.one ≡ record before.one { copy = copy_acted number before own })
-    × ((after.sectors ≡ own.after.sectors) × (after.records ≡ records_acted number before own)))
+    × ((after.one ≡ record before.one { copy = copy_acted number before.records.kept own before.one.copy })
+    × ((after.sectors ≡ own.after.sectors) × (after.records ≡ records_acted number before.records.kept own before.one.copy)))
 
 -- the opener that a file of a process is, among those of all its files
 abbrev pub opener_among : List (Option Opener) → ℕ → Option Opener
@@ -64,14 +44,3 @@ opener_among files file = option_and_then (λ opener. opener) (slice_get files f
 abbrev pub requests_in : Option Request → List Request
 requests_in None = []
 requests_in (Some request) = request ∷ []
-
--- what a call of the device leaves around a copy: a new write puts its words and is shown, and any other call changes nothing
-abbrev pub after_call : ℕ → Around → DeviceCall → Around
-after_call number before call = if is_new_write before.sectors call then around_write number before call else before
-
--- a copy after its mark, which it did already, or which is kept now
-abbrev pub copy_passed : ℕ → Records → Copy → Copy
-copy_passed number records copy = with_share (passing number records.kept (share_of copy)).share (after_mark copy)
-
-abbrev pub records_passed : ℕ → Records → Copy → Records
-records_passed number records copy = record records { kept = (passing number records.kept (share_of copy)).kept }

@@ -9,7 +9,7 @@ use Rattle.plain_semantics.specs.declared.slot.Opener.{Opener}
 use Rattle.plain_semantics.specs.Openers.{files_of, opener_of}
 use Rattle.disc_device.specs.declared.stored.Stored.{Stored}
 use Rattle.process_control.specs.Copies.{CopyState}
-use Rattle.kept_acts.specs.Shares.{Share}
+use Rattle.world_semantics.specs.Shares.{Share}
 use Rattle.world_semantics.specs.World.{Copy}
 use Rattle.world_semantics.specs.Messages.{Sending}
 use Rattle.node_copies.specs.declared.step.Step.{Step}

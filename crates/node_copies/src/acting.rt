@@ -7,7 +7,8 @@ ghost use Rattle.computed_changes.specs.Fitting.{depths_of};
 ghost use Rattle.number_ranges.specs.HasRoom.{CopyHasRoom, HasNext, HasNextLong};
 ghost use Rattle.world_semantics.specs.Core.{next_on};
 ghost use Rattle.world_semantics.specs.Passes.{after_sending, checkpoint_of};
-ghost use Rattle.node_copies.specs.Acting.{HasActed, copy_passed, own_in, records_passed};
+ghost use Rattle.world_semantics.specs.Running.{copy_passed, records_passed};
+ghost use Rattle.node_copies.specs.Acting.{HasActed, own_in};
 ghost use Rattle.node_copies.specs.Seen.{openers_on, sectors_on};
 
 use crate::address::Address;

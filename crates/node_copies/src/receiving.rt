@@ -3,15 +3,16 @@ ghost use Rattle.process_semantics.specs.declared.point.Point.TheVariants.{Await
 ghost use Rattle.process_semantics.specs.Process.{asked_file, asked_words, point};
 ghost use Rattle.checkpoint_image.specs.Receive.{repeated};
 ghost use Rattle.file_calls.specs.Queue.{sent_again};
-ghost use Rattle.kept_acts.specs.Shares.{closing, covered, covering, share_of, with_share};
 ghost use Rattle.sync_ids.specs.Tables.{IsSound};
 ghost use Rattle.world_semantics.specs.declared.role.Role.TheVariants.{Watching};
 ghost use Rattle.world_semantics.specs.Core.{next_on};
 ghost use Rattle.world_semantics.specs.Rules.{stopped_copy, taken_over, told_again};
-ghost use Rattle.computed_changes.specs.Handed.{is_of_last};
+ghost use Rattle.computed_changes.specs.Checkpoints.{core_applying, is_of_last};
+ghost use Rattle.computed_changes.specs.Replies.{copy_got, kept_got};
+ghost use Rattle.computed_changes.specs.Requests.{after_early_request, after_request};
 ghost use Rattle.number_ranges.specs.HasRoom.{CopyHasRoom};
-ghost use Rattle.node_copies.specs.Receiving.{after_early_request, after_request, copy_applying, core_applying, entered_reply, with_changed};
-ghost use Rattle.node_copies.specs.Takeover.{without_held};
+ghost use Rattle.node_copies.specs.Receiving.{copy_applying, with_changed};
+ghost use Rattle.world_semantics.specs.Shares.{closing, covered, covering, share_of, with_share, without_held};
 
 use crate::one::NodeCopy;
 use crate::records::Records;
@@ -51,8 +52,8 @@ impl NodeCopy {
     ) -> Result<(), NoMemory>
         requires point { point self.old.copy.core.state ≡ Await }
         requires room { CopyHasRoom self.old.copy }
-        ensures copy { OnOk result (self.new ≡ with_changed self.old (entered_reply process words.now records.old.kept self.old.copy).copy) }
-        ensures records { OnOk result (records.new ≡ record records.old { kept = (entered_reply process words.now records.old.kept self.old.copy).kept }) }
+        ensures copy { OnOk result (self.new ≡ with_changed self.old (copy_got process words.now records.old.kept self.old.copy)) }
+        ensures records { OnOk result (records.new ≡ record records.old { kept = kept_got process records.old.kept self.old.copy }) }
         ensures depths { self.new.depths ≡ self.old.depths }
     {
         self.share
@@ -83,7 +84,7 @@ impl NodeCopy {
 
     /// Whether it is what the copy sent last that was taken.
     pub fn is_of_last(&self, taken: TakenMessage) -> bool
-        ensures { result ≡ is_of_last self.now.copy taken }
+        ensures { result ≡ is_of_last self.now.copy.sent self.now.copy.era self.now.copy.number taken }
     {
         self.control.is_of_last(taken)
     }

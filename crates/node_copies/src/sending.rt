@@ -2,8 +2,9 @@ ghost use Rattle.std.specs.Prelude.{◌≡◌, ◌++◌, ◌∷◌, [], List, So
 ghost use Rattle.gd_words.specs.declared.message.Request.{Request as AskedRequest};
 ghost use Rattle.number_ranges.specs.HasRoom.{HasNext};
 ghost use Rattle.world_semantics.specs.Messages.{Asking as AskingMessage, Replying, sent_at};
-ghost use Rattle.world_semantics.specs.Own.{request_to};
-ghost use Rattle.node_copies.specs.Acting.{after_call, around_with, opener_among, requests_in};
+ghost use Rattle.world_semantics.specs.Own.{around_with, request_to};
+ghost use Rattle.world_semantics.specs.Running.{after_call};
+ghost use Rattle.node_copies.specs.Acting.{opener_among, requests_in};
 ghost use Rattle.node_copies.specs.Seen.{sectors_on, told_by};
 
 use crate::address::Address;

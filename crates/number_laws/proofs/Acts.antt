@@ -22,7 +22,8 @@ use Rattle.world_semantics.specs.Core.{Core, next_on}
 use Rattle.world_semantics.specs.Kept.{is_own, is_take, own_acts}
 use Rattle.world_semantics.specs.Messages.{Asking}
 use Rattle.world_semantics.specs.Own.{Around, request_to, is_new_write}
-use Rattle.world_semantics.specs.Running.{Entered, entered_free, entered_behind, entered, Own, own_took, own_take, own_ask, own_answer_at, own_answer, around_write, own_at}
+use Rattle.world_semantics.specs.Running.{Own, own_took, own_take, own_ask, own_answer_at, own_answer, around_write, own_at}
+use Rattle.world_semantics.specs.Shares.{Sharing, entering, entering_behind, entering_free, share_of}
 use Rattle.world_semantics.specs.World.{Copy}
 use Rattle.number_laws.proofs.Each.{Each, each-get, each-set}
 use Rattle.number_laws.proofs.Within.{StateWithin, AreNext, CoreWithin, MessageWithin, core-more, kept-set}
@@ -89,24 +90,21 @@ next-low n next file are = by (slice_get next file) refl
 -- Acts and kept acts
 
 -- how an act enters the kept acts: by one act more at most, and one position more
-pub record EnteredWithin (copy : Copy) (kept : List Act) (e : Entered) : Type 0 where
-  pub number : e.copy.number ≡ copy.number
-  pub role : e.copy.role ≡ copy.role
-  pub era : e.copy.era ≡ copy.era
-  pub position : e.copy.position ≤ copy.position + 1
-  pub acts : length e.kept + length e.copy.held ≤ length kept + length copy.held + 1
+pub record EnteredWithin (copy : Copy) (kept : List Act) (e : Sharing) : Type 0 where
+  pub position : e.share.position ≤ copy.position + 1
+  pub acts : length e.kept + length e.share.held ≤ length kept + length copy.held + 1
 
-pub entered-within : (number : ℕ) (done : Act) (kept : List Act) (copy : Copy) → EnteredWithin copy kept (entered number done kept copy)
+pub entered-within : (number : ℕ) (done : Act) (kept : List Act) (copy : Copy) → EnteredWithin copy kept (entering number done kept (share_of copy))
 entered-within number done kept copy = by copy.held refl
   where
-    free : (behind taking : Bool) → EnteredWithin copy kept (entered_free number done kept copy behind taking)
-    free true taking = record { number = refl; role = refl; era = refl; position = omega arith; acts = omega arith }
-    free false true = record { number = refl; role = refl; era = refl; position = omega arith; acts = omega arith }
-    free false false = record { number = refl; role = refl; era = refl; position = omega arith; acts = omega arith }
+    free : (behind taking : Bool) → EnteredWithin copy kept (entering_free done kept (share_of copy) behind taking)
+    free true taking = record { position = omega arith; acts = omega arith }
+    free false true = record { position = omega arith; acts = omega arith }
+    free false false = record { position = omega arith; acts = omega arith }
 
-    by : (held : List Act) → copy.held ≡ held → EnteredWithin copy kept (entered_behind number done kept copy held)
+    by : (held : List Act) → copy.held ≡ held → EnteredWithin copy kept (entering_behind number done kept (share_of copy) held)
     by [] is = free (nat_lt copy.position (own_acts number kept)) (is_take done)
-    by (first ∷ rest) is = record { number = refl; role = refl; era = refl; position = omega arith; acts = omega arith }
+    by (first ∷ rest) is = record { position = omega arith; acts = omega arith }
 
 one-or-none : (own : Bool) → (if own then 1 else 0) ≤ 1
 one-or-none true = omega arith

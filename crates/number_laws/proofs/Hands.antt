@@ -4,6 +4,7 @@ use Rattle.std.proofs.Common.{◌≡◌, ◌≤◌, ◌<◌, ℕ, ◌+◌, ◌==
 use Rattle.std.proofs.lemmas.Bool.{eqb-true}
 use Rattle.gd_words.specs.declared.message.Request.{Request}
 use Rattle.gd_words.specs.declared.message.Reply.{Reply}
+use Rattle.tal_tree.specs.declared.act.Act.TheVariants as act
 use Rattle.tal_tree.specs.declared.site.Site.{Site}
 use Rattle.tal_tree.specs.declared.site.Who.{Who}
 use Rattle.tal_tree.specs.declared.site.Who.TheVariants as who
@@ -24,15 +25,20 @@ use Rattle.world_semantics.specs.declared.role.Role.{Role}
 use Rattle.world_semantics.specs.declared.role.Role.TheVariants.{Acting, Watching, Gone}
 use Rattle.world_semantics.specs.declared.which.Which.{Which}
 use Rattle.world_semantics.specs.declared.which.Which.TheVariants.{First, Second}
-use Rattle.world_semantics.specs.Core.{Core, with_files, put_in}
+use Rattle.world_semantics.specs.Core.{Core, core_getting, with_files, put_in}
 use Rattle.world_semantics.specs.Messages.{Message, Asking, Replying, Checkpointing, Taking, sent_at}
+use Rattle.world_semantics.specs.Own.{around}
 use Rattle.world_semantics.specs.Passes.{after_applying, kept_at_mark}
-use Rattle.world_semantics.specs.Running.{Done}
+use Rattle.world_semantics.specs.Records.{records_of}
 use Rattle.world_semantics.specs.World.{Copy, Pair, Terminal, World, copy_of, other_of, with_copy}
+use Rattle.world_semantics.proofs.Lifted.{lifted}
 use Rattle.world_semantics.proofs.Lists.{some-same}
 use Rattle.computed_changes.specs.Entered.{enter_at, enter_to, enter_where, enter_done, entered_done}
 use Rattle.computed_changes.specs.Fitting.{depths_of, fits, put_where, put_fitting}
-use Rattle.computed_changes.specs.Handed.{copy_in, at_copy, asked_done, awaits, own_got, got_where, got_done, awaits_at, printed_where, printed_done, printed_at, replied_done, is_next_for, applied_done, applied_where, checkpoint_done, is_of_last, acknowledged_where, taken_done, handed_done}
+use Rattle.computed_changes.specs.Checkpoints.{is_next_for, is_of_last}
+use Rattle.computed_changes.specs.Handed.{brought_to, copy_in, handed_done, replied_done, step_by}
+use Rattle.computed_changes.specs.Replies.{awaits, awaits_at, printed_at, printed_done, printed_where}
+use Rattle.computed_changes.proofs.Lifted.{acknowledged_where, applied_done, applied_made, applied_where, asked_done, checkpoint_done, got_done, got_where, taken_done}
 use Rattle.number_laws.proofs.Each.{Each, each-get, each-set}
 use Rattle.number_laws.proofs.Within.{StateWithin, AreNext, CoreWithin, CopyWithin, PairWithin, ImageWithin, MessageWithin, AreSendings, WorldWithin, DoneWithin, AnyWithin, TerminalWithin, core-more, terminals-more, held_in, held-set, held-there, filter-few}
 use Rattle.number_laws.proofs.Acts.{own-few, state-got}
@@ -107,16 +113,17 @@ module _ (n : ℕ) (kinds : ℕ → Bool) (w : World) (within : WorldWithin n ki
   terminals-later : Each (TerminalWithin (n + 1)) w.terminals
   terminals-later = terminals-more (n + 1) n w.terminals (omega arith) within.terminals
 
-  at-copy-within : (number node : ℕ) (does : Which → Pair → Option Done)
-      → ((k : Which) (pair : Pair) → slice_get w.processes number ≡ Some pair → AnyWithin (n + 1) kinds (does k pair))
-      → AnyWithin (n + 1) kinds (at_copy node does (slice_get w.processes number))
-  at-copy-within number node does all = by (slice_get w.processes number) refl
+  at-copy-within : (number node : ℕ) (message : Message)
+      → ((k : Which) (pair : Pair) → slice_get w.processes number ≡ Some pair
+      → AnyWithin (n + 1) kinds (lifted number w (step_by site number pair (records_of w) message k)))
+      → AnyWithin (n + 1) kinds (brought_to site number node message w (slice_get w.processes number))
+  at-copy-within number node message all = by (slice_get w.processes number) refl
     where
-      by : (there : Option Pair) → slice_get w.processes number ≡ there → AnyWithin (n + 1) kinds (at_copy node does there)
+      by : (there : Option Pair) → slice_get w.processes number ≡ there → AnyWithin (n + 1) kinds (brought_to site number node message w there)
       by None there = tt
       by (Some pair) there = here (copy_in node pair)
         where
-          here : (k : Option Which) → AnyWithin (n + 1) kinds (option_and_then (λ k. does k pair) k)
+          here : (k : Option Which) → AnyWithin (n + 1) kinds (lifted number w (option_and_then (step_by site number pair (records_of w) message) k))
           here None = tt
           here (Some k) = all k pair there
 
@@ -152,7 +159,8 @@ module _ (n : ℕ) (kinds : ℕ → Bool) (w : World) (within : WorldWithin n ki
       where
         by : (test : Bool) → AnyWithin (n + 1) kinds (got_where number reply k pair w test)
         by true =
-            own-done n kinds w within low number k pair there (own_got number reply k pair w)
+            own-done n kinds w within low number k pair there
+            (record { done = act.Step number; messages = []; after = around (copy_of k pair) pair w; core = core_getting reply.words (copy_of k pair).core })
             (record {
               core = record { state = state-got (n + 1) (kinds number) (copy_of k pair).core.state reply.words own.0.state; next = own.0.next; taken = own.0.taken; kept = own.0.kept };
               messages = tt;
@@ -208,7 +216,7 @@ module _ (n : ℕ) (kinds : ℕ → Bool) (w : World) (within : WorldWithin n ki
   replied-within : (node : ℕ) (reply : Reply) (opener : Option Who) → AnyWithin (n + 1) kinds (replied_done site node reply w opener)
   replied-within node reply None = tt
   replied-within node reply (Some (who.File number file)) =
-      at-copy-within number node _ (λ k pair there. got-within number k pair there reply (copy_of k pair).role)
+      at-copy-within number node (Replying reply) (λ k pair there. got-within number k pair there reply (copy_of k pair).role)
   replied-within node reply (Some (who.Terminal number)) = printed-within number reply _
 
   -- a checkpoint is applied: what the other copy held is kept with its mark
@@ -272,7 +280,7 @@ module _ (n : ℕ) (kinds : ℕ → Bool) (w : World) (within : WorldWithin n ki
       sendings = (tt, tt);
     }
 
-    next-number : (copy : Copy) → is_next_for copy message ≡ true → copy.number ≤ n → message.number ≤ n + 1
+    next-number : (copy : Copy) → is_next_for copy.era copy.number message ≡ true → copy.number ≤ n → message.number ≤ n + 1
     next-number copy next few = by (message.era == copy.era) (message.number == copy.number + 1) refl next
       where
         by : (era number : Bool) → (message.number == copy.number + 1) ≡ number → (era && number) ≡ true → message.number ≤ n + 1
@@ -283,13 +291,13 @@ module _ (n : ℕ) (kinds : ℕ → Bool) (w : World) (within : WorldWithin n ki
     checkpoint-within : (k : Which) (role : Role) → AnyWithin (n + 1) kinds (checkpoint_done site message k pair w role)
     checkpoint-within k Acting = tt
     checkpoint-within k Gone = tt
-    checkpoint-within k Watching = by (is_next_for (copy_of k pair) message) refl
+    checkpoint-within k Watching = by (is_next_for (copy_of k pair).era (copy_of k pair).number message) refl
       where
         before : CopyWithin n (kinds number) (copy_of k pair)
         before = copy-there n (kinds number) k pair (within.pairs number pair there)
 
-        puts : (fitting : Bool) (next : is_next_for (copy_of k pair) message ≡ true) (there : Option Core)
-            → put_where (copy_of k pair).core message.image fitting ≡ there → AnyWithin (n + 1) kinds (option_map (applied_done message k pair w) there)
+        puts : (fitting : Bool) (next : is_next_for (copy_of k pair).era (copy_of k pair).number message ≡ true) (there : Option Core)
+            → put_where (copy_of k pair).core message.image fitting ≡ there → AnyWithin (n + 1) kinds (applied_made message k pair w there)
         puts fitting next None same = tt
         puts false next (Some applied) same = absurd (cc)
         puts true next (Some applied) same =
@@ -298,7 +306,8 @@ module _ (n : ℕ) (kinds : ℕ → Bool) (w : World) (within : WorldWithin n ki
             (core-more (n + 1) n (kinds number) (copy_of k pair).core (omega arith) before.0) fits_in same)
             (next-number (copy_of k pair) next before.1)
 
-        by : (test : Bool) → is_next_for (copy_of k pair) message ≡ test → AnyWithin (n + 1) kinds (applied_where site message k pair w test)
+        by : (test : Bool) → is_next_for (copy_of k pair).era (copy_of k pair).number message ≡ test
+            → AnyWithin (n + 1) kinds (applied_where site message k pair w test)
         by true next =
             puts (fits (depths_of site message.process) (copy_of k pair).core message.image) next
             (put_fitting (depths_of site message.process) (copy_of k pair).core message.image) refl
@@ -306,7 +315,7 @@ module _ (n : ℕ) (kinds : ℕ → Bool) (w : World) (within : WorldWithin n ki
 
   taken-within : (taken : TakenMessage) (k : Which) (pair : Pair) → slice_get w.processes taken.process ≡ Some pair → (role : Role)
       → AnyWithin (n + 1) kinds (taken_done taken k pair w role)
-  taken-within taken k pair there Acting = by (is_of_last (copy_of k pair) taken)
+  taken-within taken k pair there Acting = by (is_of_last (copy_of k pair).sent (copy_of k pair).era (copy_of k pair).number taken)
     where
       by : (test : Bool) → AnyWithin (n + 1) kinds (acknowledged_where taken k pair w test)
       by true = record {
@@ -320,11 +329,11 @@ module _ (n : ℕ) (kinds : ℕ → Bool) (w : World) (within : WorldWithin n ki
 
   pub handed-within : (node : ℕ) (message : Message) → MessageWithin (n + 1) kinds message → AnyWithin (n + 1) kinds (handed_done site node message w)
   handed-within node (Asking request) is =
-      at-copy-within request.process node _ (λ k pair there. asked-within request k pair there (copy_of k pair).role)
+      at-copy-within request.process node (Asking request) (λ k pair there. asked-within request k pair there (copy_of k pair).role)
   handed-within node (Replying reply) is = replied-within node reply _
   handed-within node (Checkpointing message) is =
-      at-copy-within message.process node _ (λ k pair there. checkpoint-within message pair there is k (copy_of k pair).role)
-  handed-within node (Taking taken) is = at-copy-within taken.process node _ (λ k pair there. taken-within taken k pair there (copy_of k pair).role)
+      at-copy-within message.process node (Checkpointing message) (λ k pair there. checkpoint-within message pair there is k (copy_of k pair).role)
+  handed-within node (Taking taken) is = at-copy-within taken.process node (Taking taken) (λ k pair there. taken-within taken k pair there (copy_of k pair).role)
 
   -- a terminal enters
   entered-within : (number : ℕ) (terminal : Terminal) → slice_get w.terminals number ≡ Some terminal → (opener : Opener) (words : Option (List _))

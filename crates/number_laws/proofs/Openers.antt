@@ -26,11 +26,16 @@ use Rattle.world_semantics.specs.Core.{Core}
 use Rattle.world_semantics.specs.Messages.{Message, Asking, Replying, Checkpointing, Taking, Sending, sent_at}
 use Rattle.world_semantics.specs.Own.{Around, around, request_to}
 use Rattle.world_semantics.specs.Rules.{taker, told_by, told_at_mark}
-use Rattle.world_semantics.specs.Running.{Done, Own, own_took, own_take, own_answer_at, own_answer, own_done, own_at, mark_done, run_at, run_as, run_copy, first_of_two, run_pair, run_done, passed_done}
+use Rattle.world_semantics.specs.Records.{records_of}
+use Rattle.world_semantics.specs.Running.{Done, Own, Stepped, own_took, own_take, own_answer_at, own_answer, own_at, first_step, run_pair, run_done, step_of_copy}
 use Rattle.world_semantics.specs.World.{Copy, Pair, Terminal, World, copy_of, may_pass, terminal_node}
 use Rattle.computed_changes.specs.Entered.{enter_at, enter_to, enter_where, enter_done, entered_done}
 use Rattle.computed_changes.specs.Fitting.{depths_of, put_fitting}
-use Rattle.computed_changes.specs.Handed.{copy_in, at_copy, asked_done, awaits, got_where, got_done, awaits_at, printed_where, printed_done, printed_at, replied_done, is_next_for, applied_done, applied_where, checkpoint_done, is_of_last, acknowledged_where, taken_done, handed_done}
+use Rattle.computed_changes.specs.Checkpoints.{is_next_for, is_of_last}
+use Rattle.computed_changes.specs.Handed.{brought_to, copy_in, handed_done, replied_done, step_by}
+use Rattle.computed_changes.specs.Replies.{awaits, awaits_at, printed_at, printed_done, printed_where}
+use Rattle.world_semantics.proofs.Lifted.{lifted, mark_done, own_made, passed_done, run_as, run_at}
+use Rattle.computed_changes.proofs.Lifted.{acknowledged_where, applied_made, applied_where, asked_done, checkpoint_done, got_done, got_where, taken_done}
 use Rattle.computed_changes.specs.Stopped.{stop_where, stop_done, marked_where, mark_where, marked_done}
 use Rattle.letters.specs.Again.{rerouted, awaited_at, awaited_from, entered_last, if_acts_on, asks_again, tells_again, of_copies, of_terminals, terminals_ask, sent_again}
 use Rattle.number_laws.proofs.Each.{Each, each-append, each-map, each-always, each-filter}
@@ -103,12 +108,13 @@ module _ (site : Site) where
   on-file : (number : ℕ) (words : List ℤ) (one : Who) → Each (NamesOpener site) (request_to number words (opener_of site one))
   on-file number words one = requested number words (opener_of site one) (opener-there site one)
 
-  at-copy-named : (node : ℕ) (does : Which → Pair → Option Done) → ((k : Which) (pair : Pair) → AnyNames site (does k pair)) → (one : Option Pair)
-      → AnyNames site (at_copy node does one)
-  at-copy-named node does all None = tt
-  at-copy-named node does all (Some pair) = by (copy_in node pair)
+  at-copy-named : (w : World) (number node : ℕ) (message : Message)
+      → ((k : Which) (pair : Pair) → AnyNames site (lifted number w (step_by site number pair (records_of w) message k))) → (one : Option Pair)
+      → AnyNames site (brought_to site number node message w one)
+  at-copy-named w number node message all None = tt
+  at-copy-named w number node message all (Some pair) = by (copy_in node pair)
     where
-      by : (k : Option Which) → AnyNames site (option_and_then (λ k. does k pair) k)
+      by : (k : Option Which) → AnyNames site (lifted number w (option_and_then (step_by site number pair (records_of w) message) k))
       by None = tt
       by (Some k) = all k pair
 
@@ -145,12 +151,12 @@ module _ (site : Site) (number : ℕ) (core : Core) (before : Around) where
 -- Changes
 
 module _ (site : Site) (w : World) where
-  any-own : (number : ℕ) (k : Which) (pair : Pair) (own : Option Own) → OwnNames site own → AnyNames site (option_map (own_done number k pair w) own)
+  any-own : (number : ℕ) (k : Which) (pair : Pair) (own : Option Own) → OwnNames site own → AnyNames site (own_made number k pair w own)
   any-own number k pair None are = tt
   any-own number k pair (Some own) are = sent-named site (copy_of k pair).processor own.messages are
 
   acts-named : (number : ℕ) (k : Which) (pair : Pair) (stands : Point)
-      → AnyNames site (option_map (own_done number k pair w) (own_at site number (copy_of k pair).core (around (copy_of k pair) pair w) stands))
+      → AnyNames site (own_made number k pair w (own_at site number (copy_of k pair).core (around (copy_of k pair) pair w) stands))
   acts-named number k pair stands =
       any-own number k pair (own_at site number (copy_of k pair).core (around (copy_of k pair) pair w) stands)
       (own-named site number (copy_of k pair).core (around (copy_of k pair) pair w) stands)
@@ -179,9 +185,10 @@ module _ (site : Site) (w : World) where
   run-role number k pair Watching = tt
   run-role number k pair Gone = tt
 
-  either-named : (one other : Option Done) → AnyNames site one → AnyNames site other → AnyNames site (first_of_two one other)
-  either-named None other first second = second
-  either-named (Some done) other first second = first
+  either-named : (number : ℕ) (one other : Option Stepped) → AnyNames site (lifted number w one) → AnyNames site (lifted number w other)
+      → AnyNames site (lifted number w (first_step one other))
+  either-named number None other first second = second
+  either-named number (Some step) other first second = first
 
   pub run-named : (number : ℕ) → AnyNames site (run_done site number w)
   run-named number = by (slice_get w.processes number)
@@ -189,7 +196,8 @@ module _ (site : Site) (w : World) where
       by : (pair : Option Pair) → AnyNames site (run_pair site number w pair)
       by None = tt
       by (Some pair) =
-          either-named (run_copy site number pair w First) (run_copy site number pair w Second) (run-role number First pair pair.first.role)
+          either-named number (step_of_copy site number pair w.marks (records_of w) First) (step_of_copy site number pair w.marks (records_of w) Second)
+          (run-role number First pair pair.first.role)
           (run-role number Second pair pair.second.role)
 
   pub enter-named : (number : ℕ) → AnyNames site (enter_done site number w)
@@ -242,13 +250,13 @@ module _ (site : Site) (w : World) where
   replied-named : (node : ℕ) (reply : Reply) (opener : Option Who) → AnyNames site (replied_done site node reply w opener)
   replied-named node reply None = tt
   replied-named node reply (Some (who.File number file)) =
-      at-copy-named site node _ (λ k pair. got-named number reply k pair (copy_of k pair).role) (slice_get w.processes number)
+      at-copy-named site w number node (Replying reply) (λ k pair. got-named number reply k pair (copy_of k pair).role) (slice_get w.processes number)
   replied-named node reply (Some (who.Terminal number)) = printed-named number reply _
 
   checkpoint-named : (message : ImageMessage) (k : Which) (pair : Pair) (role : Role) → AnyNames site (checkpoint_done site message k pair w role)
-  checkpoint-named message k pair Watching = by (is_next_for (copy_of k pair) message)
+  checkpoint-named message k pair Watching = by (is_next_for (copy_of k pair).era (copy_of k pair).number message)
     where
-      applied : (core : Option Core) → AnyNames site (option_map (applied_done message k pair w) core)
+      applied : (core : Option Core) → AnyNames site (applied_made message k pair w core)
       applied None = tt
       applied (Some core) = (tt, tt)
 
@@ -259,7 +267,7 @@ module _ (site : Site) (w : World) where
   checkpoint-named message k pair Gone = tt
 
   taken-named : (taken : TakenMessage) (k : Which) (pair : Pair) (role : Role) → AnyNames site (taken_done taken k pair w role)
-  taken-named taken k pair Acting = by (is_of_last (copy_of k pair) taken)
+  taken-named taken k pair Acting = by (is_of_last (copy_of k pair).sent (copy_of k pair).era (copy_of k pair).number taken)
     where
       by : (test : Bool) → AnyNames site (acknowledged_where taken k pair w test)
       by true = tt
@@ -269,12 +277,12 @@ module _ (site : Site) (w : World) where
 
   pub handed-named : (node : ℕ) (message : Message) → AnyNames site (handed_done site node message w)
   handed-named node (Asking request) =
-      at-copy-named site node _ (λ k pair. asked-named request k pair (copy_of k pair).role) (slice_get w.processes request.process)
+      at-copy-named site w request.process node (Asking request) (λ k pair. asked-named request k pair (copy_of k pair).role) (slice_get w.processes request.process)
   handed-named node (Replying reply) = replied-named node reply _
   handed-named node (Checkpointing message) =
-      at-copy-named site node _ (λ k pair. checkpoint-named message k pair (copy_of k pair).role) (slice_get w.processes message.process)
+      at-copy-named site w message.process node (Checkpointing message) (λ k pair. checkpoint-named message k pair (copy_of k pair).role) (slice_get w.processes message.process)
   handed-named node (Taking taken) =
-      at-copy-named site node _ (λ k pair. taken-named taken k pair (copy_of k pair).role) (slice_get w.processes taken.process)
+      at-copy-named site w taken.process node (Taking taken) (λ k pair. taken-named taken k pair (copy_of k pair).role) (slice_get w.processes taken.process)
 
   pub stop-named : (processor : ℕ) → AnyNames site (stop_done processor w)
   stop-named processor = by (slice_get w.stopped processor)

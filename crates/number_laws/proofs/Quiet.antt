@@ -26,11 +26,16 @@ use Rattle.world_semantics.specs.declared.which.Which.TheVariants.{First, Second
 use Rattle.world_semantics.specs.Core.{Core, next_on}
 use Rattle.world_semantics.specs.Messages.{Message, Asking, Replying, Checkpointing, Taking, sent_at}
 use Rattle.world_semantics.specs.Own.{Around, around, request_to}
-use Rattle.world_semantics.specs.Running.{Done, Own, own_took, own_take, own_answer_at, own_answer, own_done, own_at, mark_done, run_at, run_as, run_copy, first_of_two, run_pair, run_done, passed_done}
+use Rattle.world_semantics.specs.Records.{records_of}
+use Rattle.world_semantics.specs.Running.{Done, Own, Stepped, own_took, own_take, own_answer_at, own_answer, own_at, first_step, run_pair, run_done, step_of_copy}
 use Rattle.world_semantics.specs.World.{Pair, Terminal, World, copy_of, may_pass}
 use Rattle.computed_changes.specs.Entered.{enter_at, enter_to, enter_where, enter_done, entered_done}
 use Rattle.computed_changes.specs.Fitting.{depths_of, put_fitting}
-use Rattle.computed_changes.specs.Handed.{copy_in, at_copy, asked_done, awaits, own_got, got_where, got_done, awaits_at, printed_where, printed_done, printed_at, replied_done, is_next_for, applied_done, applied_where, checkpoint_done, is_of_last, acknowledged_where, taken_done, handed_done}
+use Rattle.computed_changes.specs.Checkpoints.{is_next_for, is_of_last}
+use Rattle.computed_changes.specs.Handed.{brought_to, copy_in, handed_done, replied_done, step_by}
+use Rattle.computed_changes.specs.Replies.{awaits, awaits_at, printed_at, printed_done, printed_where}
+use Rattle.world_semantics.proofs.Lifted.{lifted, mark_done, own_done, own_made, passed_done, run_as, run_at}
+use Rattle.computed_changes.proofs.Lifted.{acknowledged_where, applied_made, applied_where, asked_done, checkpoint_done, got_done, got_where, taken_done}
 use Rattle.computed_changes.specs.Stopped.{stop_where, stop_done}
 
 -- two worlds have as many processors, processes and terminals
@@ -60,12 +65,13 @@ repeated-few request (Kept words) = omega arith
 repeated-few request Old = omega arith
 repeated-few request Ahead = omega arith
 
-at-copy-quiet : (w : World) (node : ℕ) (does : Which → Pair → Option Done) → ((k : Which) (pair : Pair) → IsQuietAny w (does k pair)) → (one : Option Pair)
-    → IsQuietAny w (at_copy node does one)
-at-copy-quiet w node does all None = tt
-at-copy-quiet w node does all (Some pair) = by (copy_in node pair)
+at-copy-quiet : (site : Site) (w : World) (number node : ℕ) (message : Message)
+    → ((k : Which) (pair : Pair) → IsQuietAny w (lifted number w (step_by site number pair (records_of w) message k))) → (one : Option Pair)
+    → IsQuietAny w (brought_to site number node message w one)
+at-copy-quiet site w number node message all None = tt
+at-copy-quiet site w number node message all (Some pair) = by (copy_in node pair)
   where
-    by : (k : Option Which) → IsQuietAny w (option_and_then (λ k. does k pair) k)
+    by : (k : Option Which) → IsQuietAny w (lifted number w (option_and_then (step_by site number pair (records_of w) message) k))
     by None = tt
     by (Some k) = all k pair
 
@@ -121,12 +127,12 @@ module _ (site : Site) (w : World) where
     few = sent-few (copy_of k pair).processor own.messages few;
   }
 
-  any-own : (number : ℕ) (k : Which) (pair : Pair) (own : Option Own) → FewOwn own → IsQuietAny w (option_map (own_done number k pair w) own)
+  any-own : (number : ℕ) (k : Which) (pair : Pair) (own : Option Own) → FewOwn own → IsQuietAny w (own_made number k pair w own)
   any-own number k pair None few = tt
   any-own number k pair (Some own) few = own-quiet number k pair own few
 
   acts-quiet : (number : ℕ) (k : Which) (pair : Pair) (stands : Point)
-      → IsQuietAny w (option_map (own_done number k pair w) (own_at site number (copy_of k pair).core (around (copy_of k pair) pair w) stands))
+      → IsQuietAny w (own_made number k pair w (own_at site number (copy_of k pair).core (around (copy_of k pair) pair w) stands))
   acts-quiet number k pair stands =
       any-own number k pair (own_at site number (copy_of k pair).core (around (copy_of k pair) pair w) stands)
       (own-few number (copy_of k pair).core (around (copy_of k pair) pair w) site stands)
@@ -155,9 +161,10 @@ module _ (site : Site) (w : World) where
   run-role number k pair Watching = tt
   run-role number k pair Gone = tt
 
-  either-quiet : (one other : Option Done) → IsQuietAny w one → IsQuietAny w other → IsQuietAny w (first_of_two one other)
-  either-quiet None other first second = second
-  either-quiet (Some done) other first second = first
+  either-quiet : (number : ℕ) (one other : Option Stepped) → IsQuietAny w (lifted number w one) → IsQuietAny w (lifted number w other)
+      → IsQuietAny w (lifted number w (first_step one other))
+  either-quiet number None other first second = second
+  either-quiet number (Some step) other first second = first
 
   pub run-quiet : (number : ℕ) → IsQuietAny w (run_done site number w)
   run-quiet number = by (slice_get w.processes number)
@@ -165,7 +172,8 @@ module _ (site : Site) (w : World) where
       by : (pair : Option Pair) → IsQuietAny w (run_pair site number w pair)
       by None = tt
       by (Some pair) =
-          either-quiet (run_copy site number pair w First) (run_copy site number pair w Second) (run-role number First pair pair.first.role)
+          either-quiet number (step_of_copy site number pair w.marks (records_of w) First) (step_of_copy site number pair w.marks (records_of w) Second)
+          (run-role number First pair pair.first.role)
           (run-role number Second pair pair.second.role)
 
   pub enter-quiet : (number : ℕ) → IsQuietAny w (enter_done site number w)
@@ -205,7 +213,7 @@ module _ (site : Site) (w : World) where
   got-quiet number reply k pair Acting = by (awaits site number (copy_of k pair).core reply (process.point (copy_of k pair).core.state))
     where
       by : (test : Bool) → IsQuietAny w (got_where number reply k pair w test)
-      by true = own-quiet number k pair (own_got number reply k pair w) (omega arith)
+      by true = record { size = record { stopped = refl; processes = one-set number _; terminals = refl }; marks = refl; few = omega arith }
       by false = tt
   got-quiet number reply k pair Watching = tt
   got-quiet number reply k pair Gone = tt
@@ -225,13 +233,13 @@ module _ (site : Site) (w : World) where
   replied-quiet : (node : ℕ) (reply : Reply) (opener : Option Who) → IsQuietAny w (replied_done site node reply w opener)
   replied-quiet node reply None = tt
   replied-quiet node reply (Some (who.File number file)) =
-      at-copy-quiet w node _ (λ k pair. got-quiet number reply k pair (copy_of k pair).role) (slice_get w.processes number)
+      at-copy-quiet site w number node (Replying reply) (λ k pair. got-quiet number reply k pair (copy_of k pair).role) (slice_get w.processes number)
   replied-quiet node reply (Some (who.Terminal number)) = printed-quiet number reply _
 
   checkpoint-quiet : (message : ImageMessage) (k : Which) (pair : Pair) (role : Role) → IsQuietAny w (checkpoint_done site message k pair w role)
-  checkpoint-quiet message k pair Watching = by (is_next_for (copy_of k pair) message)
+  checkpoint-quiet message k pair Watching = by (is_next_for (copy_of k pair).era (copy_of k pair).number message)
     where
-      applied : (core : Option Core) → IsQuietAny w (option_map (applied_done message k pair w) core)
+      applied : (core : Option Core) → IsQuietAny w (applied_made message k pair w core)
       applied None = tt
       applied (Some core) =
           record { size = record { stopped = refl; processes = one-set message.process _; terminals = refl }; marks = refl; few = omega arith }
@@ -243,7 +251,7 @@ module _ (site : Site) (w : World) where
   checkpoint-quiet message k pair Gone = tt
 
   taken-quiet : (taken : TakenMessage) (k : Which) (pair : Pair) (role : Role) → IsQuietAny w (taken_done taken k pair w role)
-  taken-quiet taken k pair Acting = by (is_of_last (copy_of k pair) taken)
+  taken-quiet taken k pair Acting = by (is_of_last (copy_of k pair).sent (copy_of k pair).era (copy_of k pair).number taken)
     where
       by : (test : Bool) → IsQuietAny w (acknowledged_where taken k pair w test)
       by true = record { size = record { stopped = refl; processes = one-set taken.process _; terminals = refl }; marks = refl; few = omega arith }
@@ -253,12 +261,12 @@ module _ (site : Site) (w : World) where
 
   pub handed-quiet : (node : ℕ) (message : Message) → IsQuietAny w (handed_done site node message w)
   handed-quiet node (Asking request) =
-      at-copy-quiet w node _ (λ k pair. asked-quiet request k pair (copy_of k pair).role) (slice_get w.processes request.process)
+      at-copy-quiet site w request.process node (Asking request) (λ k pair. asked-quiet request k pair (copy_of k pair).role) (slice_get w.processes request.process)
   handed-quiet node (Replying reply) = replied-quiet node reply _
   handed-quiet node (Checkpointing message) =
-      at-copy-quiet w node _ (λ k pair. checkpoint-quiet message k pair (copy_of k pair).role) (slice_get w.processes message.process)
+      at-copy-quiet site w message.process node (Checkpointing message) (λ k pair. checkpoint-quiet message k pair (copy_of k pair).role) (slice_get w.processes message.process)
   handed-quiet node (Taking taken) =
-      at-copy-quiet w node _ (λ k pair. taken-quiet taken k pair (copy_of k pair).role) (slice_get w.processes taken.process)
+      at-copy-quiet site w taken.process node (Taking taken) (λ k pair. taken-quiet taken k pair (copy_of k pair).role) (slice_get w.processes taken.process)
 
   pub stop-quiet : (processor : ℕ) → IsQuietAny w (stop_done processor w)
   stop-quiet processor = by (slice_get w.stopped processor)

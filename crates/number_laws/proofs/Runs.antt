@@ -1,5 +1,5 @@
 -- Where a process runs, each number is raised by one at most.
-use Rattle.std.proofs.Common.{◌≡◌, ◌≤◌, ◌<◌, ℕ, ◌+◌, Bool, true, false, List, [], ◌∷◌, length, Option, Some, None, nat_lt, slice_get, slice_set, option_map, refl, sym, ◌∙◌, arith, length-append}
+use Rattle.std.proofs.Common.{◌≡◌, ◌≤◌, ◌<◌, ℕ, ◌+◌, Bool, true, false, List, [], ◌∷◌, length, Option, Some, None, nat_lt, slice_get, slice_set, refl, arith, length-append}
 use Rattle.tal_tree.specs.declared.act.Act.{Act}
 use Rattle.tal_tree.specs.declared.site.Site.{Site}
 use Rattle.process_semantics.specs.declared.disc.DiscState.{DiscState}
@@ -18,8 +18,11 @@ use Rattle.world_semantics.specs.Kept.{own_acts}
 use Rattle.world_semantics.specs.Messages.{Message, sent_at}
 use Rattle.world_semantics.specs.Own.{around}
 use Rattle.world_semantics.specs.Passes.{after_sending, after_mark, checkpoint_of, kept_at_mark}
-use Rattle.world_semantics.specs.Running.{Done, Own, own_at, own_done, sent_done, passed_done, mark_done, run_at, run_as, run_copy, first_of_two, run_pair, run_done, entered}
+use Rattle.world_semantics.specs.Records.{records_of}
+use Rattle.world_semantics.specs.Running.{Own, Stepped, copy_acted, first_step, own_at, run_done, run_pair, step_of_copy}
+use Rattle.world_semantics.specs.Shares.{entering, share_of}
 use Rattle.world_semantics.specs.World.{Copy, Pair, World, copy_of, with_copy, may_pass}
+use Rattle.world_semantics.proofs.Lifted.{lifted, mark_done, own_done, own_made, passed_done, run_as, run_at, sent_done}
 use Rattle.world_semantics.proofs.Lists.{set-all}
 use Rattle.number_laws.proofs.Each.{Each, each-more, each-always, each-map}
 use Rattle.number_laws.proofs.Within.{StateWithin, CoreWithin, CopyWithin, PairWithin, PairsWithin, ImageWithin, MessageWithin, AreSendings, WorldWithin, DoneWithin, AnyWithin, core-more, pair-more, terminals-more, held_in, held-with, held-set, held-there, held-one}
@@ -105,22 +108,21 @@ module _ (n : ℕ) (kinds : ℕ → Bool) (w : World) (within : WorldWithin n ki
                 pairs-set number _
                 (pair-with (n + 1) (kinds number) k _ (record pair { sectors = o.after.sectors }) whole (
                   o-is.core,
-                  (let same = e.number in let few = own.1 in omega (arith, same, few)),
-                  (λ watches. e.era ∙ own.2 (sym e.role ∙ watches)),
+                  (let few = own.1 in omega (arith, few)),
+                  own.2,
                   (let up = e.position in let few = own.3 in omega (arith, up, few)),
                   o-is.waiting,
                 ));
             acts =
                 acts-set number k pair (record pair { sectors = o.after.sectors })
-                (record (entered number o.done w.kept (copy_of k pair)).copy { core = o.core; waiting = o.after.waiting })
-                (entered number o.done w.kept (copy_of k pair)).kept there refl refl e.acts;
+                (copy_acted number w.kept o (copy_of k pair)) (entering number o.done w.kept (share_of (copy_of k pair))).kept there refl refl e.acts;
             shown = o-is.shown;
             terminals = terminals-more (n + 1) n w.terminals (omega arith) within.terminals;
           };
           sendings = sent-messages (copy_of k pair).processor o.messages o-is.messages;
         }
 
-    any-own : (o : Option Own) → AnyOwnWithin (n + 1) kinds (kinds number) o → AnyWithin (n + 1) kinds (option_map (own_done number k pair w) o)
+    any-own : (o : Option Own) → AnyOwnWithin (n + 1) kinds (kinds number) o → AnyWithin (n + 1) kinds (own_made number k pair w o)
     any-own None o-is = tt
     any-own (Some o) o-is = own-done o o-is
 
@@ -215,7 +217,7 @@ module _ (n : ℕ) (kinds : ℕ → Bool) (w : World) (within : WorldWithin n ki
 
     -- where it runs
     acts-at : (site : Site) (stands : Point)
-        → AnyWithin (n + 1) kinds (option_map (own_done number k pair w) (own_at site number (copy_of k pair).core (around (copy_of k pair) pair w) stands))
+        → AnyWithin (n + 1) kinds (own_made number k pair w (own_at site number (copy_of k pair).core (around (copy_of k pair) pair w) stands))
     acts-at site stands =
         any-own (own_at site number (copy_of k pair).core (around (copy_of k pair) pair w) stands)
         (own-within n kinds (kinds number) number (copy_of k pair).core (around (copy_of k pair) pair w) own.0 within.shown own.4 site stands)
@@ -235,9 +237,10 @@ module _ (n : ℕ) (kinds : ℕ → Bool) (w : World) (within : WorldWithin n ki
     run-role site Watching = tt
     run-role site Gone = tt
 
-  either-within : (one other : Option Done) → AnyWithin (n + 1) kinds one → AnyWithin (n + 1) kinds other → AnyWithin (n + 1) kinds (first_of_two one other)
-  either-within None other first second = second
-  either-within (Some done) other first second = first
+  either-within : (number : ℕ) (one other : Option Stepped) → AnyWithin (n + 1) kinds (lifted number w one) → AnyWithin (n + 1) kinds (lifted number w other)
+      → AnyWithin (n + 1) kinds (lifted number w (first_step one other))
+  either-within number None other first second = second
+  either-within number (Some step) other first second = first
 
   pub run-within : n < 4294967295 → (site : Site) (number : ℕ) → AnyWithin (n + 1) kinds (run_done site number w)
   run-within low site number = by (slice_get w.processes number) refl
@@ -245,5 +248,6 @@ module _ (n : ℕ) (kinds : ℕ → Bool) (w : World) (within : WorldWithin n ki
       by : (there : Option Pair) → slice_get w.processes number ≡ there → AnyWithin (n + 1) kinds (run_pair site number w there)
       by None there = tt
       by (Some pair) there =
-          either-within (run_copy site number pair w First) (run_copy site number pair w Second) (run-role low number First pair there site pair.first.role)
+          either-within number (step_of_copy site number pair w.marks (records_of w) First) (step_of_copy site number pair w.marks (records_of w) Second)
+          (run-role low number First pair there site pair.first.role)
           (run-role low number Second pair there site pair.second.role)

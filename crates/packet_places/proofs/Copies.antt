@@ -21,20 +21,25 @@ use Rattle.world_semantics.specs.declared.role.Role.TheVariants.{Acting, Watchin
 use Rattle.world_semantics.specs.declared.which.Which.{Which}
 use Rattle.world_semantics.specs.declared.which.Which.TheVariants.{First, Second}
 use Rattle.world_semantics.specs.Core.{Core}
-use Rattle.world_semantics.specs.World.{Copy, Pair, Terminal, World, terminal_node, other_of, copy_of, with_copy, with_pair, may_pass}
+use Rattle.world_semantics.specs.World.{Copy, Pair, Terminal, World, terminal_node, other_of, copy_of, with_copy, may_pass}
 use Rattle.world_semantics.specs.Kept.{own_acts}
 use Rattle.world_semantics.specs.Messages.{Message, Asking, Replying, Checkpointing, Taking, Sending, sent_at}
 use Rattle.world_semantics.specs.Own.{around}
 use Rattle.checkpoint_image.specs.Receive.{waits, came, repeated, all_repeated}
 use Rattle.world_semantics.specs.Passes.{checkpoint_of, after_sending, taken_of, kept_at_mark}
 use Rattle.world_semantics.specs.Rules.{entered_request, taker, after_marking, marked_pair, told_at_mark, told_by}
-use Rattle.world_semantics.specs.Running.{Done, Own, own_at, own_done, mark_done, sent_done, passed_done, run_at, run_as, run_copy, run_pair, first_of_two, run_done}
+use Rattle.world_semantics.specs.Records.{records_of}
+use Rattle.world_semantics.specs.Running.{Done, Own, Stepped, own_at, run_pair, first_step, run_done, step_of_copy}
+use Rattle.world_semantics.proofs.Lifted.{lifted, mark_done, own_done, own_made, passed_done, run_as, run_at, sent_done}
 use Rattle.world_semantics.proofs.Lists.{Changed, is_new, is_same, changed, mapped, some-same}
 use Rattle.world_semantics.proofs.Members.{among-map, among-flat_map}
 use Rattle.world_semantics.proofs.Roles.{taker-is}
 use Rattle.computed_changes.specs.Entered.{enter_done, enter_at, enter_where, enter_to, entered_done}
 use Rattle.computed_changes.specs.Fitting.{depths_of, put_fitting}
-use Rattle.computed_changes.specs.Handed.{quietly, own_got, applied_done, at_copy, asked_done, got_where, got_done, awaits, printed_where, printed_done, printed_at, awaits_at, replied_done, is_next_for, applied_where, checkpoint_done, is_of_last, acknowledged_where, taken_done, handed_done}
+use Rattle.computed_changes.specs.Checkpoints.{is_next_for, is_of_last}
+use Rattle.computed_changes.specs.Handed.{brought_to, handed_done, replied_done, step_by}
+use Rattle.computed_changes.specs.Replies.{awaits, awaits_at, copy_got, printed_at, printed_done, printed_where}
+use Rattle.computed_changes.proofs.Lifted.{acknowledged_where, applied_done, applied_made, applied_where, asked_done, checkpoint_done, got_done, got_where, taken_done}
 use Rattle.computed_changes.specs.Stopped.{marked_world}
 use Rattle.packet_places.specs.Places.{KeepsItsOwn}
 
@@ -104,7 +109,7 @@ module _ (w : World) (number : ℕ) (k : Which) (pair : Pair) (there : slice_get
       others First = keeps-same pair.second
       others Second = keeps-same pair.first
 
-  own-any : (own : Option Own) → AnyAt (copy_of k pair).processor w (option_map (own_done number k pair w) own)
+  own-any : (own : Option Own) → AnyAt (copy_of k pair).processor w (own_made number k pair w own)
   own-any None = tt
   own-any (Some o) = own-at-it o
 
@@ -144,7 +149,7 @@ module _ (w : World) (number : ℕ) (k : Which) (pair : Pair) (there : slice_get
   got-at site reply Acting = by (awaits site number (copy_of k pair).core reply (process.point (copy_of k pair).core.state))
     where
       by : (test : Bool) → AnyAt (copy_of k pair).processor w (got_where number reply k pair w test)
-      by true = own-at-it (own_got number reply k pair w)
+      by true = alone (copy_got number reply.words w.kept (copy_of k pair)) _ refl (λ sending among. absurd among)
       by false = tt
   got-at site reply Watching = tt
   got-at site reply Gone = tt
@@ -181,9 +186,9 @@ applied-at : (site : Site) (w : World) (message : ImageMessage) (k : Which) (pai
     → AnyAt (copy_of k pair).processor w (checkpoint_done site message k pair w role)
 applied-at site w message k pair there Acting = tt
 applied-at site w message k pair there Gone = tt
-applied-at site w message k pair there Watching = by (is_next_for (copy_of k pair) message)
+applied-at site w message k pair there Watching = by (is_next_for (copy_of k pair).era (copy_of k pair).number message)
   where
-    put : (core : Option Core) → AnyAt (copy_of k pair).processor w (option_map (applied_done message k pair w) core)
+    put : (core : Option Core) → AnyAt (copy_of k pair).processor w (applied_made message k pair w core)
     put None = tt
     put (Some core) = applied-core w message k pair there core
 
@@ -193,13 +198,12 @@ applied-at site w message k pair there Watching = by (is_next_for (copy_of k pai
 
 taken-at : (w : World) (taken : TakenMessage) (k : Which) (pair : Pair) → slice_get w.processes taken.process ≡ Some pair → (role : Role)
     → AnyAt (copy_of k pair).processor w (taken_done taken k pair w role)
-taken-at w taken k pair there Acting = by (is_of_last (copy_of k pair) taken)
+taken-at w taken k pair there Acting = by (is_of_last (copy_of k pair).sent (copy_of k pair).era (copy_of k pair).number taken)
   where
     by : (test : Bool) → AnyAt (copy_of k pair).processor w (acknowledged_where taken k pair w test)
     by false = tt
     by true =
-        alone w taken.process k pair there (record (copy_of k pair) { acknowledged = true })
-        (quietly (with_pair taken.process (with_copy k (record (copy_of k pair) { acknowledged = true }) pair) w)) refl (λ sending among. absurd among)
+        alone w taken.process k pair there (record (copy_of k pair) { acknowledged = true }) _ refl (λ sending among. absurd among)
 taken-at w taken k pair there Watching = tt
 taken-at w taken k pair there Gone = tt
 
@@ -216,14 +220,14 @@ run-somewhere site number w = by (slice_get w.processes number) refl
     some node None at = tt
     some node (Some done) at = (node, at)
 
-    first : (one other : Option Done) → SomeAt w one → SomeAt w other → SomeAt w (first_of_two one other)
+    first : (one other : Option Stepped) → SomeAt w (lifted number w one) → SomeAt w (lifted number w other) → SomeAt w (lifted number w (first_step one other))
     first None other at at_other = at_other
-    first (Some done) other at at_other = at
+    first (Some step) other at at_other = at
 
     by : (found : Option Pair) → slice_get w.processes number ≡ found → SomeAt w (run_pair site number w found)
     by None there = tt
     by (Some pair) there =
-        first (run_copy site number pair w First) (run_copy site number pair w Second)
+        first (step_of_copy site number pair w.marks (records_of w) First) (step_of_copy site number pair w.marks (records_of w) Second)
         (some pair.first.processor _ (run-role w number First pair there site pair.first.role))
         (some pair.second.processor _ (run-role w number Second pair there site pair.second.role))
 
@@ -252,21 +256,27 @@ enter-there site number w = by (slice_get w.terminals number)
 
 module _ (node : ℕ) (w : World) where
   -- what the copy at the node does
-  at-copy-at : (number : ℕ) (does : Which → Pair → Option Done)
-      → ((k : Which) (pair : Pair) → slice_get w.processes number ≡ Some pair → AnyAt (copy_of k pair).processor w (does k pair))
-      → AnyAt node w (at_copy node does (slice_get w.processes number))
-  at-copy-at number does each = by (slice_get w.processes number) refl
+  at-copy-at : (site : Site) (number : ℕ) (message : Message)
+      → ((k : Which) (pair : Pair) → slice_get w.processes number ≡ Some pair
+      → AnyAt (copy_of k pair).processor w (lifted number w (step_by site number pair (records_of w) message k)))
+      → AnyAt node w (brought_to site number node message w (slice_get w.processes number))
+  at-copy-at site number message each = by (slice_get w.processes number) refl
     where
-      moved : (k : Which) (pair : Pair) → ((copy_of k pair).processor == node) ≡ true → AnyAt (copy_of k pair).processor w (does k pair) → AnyAt node w (does k pair)
-      moved k pair here at = subst (λ n. AnyAt n w (does k pair)) (eqb-true (copy_of k pair).processor node here) at
+      moved : (k : Which) (pair : Pair) → ((copy_of k pair).processor == node) ≡ true
+          → AnyAt (copy_of k pair).processor w (lifted number w (step_by site number pair (records_of w) message k))
+          → AnyAt node w (lifted number w (step_by site number pair (records_of w) message k))
+      moved k pair here at =
+          subst (λ n. AnyAt n w (lifted number w (step_by site number pair (records_of w) message k))) (eqb-true (copy_of k pair).processor node here) at
 
       two : (pair : Pair) → slice_get w.processes number ≡ Some pair → (first second : Bool) → (pair.first.processor == node) ≡ first → (pair.second.processor == node) ≡ second
-          → AnyAt node w (option_and_then (λ k. does k pair) (if first then Some First else if second then Some Second else None))
+          → AnyAt node w
+          (lifted number w
+          (option_and_then (step_by site number pair (records_of w) message) (if first then Some First else if second then Some Second else None)))
       two pair there true second here too = moved First pair here (each First pair there)
       two pair there false true here too = moved Second pair too (each Second pair there)
       two pair there false false here too = tt
 
-      by : (found : Option Pair) → slice_get w.processes number ≡ found → AnyAt node w (at_copy node does found)
+      by : (found : Option Pair) → slice_get w.processes number ≡ found → AnyAt node w (brought_to site number node message w found)
       by None there = tt
       by (Some pair) there = two pair there (pair.first.processor == node) (pair.second.processor == node) refl refl
 
@@ -284,21 +294,21 @@ module _ (node : ℕ) (w : World) where
 
   pub handed-there : (site : Site) (message : Message) → AnyAt node w (handed_done site node message w)
   handed-there site (Asking request) =
-      at-copy-at request.process (λ k pair. asked_done request k pair w (copy_of k pair).role)
+      at-copy-at site request.process (Asking request)
       (λ k pair there. asked-at w request k pair there (copy_of k pair).role)
   handed-there site (Replying reply) = by (option_map (λ (opener : OpenerSpec). opener.who) (slice_get (openers_of site reply.process) reply.opener))
     where
       by : (found : Option Who) → AnyAt node w (replied_done site node reply w found)
       by None = tt
       by (Some (who.File number file)) =
-          at-copy-at number (λ k pair. got_done site number reply k pair w (copy_of k pair).role)
+          at-copy-at site number (Replying reply)
           (λ k pair there. got-at w number k pair there site reply (copy_of k pair).role)
       by (Some (who.Terminal number)) = printed-there site number reply (node == terminal_node)
   handed-there site (Checkpointing message) =
-      at-copy-at message.process (λ k pair. checkpoint_done site message k pair w (copy_of k pair).role)
+      at-copy-at site message.process (Checkpointing message)
       (λ k pair there. applied-at site w message k pair there (copy_of k pair).role)
   handed-there site (Taking taken) =
-      at-copy-at taken.process (λ k pair. taken_done taken k pair w (copy_of k pair).role)
+      at-copy-at site taken.process (Taking taken)
       (λ k pair there. taken-at w taken k pair there (copy_of k pair).role)
 
 -- Marks

@@ -1,16 +1,16 @@
 -- One copy of a process by itself: all that a copy in the world of copies has but its processor, the requests that wait, its position and its held acts.
 -- Checkpoints and takeover are Bartlett's ("A NonStop Kernel"); that era and number choose a checkpoint is our own rule.
 use Rattle.std.specs.Option.{option_map}
-use Rattle.std.specs.Prelude.{ℕ, ◌+◌, ◌==◌, ◌&&◌, Bool, true, false, List, Option, None}
+use Rattle.std.specs.Prelude.{ℕ, ◌+◌, Bool, true, false, List, Option}
 use Rattle.tal_tree.specs.declared.site.OpenerSpec.{OpenerSpec}
 use Rattle.process_semantics.specs.Process.{ProcessState}
 use Rattle.checkpoint_image.specs.declared.message.ImageMessage.{ImageMessage}
-use Rattle.checkpoint_image.specs.declared.message.TakenMessage.{TakenMessage}
 use Rattle.world_semantics.specs.declared.role.Role.{Role}
-use Rattle.world_semantics.specs.declared.role.Role.TheVariants.{Acting, Watching, Gone}
-use Rattle.world_semantics.specs.Core.{Core, after_passing, carried}
+use Rattle.world_semantics.specs.declared.role.Role.TheVariants.{Acting}
+use Rattle.world_semantics.specs.Core.{Core, after_passing}
+use Rattle.world_semantics.specs.Passes.{next_checkpoint}
 use Rattle.process_control.specs.Cores.{CoreAndDepths, core_at_start}
-use Rattle.computed_changes.specs.Fitting.{put_fitting}
+use Rattle.computed_changes.specs.Checkpoints.{core_as}
 
 -- a copy: its role, its era, the number of the last checkpoint sent or applied in that era, whether it has sent the checkpoint of the mark at which it stands,
 -- whether that was acknowledged, its core, and how many replies are kept at most of each opener of its process
@@ -46,15 +46,11 @@ with_core copy core = record copy { core = core }
 
 -- the checkpoint that a copy sends: the next one of its era
 abbrev pub copy_checkpoint : ℕ → CopyState → ImageMessage
-copy_checkpoint process copy = record { process = process; era = copy.era; number = copy.number + 1; image = carried copy.core }
+copy_checkpoint process copy = next_checkpoint process copy.era copy.number copy.core
 
 -- the copy after it sent its checkpoint
 abbrev pub copy_sending : CopyState → CopyState
 copy_sending copy = record copy { number = copy.number + 1; sent = true; acknowledged = false }
-
--- whether it is what a copy sent last that was taken
-abbrev pub is_of_last : CopyState → TakenMessage → Bool
-is_of_last copy taken = copy.sent && (taken.era == copy.era && taken.number == copy.number)
 
 -- the copy after it passed its mark
 abbrev pub copy_passing : CopyState → CopyState
@@ -62,25 +58,13 @@ copy_passing copy = record copy { core = after_passing copy.core; sent = false; 
 
 -- Applying
 
--- whether a checkpoint is the next one for a copy: of the copy's own era, and of the number next to its own
-abbrev pub is_next_for : CopyState → ImageMessage → Bool
-is_next_for copy message = message.era == copy.era && message.number == copy.number + 1
-
 abbrev pub copy_applied : ImageMessage → CopyState → Core → CopyState
 copy_applied message copy core = record copy { core = core; number = message.number }
 
-abbrev pub applied_where : ImageMessage → CopyState → Bool → Option CopyState
-applied_where message copy true = option_map (copy_applied message copy) (put_fitting copy.depths copy.core message.image)
-applied_where message copy false = None
-
-abbrev pub applied_as : ImageMessage → CopyState → Role → Option CopyState
-applied_as message copy Watching = applied_where message copy (is_next_for copy message)
-applied_as message copy Acting = None
-applied_as message copy Gone = None
-
--- the copy after a checkpoint came to it; none where it is ignored. A copy that watches applies it whole where it is the next one and fits
+-- the copy after a checkpoint came to it; none where it is ignored
 abbrev pub copy_applying : ImageMessage → CopyState → Option CopyState
-copy_applying message copy = applied_as message copy copy.role
+copy_applying message copy =
+    option_map (copy_applied message copy) (core_as copy.depths copy.era copy.number copy.core message copy.role)
 
 -- the copy after it took over: it acts in the next era, in which no checkpoint was sent yet
 abbrev pub copy_taking_over : CopyState → CopyState

@@ -1,13 +1,12 @@
--- What the steps of a copy do to its core. What each step is stands with the definitions of processes and of receive tables.
+-- What the steps of a copy do to its core, with the depths of its openers. What each step makes of a core stands with the world of copies.
 use Rattle.std.specs.Option.{option_map}
-use Rattle.std.specs.Prelude.{ℕ, ◌+◌, ℤ, List, map, replicate, slice_get, slice_set, Option, Some, None}
+use Rattle.std.specs.Prelude.{ℕ, List, map, replicate, slice_get, Option, Some, None}
 use Rattle.gd_words.specs.declared.message.Request.{Request}
 use Rattle.tal_tree.specs.declared.site.OpenerSpec.{OpenerSpec}
 use Rattle.process_semantics.specs.Process as process
 use Rattle.checkpoint_image.specs.declared.receive.OpenerBlock.{OpenerBlock}
-use Rattle.checkpoint_image.specs.Receive.{after_taking, after_answering}
 use Rattle.sync_ids.specs.Tables.{last_taken, nothing_taken}
-use Rattle.world_semantics.specs.Core.{Core, next_on}
+use Rattle.world_semantics.specs.Core.{Core, core_asked, core_replied, core_taken, next_on}
 use Rattle.process_control.specs.declared.told.Asking.{Asking}
 use Rattle.process_control.specs.declared.told.Answering.{Answering}
 
@@ -23,19 +22,10 @@ core_at_start state files openers = record {
   depths = map (λ opener. opener.depth) openers;
 }
 
--- a step inside
-abbrev pub core_going : Core → Core
-core_going core = record core { state = process.after_inner core.state }
-
--- A request that is taken
-
-abbrev pub core_taken : Request → Core → OpenerBlock → Core
-core_taken request core block =
-    record core { state = process.after_took core.state request.words; receive = after_taking request.opener block core.receive }
-
--- the core after the request was taken; none where its opener isn't there
+-- the core after a request was taken; none where its opener isn't there
 abbrev pub core_taking : Request → Core → Option Core
-core_taking request core = option_map (core_taken request core) (slice_get core.receive.openers request.opener)
+core_taking request core =
+    option_map (λ block. core_taken request.opener request.words block core) (slice_get core.receive.openers request.opener)
 
 -- A request that is asked
 
@@ -48,14 +38,7 @@ asking_of core = record {
 }
 
 abbrev pub core_asking : Core → Core
-core_asking core = record core {
-  state = process.after_asked core.state;
-  next = slice_set core.next (process.asked_file core.state) (next_on core (process.asked_file core.state) + 1);
-}
-
--- a reply that is got
-abbrev pub core_getting : List ℤ → Core → Core
-core_getting words core = record core { state = process.after_got core.state words }
+core_asking core = core_asked (process.asked_file core.state) core
 
 -- A request that is answered
 
@@ -69,10 +52,7 @@ abbrev pub answering_of : Core → Option Answering
 answering_of core = answering_at core core.receive.in_hand
 
 abbrev pub core_answered : Core → ℕ → Option ℕ → Option OpenerBlock → Option Core
-core_answered core place (Some depth) (Some block) = Some (record core {
-  state = process.after_answered core.state;
-  receive = after_answering depth place block (process.answer_of core.state) core.receive;
-})
+core_answered core place (Some depth) (Some block) = Some (core_replied depth place block (process.answer_of core.state) core)
 core_answered core place _ _ = None
 
 abbrev pub core_answering_at : List ℕ → Core → Option ℕ → Option Core
@@ -82,7 +62,3 @@ core_answering_at depths core (Some place) = core_answered core place (slice_get
 -- the core after it answered the request in hand, with openers of these depths; none where nothing is in hand, or the opener isn't there
 abbrev pub core_answering : List ℕ → Core → Option Core
 core_answering depths core = core_answering_at depths core core.receive.in_hand
-
--- an act on the device, with the words that stood on the sector
-abbrev pub core_acting : List ℤ → Core → Core
-core_acting found core = record core { state = process.after_device core.state found }

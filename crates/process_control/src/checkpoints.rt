@@ -1,9 +1,10 @@
 ghost use Rattle.std.specs.Prelude.{◌≡◌, ◌<◌, ◌+◌, ◌^◌, true, is_some, IfOk, OnOk, OnErr};
-ghost use Rattle.std.specs.Option.{unwrap_or};
+ghost use Rattle.std.specs.Option.{option_map, unwrap_or};
 ghost use Rattle.process_semantics.specs.declared.point.Point.TheVariants.{Mark};
 ghost use Rattle.process_semantics.specs.Process.{point};
 ghost use Rattle.world_semantics.specs.declared.role.Role.TheVariants.{Watching, Gone};
-ghost use Rattle.process_control.specs.Copies.{applied_where, copy_applying, copy_checkpoint, copy_passing, copy_sending, copy_taking_over, is_of_last, is_next_for};
+ghost use Rattle.computed_changes.specs.Checkpoints.{core_where, is_next_for, is_of_last};
+ghost use Rattle.process_control.specs.Copies.{copy_applied, copy_applying, copy_checkpoint, copy_passing, copy_sending, copy_taking_over};
 
 use crate::control::CopyControl;
 use checkpoint_image::{Behaviour, ImageMessage, TakenMessage};
@@ -47,14 +48,15 @@ impl<B: Behaviour> CopyControl<B> {
     }
 
     fn is_next_for(&self, message: &ImageMessage) -> bool
-        ensures { result ≡ is_next_for self.now message.now }
+        ensures { result ≡ is_next_for self.now.era self.now.number message.now }
     {
         message.era == self.era && u64::from(message.number) == u64::from(self.number) + 1
     }
 
     fn apply_where(&mut self, message: &ImageMessage, is_next: bool) -> bool
-        ensures told { result ≡ is_some (applied_where message.now self.old is_next) }
-        ensures copy { self.new ≡ unwrap_or (applied_where message.now self.old is_next) self.old }
+        ensures told { result ≡ is_some (core_where self.old.depths self.old.core message.now is_next) }
+        ensures copy { self.new
+            ≡ unwrap_or (option_map (copy_applied message.now self.old) (core_where self.old.depths self.old.core message.now is_next)) self.old }
     {
         if !is_next {
             return false;
@@ -68,7 +70,7 @@ impl<B: Behaviour> CopyControl<B> {
 
     /// Whether it is what it sent last that was taken.
     pub fn is_of_last(&self, taken: TakenMessage) -> bool
-        ensures { result ≡ is_of_last self.now taken }
+        ensures { result ≡ is_of_last self.now.sent self.now.era self.now.number taken }
     {
         self.sent && taken.era == self.era && taken.number == self.number
     }

@@ -8,8 +8,8 @@ ghost use Rattle.checkpoint_image.specs.Behaving.{last_write_of};
 ghost use Rattle.checkpoint_image.specs.Receive.{standing};
 ghost use Rattle.checkpoint_image.specs.declared.receive.Standing.TheVariants.{Next};
 ghost use Rattle.sync_ids.specs.Tables.{IsDepth};
-ghost use Rattle.world_semantics.specs.Core.{next_on};
-ghost use Rattle.process_control.specs.Cores.{core_going, core_taking, asking_of, core_asking, core_getting, answering_of, core_answering, core_acting};
+ghost use Rattle.world_semantics.specs.Core.{core_acting, core_getting, core_going, next_on};
+ghost use Rattle.process_control.specs.Cores.{core_taking, asking_of, core_asking, answering_of, core_answering};
 ghost use Rattle.process_control.specs.Copies.{copy_at_start, with_core};
 
 use crate::inside::CopyCore;

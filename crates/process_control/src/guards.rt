@@ -1,4 +1,4 @@
-ghost use Rattle.std.specs.Prelude.{◌≡◌, ◌≢◌, ℕ, ◌+◌, true, false, List, slice_get, Some, None};
+ghost use Rattle.std.specs.Prelude.{◌≡◌, ◌≢◌, ℕ, ◌+◌, Bool, true, false, List, slice_get, Some, None};
 ghost use Rattle.gd_words.specs.declared.message.Request.{Request};
 ghost use Rattle.process_semantics.specs.Process.{after_answered, after_took, answer_of};
 ghost use Rattle.checkpoint_image.specs.Receive.{after_answering, after_taking};
@@ -7,9 +7,10 @@ ghost use Rattle.checkpoint_image.specs.declared.message.TakenMessage.{TakenMess
 ghost use Rattle.checkpoint_image.specs.declared.receive.OpenerBlock.{OpenerBlock};
 ghost use Rattle.world_semantics.specs.declared.role.Role.TheVariants.{Watching};
 ghost use Rattle.world_semantics.specs.Core.{Core, put_in};
+ghost use Rattle.computed_changes.specs.Checkpoints.{is_of_last};
 ghost use Rattle.computed_changes.specs.Fitting.{fits};
 ghost use Rattle.process_control.specs.Cores.{answering_of, core_answering, core_taking};
-ghost use Rattle.process_control.specs.Copies.{CopyState, copy_applying, is_of_last};
+ghost use Rattle.process_control.specs.Copies.{CopyState, copy_applying};
 
 /// A copy applies no checkpoint of another era or of another number than the next, none that doesn't fit, and none where it doesn't watch.
 pub fn only_the_next_checkpoint_is_applied()
@@ -28,9 +29,9 @@ pub fn the_next_checkpoint_is_applied()
 
 /// Only what a copy has sent, in its era and under its last number, is acknowledged.
 pub fn only_the_last_checkpoint_is_acknowledged()
-    ensures unsent { (copy : CopyState) (taken : TakenMessage) → copy.sent ≡ false → is_of_last copy taken ≡ false }
-    ensures era { (copy : CopyState) (taken : TakenMessage) → taken.era ≢ copy.era → is_of_last copy taken ≡ false }
-    ensures number { (copy : CopyState) (taken : TakenMessage) → taken.number ≢ copy.number → is_of_last copy taken ≡ false }
+    ensures unsent { (era number : ℕ) (taken : TakenMessage) → is_of_last false era number taken ≡ false }
+    ensures era { (sent : Bool) (era number : ℕ) (taken : TakenMessage) → taken.era ≢ era → is_of_last sent era number taken ≡ false }
+    ensures number { (sent : Bool) (era number : ℕ) (taken : TakenMessage) → taken.number ≢ number → is_of_last sent era number taken ≡ false }
 {}
 
 /// What is taken and what is answered is noted at its opener, and the last of the kept replies is the answer.

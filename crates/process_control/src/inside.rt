@@ -8,8 +8,8 @@ ghost use Rattle.checkpoint_image.specs.Behaving.{last_write_of};
 ghost use Rattle.checkpoint_image.specs.Receive.{standing};
 ghost use Rattle.checkpoint_image.specs.declared.receive.Standing.TheVariants.{Next};
 ghost use Rattle.sync_ids.specs.Tables.{IsDepth};
-ghost use Rattle.world_semantics.specs.Core.{after_passing, carried, next_on};
-ghost use Rattle.process_control.specs.Cores.{core_at_start, core_going, core_taking, asking_of, core_asking, core_getting, answering_of, core_answering, core_acting};
+ghost use Rattle.world_semantics.specs.Core.{after_passing, carried, core_acting, core_getting, core_going, next_on};
+ghost use Rattle.process_control.specs.Cores.{core_at_start, core_taking, asking_of, core_asking, answering_of, core_answering};
 ghost use Rattle.computed_changes.specs.Fitting.{put_fitting};
 
 use crate::files::{are_files, next_on, numbers_of, put_files};

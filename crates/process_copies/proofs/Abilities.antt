@@ -7,9 +7,8 @@ use Rattle.process_semantics.specs.declared.point.Point.{Point}
 use Rattle.process_semantics.specs.declared.point.Point.TheVariants as point
 use Rattle.world_semantics.specs.declared.which.Which.{Which}
 use Rattle.world_semantics.specs.World.{Mark, Pair}
-use Rattle.node_copies.specs.Records.{Records}
-use Rattle.process_copies.specs.Acting.{own_of}
-use Rattle.process_copies.specs.Steps.{Stepped, own_step, step_at}
+use Rattle.world_semantics.specs.Records.{Records}
+use Rattle.world_semantics.specs.Running.{Stepped, own_of, own_step, step_at}
 use Rattle.process_copies.proofs.Steps.{at-other}
 
 is-told : {A B : Type 0} (f : A → B) (o : Option A) → is_some (option_map f o) ≡ is_some o

@@ -1,38 +1,21 @@
 -- A checkpoint that comes to a copy is the step that is defined.
-use Rattle.std.proofs.Common.{◌≡◌, Bool, true, false, [], ◌∷◌, Option, Some, None, is_some, refl, ap, subst, sym, ℕ}
+use Rattle.std.proofs.Common.{◌≡◌, true, [], ◌∷◌, Option, Some, None, is_some, refl, ap, subst, sym}
 use Rattle.std.specs.Option.{option_map}
 use Rattle.checkpoint_image.specs.declared.message.ImageMessage.{ImageMessage}
-use Rattle.tal_tree.specs.declared.site.Site.{Site}
-use Rattle.world_semantics.specs.declared.role.Role.{Role}
-use Rattle.world_semantics.specs.declared.role.Role.TheVariants.{Acting, Watching, Gone}
 use Rattle.world_semantics.specs.declared.which.Which.{Which}
 use Rattle.world_semantics.specs.declared.which.Which.TheVariants.{First, Second}
 use Rattle.world_semantics.specs.Core.{Core}
-use Rattle.world_semantics.specs.World.{Pair, copy_of}
+use Rattle.world_semantics.specs.World.{copy_of}
 use Rattle.world_semantics.specs.Messages.{Taking, sent_at}
 use Rattle.world_semantics.specs.Passes.{taken_of}
-use Rattle.computed_changes.specs.Fitting.{depths_of}
-use Rattle.computed_changes.specs.Handed.{is_next_for}
-use Rattle.node_copies.specs.Receiving.{copy_applying, core_as, core_where}
-use Rattle.node_copies.specs.Records.{Records}
+use Rattle.computed_changes.specs.Checkpoints.{applied_step, checkpoint_step}
+use Rattle.node_copies.specs.Receiving.{copy_applying}
+use Rattle.world_semantics.specs.Records.{Records}
 use Rattle.node_copies.specs.Seen.{told_by}
 use Rattle.node_copies.specs.declared.step.Step.{Step}
-use Rattle.process_copies.specs.Handing.{applied_step, checkpoint_step, checkpoint_step_where}
 use Rattle.process_copies.specs.Receiving.{Settles, core_by, other_covering, pair_covering, placed_with}
 use Rattle.process_copies.specs.Seen.{Placed}
-use Rattle.process_copies.specs.Steps.{Stepped}
-
-module _ (site : Site) (number : ℕ) (k : Which) (pair : Pair) (records : Records) (message : ImageMessage) where
-  where-is : (next : Bool) (core : Option Core) → core_where (depths_of site number) (copy_of k pair) message next ≡ core
-      → checkpoint_step_where site number k pair records message next ≡ option_map (applied_step number k pair records message) core
-  where-is true core is = ap (λ (o : Option Core). option_map (applied_step number k pair records message) o) is
-  where-is false core is = ap (λ (o : Option Core). option_map (applied_step number k pair records message) o) is
-
-  step-is : (role : Role) (core : Option Core) → core_as (depths_of site number) (copy_of k pair) message role ≡ core
-      → checkpoint_step site number k pair records message role ≡ option_map (applied_step number k pair records message) core
-  step-is Watching core is = where-is (is_next_for (copy_of k pair) message) core is
-  step-is Acting core is = ap (λ (o : Option Core). option_map (applied_step number k pair records message) o) is
-  step-is Gone core is = ap (λ (o : Option Core). option_map (applied_step number k pair records message) o) is
+use Rattle.world_semantics.specs.Running.{Stepped}
 
 -- the process after a copy of it put the core in
 abbrev put : Which → ImageMessage → Core → Placed → Placed
@@ -61,7 +44,7 @@ settles-mid : (old mid : Placed) (k : Which) (message : ImageMessage) (before : 
 settles-mid old mid k message before step None core some put told = absurd (cc)
 settles-mid old mid k message before step (Some one) core some put told =
     subst (λ (made : Option Stepped). Settles made old before step (covered_after k message before mid) (kept_after k before mid))
-    (sym (step-is old.site old.number k old.pair before message (copy_of k old.pair).role (Some one) core))
+    (sym (ap (λ (o : Option Core). option_map (applied_step old.number k old.pair before message) o) core))
     (subst (λ (mid : Placed). told_by step ≡ Some (sent_at (copy_of k mid.pair).processor (Taking (taken_of message) ∷ []))
     → Settles (Some (applied_step old.number k old.pair before message one)) old before step (covered_after k message before mid) (kept_after k before mid))
     (sym put) (settles-put k old message before one step) told)

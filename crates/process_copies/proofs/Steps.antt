@@ -1,23 +1,21 @@
 -- The steps of a process, by what its copies do.
-use Rattle.std.proofs.Common.{◌≡◌, ◌≢◌, ℕ, Bool, true, false, List, Option, Some, None, nat_lt, refl, ap, ap₂, sym, subst}
+use Rattle.std.proofs.Common.{◌≡◌, ◌≢◌, ℕ, List, Option, Some, None, refl, ap, ap₂, sym, subst}
 use Rattle.tal_tree.specs.declared.site.Site.{Site}
 use Rattle.process_semantics.specs.declared.point.Point.{Point}
 use Rattle.process_semantics.specs.declared.point.Point.TheVariants as point
 use Rattle.disc_device.specs.declared.stored.Stored.{Stored}
 use Rattle.world_semantics.specs.declared.which.Which.{Which}
 use Rattle.world_semantics.specs.declared.which.Which.TheVariants.{First, Second}
-use Rattle.world_semantics.specs.Kept.{own_acts}
 use Rattle.world_semantics.specs.Messages.{Sending}
-use Rattle.world_semantics.specs.Running.{Own}
-use Rattle.world_semantics.specs.World.{Mark, Pair, copy_of}
+use Rattle.world_semantics.specs.World.{Mark, Pair}
 use Rattle.node_copies.specs.Acting.{HasActed, Scene}
-use Rattle.node_copies.specs.Records.{Records}
+use Rattle.world_semantics.specs.Records.{Records}
 use Rattle.node_copies.specs.Seen.{CopyAndDepths, told_by}
 use Rattle.node_copies.specs.declared.step.Step.{Step}
 use Rattle.node_copies.specs.declared.step.Step.TheVariants.{Impossible}
-use Rattle.process_copies.specs.Acting.{HasStepped, own_of, passed_step, step_by_act}
+use Rattle.process_copies.specs.Acting.{HasStepped, step_by_act}
 use Rattle.process_copies.specs.Seen.{Placed, sent_by}
-use Rattle.process_copies.specs.Steps.{Stepped, first_step, mark_step, passing_step, step_at}
+use Rattle.world_semantics.specs.Running.{Own, Stepped, first_step, own_of, step_at}
 
 -- One copy, else the other one
 
@@ -57,20 +55,6 @@ at-other site number k pair marks records point.Await other = refl
 at-other site number k pair marks records point.Answer other = refl
 at-other site number k pair marks records point.Device other = refl
 at-other site number k pair marks records point.Ended other = refl
-
--- Marks
-
-passing : (number : ℕ) (k : Which) (pair : Pair) (records : Records) (already : Bool) → nat_lt (copy_of k pair).position (own_acts number records.kept) ≡ already
-    → passing_step number k pair records already ≡ passed_step number k pair records
-passing number First pair records true e = rw e refl
-passing number First pair records false e = rw e refl
-passing number Second pair records true e = rw e refl
-passing number Second pair records false e = rw e refl
-
-pub passes : (number : ℕ) (k : Which) (pair : Pair) (records : Records) (sent : Bool)
-    → mark_step number k pair records true sent ≡ Some (passed_step number k pair records)
-passes number k pair records sent =
-    ap (λ (step : Stepped). Some step) (passing number k pair records (nat_lt (copy_of k pair).position (own_acts number records.kept)) refl)
 
 -- Acts
 

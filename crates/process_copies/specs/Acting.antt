@@ -1,35 +1,19 @@
 -- What an act of one of its copies is for a process, where it runs. The rules are those of the world of copies.
-use Rattle.std.specs.Prelude.{◌≡◌, ℕ, [], Option}
+use Rattle.std.specs.Prelude.{◌≡◌, ℕ, Option}
 use Rattle.std.specs.Option.{option_map}
-use Rattle.tal_tree.specs.declared.site.Site.{Site}
-use Rattle.process_semantics.specs.declared.point.Point.{Point}
 use Rattle.world_semantics.specs.declared.which.Which.{Which}
-use Rattle.world_semantics.specs.World.{Pair, copy_of, with_copy}
-use Rattle.world_semantics.specs.Running.{Own, own_at}
-use Rattle.node_copies.specs.Acting.{copy_passed, records_passed}
-use Rattle.node_copies.specs.Records.{Records}
+use Rattle.world_semantics.specs.World.{Pair}
+use Rattle.world_semantics.specs.Records.{Records}
 use Rattle.node_copies.specs.Seen.{told_by}
 use Rattle.node_copies.specs.declared.step.Step.{Step}
 use Rattle.process_copies.specs.Seen.{Placed, placed_after, records_after, sent_by}
-use Rattle.process_copies.specs.Steps.{Stepped, around_copy, own_step}
+use Rattle.world_semantics.specs.Running.{Own, Stepped, own_step}
 
 -- the step that is told is this one of the process, or none: what it sends, and the process and the records after it
 abbrev pub HasStepped : Option Stepped → Step → Placed → Placed → Records → Records → Type 0
 HasStepped made step before after records now =
     (told_by step ≡ sent_by made) × ((after ≡ placed_after before made) × (now ≡ records_after records made))
 
--- a process of which a copy passes its mark
-abbrev pub passed_step : ℕ → Which → Pair → Records → Stepped
-passed_step number k pair records = record {
-  pair = with_copy k (copy_passed number records (copy_of k pair)) pair;
-  records = records_passed number records (copy_of k pair);
-  sendings = [];
-}
-
 -- the step of a process that an act of one of its copies is, or none
 abbrev pub step_by_act : ℕ → Which → Pair → Records → Option Own → Option Stepped
 step_by_act number k pair records own = option_map (own_step number k pair records) own
-
--- the act of its own that a copy of a process can do at this point
-abbrev pub own_of : Site → ℕ → Which → Pair → Records → Point → Option Own
-own_of site number k pair records stands = own_at site number (copy_of k pair).core (around_copy (copy_of k pair) pair records) stands

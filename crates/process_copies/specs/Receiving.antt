@@ -1,10 +1,8 @@
 -- What the code tells of a message that came to a copy. The rules are those of the world of copies.
-use Rattle.std.specs.Prelude.{◌≡◌, ℕ, ◌==◌, Bool, false, List, ◌∷◌, map, Option}
+use Rattle.std.specs.Prelude.{◌≡◌, ℕ, ◌==◌, Bool, false, List, ◌∷◌, Option}
 use Rattle.gd_words.specs.declared.message.Reply.{Reply}
-use Rattle.gd_words.specs.declared.message.Request.{Request}
 use Rattle.process_semantics.specs.Process as process
 use Rattle.checkpoint_image.specs.declared.message.ImageMessage.{ImageMessage}
-use Rattle.checkpoint_image.specs.Receive.{repeated}
 use Rattle.tal_tree.specs.declared.act.Act.{Act}
 use Rattle.tal_tree.specs.declared.site.Site.{Site}
 use Rattle.world_semantics.specs.declared.role.Role.{Role}
@@ -12,17 +10,15 @@ use Rattle.world_semantics.specs.declared.role.Role.TheVariants.{Acting, Watchin
 use Rattle.world_semantics.specs.declared.which.Which.{Which}
 use Rattle.world_semantics.specs.Core.{Core}
 use Rattle.world_semantics.specs.World.{Copy, Pair, copy_of, other_of, with_copy}
-use Rattle.world_semantics.specs.Messages.{Replying, Sending, sent_at}
 use Rattle.world_semantics.specs.Passes.{taken_of}
 use Rattle.computed_changes.specs.Fitting.{depths_of}
-use Rattle.computed_changes.specs.Handed.{awaits}
-use Rattle.kept_acts.specs.Shares.{Sharing, covered, covering, share_of, with_share}
-use Rattle.node_copies.specs.Receiving.{core_applying}
-use Rattle.node_copies.specs.Records.{Records}
+use Rattle.computed_changes.specs.Checkpoints.{core_applying}
+use Rattle.computed_changes.specs.Replies.{awaits}
+use Rattle.world_semantics.specs.Shares.{Sharing, covered, covering, share_of, with_share}
+use Rattle.world_semantics.specs.Records.{Records}
 use Rattle.node_copies.specs.Seen.{told_by}
 use Rattle.node_copies.specs.declared.step.Step.{Step}
-use Rattle.process_copies.specs.Handing.{getting}
-use Rattle.process_copies.specs.Steps.{Stepped, own_step}
+use Rattle.world_semantics.specs.Running.{Stepped}
 use Rattle.process_copies.specs.Seen.{Placed, placed_after, records_after, sent_by}
 
 -- a step was made as it is defined, or none was possible and nothing changed
@@ -34,21 +30,11 @@ Settles made old before step new after =
 abbrev pub placed_with : Which → Copy → Placed → Placed
 placed_with k copy process = record process { pair = with_copy k copy process.pair }
 
--- Requests
-
--- what a copy that acts sends again to a request that came
-abbrev pub repeated_at : Copy → Request → List Sending
-repeated_at copy request = sent_at copy.processor (map Replying (repeated copy.core.receive request))
-
 -- Replies
 
 -- whether a copy awaits a reply
 abbrev pub is_awaiting : Site → ℕ → Copy → Reply → Bool
 is_awaiting site number copy reply = awaits site number copy.core reply (process.point copy.core.state)
-
--- the step of a copy that gets a reply
-abbrev pub got_step : Which → Placed → Records → Reply → Stepped
-got_step k old records reply = own_step old.number k old.pair records (getting old.number k old.pair records reply)
 
 -- Checkpoints
 

@@ -4,8 +4,8 @@ use Rattle.std.specs.Option.{option_map}
 use Rattle.tal_tree.specs.declared.site.Site.{Site}
 use Rattle.world_semantics.specs.World.{Pair}
 use Rattle.world_semantics.specs.Messages.{Sending}
-use Rattle.node_copies.specs.Records.{Records}
-use Rattle.process_copies.specs.Steps.{Stepped}
+use Rattle.world_semantics.specs.Records.{Records}
+use Rattle.world_semantics.specs.Running.{Stepped}
 
 -- a process in its place: the site, its number in it, and its two copies
 pub record Placed : Type 0 where

@@ -4,19 +4,21 @@ ghost use Rattle.process_semantics.specs.Process as process;
 ghost use Rattle.file_calls.specs.Queue.{sent_again};
 ghost use Rattle.plain_semantics.specs.Openers.{openers_of};
 ghost use Rattle.checkpoint_image.specs.Receive.{repeated};
-ghost use Rattle.kept_acts.specs.Shares.{covered, share_of, with_share};
+ghost use Rattle.world_semantics.specs.Shares.{covered, share_of, with_share};
 ghost use Rattle.number_ranges.specs.HasRoom.{CopyHasRoom, PairHasRoom};
 ghost use Rattle.posted_letters.specs.Seen.{message_of};
 ghost use Rattle.world_semantics.specs.World.{copy_of, other_of};
 ghost use Rattle.world_semantics.specs.Messages.{Replying, Taking, sent_at};
 ghost use Rattle.world_semantics.specs.Passes.{taken_of};
-ghost use Rattle.computed_changes.specs.Handed.{awaits, is_of_last};
-ghost use Rattle.node_copies.specs.Receiving.{after_early_request, after_request, copy_applying};
-ghost use Rattle.node_copies.specs.Records as happened;
+ghost use Rattle.computed_changes.specs.Checkpoints.{checkpoint_step, is_of_last, taken_step, taken_step_where};
+ghost use Rattle.computed_changes.specs.Handed.{step_by, step_on};
+ghost use Rattle.computed_changes.specs.Laws.{NamesOpener};
+ghost use Rattle.computed_changes.specs.Replies.{awaits, got_step, reply_step, reply_step_where};
+ghost use Rattle.computed_changes.specs.Requests.{after_early_request, after_request, repeated_at, request_step};
+ghost use Rattle.node_copies.specs.Receiving.{copy_applying};
+ghost use Rattle.world_semantics.specs.Records as happened;
 ghost use Rattle.node_copies.specs.Seen.{told_by};
-ghost use Rattle.process_copies.specs.Handing.{NamesOpener, checkpoint_step, reply_step, reply_step_where};
-ghost use Rattle.process_copies.specs.Handing.{request_step, step_by, step_on, taken_step, taken_step_where};
-ghost use Rattle.process_copies.specs.Receiving.{Settles, core_by, got_step, is_awaiting, other_covering, pair_covering, placed_with, repeated_at};
+ghost use Rattle.process_copies.specs.Receiving.{Settles, core_by, is_awaiting, other_covering, pair_covering, placed_with};
 ghost use Rattle.process_copies.specs.Seen.{placed_after, records_after, sent_by};
 
 use crate::copies::ProcessCopies;
@@ -29,7 +31,7 @@ use process_semantics::Point;
 use world_semantics::{Role, Which};
 
 impl ProcessCopies {
-    /// A message comes to the process at a node; that it is for this process is the caller's part.
+    /// A message that is for this process comes to it at a node.
     pub fn come_in(
         &mut self,
         node: u8,
@@ -207,8 +209,9 @@ impl ProcessCopies {
     ) -> Result<(), NoMemory>
         requires point { process.point (copy_of which self.old.pair).core.state ≡ Await }
         requires room { CopyHasRoom (copy_of which self.old.pair) }
-        ensures process { OnOk result (self.new ≡ record self.old { pair = (got_step which self.old records.old reply.now).pair }) }
-        ensures records { OnOk result (records.new ≡ (got_step which self.old records.old reply.now).records) }
+        ensures process { OnOk result (self.new
+            ≡ record self.old { pair = (got_step self.old.number which self.old.pair records.old reply.now).pair }) }
+        ensures records { OnOk result (records.new ≡ (got_step self.old.number which self.old.pair records.old reply.now).records) }
         ensures site { self.new.site ≡ self.old.site }
         ensures number { self.new.number ≡ self.old.number }
     {
@@ -303,7 +306,8 @@ impl ProcessCopies {
 
     fn taken_acting(&mut self, which: Which, taken: TakenMessage) -> Step
         ensures step { (records : happened.Records) → Settles
-            (taken_step_where which self.old.pair records (is_of_last (copy_of which self.old.pair) taken))
+            (taken_step_where which self.old.pair records (is_of_last (copy_of which self.old.pair).sent
+            (copy_of which self.old.pair).era (copy_of which self.old.pair).number taken))
             self.old records result self.new records }
         ensures site { self.new.site ≡ self.old.site }
         ensures number { self.new.number ≡ self.old.number }
@@ -316,7 +320,7 @@ impl ProcessCopies {
     }
 
     fn is_of_last(&self, which: Which, taken: TakenMessage) -> bool
-        ensures { result ≡ is_of_last (copy_of which self.now.pair) taken }
+        ensures { result ≡ is_of_last (copy_of which self.now.pair).sent (copy_of which self.now.pair).era (copy_of which self.now.pair).number taken }
     {
         match which {
             Which::First => self.first.is_of_last(taken),

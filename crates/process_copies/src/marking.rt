@@ -2,10 +2,10 @@ ghost use Rattle.std.specs.Prelude.{◌≡◌, ◌++◌, OnOk};
 ghost use Rattle.world_semantics.specs.declared.role.Role.TheVariants.{Watching};
 ghost use Rattle.world_semantics.specs.World.{copy_of, other_of};
 ghost use Rattle.world_semantics.specs.Rules.{after_takeover, is_watching, marked_pair, stopped_pair, taken_over, taker, takes_over, told_again, told_at_mark};
-ghost use Rattle.kept_acts.specs.Shares.{closed_by};
+ghost use Rattle.world_semantics.specs.Shares.{closed_by};
 ghost use Rattle.number_ranges.specs.HasRoom.{CopyHasRoom};
 ghost use Rattle.process_copies.specs.Receiving.{placed_with};
-ghost use Rattle.process_copies.specs.Takeover.{let_go};
+ghost use Rattle.world_semantics.specs.Shares.{let_go};
 
 use crate::copies::ProcessCopies;
 use gd_words::{List, NoMemory};

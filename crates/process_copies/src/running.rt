@@ -2,11 +2,11 @@ ghost use Rattle.std.specs.Prelude.{◌≡◌, Some, length, IfOk, OnOk};
 ghost use Rattle.process_semantics.specs.Process.{point};
 ghost use Rattle.world_semantics.specs.World.{copy_of, may_pass};
 ghost use Rattle.number_ranges.specs.HasRoom.{CopyHasRoom, HasNext, PairHasRoom};
-ghost use Rattle.node_copies.specs.Records as happened;
+ghost use Rattle.world_semantics.specs.Records as happened;
 ghost use Rattle.node_copies.specs.Seen.{told_by};
-ghost use Rattle.process_copies.specs.Acting.{HasStepped, own_of, passed_step, step_by_act};
+ghost use Rattle.process_copies.specs.Acting.{HasStepped, step_by_act};
 ghost use Rattle.process_copies.specs.Seen.{placed_after, records_after, sent_by};
-ghost use Rattle.process_copies.specs.Steps.{mark_step, sending_step, step_as, step_at, step_of, step_of_copy};
+ghost use Rattle.world_semantics.specs.Running.{mark_step, own_of, passing_step, sending_step, step_as, step_at, step_of, step_of_copy};
 
 use crate::copies::ProcessCopies;
 use gd_words::NoMemory;
@@ -224,7 +224,7 @@ impl ProcessCopies {
     /// A copy passes its mark.
     fn pass(&mut self, which: Which, records: &mut Records) -> Result<Step, NoMemory>
         requires { point (copy_of which self.old.pair).core.state ≡ Point.Mark }
-        ensures stepped { IfOk result (λ step. HasStepped (Some (passed_step self.old.number which self.old.pair records.old))
+        ensures stepped { IfOk result (λ step. HasStepped (Some (passing_step self.old.number which self.old.pair records.old))
             step self.old self.new records.old records.new) }
         ensures site { self.new.site ≡ self.old.site }
         ensures number { self.new.number ≡ self.old.number }

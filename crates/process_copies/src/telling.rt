@@ -1,8 +1,7 @@
 ghost use Rattle.std.specs.Prelude.{◌≡◌, ℕ, is_some};
 ghost use Rattle.world_semantics.specs.World.{Pair, copy_of, may_pass};
-ghost use Rattle.node_copies.specs.Records as happened;
-ghost use Rattle.process_copies.specs.Acting.{own_of};
-ghost use Rattle.process_copies.specs.Steps.{mark_step, step_as, step_at, step_of, step_of_copy};
+ghost use Rattle.world_semantics.specs.Records as happened;
+ghost use Rattle.world_semantics.specs.Running.{mark_step, own_of, step_as, step_at, step_of, step_of_copy};
 
 use crate::copies::ProcessCopies;
 use node_copies::Marks;

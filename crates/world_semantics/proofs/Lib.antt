@@ -9,6 +9,7 @@ pub mod Growing
 pub mod Hands
 pub mod KeptReplies
 pub mod Later
+pub mod Lifted
 pub mod Lists
 pub mod Members
 pub mod Moves

@@ -1,5 +1,5 @@
 -- A process that runs makes the one change that is computed, and none where none is.
-use Rattle.std.proofs.Common.{◌≡◌, ℕ, ◌||◌, Bool, true, false, nat_lt, List, Option, Some, None, option_map, slice_get, slice_set, refl, subst, sym, ap, ◌∙◌}
+use Rattle.std.proofs.Common.{◌≡◌, ℕ, ◌||◌, Bool, true, false, nat_lt, List, Option, Some, None, slice_get, slice_set, refl, subst, sym, ap, ◌∙◌}
 use Rattle.std.proofs.lemmas.Bool.{lt-ltb, ltb-true, le-ltb, ltb-false}
 use Rattle.tal_tree.specs.declared.act.Act.{Act}
 use Rattle.tal_tree.specs.declared.site.Site.{Site}
@@ -16,7 +16,10 @@ use Rattle.world_semantics.specs.Own.{Around, around, Causes, by_inner, by_take,
 use Rattle.world_semantics.specs.Passes.{Passes, by_send, by_pass_again, by_pass, by_apply, by_acknowledge}
 use Rattle.world_semantics.specs.Rules.{Change, by_own, by_checkpoint, by_request, by_early_request, by_enter, by_print, by_stop, by_mark, after_own}
 use Rattle.world_semantics.specs.Follows.{IsIdleFor}
-use Rattle.world_semantics.specs.Running.{Done, entered, Own, own_at, own_done, passed_done, mark_done, run_at, run_as, run_copy, first_of_two, run_pair, run_done}
+use Rattle.world_semantics.specs.Records.{records_of}
+use Rattle.world_semantics.specs.Running.{Done, Own, Stepped, first_step, own_at, run_done, run_pair, step_of_copy}
+use Rattle.world_semantics.specs.Shares.{after_entering, entering, share_of}
+use Rattle.world_semantics.proofs.Lifted.{lifted, mark_done, own_done, own_made, passed_done, run_as, run_at, run_copy}
 use Rattle.world_semantics.proofs.Lists.{some-same}
 use Rattle.world_semantics.proofs.Running.{enters-as, enters-only, own-can, own-only}
 
@@ -40,14 +43,14 @@ mark-may : (site : Site) (number : ℕ) (k : Which) (pair : Pair) (w : World) �
     → process.point (copy_of k pair).core.state ≡ point.Mark → (free sent : Bool) → may_pass w.marks k pair ≡ free → (copy_of k pair).sent ≡ sent
     → (done : Done) → mark_done number k pair w free sent ≡ Some done → MayRun site number w done
 mark-may site number k pair w there role p true sent m s done e =
-    subst (MayRun site number w) (some-same e) (passed-may site number k pair w there role p m _ refl)
+    subst (MayRun site number w) (some-same e) (passed-may site number k pair w there role p m (nat_lt (copy_of k pair).position (own_acts number w.kept)) refl)
 mark-may site number k pair w there role p false true m s done e = absurd (cc)
 mark-may site number k pair w there role p false false m s done e =
     subst (MayRun site number w) (some-same e) (by_checkpoint number pair there (by_send k role p s (either-not (copy_of k pair).acknowledged _ m)))
 
 own-may : (site : Site) (number : ℕ) (k : Which) (pair : Pair) (w : World) → slice_get w.processes number ≡ Some pair → (copy_of k pair).role ≡ Acting
     → (p : Point) → process.point (copy_of k pair).core.state ≡ p → (o : Option Own)
-    → own_at site number (copy_of k pair).core (around (copy_of k pair) pair w) p ≡ o → (done : Done) → option_map (own_done number k pair w) o ≡ Some done
+    → own_at site number (copy_of k pair).core (around (copy_of k pair) pair w) p ≡ o → (done : Done) → own_made number k pair w o ≡ Some done
     → MayRun site number w done
 own-may site number k pair w there role p stands None a done e = absurd (cc)
 own-may site number k pair w there role p stands (Some o) a done e =
@@ -67,9 +70,10 @@ as-may site number k pair w there Acting role done e = at-may site number k pair
 as-may site number k pair w there Watching role done e = absurd (cc)
 as-may site number k pair w there Gone role done e = absurd (cc)
 
-two-may : (site : Site) (number : ℕ) (w : World) (first second : Option Done) (done : Done)
-    → ((one : Done) → first ≡ Some one → MayRun site number w one) → ((one : Done) → second ≡ Some one → MayRun site number w one)
-    → first_of_two first second ≡ Some done → MayRun site number w done
+two-may : (site : Site) (number : ℕ) (w : World) (first second : Option Stepped) (done : Done)
+    → ((one : Done) → lifted number w first ≡ Some one → MayRun site number w one)
+    → ((one : Done) → lifted number w second ≡ Some one → MayRun site number w one)
+    → lifted number w (first_step first second) ≡ Some done → MayRun site number w done
 two-may site number w None second done a b e = b done e
 two-may site number w (Some one) second done a b e = a done e
 
@@ -77,7 +81,7 @@ pair-may : (site : Site) (number : ℕ) (w : World) (pair : Option Pair) → sli
     → run_pair site number w pair ≡ Some done → MayRun site number w done
 pair-may site number w None there done e = absurd (cc)
 pair-may site number w (Some pair) there done e =
-    two-may site number w (run_copy site number pair w First) (run_copy site number pair w Second) done
+    two-may site number w (step_of_copy site number pair w.marks (records_of w) First) (step_of_copy site number pair w.marks (records_of w) Second) done
     (λ one. as-may site number First pair w there pair.first.role refl one) (λ one. as-may site number Second pair w there pair.second.role refl one) e
 
 pub run-may : (site : Site) (number : ℕ) (w : World) (done : Done) → run_done site number w ≡ Some done → Change site w (Running number) done.sendings done.world
@@ -101,7 +105,7 @@ record Ran (site : Site) (number : ℕ) (w : World) (done : Done) : Type 0 where
 own-run : (site : Site) (number : ℕ) (k : Which) (pair : Pair) (w : World) (p : Point) (o : Own)
     → own_at site number (copy_of k pair).core (around (copy_of k pair) pair w) p ≡ Some o → run_at site number k pair w p ≡ Some (own_done number k pair w o)
 own-run site number k pair w point.Mark o e = absurd (cc)
-own-run site number k pair w p o e = ap (option_map (own_done number k pair w)) e
+own-run site number k pair w p o e = ap (own_made number k pair w) e
 
 not-none : {A : Type 0} {o : Option A} {x : A} → o ≡ Some x → o ≡ None → ⊥
 not-none e n = cc
@@ -140,7 +144,7 @@ own-ran : (site : Site) (number : ℕ) (k : Which) (pair : Pair) (w : World) →
     → (done : Act) (messages : List Message) (after : Around) (core : Core) (next : Copy) (kept : List Act)
     → own_at site number (copy_of k pair).core (around (copy_of k pair) pair w) (process.point (copy_of k pair).core.state)
     ≡ Some (record { done = done; messages = messages; after = after; core = core })
-    → ((entered number done w.kept (copy_of k pair)).copy ≡ next) × ((entered number done w.kept (copy_of k pair)).kept ≡ kept)
+    → (after_entering number done w.kept (copy_of k pair) ≡ next) × ((entering number done w.kept (share_of (copy_of k pair))).kept ≡ kept)
     → Ran site number w (record { world = after_own number k pair core next after kept w; sendings = sent_at (copy_of k pair).processor messages })
 own-ran site number k pair w there role done messages after core next kept e s =
     let run = own-run site number k pair w (process.point (copy_of k pair).core.state) _ e in
@@ -192,9 +196,10 @@ change-ran number w next cause sendings r (by_print one terminal reply t e i o n
 change-ran number w next cause sendings r (by_stop x s) = absurd (cc)
 change-ran number w next cause sendings r (by_mark node x s run n) = absurd (cc)
 
-none-of-two : (first second : Option Done) → first_of_two first second ≡ None → (first ≡ None) × (second ≡ None)
-none-of-two None second e = (refl, e)
-none-of-two (Some one) second e = absurd (cc)
+none-of-two : (number : ℕ) (w : World) (first second : Option Stepped) → lifted number w (first_step first second) ≡ None
+    → (lifted number w first ≡ None) × (lifted number w second ≡ None)
+none-of-two number w None second e = (refl, e)
+none-of-two number w (Some one) second e = absurd (cc)
 
 copy-none : (site : Site) (number : ℕ) (pair : Pair) (w : World) (k : Which) → (run_copy site number pair w First ≡ None) × (run_copy site number pair w Second ≡ None)
     → run_copy site number pair w k ≡ None
@@ -206,7 +211,8 @@ pub run-idle : (site : Site) (number : ℕ) (w : World) → run_done site number
 run-idle site number w none sendings next c =
     let ran = change-ran number w next (Running number) sendings refl c in
     let two : run_pair site number w (Some ran.pair) ≡ None = ap (run_pair site number w) (sym ran.there) ∙ none in
-    let copy = copy-none site number ran.pair w ran.k (none-of-two _ _ two) in
+    let copy = copy-none site number ran.pair w ran.k
+    (none-of-two number w (step_of_copy site number ran.pair w.marks (records_of w) First) (step_of_copy site number ran.pair w.marks (records_of w) Second) two) in
     ran.some (ap (run_as site number ran.k ran.pair w) (sym ran.role) ∙ copy)
 
 not-acting : (site : Site) (number : ℕ) (k : Which) (pair : Pair) (w : World) (role : Role) → (role ≡ Acting → ⊥) → run_as site number k pair w role ≡ None
@@ -214,11 +220,23 @@ not-acting site number k pair w Acting n = absurd (n refl)
 not-acting site number k pair w Watching n = refl
 not-acting site number k pair w Gone n = refl
 
+first-made : (number : ℕ) (w : World) (first second : Option Stepped) (done : Done) → lifted number w first ≡ Some done
+    → lifted number w (first_step first second) ≡ Some done
+first-made number w None second done e = absurd (cc)
+first-made number w (Some one) second done e = e
+
+second-made : (number : ℕ) (w : World) (first second : Option Stepped) (done : Done) → lifted number w first ≡ None → lifted number w second ≡ Some done
+    → lifted number w (first_step first second) ≡ Some done
+second-made number w None second done n e = e
+second-made number w (Some one) second done n e = absurd (cc)
+
 pair-only : (site : Site) (number : ℕ) (pair : Pair) (w : World) (done : Done) (k : Which) → (pair.first.role ≡ Acting → pair.second.role ≡ Acting → ⊥)
     → (copy_of k pair).role ≡ Acting → run_copy site number pair w k ≡ Some done → run_pair site number w (Some pair) ≡ Some done
-pair-only site number pair w done First alone role e = rw e refl
+pair-only site number pair w done First alone role e =
+    first-made number w (step_of_copy site number pair w.marks (records_of w) First) (step_of_copy site number pair w.marks (records_of w) Second) done e
 pair-only site number pair w done Second alone role e =
-    let n : run_copy site number pair w First ≡ None = not-acting site number First pair w pair.first.role (λ a. alone a role) in rw n e
+    second-made number w (step_of_copy site number pair w.marks (records_of w) First) (step_of_copy site number pair w.marks (records_of w) Second) done
+    (not-acting site number First pair w pair.first.role (λ a. alone a role)) e
 
 -- where at most one copy acts, and none is acknowledged that hasn't sent, the computed change alone is permitted
 pub run-only : (site : Site) (number : ℕ) (w next : World) (sendings : List Sending)

@@ -52,30 +52,52 @@ pub data Deed : Type 0 where
   -- it acted on its device, where these words stood on the sector that it reads
   Acted : (call : DeviceCall) → (found : List ℤ) → Deed
 
--- the core goes on after the mark
+-- the core goes on after a step inside
+abbrev pub core_going : Core → Core
+core_going core = record core { state = process.after_inner core.state }
+
+-- after its mark
 abbrev pub after_passing : Core → Core
 after_passing core = record core { state = process.after_mark core.state }
 
--- a deed is possible where the process stands at its point, and leads to the step of its state. Taking and answering are noted in the receive table, and
--- asking raises the next number of the file
+-- after a request of these words was taken, of the opener at a place where this block stands: that is noted in the receive table
+abbrev pub core_taken : ℕ → List ℤ → OpenerBlock → Core → Core
+core_taken place words block core =
+    record core { state = process.after_took core.state words; receive = after_taking place block core.receive }
+
+-- after a request was asked on a file: that raises the next number of the file
+abbrev pub core_asked : ℕ → Core → Core
+core_asked file core = record core { state = process.after_asked core.state; next = slice_set core.next file (next_on core file + 1) }
+
+-- after the reply to it was got
+abbrev pub core_getting : List ℤ → Core → Core
+core_getting words core = record core { state = process.after_got core.state words }
+
+-- after the opener at a place was answered, of which so many replies are kept, and where this block stands: that is noted in the receive table
+abbrev pub core_replied : ℕ → ℕ → OpenerBlock → List ℤ → Core → Core
+core_replied depth place block words core =
+    record core { state = process.after_answered core.state; receive = after_answering depth place block words core.receive }
+
+-- after an act on the device, with the words that stood on the sector
+abbrev pub core_acting : List ℤ → Core → Core
+core_acting found core = record core { state = process.after_device core.state found }
+
+-- a deed is possible where the process stands at its point, and leads to the step of its core
 pub data Advances (openers : List OpenerSpec) (core : Core) : Deed → Core → Type 0 where
-  goes : process.point core.state ≡ point.Inner → Advances openers core Went (record core { state = process.after_inner core.state })
+  goes : process.point core.state ≡ point.Inner → Advances openers core Went (core_going core)
   marks : process.point core.state ≡ point.Mark → Advances openers core Marked (after_passing core)
   takes : {place : ℕ} {words : List ℤ} (block : OpenerBlock) → process.point core.state ≡ point.Take → slice_get core.receive.openers place ≡ Some block
-      → Advances openers core (Took place words)
-      (record core { state = process.after_took core.state words; receive = after_taking place block core.receive })
+      → Advances openers core (Took place words) (core_taken place words block core)
   asks : {file : ℕ} {words : List ℤ} → process.point core.state ≡ point.Ask → file ≡ process.asked_file core.state → words ≡ process.asked_words core.state
-      → Advances openers core (Asked file words)
-      (record core { state = process.after_asked core.state; next = slice_set core.next file (next_on core file + 1) })
+      → Advances openers core (Asked file words) (core_asked file core)
   gets : {file : ℕ} {words : List ℤ} → process.point core.state ≡ point.Await → file ≡ process.asked_file core.state
-      → Advances openers core (Got file words) (record core { state = process.after_got core.state words })
+      → Advances openers core (Got file words) (core_getting words core)
   answers : {place : ℕ} {words : List ℤ} (opener : OpenerSpec) (block : OpenerBlock) → process.point core.state ≡ point.Answer
       → core.receive.in_hand ≡ Some place → slice_get openers place ≡ Some opener → slice_get core.receive.openers place ≡ Some block
       → words ≡ process.answer_of core.state
-      → Advances openers core (Answered place words)
-      (record core { state = process.after_answered core.state; receive = after_answering opener.depth place block words core.receive })
+      → Advances openers core (Answered place words) (core_replied opener.depth place block words core)
   acts : {call : DeviceCall} {found : List ℤ} → process.point core.state ≡ point.Device → call ≡ process.call_of core.state
-      → Advances openers core (Acted call found) (record core { state = process.after_device core.state found })
+      → Advances openers core (Acted call found) (core_acting found core)
 
 -- Checkpoints
 

@@ -1,8 +1,7 @@
 -- How a checkpoint goes from one copy of a process to the other: Bartlett's checkpoint, applied whole. That era and number choose it is our own rule.
-use Rattle.std.specs.Prelude.{◌≡◌, ◌≤◌, ◌<◌, ℕ, ◌+◌, true, false, List, [], ◌∷◌, ◌++◌, Some}
+use Rattle.std.specs.Prelude.{◌≡◌, ◌≤◌, ◌<◌, ℕ, ◌+◌, true, false, List, [], ◌∷◌, Some}
 use Rattle.gd_words.specs.Members.{IsAmong}
 use Rattle.tal_tree.specs.declared.act.Act.{Act}
-use Rattle.tal_tree.specs.declared.act.Act.TheVariants.{Step}
 use Rattle.process_semantics.specs.declared.point.Point.TheVariants as point
 use Rattle.process_semantics.specs.Process as process
 use Rattle.checkpoint_image.specs.declared.message.ImageMessage.{ImageMessage}
@@ -11,11 +10,16 @@ use Rattle.world_semantics.specs.declared.role.Role.TheVariants.{Acting, Watchin
 use Rattle.world_semantics.specs.Core.{Core, after_passing, carried, put_in}
 use Rattle.world_semantics.specs.World.{Copy, Pair, Mark, has_marked, Which, other_of, copy_of, with_copy, may_pass}
 use Rattle.world_semantics.specs.Kept.{own_acts}
+use Rattle.world_semantics.specs.Shares.{covered, covering, kept_with_mark, share_of, with_share}
 use Rattle.world_semantics.specs.Messages.{Checkpointing, Taking, Sending, sent_at, Cause, Running, Handing}
+
+-- the next checkpoint of an era, behind that of a number, which carries what it does of a core
+abbrev pub next_checkpoint : ℕ → ℕ → ℕ → Core → ImageMessage
+next_checkpoint process era number core = record { process = process; era = era; number = number + 1; image = carried core }
 
 -- the checkpoint that a copy of a process sends: the next one of its era
 abbrev pub checkpoint_of : ℕ → Copy → ImageMessage
-checkpoint_of number copy = record { process = number; era = copy.era; number = copy.number + 1; image = carried copy.core }
+checkpoint_of number copy = next_checkpoint number copy.era copy.number copy.core
 
 -- the message that a checkpoint was taken
 abbrev pub taken_of : ImageMessage → TakenMessage
@@ -31,7 +35,7 @@ after_mark copy = record copy { core = after_passing copy.core; sent = false; ac
 
 -- the kept acts after a copy's held acts and the step at its mark were added
 abbrev pub kept_at_mark : ℕ → Copy → List Act → List Act
-kept_at_mark number copy kept = Step number ∷ (copy.held ++ kept)
+kept_at_mark number copy kept = kept_with_mark number kept (share_of copy)
 
 -- the process after one of its copies applied a checkpoint, by which it has this core: the other copy's held acts and its mark are kept, the base is behind
 -- them, and the other copy stands before that mark. It is so too where the other copy is gone: what a copy that is gone keeps is all but its role, its
@@ -39,8 +43,8 @@ kept_at_mark number copy kept = Step number ∷ (copy.held ++ kept)
 abbrev pub after_applying : ℕ → Which → ImageMessage → Core → List Act → Pair → Pair
 after_applying number k message applied kept pair =
     with_copy k (record (copy_of k pair) { core = applied; number = message.number })
-    (with_copy (other_of k) (record (copy_of (other_of k) pair) { position = own_acts number ((copy_of (other_of k) pair).held ++ kept); held = [] })
-    (record pair { base = own_acts number (kept_at_mark number (copy_of (other_of k) pair) kept); takens = taken_of message ∷ pair.takens }))
+    (with_copy (other_of k) (with_share (covering number kept (share_of (copy_of (other_of k) pair))).share (copy_of (other_of k) pair))
+    (record pair { base = covered number kept (share_of (copy_of (other_of k) pair)); takens = taken_of message ∷ pair.takens }))
 
 -- how a checkpoint goes from one copy of a process to the other. A copy that acts at a mark sends its checkpoint, unless it did or its node has marked the
 -- other copy's processor; a watching copy applies a sent checkpoint whose era is its own and whose number is the next; a copy that acts is told that the

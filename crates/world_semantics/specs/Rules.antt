@@ -23,6 +23,7 @@ use Rattle.world_semantics.specs.Kept.{Enters}
 use Rattle.world_semantics.specs.Messages.{Message, Asking, Replying, Sending, sent_at, Cause, Entering, Handing, Stopping, Marking}
 use Rattle.world_semantics.specs.Own.{Around, around, Causes}
 use Rattle.world_semantics.specs.Passes.{Passes}
+use Rattle.world_semantics.specs.Shares.{without_held}
 
 -- Stops
 
@@ -60,7 +61,7 @@ taken_over base copy =
 -- the process after one of its copies took over: the acts that the lost copy held are dropped
 abbrev pub after_takeover : Which → Pair → Pair
 after_takeover k pair =
-    with_copy k (taken_over pair.base (copy_of k pair)) (with_copy (other_of k) (record (copy_of (other_of k) pair) { held = [] }) pair)
+    with_copy k (taken_over pair.base (copy_of k pair)) (with_copy (other_of k) (without_held (copy_of (other_of k) pair)) pair)
 
 -- which copy of a process takes over when a node marks a processor
 abbrev pub taker : ℕ → ℕ → Pair → Option Which

@@ -1,5 +1,6 @@
--- The change that a process makes where it runs, computed. `Follows` says what is permitted, and laws relate both.
-use Rattle.std.specs.Prelude.{ℕ, ◌+◌, ℤ, Bool, true, false, if◌then◌else◌, nat_lt, List, [], ◌∷◌, ◌++◌, map, slice_get, slice_set, Option, Some, None}
+-- What a process does where it runs, computed: told of the process alone, its two copies and the records of what happened, and then of the world in which it
+-- stands. `Follows` says what is permitted, and laws relate both.
+use Rattle.std.specs.Prelude.{ℕ, ℤ, Bool, true, false, if◌then◌else◌, List, [], ◌∷◌, ◌++◌, map, slice_get, Option, Some, None}
 use Rattle.std.specs.Option.{option_map}
 use Rattle.gd_words.specs.declared.device.DeviceCall.{DeviceCall}
 use Rattle.gd_words.specs.declared.device.DeviceCall.TheVariants.{Write}
@@ -16,39 +17,48 @@ use Rattle.disc_device.specs.Sectors.{stored_after}
 use Rattle.checkpoint_image.specs.declared.receive.OpenerBlock.{OpenerBlock}
 use Rattle.world_semantics.specs.declared.role.Role.{Role}
 use Rattle.world_semantics.specs.declared.role.Role.TheVariants.{Acting, Watching, Gone}
-use Rattle.checkpoint_image.specs.Receive.{Chosen, chosen, after_taking, after_answering}
-use Rattle.world_semantics.specs.Core.{Core, next_on}
-use Rattle.world_semantics.specs.World.{Copy, Pair, World, Which, First, Second, copy_of, with_copy, may_pass, with_pair}
-use Rattle.world_semantics.specs.Kept.{own_acts, is_take}
+use Rattle.checkpoint_image.specs.Receive.{Chosen, chosen}
+use Rattle.world_semantics.specs.Core.{Core, core_acting, core_asked, core_going, core_replied, core_taken}
+use Rattle.world_semantics.specs.World.{Copy, Mark, Pair, World, Which, First, Second, copy_of, with_copy, may_pass, with_pair}
 use Rattle.world_semantics.specs.Messages.{Message, Asking, Replying, Checkpointing, Sending, sent_at}
-use Rattle.world_semantics.specs.Own.{Around, around, asked_on, is_new_write, found_on}
-use Rattle.world_semantics.specs.Passes.{checkpoint_of, after_sending, after_mark, kept_at_mark}
-use Rattle.world_semantics.specs.Rules.{after_own}
+use Rattle.world_semantics.specs.Own.{Around, around_with, asked_on, is_new_write, found_on}
+use Rattle.world_semantics.specs.Passes.{checkpoint_of, after_sending, after_mark}
+use Rattle.world_semantics.specs.Records.{Records, records_of}
+use Rattle.world_semantics.specs.Shares.{after_entering, entering, passing, share_of, with_share}
+
+-- Changes and steps
 
 -- a change that was made: the world after it, and what was sent or sent again
 pub record Done : Type 0 where
   pub world : World
   pub sendings : List Sending
 
--- Entering the kept acts
+-- the world after a change, and what it sent: those that were before where none was made
+abbrev pub world_after : World → Option Done → World
+world_after w None = w
+world_after w (Some done) = done.world
 
--- a copy after its act entered the kept acts, and these
-pub record Entered : Type 0 where
-  pub copy : Copy
-  pub kept : List Act
+abbrev pub sendings_of : Option Done → List Sending
+sendings_of None = []
+sendings_of (Some done) = done.sendings
 
-abbrev pub entered_free : ℕ → Act → List Act → Copy → Bool → Bool → Entered
-entered_free number done kept copy true taking = record { copy = record copy { position = copy.position + 1 }; kept = kept }
-entered_free number done kept copy false true = record { copy = record copy { held = done ∷ [] }; kept = kept }
-entered_free number done kept copy false false = record { copy = record copy { position = copy.position + 1 }; kept = done ∷ kept }
+-- a step that a process made: the process after it, the records, and what was sent or sent again
+pub record Stepped : Type 0 where
+  pub pair : Pair
+  pub records : Records
+  pub sendings : List Sending
 
-abbrev pub entered_behind : ℕ → Act → List Act → Copy → List Act → Entered
-entered_behind number done kept copy [] = entered_free number done kept copy (nat_lt copy.position (own_acts number kept)) (is_take done)
-entered_behind number done kept copy (first ∷ rest) = record { copy = record copy { held = done ∷ copy.held }; kept = kept }
-
--- how an act of a copy enters the kept acts
-abbrev pub entered : ℕ → Act → List Act → Copy → Entered
-entered number done kept copy = entered_behind number done kept copy copy.held
+-- the change of the world that a step of the process of this number is
+abbrev pub in_world : ℕ → World → Stepped → Done
+in_world number w step = record {
+  world = record (with_pair number step.pair w) {
+    requests = step.records.requests;
+    replies = step.records.replies;
+    shown = step.records.shown;
+    kept = step.records.kept;
+  };
+  sendings = step.sendings;
+}
 
 -- Acts of a copy
 
@@ -64,11 +74,7 @@ own_took number core before found block = record {
   done = act.Take number found.request.opener;
   messages = [];
   after = record before { waiting = found.rest };
-  core =
-      record core {
-        state = process.after_took core.state found.request.words;
-        receive = after_taking found.request.opener block core.receive;
-      };
+  core = core_taken found.request.opener found.request.words block core;
 }
 
 abbrev pub own_take : ℕ → Core → Around → Option Chosen → Option Own
@@ -81,7 +87,7 @@ own_ask site number core before file words = record {
   done = act.Step number;
   messages = map Asking (asked_on site number core file words);
   after = record before { requests = asked_on site number core file words ++ before.requests };
-  core = record core { state = process.after_asked core.state; next = slice_set core.next file (next_on core file + 1) };
+  core = core_asked file core;
 }
 
 abbrev pub own_answered : ℕ → Core → Around → ℕ → List ℤ → OpenerSpec → OpenerBlock → Own
@@ -89,8 +95,7 @@ own_answered number core before place words opener block = record {
   done = act.Step number;
   messages = Replying (record { process = number; opener = place; number = block.taken; words = words }) ∷ [];
   after = record before { replies = record { process = number; opener = place; number = block.taken; words = words } ∷ before.replies };
-  core =
-      record core { state = process.after_answered core.state; receive = after_answering opener.depth place block words core.receive };
+  core = core_replied opener.depth place block words core;
 }
 
 abbrev pub own_answer_at : ℕ → Core → Around → ℕ → Option OpenerSpec → Option OpenerBlock → Option Own
@@ -110,18 +115,22 @@ around_write number before (Write sector words write) = record before {
 }
 around_write number before call = before
 
+-- what a call of the device leaves around a copy: a new write puts its words and is shown, and any other call changes nothing
+abbrev pub after_call : ℕ → Around → DeviceCall → Around
+after_call number before call = if is_new_write before.sectors call then around_write number before call else before
+
 abbrev pub own_device : ℕ → Core → Around → DeviceCall → Own
 own_device number core before call = record {
   done = act.Step number;
   messages = [];
-  after = if is_new_write before.sectors call then around_write number before call else before;
-  core = record core { state = process.after_device core.state (found_on before.sectors call) };
+  after = after_call number before call;
+  core = core_acting (found_on before.sectors call) core;
 }
 
 -- the act that a copy of a process can do for which it runs, at its point
 abbrev pub own_at : Site → ℕ → Core → Around → Point → Option Own
 own_at site number core before point.Inner =
-    Some (record { done = act.Step number; messages = []; after = before; core = record core { state = process.after_inner core.state } })
+    Some (record { done = act.Step number; messages = []; after = before; core = core_going core })
 own_at site number core before point.Take = own_take number core before (chosen core.receive before.waiting)
 own_at site number core before point.Ask =
     Some (own_ask site number core before (process.asked_file core.state) (process.asked_words core.state))
@@ -131,79 +140,93 @@ own_at site number core before point.Await = None
 own_at site number core before point.Mark = None
 own_at site number core before point.Ended = None
 
--- Runs
+-- a copy of a process after an act of its own
+abbrev pub copy_acted : ℕ → List Act → Own → Copy → Copy
+copy_acted number kept own copy = record (after_entering number own.done kept copy) { core = own.core; waiting = own.after.waiting }
 
-abbrev pub own_done : ℕ → Which → Pair → World → Own → Done
-own_done number k pair w o = record {
-  world =
-      after_own number k pair o.core (entered number o.done w.kept (copy_of k pair)).copy o.after (entered number o.done w.kept (copy_of k pair)).kept w;
-  sendings = sent_at (copy_of k pair).processor o.messages;
+-- and the records after it
+abbrev pub records_acted : ℕ → List Act → Own → Copy → Records
+records_acted number kept own copy = record {
+  requests = own.after.requests;
+  replies = own.after.replies;
+  shown = own.after.shown;
+  kept = (entering number own.done kept (share_of copy)).kept;
 }
 
-abbrev pub sent_done : ℕ → Which → Pair → World → Done
-sent_done number k pair w = record {
-  world =
-      record (with_pair number
-      (with_copy k (after_sending (copy_of k pair)) (record pair { checkpoints = checkpoint_of number (copy_of k pair) ∷ pair.checkpoints })) w)
-      { kept = w.kept };
+-- the step that an act of a copy's own is
+abbrev pub own_step : ℕ → Which → Pair → Records → Own → Stepped
+own_step number k pair records own = record {
+  pair = with_copy k (copy_acted number records.kept own (copy_of k pair)) (record pair { sectors = own.after.sectors });
+  records = records_acted number records.kept own (copy_of k pair);
+  sendings = sent_at (copy_of k pair).processor own.messages;
+}
+
+-- the act of its own that a copy of a process can do at this point
+abbrev pub own_of : Site → ℕ → Which → Pair → Records → Point → Option Own
+own_of site number k pair records stands =
+    own_at site number (copy_of k pair).core (around_with (copy_of k pair).waiting pair.sectors records) stands
+
+-- Marks
+
+-- a copy sends the checkpoint of its mark
+abbrev pub sending_step : ℕ → Which → Pair → Records → Stepped
+sending_step number k pair records = record {
+  pair =
+      with_copy k (after_sending (copy_of k pair)) (record pair { checkpoints = checkpoint_of number (copy_of k pair) ∷ pair.checkpoints });
+  records = records;
   sendings = sent_at (copy_of k pair).processor (Checkpointing (checkpoint_of number (copy_of k pair)) ∷ []);
 }
 
--- the copy passes its mark: which it did already, or which is kept now
-abbrev pub passed_done : ℕ → Which → Pair → World → Bool → Done
-passed_done number k pair w true = record {
-  world =
-      record (with_pair number (with_copy k (record (after_mark (copy_of k pair)) { position = (copy_of k pair).position + 1 }) pair) w)
-      { kept = w.kept };
-  sendings = [];
-}
-passed_done number k pair w false = record {
-  world =
-      record (with_pair number
-      (with_copy k
-      (record (after_mark (copy_of k pair)) { position = own_acts number (kept_at_mark number (copy_of k pair) w.kept); held = [] }) pair) w)
-      { kept = kept_at_mark number (copy_of k pair) w.kept };
+-- a copy after its mark, which it did already, or which is kept now, and the records then
+abbrev pub copy_passed : ℕ → Records → Copy → Copy
+copy_passed number records copy = with_share (passing number records.kept (share_of copy)).share (after_mark copy)
+
+abbrev pub records_passed : ℕ → Records → Copy → Records
+records_passed number records copy = record records { kept = (passing number records.kept (share_of copy)).kept }
+
+-- a copy passes its mark
+abbrev pub passing_step : ℕ → Which → Pair → Records → Stepped
+passing_step number k pair records = record {
+  pair = with_copy k (copy_passed number records (copy_of k pair)) pair;
+  records = records_passed number records (copy_of k pair);
   sendings = [];
 }
 
 -- at a mark: it is passed where it may be, and else its checkpoint is sent if it wasn't
-abbrev pub mark_done : ℕ → Which → Pair → World → Bool → Bool → Option Done
-mark_done number k pair w true sent =
-    Some (passed_done number k pair w (nat_lt (copy_of k pair).position (own_acts number w.kept)))
-mark_done number k pair w false true = None
-mark_done number k pair w false false = Some (sent_done number k pair w)
+abbrev pub mark_step : ℕ → Which → Pair → Records → Bool → Bool → Option Stepped
+mark_step number k pair records true sent = Some (passing_step number k pair records)
+mark_step number k pair records false true = None
+mark_step number k pair records false false = Some (sending_step number k pair records)
 
-abbrev pub run_at : Site → ℕ → Which → Pair → World → Point → Option Done
-run_at site number k pair w point.Mark = mark_done number k pair w (may_pass w.marks k pair) (copy_of k pair).sent
-run_at site number k pair w stands =
-    option_map (own_done number k pair w) (own_at site number (copy_of k pair).core (around (copy_of k pair) pair w) stands)
+-- Runs
 
-abbrev pub run_as : Site → ℕ → Which → Pair → World → Role → Option Done
-run_as site number k pair w Acting = run_at site number k pair w (process.point (copy_of k pair).core.state)
-run_as site number k pair w Watching = None
-run_as site number k pair w Gone = None
+-- the step of a copy that acts and stands at this point; none where it can't go on
+abbrev pub step_at : Site → ℕ → Which → Pair → List Mark → Records → Point → Option Stepped
+step_at site number k pair marks records point.Mark = mark_step number k pair records (may_pass marks k pair) (copy_of k pair).sent
+step_at site number k pair marks records stands = option_map (own_step number k pair records) (own_of site number k pair records stands)
 
--- the change that one copy of a process makes where it runs; none where it can't
-abbrev pub run_copy : Site → ℕ → Pair → World → Which → Option Done
-run_copy site number pair w k = run_as site number k pair w (copy_of k pair).role
+abbrev pub step_as : Site → ℕ → Which → Pair → List Mark → Records → Role → Option Stepped
+step_as site number k pair marks records Acting = step_at site number k pair marks records (process.point (copy_of k pair).core.state)
+step_as site number k pair marks records Watching = None
+step_as site number k pair marks records Gone = None
 
-abbrev pub first_of_two : Option Done → Option Done → Option Done
-first_of_two None other = other
-first_of_two (Some done) other = Some done
+-- the step of one copy; none where it can't make one
+abbrev pub step_of_copy : Site → ℕ → Pair → List Mark → Records → Which → Option Stepped
+step_of_copy site number pair marks records k = step_as site number k pair marks records (copy_of k pair).role
+
+abbrev pub first_step : Option Stepped → Option Stepped → Option Stepped
+first_step None other = other
+first_step (Some step) other = Some step
+
+-- the step that a process makes where it runs: that of its copy that acts; none where it can't make one
+abbrev pub step_of : Site → ℕ → Pair → List Mark → Records → Option Stepped
+step_of site number pair marks records =
+    first_step (step_of_copy site number pair marks records First) (step_of_copy site number pair marks records Second)
 
 abbrev pub run_pair : Site → ℕ → World → Option Pair → Option Done
 run_pair site number w None = None
-run_pair site number w (Some pair) = first_of_two (run_copy site number pair w First) (run_copy site number pair w Second)
+run_pair site number w (Some pair) = option_map (in_world number w) (step_of site number pair w.marks (records_of w))
 
--- the change that a process makes where it runs: that of its copy that acts; none where it can't
+-- the change that a process makes where it runs; none where it can't make one
 abbrev pub run_done : Site → ℕ → World → Option Done
 run_done site number w = run_pair site number w (slice_get w.processes number)
-
--- the world after a change, and what it sent: those that were before where none was made
-abbrev pub world_after : World → Option Done → World
-world_after w None = w
-world_after w (Some done) = done.world
-
-abbrev pub sendings_of : Option Done → List Sending
-sendings_of None = []
-sendings_of (Some done) = done.sendings

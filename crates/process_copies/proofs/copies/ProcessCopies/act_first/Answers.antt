@@ -2,7 +2,8 @@ use Rattle.std.proofs.Common.{subst, rules}
 use Rattle.world_semantics.specs.declared.which.Which.TheVariants.{First}
 use Rattle.node_copies.specs.Acting.{Scene}
 use Rattle.node_copies.specs.Seen.{sectors_on}
-use Rattle.process_copies.specs.Acting.{HasStepped, own_of, step_by_act}
+use Rattle.world_semantics.specs.Running.{own_of}
+use Rattle.process_copies.specs.Acting.{HasStepped, step_by_act}
 use Rattle.process_copies.specs.Seen.{Placed}
 use Rattle.process_copies.proofs.Steps.{first-acts, with-first}
 use Rattle.process_copies.proofs.copies.ProcessCopies.act_first.Goals as goal

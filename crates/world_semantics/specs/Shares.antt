@@ -1,5 +1,5 @@
--- What the kept acts ask of a copy, by itself: its position in them and the acts that it holds back. How they change is our own rule, as in the world of
--- copies: a copy that does anew what its process did already adds nothing, and a take and the acts after it are held back until the next checkpoint.
+-- What the kept acts ask of a copy, by itself: its position in them and the acts that it holds back. How they change is our own rule: a copy that does anew
+-- what its process did already adds nothing, and a take and the acts after it are held back until the next checkpoint.
 use Rattle.std.specs.Prelude.{ℕ, ◌+◌, Bool, true, false, nat_lt, List, [], ◌∷◌, ◌++◌}
 use Rattle.tal_tree.specs.declared.act.Act.{Act}
 use Rattle.tal_tree.specs.declared.act.Act.TheVariants.{Step}
@@ -46,6 +46,10 @@ entering_behind number done kept share (first ∷ rest) = record { share = recor
 abbrev pub entering : ℕ → Act → List Act → Share → Sharing
 entering number done kept share = entering_behind number done kept share share.held
 
+-- the copy after its act entered them
+abbrev pub after_entering : ℕ → Act → List Act → Copy → Copy
+after_entering number done kept copy = with_share (entering number done kept (share_of copy)).share copy
+
 -- Marks
 
 -- the kept acts after the held acts and the step at the mark were added
@@ -76,9 +80,15 @@ covered number kept share = own_acts number (kept_with_mark number kept share)
 abbrev pub letting_go : Share → Share
 letting_go share = record share { held = [] }
 
+abbrev pub without_held : Copy → Copy
+without_held copy = with_share (letting_go (share_of copy)) copy
+
 -- the run is closed: what a copy still holds is kept
 abbrev pub closing : List Act → Share → Sharing
 closing kept share = record { share = letting_go share; kept = share.held ++ kept }
+
+abbrev pub let_go : Pair → Pair
+let_go pair = record pair { first = without_held pair.first; second = without_held pair.second }
 
 -- the kept acts after both copies of a process closed, and of all processes in the order of the deck
 abbrev pub closed_by : List Act → Pair → List Act

@@ -1,0 +1,42 @@
+-- Steps of one process, as changes of the world.
+use Rattle.std.proofs.Common.{ℕ, Bool, [], Option, option_map}
+use Rattle.tal_tree.specs.declared.site.Site.{Site}
+use Rattle.process_semantics.specs.declared.point.Point.{Point}
+use Rattle.world_semantics.specs.declared.role.Role.{Role}
+use Rattle.world_semantics.specs.World.{Pair, World, Which, copy_of, with_copy}
+use Rattle.world_semantics.specs.Passes.{after_mark}
+use Rattle.world_semantics.specs.Records.{records_of}
+use Rattle.world_semantics.specs.Shares.{passing_where, share_of, with_share}
+use Rattle.world_semantics.specs.Running.{Done, Own, Stepped, in_world, mark_step, own_step, sending_step, step_as, step_at, step_of_copy}
+
+abbrev pub lifted : ℕ → World → Option Stepped → Option Done
+lifted number w step = option_map (in_world number w) step
+
+abbrev pub own_done : ℕ → Which → Pair → World → Own → Done
+own_done number k pair w own = in_world number w (own_step number k pair (records_of w) own)
+
+abbrev pub own_made : ℕ → Which → Pair → World → Option Own → Option Done
+own_made number k pair w own = lifted number w (option_map (own_step number k pair (records_of w)) own)
+
+abbrev pub sent_done : ℕ → Which → Pair → World → Done
+sent_done number k pair w = in_world number w (sending_step number k pair (records_of w))
+
+-- a copy passes its mark, which it did already or not
+abbrev pub passed_done : ℕ → Which → Pair → World → Bool → Done
+passed_done number k pair w again = in_world number w (record {
+  pair = with_copy k (with_share (passing_where number w.kept (share_of (copy_of k pair)) again).share (after_mark (copy_of k pair))) pair;
+  records = record (records_of w) { kept = (passing_where number w.kept (share_of (copy_of k pair)) again).kept };
+  sendings = [];
+})
+
+abbrev pub mark_done : ℕ → Which → Pair → World → Bool → Bool → Option Done
+mark_done number k pair w free sent = lifted number w (mark_step number k pair (records_of w) free sent)
+
+abbrev pub run_at : Site → ℕ → Which → Pair → World → Point → Option Done
+run_at site number k pair w stands = lifted number w (step_at site number k pair w.marks (records_of w) stands)
+
+abbrev pub run_as : Site → ℕ → Which → Pair → World → Role → Option Done
+run_as site number k pair w role = lifted number w (step_as site number k pair w.marks (records_of w) role)
+
+abbrev pub run_copy : Site → ℕ → Pair → World → Which → Option Done
+run_copy site number pair w k = lifted number w (step_of_copy site number pair w.marks (records_of w) k)
