@@ -3,11 +3,11 @@ use Rattle.std.proofs.Common.{◌≡◌, ℕ, zero, suc, ◌+◌, ◌≤◌, ◌
 use Rattle.tal_tree.specs.declared.act.Act.{Act}
 use Rattle.world_semantics.specs.World.{Pair, World}
 use Rattle.world_semantics.proofs.Lists.{some-same}
-use Rattle.kept_acts.specs.Shares.{closed_by, closed_by_all}
+use Rattle.world_semantics.specs.Shares.{closed_by, closed_by_all}
 use Rattle.message_wires.specs.Play.{Whole}
 use Rattle.process_copies.specs.Seen.{Placed}
-use Rattle.node_copies.specs.Records.{Records, records_of}
-use Rattle.process_copies.specs.Takeover.{let_go}
+use Rattle.world_semantics.specs.Records.{Records, records_of}
+use Rattle.world_semantics.specs.Shares.{let_go}
 use Rattle.pair_machine.specs.Closing.{closed_at, closed_from, closed_with}
 use Rattle.pair_machine.specs.Seen.{pairs_in}
 use Rattle.pair_machine.proofs.Places.{pair-at, pairs-set}

@@ -2,7 +2,6 @@ pub mod Again
 pub mod Beginning
 pub mod Changed
 pub mod Closes
-pub mod Handing
 pub mod Kept
 pub mod Lookups
 pub mod Marks

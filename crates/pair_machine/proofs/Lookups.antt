@@ -4,12 +4,10 @@ use Rattle.std.specs.Option.{option_map}
 use Rattle.tal_tree.specs.declared.site.Site.{Site}
 use Rattle.plain_semantics.specs.declared.slot.Opener.{Opener}
 use Rattle.world_semantics.specs.World.{Terminal, World}
-use Rattle.world_semantics.specs.Running.{run_done, run_pair}
+use Rattle.world_semantics.specs.Running.{in_world, run_done, run_pair, step_of}
 use Rattle.computed_changes.specs.Entered.{enter_to}
 use Rattle.process_copies.specs.Seen.{Placed}
-use Rattle.node_copies.specs.Records.{records_of}
-use Rattle.process_copies.specs.Steps.{in_world, step_of}
-use Rattle.process_copies.proofs.Runs.{runs}
+use Rattle.world_semantics.specs.Records.{records_of}
 use Rattle.pair_machine.specs.Seen.{pairs_in}
 use Rattle.pair_machine.proofs.Places.{pair-at}
 
@@ -31,6 +29,5 @@ pub runs-found : (site : Site) (places : List Placed) (w : World) (k : ℕ) (bef
 runs-found site places w k before pairs there same_site same_number =
     ap (λ pair. is_some (run_pair site k w pair))
     (ap (λ pairs. slice_get pairs k) pairs ∙ pair-at places k ∙ ap (option_map (λ (placed : Placed). placed.pair)) there)
-    ∙ ap is_some (runs site k before.pair w)
     ∙ some-map (in_world k w) (step_of site k before.pair w.marks (records_of w))
     ∙ ap₂ (λ at number. is_some (step_of at number before.pair w.marks (records_of w))) (sym same_site) (sym same_number)

@@ -3,17 +3,15 @@ use Rattle.std.proofs.Common.{◌≡◌, ℕ, List, Option, Some, None, slice_ge
 use Rattle.std.specs.Option.{option_map}
 use Rattle.world_semantics.specs.World.{World}
 use Rattle.world_semantics.specs.Messages.{Message, Sending}
-use Rattle.world_semantics.specs.Running.{Done, run_done, run_pair}
+use Rattle.world_semantics.specs.Running.{Done, Stepped, in_world, run_done, run_pair, step_of}
 use Rattle.machine_states.specs.States.{Settles}
 use Rattle.machine_states.specs.declared.effect.Effect.{Effect}
 use Rattle.message_wires.specs.Play.{Whole, after_any, made_by}
-use Rattle.process_copies.specs.Handing.{step_on}
+use Rattle.computed_changes.specs.Handed.{brought, brought_to, step_on}
 use Rattle.process_copies.specs.Seen.{Placed, placed_after, records_after, sent_by}
-use Rattle.node_copies.specs.Records.{Records, records_of}
-use Rattle.process_copies.specs.Steps.{Stepped, in_world, step_of}
-use Rattle.process_copies.proofs.Runs.{runs}
+use Rattle.world_semantics.specs.Records.{Records, records_of}
 use Rattle.pair_machine.specs.Seen.{pairs_in}
-use Rattle.pair_machine.specs.Told.{Answers, brought, brought_to, sent_all, sent_in, unsent}
+use Rattle.pair_machine.specs.Told.{Answers, sent_all, sent_in, unsent}
 use Rattle.pair_machine.proofs.Places.{pair-at, pairs-set, set-same}
 
 -- a process that is found in its place in a state
@@ -38,7 +36,7 @@ step_where_told s node before message = step_on before.site before.number node b
 pub run-found : {s : Whole} {places : List Placed} {k : ℕ} {before : Placed} → IsFound s places k before
     → run_done s.site k s.world ≡ option_map (in_world k s.world) (step_where_run s before)
 run-found {s} {places} {k} {before} found =
-    ap (run_pair s.site k s.world) (pair-there found) ∙ runs s.site k before.pair s.world
+    ap (run_pair s.site k s.world) (pair-there found)
     ∙ ap₂ (λ site number. option_map (in_world k s.world) (step_of site number before.pair s.world.marks (records_of s.world)))
     (sym found.site) (sym found.number)
 

@@ -1,13 +1,13 @@
 -- What a part of an event needs, so that each number that it raises has a successor. Our own rule.
-use Rattle.std.specs.Prelude.{◌≡◌, ◌<◌, ℕ, ◌^◌, List, length, slice_get, Option, Some, None}
+use Rattle.std.specs.Prelude.{◌≡◌, ◌<◌, ℕ, ◌^◌, List, slice_get, Option, Some, None}
 use Rattle.gd_words.specs.Members.{IsAmong}
 use Rattle.gd_words.specs.declared.message.Request.{Request}
 use Rattle.tal_tree.specs.declared.site.Site.{Site}
-use Rattle.plain_semantics.specs.Openers.{openers_of}
 use Rattle.world_semantics.specs.declared.role.Role.TheVariants.{Watching}
 use Rattle.world_semantics.specs.declared.which.Which.{Which}
 use Rattle.world_semantics.specs.World.{Pair, copy_of}
 use Rattle.world_semantics.specs.Messages.{Message, Asking, Sending}
+use Rattle.computed_changes.specs.Laws.{NamesOpener}
 use Rattle.machine_states.specs.States.{Played, Makes, Skips, WouldStop}
 use Rattle.message_wires.specs.Wires.{Sent, Wires}
 use Rattle.message_wires.specs.Play.{Whole}
@@ -41,7 +41,7 @@ AreCountedTelling (Some sendings) s = AreCounted (sent_all sendings s)
 -- of a message that is handed over: a request names an opener of the process that it is for
 abbrev pub NamesItsOpener : Site → Message → Type 0
 NamesItsOpener site message =
-    (request : Request) → message ≡ Asking request → request.opener < length (openers_of site request.process)
+    (request : Request) → message ≡ Asking request → NamesOpener site request.process (Asking request)
 
 -- each request on the bus names an opener of the process that it is for
 abbrev pub OpenersAreThere : Whole → Type 0

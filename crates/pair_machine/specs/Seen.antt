@@ -7,10 +7,10 @@ use Rattle.tal_tree.specs.declared.site.Who.TheVariants as who
 use Rattle.plain_semantics.specs.declared.slot.Opener.{Opener}
 use Rattle.plain_semantics.specs.Openers.{opener_of}
 use Rattle.world_semantics.specs.World.{Pair, World}
-use Rattle.kept_acts.specs.Shares.{closed_by_all}
+use Rattle.world_semantics.specs.Shares.{closed_by_all}
 use Rattle.message_wires.specs.Play.{Whole, packet_at}
 use Rattle.process_copies.specs.Seen.{Placed}
-use Rattle.process_copies.specs.Takeover.{let_go}
+use Rattle.world_semantics.specs.Shares.{let_go}
 
 -- the processes of places
 abbrev pub pairs_in : List Placed → List Pair

@@ -1,12 +1,12 @@
 ghost use Rattle.std.specs.Prelude.{◌≡◌, slice_get, IfOk, OnOk};
 ghost use Rattle.std.specs.Option.{option_map};
-ghost use Rattle.computed_changes.specs.Handed.{handed_done, replied_done, replied_to};
+ghost use Rattle.computed_changes.specs.Handed.{brought, handed_done, replied_done, replied_to};
+ghost use Rattle.computed_changes.specs.Laws.{NamesOpener};
 ghost use Rattle.machine_states.specs.States.{Settles};
 ghost use Rattle.number_ranges.specs.HasRoom.{HasRoom};
 ghost use Rattle.message_wires.specs.Play.{after_any, comes_in, deliver_played, lose_played, packet_at, received, repeat_played};
-ghost use Rattle.process_copies.specs.Handing.{NamesOpener};
 ghost use Rattle.pair_machine.specs.Room.{AreCounted, AreCountedAfter, NamesItsOpener, OpenersAreThere};
-ghost use Rattle.pair_machine.specs.Told.{brought, sent_in, unsent};
+ghost use Rattle.pair_machine.specs.Told.{sent_in, unsent};
 ghost use Rattle.plain_semantics.specs.Openers.{openers_of};
 ghost use Rattle.posted_letters.specs.Seen.{message_of};
 ghost use Rattle.node_copies.specs.Seen.{told_by};

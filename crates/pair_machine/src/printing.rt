@@ -1,5 +1,5 @@
 ghost use Rattle.std.specs.Prelude.{◌≡◌, length, slice_get, OnOk};
-ghost use Rattle.computed_changes.specs.Handed.{awaits_at, is_to, printed_done};
+ghost use Rattle.computed_changes.specs.Replies.{awaits_at, is_to, printed_done};
 ghost use Rattle.message_wires.specs.Play.{after_any};
 ghost use Rattle.number_ranges.specs.HasRoom.{HasNext};
 ghost use Rattle.tal_tree.specs.declared.site.Who.TheVariants as who;

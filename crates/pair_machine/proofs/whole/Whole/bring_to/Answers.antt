@@ -2,9 +2,9 @@ use Rattle.std.proofs.Common.{◌≡◌, ◌∙◌, ℕ, Option, Some, ap, slice
 use Rattle.std.proofs.lemmas.Option.{slice_get_read}
 use Rattle.message_wires.specs.Play.{Whole}
 use Rattle.posted_letters.specs.Seen.{message_of}
-use Rattle.pair_machine.specs.Told.{brought}
+use Rattle.computed_changes.specs.Handed.{brought}
 use Rattle.world_semantics.specs.Running.{Done}
-use Rattle.process_copies.specs.Handing.{NamesOpener}
+use Rattle.computed_changes.specs.Laws.{NamesOpener}
 use Rattle.pair_machine.proofs.Places.{standing-set}
 use Rattle.pair_machine.proofs.Room.{placed-room, room-alike}
 use Rattle.pair_machine.proofs.Steps.{IsFound, stands, told-found, tells}

@@ -2,7 +2,7 @@ use Rattle.std.proofs.Common.{◌≡◌, ◌∙◌, Some, ap, arith, is_some, re
 use Rattle.std.proofs.lemmas.Option.{slice_get_read}
 use Rattle.message_wires.specs.Play.{Whole}
 use Rattle.world_semantics.specs.Running.{run_done}
-use Rattle.node_copies.specs.Records.{records_of}
+use Rattle.world_semantics.specs.Records.{records_of}
 use Rattle.pair_machine.specs.contracts.whole.Whole.{the_view}
 use Rattle.pair_machine.proofs.Lookups.{runs-found}
 use Rattle.pair_machine.proofs.whole.Whole.can_run.Goals as goal
