@@ -5,9 +5,9 @@ ghost use Rattle.message_wires.specs.Wires.{is_due, is_on, put_again, put_on};
 ghost use Rattle.posted_letters.specs.Rising.{Rises};
 
 use crate::owed::place_of;
-use crate::running::is_running;
 use crate::sent::Sent;
 use gd_words::NoMemory;
+use sendings::is_running;
 use std::alloc::Global;
 use std::collections::VecDeque;
 use std::marker::Model;

@@ -6,11 +6,10 @@ ghost use Rattle.number_ranges.specs.HasRoom.{HasNextLong};
 ghost use Rattle.posted_letters.specs.Repeats.{IsRepeated};
 
 use crate::bus::Bus;
-use crate::letter::Letter;
 use crate::owed::place_of;
-use crate::running::is_running;
 use crate::sent::Sent;
 use gd_words::NoMemory;
+use sendings::Letter;
 use std::alloc::Global;
 use std::marker::Model;
 

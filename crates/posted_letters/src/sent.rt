@@ -3,9 +3,8 @@ ghost use Rattle.letters.specs.Routes.{is_between};
 ghost use Rattle.message_wires.specs.Wires.{is_of};
 ghost use Rattle.world_semantics.specs.World.{is_running};
 
-use crate::letter::Letter;
-use crate::running::is_running;
 use gd_words::NoMemory;
+use sendings::{Letter, is_running};
 use std::marker::Model;
 
 /// A packet on the bus, or a letter that is owed: a letter with the number of its sending.

@@ -1,6 +1,6 @@
 -- What the messages of the code are in the world of copies. Our own rule, as that world is.
-use Rattle.posted_letters.specs.declared.message.Message.{Message}
-use Rattle.posted_letters.specs.declared.message.Message.TheVariants as message
+use Rattle.sendings.specs.declared.message.Message.{Message}
+use Rattle.sendings.specs.declared.message.Message.TheVariants as message
 use Rattle.world_semantics.specs.Messages as messages
 
 -- the message of the world that a message of the code is

@@ -1,5 +1,5 @@
 ghost use Rattle.std.specs.Prelude.{◌≡◌, IfOk};
-ghost use Rattle.posted_letters.specs.Seen.{message_of};
+ghost use Rattle.sendings.specs.Seen.{message_of};
 
 use crate::message::Message;
 use gd_words::NoMemory;
@@ -16,7 +16,7 @@ pub struct Letter {
 impl Model for Letter {
     ghost use Rattle.std.specs.Coded.{codes};
     ghost use Rattle.letters.specs.Routes as routes;
-    ghost use Rattle.posted_letters.specs.Seen.{message_of};
+    ghost use Rattle.sendings.specs.Seen.{message_of};
 
     ghost Value = { routes.Letter };
 

@@ -1,5 +1,5 @@
 ghost use Rattle.std.specs.Prelude.{◌≡◌, IfOk};
-ghost use Rattle.posted_letters.specs.Seen.{message_of};
+ghost use Rattle.sendings.specs.Seen.{message_of};
 
 use checkpoint_image::{ImageMessage, TakenMessage};
 use gd_words::{NoMemory, Reply, Request};

@@ -1,5 +1,5 @@
 ghost use Rattle.std.specs.Prelude.{◌≡◌};
-ghost use Rattle.posted_letters.specs.Seen.{message_of};
+ghost use Rattle.sendings.specs.Seen.{message_of};
 
 use crate::message::Message;
 use std::marker::Model;
@@ -14,7 +14,7 @@ pub struct Sending {
 impl Model for Sending {
     ghost use Rattle.std.specs.Coded.{codes};
     ghost use Rattle.world_semantics.specs.Messages as messages;
-    ghost use Rattle.posted_letters.specs.Seen.{message_of};
+    ghost use Rattle.sendings.specs.Seen.{message_of};
 
     ghost Value = { messages.Sending };
 
