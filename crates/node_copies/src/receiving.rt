@@ -20,7 +20,7 @@ use crate::settling::settle;
 use checkpoint_image::{ImageMessage, ReceiveBlock, TakenMessage};
 use file_calls::Arrival;
 use gd_words::{List, NoMemory, Request, Words};
-use posted_letters::Sending;
+use sendings::Sending;
 use std::alloc::Global;
 use tal_tree::Act;
 

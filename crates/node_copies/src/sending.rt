@@ -13,8 +13,8 @@ use crate::records::Records;
 use crate::step::Step;
 use disc_device::Disc;
 use gd_words::{DeviceCall, NoMemory, Reply, Request, Sector};
-use posted_letters::{Message, Sending, copy_reply, copy_request};
 use process_control::{Answering, Asking};
+use sendings::{Message, Sending, copy_reply, copy_request};
 use tal_tree::Shown;
 
 impl Records {

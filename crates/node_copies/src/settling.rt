@@ -4,7 +4,7 @@ ghost use Rattle.world_semantics.specs.Messages.{Replying, sent_at};
 
 use file_calls::{Waiting, settling_repeats_all_kept_replies};
 use gd_words::{List, NoMemory};
-use posted_letters::{Message, Sending};
+use sendings::{Message, Sending};
 use sync_ids::Receive;
 
 /// Settles the requests that wait at a copy that takes over: the replies kept to them are added to `told`, as sent by the node.

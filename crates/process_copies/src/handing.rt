@@ -6,7 +6,7 @@ ghost use Rattle.plain_semantics.specs.Openers.{openers_of};
 ghost use Rattle.checkpoint_image.specs.Receive.{repeated};
 ghost use Rattle.world_semantics.specs.Shares.{covered, share_of, with_share};
 ghost use Rattle.number_ranges.specs.HasRoom.{CopyHasRoom, PairHasRoom};
-ghost use Rattle.posted_letters.specs.Seen.{message_of};
+ghost use Rattle.sendings.specs.Seen.{message_of};
 ghost use Rattle.world_semantics.specs.World.{copy_of, other_of};
 ghost use Rattle.world_semantics.specs.Messages.{Replying, Taking, sent_at};
 ghost use Rattle.world_semantics.specs.Passes.{taken_of};
@@ -26,8 +26,8 @@ use checkpoint_image::{ImageMessage, TakenMessage};
 use file_calls::Arrival;
 use gd_words::{NoMemory, Reply, Request};
 use node_copies::{Records, Step};
-use posted_letters::{Message, Sending};
 use process_semantics::Point;
+use sendings::{Message, Sending};
 use world_semantics::{Role, Which};
 
 impl ProcessCopies {

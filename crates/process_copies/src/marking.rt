@@ -10,7 +10,7 @@ ghost use Rattle.world_semantics.specs.Shares.{let_go};
 use crate::copies::ProcessCopies;
 use gd_words::{List, NoMemory};
 use node_copies::Records;
-use posted_letters::Sending;
+use sendings::Sending;
 use world_semantics::{Role, Which};
 
 impl ProcessCopies {

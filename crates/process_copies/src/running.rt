@@ -12,8 +12,8 @@ use crate::copies::ProcessCopies;
 use gd_words::NoMemory;
 use logs::Shared;
 use node_copies::{Marks, Records, Step};
-use posted_letters::{Message, Sending};
 use process_semantics::Point;
+use sendings::{Message, Sending};
 use std::alloc::Global;
 use world_semantics::{Role, Which};
 
