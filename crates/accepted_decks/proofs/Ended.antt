@@ -12,7 +12,8 @@ use Rattle.world_semantics.specs.World.{World}
 use Rattle.message_wires.specs.Idle.{is_idle}
 use Rattle.message_wires.specs.Play.{Whole}
 use Rattle.message_wires.specs.Runs.{IsPlayed}
-use Rattle.pair_machine.specs.Seen.{closed_state, closed_world}
+use Rattle.pair_machine.specs.Seen.{closed_state}
+use Rattle.world_copies.specs.Closed.{closed_world}
 use Rattle.schedule_runs.specs.Ends.{EndsAs, IsRunOf}
 use Rattle.schedule_runs.specs.Runs.{Agenda, Plays}
 use Rattle.schedule_runs.specs.declared.ran.Ending.{Ending}

@@ -9,9 +9,9 @@ ghost use Rattle.schedule_runs.specs.Ends.{IsRunOf};
 ghost use Rattle.schedule_runs.specs.declared.ran.Ran.{Ran};
 ghost use Rattle.accepted_decks.specs.Left.{KeepsPossibleActs};
 
-use pair_machine::laws::a_closed_world_has_the_closed_run;
 use played_laws::{an_idle_end_that_is_played_leaves_none, what_is_played_is_possible};
 use schedule_runs::events_of_a_schedule_are_played;
+use world_copies::laws::a_closed_world_has_the_closed_run;
 
 /// Whatever its schedule, a run of an accepted site keeps possible acts, and none is left at an idle end.
 pub fn a_run_of_an_accepted_site_keeps_possible_acts()

@@ -9,13 +9,13 @@ ghost use Rattle.machine_guards.specs.States.{between, discs_at_boot, marking, n
 
 /// A terminal can enter that has a request left and awaits no reply, whichever it is; and a process can run to which a request came.
 pub fn who_can_go_on_is_told()
-    ensures both_enter { none_enters discs_at_boot ≡ false }
-    ensures first_enters { none_enters (end_of discs_at_boot (Enter 1 ∷ [])) ≡ false }
-    ensures second_enters { none_enters (end_of discs_at_boot (Enter 0 ∷ [])) ≡ false }
-    ensures none_enters { none_enters (end_of discs_at_boot (Enter 0 ∷ Enter 1 ∷ [])) ≡ true }
-    ensures none_runs { none_runs (end_of discs_at_boot (Enter 0 ∷ Enter 1 ∷ [])) ≡ true }
-    ensures first_runs { none_runs (end_of discs_at_boot (Enter 0 ∷ Enter 1 ∷ Deliver false 0 ∷ [])) ≡ false }
-    ensures second_runs { none_runs (end_of discs_at_boot (Enter 0 ∷ Enter 1 ∷ Deliver false 1 ∷ [])) ≡ false }
+    ensures both_enter { none_enters discs_at_boot.site discs_at_boot.world ≡ false }
+    ensures first_enters { none_enters discs_at_boot.site (end_of discs_at_boot (Enter 1 ∷ [])).world ≡ false }
+    ensures second_enters { none_enters discs_at_boot.site (end_of discs_at_boot (Enter 0 ∷ [])).world ≡ false }
+    ensures none_enters { none_enters discs_at_boot.site (end_of discs_at_boot (Enter 0 ∷ Enter 1 ∷ [])).world ≡ true }
+    ensures none_runs { none_runs discs_at_boot.site (end_of discs_at_boot (Enter 0 ∷ Enter 1 ∷ [])).world ≡ true }
+    ensures first_runs { none_runs discs_at_boot.site (end_of discs_at_boot (Enter 0 ∷ Enter 1 ∷ Deliver false 0 ∷ [])).world ≡ false }
+    ensures second_runs { none_runs discs_at_boot.site (end_of discs_at_boot (Enter 0 ∷ Enter 1 ∷ Deliver false 1 ∷ [])).world ≡ false }
 {}
 
 /// A copy waits at a mark that acts and has sent its checkpoint, whichever of the two and of whichever process it is.

@@ -5,7 +5,7 @@ use Rattle.tal_tree.specs.declared.site.Site.{Site}
 use Rattle.world_semantics.proofs.Lists.{some-same}
 use Rattle.world_semantics.specs.World.{Pair}
 use Rattle.process_copies.specs.Seen.{Placed}
-use Rattle.pair_machine.specs.Seen.{ArePlaced, pairs_in}
+use Rattle.world_copies.specs.Seen.{ArePlaced, pairs_in}
 use Rattle.machine_views.specs.Seen.{AreNumbered}
 use Rattle.machine_views.specs.Views.{each_at}
 

@@ -4,8 +4,9 @@ ghost use Rattle.machine_views.specs.Views.{mark_of, marks_by, marks_in, stopped
 use crate::views::{Mark, TerminalView};
 use gd_words::{List, NoMemory};
 use node_copies::Marks;
-use pair_machine::{Pairs, Terminal};
+use pair_machine::Pairs;
 use std::alloc::Global;
+use world_copies::Terminal;
 
 /// How many processors a site can have, and how many nodes: the terminals are on a node of their own.
 const PROCESSORS: u8 = 16;

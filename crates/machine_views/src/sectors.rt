@@ -1,5 +1,5 @@
 ghost use Rattle.std.specs.Prelude.{◌≡◌, ◌++◌, IfOk, OnOk};
-ghost use Rattle.pair_machine.specs.Seen.{pairs_in};
+ghost use Rattle.world_copies.specs.Seen.{pairs_in};
 ghost use Rattle.machine_views.specs.Seen.{AreNumbered};
 ghost use Rattle.machine_views.specs.Views.{each_at, sector_views};
 

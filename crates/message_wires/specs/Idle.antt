@@ -1,6 +1,7 @@
 -- Whether nothing is left to do in a state, computed. Our own rule, as that of posts is.
 use Rattle.std.specs.Prelude.{ℕ, zero, suc, ◌+◌, ◌&&◌, ◌||◌, Bool, true, false, not, List, length, slice_get, Option, Some, None, is_none}
 use Rattle.std.specs.List.{list_all}
+use Rattle.tal_tree.specs.declared.site.Site.{Site}
 use Rattle.world_semantics.specs.declared.role.Role.{Role}
 use Rattle.world_semantics.specs.declared.role.Role.TheVariants.{Acting, Watching, Gone}
 use Rattle.world_semantics.specs.World.{Copy, Pair, World, terminal_node, is_running, has_marked}
@@ -14,13 +15,13 @@ abbrev pub all_from : (ℕ → Bool) → ℕ → ℕ → Bool
 all_from test number zero = true
 all_from test number (suc left) = test number && all_from test (number + 1) left
 
--- no terminal can enter
-abbrev pub none_enters : Whole → Bool
-none_enters s = all_from (λ terminal. is_none (enter_done s.site terminal s.world)) 0 (length s.world.terminals)
+-- no terminal of a world can enter
+abbrev pub none_enters : Site → World → Bool
+none_enters site w = all_from (λ terminal. is_none (enter_done site terminal w)) 0 (length w.terminals)
 
 -- no process can run
-abbrev pub none_runs : Whole → Bool
-none_runs s = all_from (λ number. is_none (run_done s.site number s.world)) 0 (length s.world.processes)
+abbrev pub none_runs : Site → World → Bool
+none_runs site w = all_from (λ number. is_none (run_done site number w)) 0 (length w.processes)
 
 -- whether a copy of this role acts and waits at a mark, its checkpoint sent
 abbrev pub waits_as : Role → Bool → Bool
@@ -57,4 +58,6 @@ all_marked w = all_from (λ node. has_marked_all w node) 0 (length w.stopped) &&
 
 -- nothing is left to do
 abbrev pub is_idle : Whole → Bool
-is_idle s = none_enters s && (none_runs s && (none_waits s.world.processes && (none_owed s.world.stopped s.wires.owed && all_marked s.world)))
+is_idle s =
+    none_enters s.site s.world
+    && (none_runs s.site s.world && (none_waits s.world.processes && (none_owed s.world.stopped s.wires.owed && all_marked s.world)))

@@ -7,7 +7,7 @@ use Rattle.checkpoint_image.specs.declared.receive.OpenerBlock.{OpenerBlock}
 use Rattle.checkpoint_image.specs.Behaving.{last_write_of}
 use Rattle.world_semantics.specs.declared.role.Role.TheVariants.{Watching}
 use Rattle.world_semantics.specs.declared.which.Which.{Which}
-use Rattle.world_semantics.specs.World.{Copy, Pair, Terminal, copy_of}
+use Rattle.world_semantics.specs.World.{Copy, Pair, Terminal, World, copy_of}
 use Rattle.machine_states.specs.States.{Makes}
 use Rattle.message_wires.specs.Play.{Whole, play}
 
@@ -37,11 +37,15 @@ pub record TerminalHasRoom (terminal : Terminal) : Type 0 where
   pub entered : HasNext terminal.entered
   pub printed : HasNext terminal.printed
 
--- of a state: each process, each terminal, and how many writes and replies were shown together
-pub record HasRoom (s : Whole) : Type 0 where
-  pub processes : (number : ℕ) (pair : Pair) → slice_get s.world.processes number ≡ Some pair → PairHasRoom pair
-  pub terminals : All TerminalHasRoom s.world.terminals
-  pub shown : HasNext (length s.world.shown)
+-- of a world: each process, each terminal, and how many writes and replies were shown together
+pub record WorldHasRoom (w : World) : Type 0 where
+  pub processes : (number : ℕ) (pair : Pair) → slice_get w.processes number ≡ Some pair → PairHasRoom pair
+  pub terminals : All TerminalHasRoom w.terminals
+  pub shown : HasNext (length w.shown)
+
+-- of a state: its world
+abbrev pub HasRoom : Whole → Type 0
+HasRoom s = WorldHasRoom s.world
 
 -- whatever event comes next, the count of the letters that were sent has 64 bits after it
 abbrev pub HasRoomForLetters : Whole → Type 0

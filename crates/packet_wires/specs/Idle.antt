@@ -4,14 +4,8 @@ use Rattle.std.specs.List.{list_all}
 use Rattle.link_control.specs.Ends.{End, is_empty}
 use Rattle.world_semantics.specs.World.{is_running}
 use Rattle.message_wires.specs.Idle.{none_enters, none_runs, none_waits, all_marked}
-use Rattle.message_wires.specs.Play.{Whole}
-use Rattle.message_wires.specs.Wires as whole
 use Rattle.packet_wires.specs.Nodes.{Node, all_nodes, end_at}
 use Rattle.packet_wires.specs.Play.{Packeted}
-
--- the site and the world of a state, with no wires under them
-abbrev pub bare : Packeted → Whole
-bare s = record { site = s.site; world = s.world; wires = whole.wires_at_boot }
 
 -- an end, where there is one, has nothing outstanding or queued
 abbrev pub holds_nothing : Option End → Bool
@@ -29,5 +23,5 @@ all_quiet stopped nodes = list_all (λ x. list_all (is_quiet stopped nodes x) al
 -- nothing is left to do: no terminal can enter, no process can run or waits at a mark, channels hold nothing, and what has stopped is marked
 abbrev pub is_idle : Packeted → Bool
 is_idle s =
-    none_enters (bare s)
-    && (none_runs (bare s) && (none_waits s.world.processes && (all_quiet s.world.stopped s.wires.nodes && all_marked s.world)))
+    none_enters s.site s.world
+    && (none_runs s.site s.world && (none_waits s.world.processes && (all_quiet s.world.stopped s.wires.nodes && all_marked s.world)))

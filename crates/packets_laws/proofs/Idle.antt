@@ -13,13 +13,19 @@ use Rattle.world_semantics.specs.World.{is_running}
 use Rattle.letters.specs.Idle.{IsIdle}
 use Rattle.letters.specs.Routes.{Letter}
 use Rattle.message_wires.specs.Idle as whole
+use Rattle.message_wires.specs.Play.{Whole}
+use Rattle.message_wires.specs.Wires.{wires_at_boot}
 use Rattle.wires_laws.proofs.Idle.{idle-both}
-use Rattle.packet_wires.specs.Idle.{bare, holds_nothing, is_quiet, all_quiet, is_idle}
+use Rattle.packet_wires.specs.Idle.{holds_nothing, is_quiet, all_quiet, is_idle}
 use Rattle.packet_wires.specs.Nodes.{numbers, all_nodes, end_at}
 use Rattle.packet_wires.specs.Play.{Packeted}
 use Rattle.packet_nets.specs.Owing.{carried, goes, between, IsOpen, TiesAtRest}
 use Rattle.packet_nets.proofs.Between.{between-yes, between-no, goes-there}
 use Rattle.packet_nets.proofs.Tied.{running-low, running-stands}
+
+-- the site and the world of a state, with no wires under them
+abbrev bare : Packeted → Whole
+bare s = record { site = s.site; world = s.world; wires = wires_at_boot }
 
 -- a way whose sender holds nothing has handed over all that was pushed
 all-handed : (w : Way) → IsJoint w → w.sender.queue ≡ [] → w.out ≡ w.pushes
@@ -104,8 +110,8 @@ module _ (s : Packeted) (owed sent : List Letter) (few : s.site.processors ≤ 1
   -- an idle state is idle without its wires, and its channels are quiet
   parts : is_idle s ≡ true → (whole.is_idle (bare s) ≡ true) × (all_quiet s.world.stopped s.wires.nodes ≡ true)
   parts idle =
-      let one = both-true (whole.none_enters (bare s)) _ idle in
-      let two = both-true (whole.none_runs (bare s)) _ one.1 in
+      let one = both-true (whole.none_enters s.site s.world) _ idle in
+      let two = both-true (whole.none_runs s.site s.world) _ one.1 in
       let three = both-true (whole.none_waits s.world.processes) _ two.1 in
       let four = both-true (all_quiet s.world.stopped s.wires.nodes) _ three.1 in
       (both_true one.0 (both_true two.0 (both_true three.0 four.1)), four.0)

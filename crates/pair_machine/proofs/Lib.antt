@@ -1,16 +1,6 @@
-pub mod Again
-pub mod Beginning
-pub mod Changed
-pub mod Closes
-pub mod Kept
-pub mod Lookups
 pub mod Marks
 pub mod PacketKinds
 pub mod Packets
-pub mod Places
-pub mod Reroutes
 pub mod Room
 pub mod Steps
-pub mod Sweeps
-pub mod Terminals
 pub mod Unmarked

@@ -1,69 +1,29 @@
 -- That each part of an event has what it needs: the room of its state, and letters whose count has 64 bits.
-use Rattle.std.proofs.Common.{◌≡◌, inl, inr, ◌≤◌, ◌<◌, ℕ, zero, suc, ◌+◌, ◌-◌, Bool, true, false, List, [], ◌∷◌, length, Option, Some, None, slice_get, slice_set, map, refl, ap, sym, subst, ◌∙◌, arith}
-use Rattle.std.specs.List.{All, cons_option}
+use Rattle.std.proofs.Common.{◌≡◌, inl, inr, ◌≤◌, ◌<◌, ℕ, zero, suc, ◌+◌, ◌-◌, Bool, true, false, List, [], ◌∷◌, Option, Some, None, slice_get, refl, sym, subst, ◌∙◌, ap, arith}
+use Rattle.std.specs.List.{cons_option}
+use Rattle.std.specs.Option.{option_map}
 use Rattle.gd_words.specs.Members.{IsAmong}
 use Rattle.schedule.specs.declared.event.Event.{Event}
-use Rattle.world_semantics.specs.declared.which.Which.{Which}
-use Rattle.world_semantics.specs.declared.which.Which.TheVariants.{First, Second}
 use Rattle.world_semantics.specs.Messages.{Sending}
-use Rattle.world_semantics.specs.Rules.{after_marking, marked_pair, taker}
 use Rattle.world_semantics.specs.Running.{Done}
-use Rattle.world_semantics.specs.World.{Pair}
-use Rattle.world_semantics.proofs.Lists.{map-all, set-all, some-same}
+use Rattle.world_semantics.proofs.Lists.{some-same}
 use Rattle.computed_changes.specs.Stopped.{mark_where, marked_done, marked_where, may_mark}
 use Rattle.letters.specs.Routes.{Letter, letter_of, letters_of, receiver_of}
 use Rattle.machine_states.specs.States.{Played, Makes, Skips, WouldStop}
 use Rattle.message_wires.specs.Play.{Whole, after_any, made_by, marked_by, marks_from, play}
 use Rattle.message_wires.specs.Wires.{Wires, all_posted, posted}
 use Rattle.number_laws.proofs.Counts.{marks-grow}
-use Rattle.number_ranges.specs.HasRoom.{HasNext, HasNextLong, HasRoom, HasRoomForLetters, PairHasRoom, TerminalHasRoom}
-use Rattle.pair_machine.specs.Room.{AllWatchersHaveRoom, AreCounted, AreCountedAfter, AreCountedTelling, WatchersHaveRoom}
-use Rattle.pair_machine.specs.Seen.{pairs_in}
-use Rattle.pair_machine.specs.Told.{sent_all, sent_in, unsent}
-use Rattle.process_copies.specs.Seen.{Placed}
-use Rattle.pair_machine.proofs.Places.{pair-at, pairs-set}
-use Rattle.std.specs.Option.{option_map}
-
--- The room of a state
-
--- it is a matter of the world alone
-pub room-alike : {s t : Whole} → s.world ≡ t.world → HasRoom s → HasRoom t
-room-alike {s} {t} same room = record {
-  processes = subst (λ w. (number : ℕ) (pair : Pair) → slice_get w.processes number ≡ Some pair → PairHasRoom pair) same room.processes;
-  terminals = subst (λ w. All TerminalHasRoom w.terminals) same room.terminals;
-  shown = subst (λ w. HasNext (length w.shown)) same room.shown;
-}
-
--- a process that is found in its place has room
-pub placed-room : (s : Whole) (places : List Placed) (k : ℕ) (placed : Placed) → s.world.processes ≡ pairs_in places → slice_get places k ≡ Some placed
-    → HasRoom s → PairHasRoom placed.pair
-placed-room s places k placed pairs there room =
-    room.processes k placed.pair
-    (ap (λ all. slice_get all k) pairs ∙ pair-at places k ∙ ap (option_map (λ (placed : Placed). placed.pair)) there)
+use Rattle.number_ranges.specs.HasRoom.{HasNextLong, HasRoom, HasRoomForLetters}
+use Rattle.world_copies.specs.Room.{AllWatchersHaveRoom}
+use Rattle.world_copies.specs.Told.{sent_in}
+use Rattle.world_copies.proofs.Room.{all-marked-room}
+use Rattle.pair_machine.specs.Room.{AreCounted, AreCountedAfter, AreCountedTelling}
+use Rattle.pair_machine.specs.Told.{sent_all, unsent}
 
 -- Marks
 
 pub watchers-room : (s : Whole) → HasRoom s → AllWatchersHaveRoom s.world.processes
 watchers-room s room number pair there k watches = room.processes number pair there k
-
-marked-one : (k : Option Which) (pair : Pair) → WatchersHaveRoom pair → WatchersHaveRoom (after_marking k pair)
-marked-one None pair room k watches = room k watches
-marked-one (Some First) pair room First watches = absurd (cc)
-marked-one (Some First) pair room Second watches =
-    let has = room Second watches in
-    record { next = has.next; taken = has.taken; write = has.write; number = has.number; era = has.era; position = has.position }
-marked-one (Some Second) pair room First watches =
-    let has = room First watches in
-    record { next = has.next; taken = has.taken; write = has.write; number = has.number; era = has.era; position = has.position }
-marked-one (Some Second) pair room Second watches = absurd (cc)
-
--- a mark leaves room to the copies that still watch
-pub marked-room : (node processor : ℕ) (pair : Pair) → WatchersHaveRoom pair → WatchersHaveRoom (marked_pair node processor pair)
-marked-room node processor pair room = marked-one (taker node processor pair) pair room
-
-all-marked-room : (node processor : ℕ) (pairs : List Pair) → AllWatchersHaveRoom pairs → AllWatchersHaveRoom (map (marked_pair node processor) pairs)
-all-marked-room node processor pairs room =
-    map-all (λ number. WatchersHaveRoom) (marked_pair node processor) pairs (λ number pair there. marked-room node processor pair (room number pair there))
 
 -- a mark of a tick leaves room to those that still watch
 pub mark-room : (node processor : ℕ) (s : Whole) → AllWatchersHaveRoom s.world.processes
@@ -78,18 +38,6 @@ mark-room node processor s room = by (slice_get s.world.stopped processor)
     by None = room
     by (Some false) = room
     by (Some true) = where_may (may_mark node processor s.world)
-
--- the process at a place
-pub watcher-there : (places : List Placed) (k : ℕ) (placed : Placed) → slice_get places k ≡ Some placed → AllWatchersHaveRoom (pairs_in places)
-    → WatchersHaveRoom placed.pair
-watcher-there places k placed there rooms =
-    rooms k placed.pair (pair-at places k ∙ ap (option_map (λ (placed : Placed). placed.pair)) there)
-
--- where one process changes that keeps room, and no other one
-pub put-room : (places : List Placed) (k : ℕ) (after : Placed) → WatchersHaveRoom after.pair → AllWatchersHaveRoom (pairs_in places)
-    → AllWatchersHaveRoom (pairs_in (slice_set places k after))
-put-room places k after room rooms =
-    subst AllWatchersHaveRoom (sym (pairs-set places k after)) (set-all (λ number. WatchersHaveRoom) (pairs_in places) k after.pair rooms room)
 
 -- Letters
 

@@ -1,7 +1,5 @@
--- What becomes of the machine where a process does something: first of the process and the records, and then of the wires, to which what it sends is
--- posted. Our own rule.
+-- What becomes of the machine where something is done: first of the world, and then of the wires, to which what it sends is posted. Our own rule.
 use Rattle.std.specs.Prelude.{◌≡◌, List, Option, Some, None}
-use Rattle.std.specs.Option.{option_map}
 use Rattle.world_semantics.specs.Messages.{Sending}
 use Rattle.world_semantics.specs.Running.{Done, world_after}
 use Rattle.letters.specs.Routes.{letters_of}
@@ -9,10 +7,6 @@ use Rattle.machine_states.specs.declared.effect.Effect.{Effect}
 use Rattle.machine_states.specs.declared.effect.Effect.TheVariants as effect
 use Rattle.message_wires.specs.Play.{Whole}
 use Rattle.message_wires.specs.Wires.{all_posted}
-
--- what a change sends, if one is made
-abbrev pub sent_in : Option Done → Option (List Sending)
-sent_in done = option_map (λ made. made.sendings) done
 
 -- the state after a change of its world, if one is made, where what that sends isn't posted yet
 abbrev pub unsent : Whole → Option Done → Whole

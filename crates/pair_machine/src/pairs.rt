@@ -7,10 +7,10 @@ ghost use Rattle.message_wires.specs.Idle.{is_idle};
 ghost use Rattle.message_wires.specs.Play.{packet_at, play, whole_at_boot};
 ghost use Rattle.number_ranges.specs.HasRoom.{HasRoom, HasRoomForLetters};
 ghost use Rattle.process_copies.specs.Starting.{IsStartable};
+ghost use Rattle.world_copies.specs.Seen.{ArePlaced, pairs_in};
 ghost use Rattle.pair_machine.specs.Room.{OpenersAreThere};
-ghost use Rattle.pair_machine.specs.Seen.{ArePlaced, closed_state, kind_at, pairs_in};
+ghost use Rattle.pair_machine.specs.Seen.{closed_state, kind_at};
 
-use crate::terminal::Terminal;
 use crate::whole::Whole;
 use gd_words::NoMemory;
 use logs::Shared;
@@ -21,6 +21,7 @@ use schedule::Event;
 use std::alloc::Global;
 use std::marker::Model;
 use tal_tree::{Act, Shown, Site};
+use world_copies::Terminal;
 
 /// The kind of a packet that carries a piece of a message.
 const PIECE: u8 = 1;
@@ -110,14 +111,14 @@ impl Pairs {
     pub fn writes(&self) -> u32
         ensures { result ≡ writes_in self.now.state.world.shown }
     {
-        self.whole.records.writes()
+        self.whole.world.writes()
     }
 
     /// How many replies were shown.
     pub fn replies(&self) -> u32
         ensures { result ≡ replies_in self.now.state.world.shown }
     {
-        self.whole.records.replies()
+        self.whole.world.replies()
     }
 
     /// Whether nothing is left to do.
@@ -149,21 +150,21 @@ impl Pairs {
     pub fn stopped(&self) -> &[bool]
         ensures { result.now ≡ self.now.state.world.stopped }
     {
-        self.whole.stopped.as_slice()
+        self.whole.world.stopped()
     }
 
     /// How many processors there are.
     pub fn processors(&self) -> u8
         ensures { result ≡ length self.now.state.world.stopped }
     {
-        self.whole.stopped.count()
+        self.whole.world.processors()
     }
 
     /// Which node has marked which processor.
     pub fn marks(&self) -> &Marks
         ensures { result.now ≡ self.now.state.world.marks }
     {
-        &self.whole.marks
+        self.whole.world.marks()
     }
 
     /// The processes in their places, both copies of each.
@@ -171,27 +172,27 @@ impl Pairs {
         ensures processes { pairs_in result.now ≡ self.now.state.world.processes }
         ensures placed { ArePlaced self.now.state.site result.now }
     {
-        self.whole.processes.as_slice()
+        self.whole.world.processes()
     }
 
     pub fn terminals(&self) -> &[Terminal]
         ensures { result.now ≡ self.now.state.world.terminals }
     {
-        self.whole.terminals.as_slice()
+        self.whole.world.terminals()
     }
 
     /// The acts that are kept, in order.
     pub fn acts(&self) -> &[Act]
         ensures { result.now ≡ acts_of self.now.state.world }
     {
-        self.whole.records.acts()
+        self.whole.world.acts()
     }
 
     /// What was shown, in order.
     pub fn shown(&self) -> &[Shown]
         ensures { result.now ≡ reverse self.now.state.world.shown }
     {
-        self.whole.records.shown()
+        self.whole.world.shown()
     }
 }
 

@@ -149,8 +149,8 @@ none-made (Some done) made idle = absurd (idle done.sendings done.world (made do
 module _ (s : Whole) (sent : List Letter) where
   idle-post : is_idle s ≡ true → IsIdle s.site (post_of s sent)
   idle-post idle =
-      let enters = both-true (none_enters s) _ idle in
-      let runs = both-true (none_runs s) _ enters.1 in
+      let enters = both-true (none_enters s.site s.world) _ idle in
+      let runs = both-true (none_runs s.site s.world) _ enters.1 in
       let waits = both-true (none_waits s.world.processes) _ runs.1 in
       let rest = both-true (none_owed s.world.stopped s.wires.owed) _ waits.1 in
       record {

@@ -1,7 +1,8 @@
 use Rattle.std.proofs.Common.{ap, subst, sym}
 use Rattle.message_wires.specs.Play.{Whole}
+use Rattle.number_ranges.specs.HasRoom.{WorldHasRoom}
 use Rattle.pair_machine.specs.Room.{OpenersAreThere}
-use Rattle.pair_machine.proofs.Room.{is-among, room-alike}
+use Rattle.pair_machine.proofs.Room.{is-among}
 use Rattle.pair_machine.proofs.whole.Whole.deliver.Goals as goal
 
 pub receive-requires-clause-opener : goal.receive-requires-clause-opener
@@ -10,4 +11,4 @@ receive-requires-clause-opener c =
     (is-among c.self.inside.wires.bus c.args.k c.in-Some.packet (sym c.in-Some.ensures.packet))
 
 pub receive-requires-clause-room : goal.receive-requires-clause-room
-receive-requires-clause-room c = room-alike (ap (λ (s : Whole). s.world) (sym c.self.view_is)) c.requires.room
+receive-requires-clause-room c = subst WorldHasRoom (ap (λ (s : Whole). s.world) (sym c.self.view_is)) c.requires.room

@@ -1,6 +1,6 @@
 use Rattle.std.proofs.Common.{◌≡◌, ◌-◌, length}
 use Rattle.message_wires.specs.Play.{marks_from}
-use Rattle.pair_machine.specs.Room.{AllWatchersHaveRoom}
+use Rattle.world_copies.specs.Room.{AllWatchersHaveRoom}
 use Rattle.pair_machine.proofs.whole.Whole.mark_each.Given as goal
 
 -- what is left to be marked leads to the same state, and those that still watch have room

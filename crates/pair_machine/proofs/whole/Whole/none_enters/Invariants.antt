@@ -1,8 +1,0 @@
-use Rattle.std.proofs.Common.{◌≡◌, ◌-◌, length, is_none}
-use Rattle.computed_changes.specs.Entered.{enter_done}
-use Rattle.message_wires.specs.Idle.{all_from, none_enters}
-use Rattle.pair_machine.proofs.whole.Whole.none_enters.Given as goal
-
-abbrev pub invariant-loop-terminal : goal.invariant-loop-terminal
-invariant-loop-terminal l = none_enters l.self
-    ≡ all_from (λ terminal. is_none (enter_done l.self.site terminal l.self.world)) l.terminal (length l.self.world.terminals - l.terminal)

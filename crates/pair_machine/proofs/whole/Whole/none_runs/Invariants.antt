@@ -1,8 +1,0 @@
-use Rattle.std.proofs.Common.{◌≡◌, ◌-◌, length, is_none}
-use Rattle.world_semantics.specs.Running.{run_done}
-use Rattle.message_wires.specs.Idle.{all_from, none_runs}
-use Rattle.pair_machine.proofs.whole.Whole.none_runs.Given as goal
-
-abbrev pub invariant-loop-number : goal.invariant-loop-number
-invariant-loop-number l =
-    none_runs l.self ≡ all_from (λ number. is_none (run_done l.self.site number l.self.world)) l.number (length l.self.world.processes - l.number)

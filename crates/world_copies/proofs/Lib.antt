@@ -1,0 +1,13 @@
+pub mod Again
+pub mod Beginning
+pub mod Changed
+pub mod Closes
+pub mod Kept
+pub mod Lookups
+pub mod Marks
+pub mod Places
+pub mod Reroutes
+pub mod Room
+pub mod Steps
+pub mod Sweeps
+pub mod Terminals

@@ -1,0 +1,9 @@
+pub mod Again
+pub mod Changes
+pub mod Closed
+pub mod Closing
+pub mod Room
+pub mod Seen
+pub mod SiteWorld
+pub mod Starting
+pub mod Told

@@ -1,0 +1,22 @@
+-- What the parts of the world in code show.
+use Rattle.std.specs.Prelude.{◌≡◌, ℕ, ◌+◌, List, [], ◌∷◌, map, slice_get, Option, Some}
+use Rattle.tal_tree.specs.declared.site.Site.{Site}
+use Rattle.tal_tree.specs.declared.site.TerminalSpec.{TerminalSpec}
+use Rattle.tal_tree.specs.declared.site.Who.TheVariants as who
+use Rattle.plain_semantics.specs.declared.slot.Opener.{Opener}
+use Rattle.plain_semantics.specs.Openers.{opener_of}
+use Rattle.world_semantics.specs.World.{Pair}
+use Rattle.process_copies.specs.Seen.{Placed}
+
+-- the processes of places
+abbrev pub pairs_in : List Placed → List Pair
+pairs_in places = map (λ placed. placed.pair) places
+
+-- each process is in its place of the site
+abbrev pub ArePlaced : Site → List Placed → Type 0
+ArePlaced site places = (number : ℕ) (placed : Placed) → slice_get places number ≡ Some placed → (placed.site ≡ site) × (placed.number ≡ number)
+
+-- for each terminal, from a number on, the opener that it is
+abbrev pub terminal_row : Site → ℕ → List TerminalSpec → List (Option Opener)
+terminal_row site number [] = []
+terminal_row site number (terminal ∷ terminals) = opener_of site (who.Terminal number) ∷ terminal_row site (number + 1) terminals

@@ -1,0 +1,145 @@
+ghost use Rattle.std.specs.Prelude.{◌≡◌, length, reverse};
+ghost use Rattle.node_copies.specs.ShownCounts.{replies_in, writes_in};
+ghost use Rattle.world_semantics.specs.Kept.{acts_of};
+ghost use Rattle.world_semantics.specs.World.{has_marked, is_running};
+ghost use Rattle.world_copies.specs.Seen.{ArePlaced, pairs_in};
+
+use crate::processors::Processors;
+use crate::terminal::Terminal;
+use gd_words::List;
+use logs::Shared;
+use node_copies::{Address, Marks, Records};
+use process_copies::ProcessCopies;
+use sendings::is_running;
+use std::alloc::Global;
+use std::marker::Model;
+use tal_tree::{Act, Shown, Site};
+
+/// The world of copies: its site, where its terminals stand, which processors have stopped, which node has marked which,
+/// the processes, the terminals, and what happened.
+#[derive(Drop)]
+pub struct WorldCopies {
+    pub(crate) alloc: Global,
+    pub(crate) site: Shared<Site>,
+    pub(crate) places: List<Option<Address>>,
+    pub(crate) stopped: Processors,
+    pub(crate) marks: Marks,
+    pub(crate) processes: Vec<ProcessCopies>,
+    pub(crate) terminals: Vec<Terminal>,
+    pub(crate) records: Records,
+}
+
+impl Model for WorldCopies {
+    ghost use Rattle.std.specs.Prelude.{◌≡◌, length};
+    ghost use Rattle.std.specs.Coded.{codes};
+    ghost use Rattle.tal_tree.specs.contracts.statement.Statement as statement;
+    ghost use Rattle.world_copies.specs.SiteWorld.{SiteWorld};
+    ghost use Rattle.world_copies.specs.Seen.{ArePlaced, pairs_in, terminal_row};
+
+    ghost Value = { SiteWorld };
+
+    ghost coded = { Prim.hlevel (codes, statement.the_row.coded) };
+
+    ghost view = { λ m. record {
+      site = m.site;
+      world = record {
+        stopped = m.stopped;
+        marks = m.marks;
+        requests = m.records.requests;
+        replies = m.records.replies;
+        processes = pairs_in m.processes.items;
+        terminals = m.terminals.items;
+        shown = m.records.shown;
+        kept = m.records.kept;
+      };
+    } };
+
+    ghost invariant = { λ m. ArePlaced m.site m.processes.items
+        × (length m.processes.items ≡ length m.site.processes)
+        × (m.places ≡ terminal_row m.site 0 m.site.terminals) };
+}
+
+impl WorldCopies {
+    /// Which processors have stopped.
+    pub fn stopped(&self) -> &[bool]
+        ensures { result.now ≡ self.now.world.stopped }
+    {
+        self.stopped.as_slice()
+    }
+
+    /// How many processors there are.
+    pub fn processors(&self) -> u8
+        ensures { result ≡ length self.now.world.stopped }
+    {
+        self.stopped.count()
+    }
+
+    /// Whether a node runs.
+    pub fn is_running(&self, node: u8) -> bool
+        ensures { result ≡ is_running self.now.world.stopped node }
+    {
+        is_running(self.stopped.as_slice(), node)
+    }
+
+    /// Which node has marked which processor.
+    pub fn marks(&self) -> &Marks
+        ensures { result.now ≡ self.now.world.marks }
+    {
+        &self.marks
+    }
+
+    /// Whether a node has marked a processor.
+    pub fn has_marked(&self, node: u8, processor: u8) -> bool
+        ensures { result ≡ has_marked self.now.world.marks node processor }
+    {
+        self.marks.has(node, processor)
+    }
+
+    /// The processes in their places, both copies of each.
+    pub fn processes(&self) -> &[ProcessCopies]
+        ensures processes { pairs_in result.now ≡ self.now.world.processes }
+        ensures placed { ArePlaced self.now.site result.now }
+    {
+        self.processes.as_slice()
+    }
+
+    pub(crate) fn process_count(&self) -> usize
+        ensures { result ≡ length self.now.world.processes }
+    {
+        self.processes.len()
+    }
+
+    pub fn terminals(&self) -> &[Terminal]
+        ensures { result.now ≡ self.now.world.terminals }
+    {
+        self.terminals.as_slice()
+    }
+
+    /// The acts that are kept, in order.
+    pub fn acts(&self) -> &[Act]
+        ensures { result.now ≡ acts_of self.now.world }
+    {
+        self.records.acts()
+    }
+
+    /// What was shown, in order.
+    pub fn shown(&self) -> &[Shown]
+        ensures { result.now ≡ reverse self.now.world.shown }
+    {
+        self.records.shown()
+    }
+
+    /// How many writes were shown.
+    pub fn writes(&self) -> u32
+        ensures { result ≡ writes_in self.now.world.shown }
+    {
+        self.records.writes()
+    }
+
+    /// How many replies were shown.
+    pub fn replies(&self) -> u32
+        ensures { result ≡ replies_in self.now.world.shown }
+    {
+        self.records.replies()
+    }
+}
