@@ -25,22 +25,18 @@ pub enum Neighbour {
 }
 
 impl Neighbour {
-    /// After an alive packet from it.
-    pub fn heard(&self) -> Neighbour
-        ensures { result ≡ heard self.now }
+    /// An alive packet came from it.
+    pub fn hear(&mut self)
+        ensures { self.new ≡ heard self.old }
     {
         match self {
-            Neighbour::Absent => Neighbour::Absent,
+            Neighbour::Absent => {}
             Neighbour::Up {
-                heard: _,
-                missed,
-                report,
-            } => Neighbour::Up {
-                heard: true,
-                missed: *missed,
-                report: *report,
-            },
-            Neighbour::Down => Neighbour::Down,
+                heard,
+                missed: _,
+                report: _,
+            } => *heard = true,
+            Neighbour::Down => {}
         }
     }
 

@@ -49,8 +49,8 @@ impl Watch {
         ensures { self.new ≡ changed_at from heard self.old }
     {
         let place = usize::from(from);
-        if let Some(neighbour) = self.neighbours.get(place) {
-            self.neighbours[place] = neighbour.heard();
+        if let Some(_there) = self.neighbours.get(place) {
+            self.neighbours[place].hear();
         }
     }
 
@@ -130,7 +130,8 @@ impl Watch {
         later.decide()
     }
 
-    fn holds(&self, processor: u8) -> bool
+    /// Whether all agree that a processor is silent, and the node is the coordinator.
+    pub fn holds(&self, processor: u8) -> bool
         ensures { result ≡ is_held processor self.now }
     {
         self.me < 16
