@@ -72,7 +72,11 @@ impl Bus {
         ensures value { result ≡ slice_get self.old position }
         ensures after { self.new ≡ remove self.old position }
     {
-        self.packets.remove(position)
+        if position == 0 {
+            self.packets.pop_front()
+        } else {
+            self.packets.remove(position)
+        }
     }
 
     /// Sends the packet at a position once more; whether the copy found room, and none where no packet stands there.
