@@ -1,6 +1,6 @@
 -- One end of a channel: what it has, and what each call makes of it. That messages go in numbered packets, acknowledged and sent again over two buses, is
 -- Bartlett's; one outstanding piece at a time, and when it is sent again, are our own.
-use Rattle.std.specs.Prelude.{ℕ, ◌+◌, ◌*◌, ◌<◌, ◌==◌, ◌&&◌, not, nat_lt, nat_le, ℤ, Bool, true, false, List, [], ◌∷◌, ◌++◌, length, Option, Some, None, if◌then◌else◌}
+use Rattle.std.specs.Prelude.{◌≡◌, ℕ, ◌+◌, ◌*◌, ◌<◌, ◌==◌, ◌&&◌, not, nat_lt, nat_le, ℤ, Bool, true, false, List, [], ◌∷◌, ◌++◌, length, Option, Some, None, if◌then◌else◌}
 use Rattle.std.specs.Option.{option_map}
 use Rattle.wire.specs.declared.bus_name.BusName.{BusName}
 use Rattle.wire.specs.declared.bus_name.BusName.TheVariants as bus
@@ -182,6 +182,10 @@ sent_by_tick e =
 abbrev pub after_down : End → End
 after_down e = record e { sending = idle_after e.sending.numbered; receiving = nothing_in_part e.receiving.kept; down = true }
 
+-- the packet that tells the other node that this one is alive; none goes to a node that is marked down
+abbrev pub alive_of : End → Option Packet
+alive_of e = if e.down then None else Some (packet_of e kind.Alive)
+
 -- whether nothing is outstanding or queued
 abbrev pub is_empty : End → Bool
 is_empty e = is_idle e.sending
@@ -189,3 +193,7 @@ is_empty e = is_idle e.sending
 -- whether one more piece can be numbered, and one more kept: numbers end at 4,294,967,295
 abbrev pub HasNumbersLeft : End → Type 0
 HasNumbersLeft e = (e.sending.numbered < 4294967295) × (e.receiving.kept < 4294967295)
+
+-- what is pushed finds a number: it needs one where it goes at once
+abbrev pub HasNumberForPush : End → Type 0
+HasNumberForPush e = e.down ≡ false → is_idle e.sending ≡ true → e.sending.numbered < 4294967295

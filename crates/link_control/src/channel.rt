@@ -1,6 +1,6 @@
 ghost use Rattle.std.specs.Prelude.{◌≡◌, ◌<◌, ◌↔◌, IsTrue, List as Items, length, IfOk, OnOk, OnErr, Some, None, if◌then◌else◌};
 ghost use Rattle.wire.specs.declared.packet.PacketKind.TheVariants as kind;
-ghost use Rattle.link_control.specs.Ends.{End, new_end, after_push, sent_by_push, after_packet, sent_by_packet, handed_by_packet, after_tick, sent_by_tick, after_down, is_empty, HasNumbersLeft, outstanding, packet_of, is_kept, kept, handed};
+ghost use Rattle.link_control.specs.Ends.{End, new_end, after_push, sent_by_push, after_packet, sent_by_packet, handed_by_packet, after_tick, sent_by_tick, after_down, alive_of, is_empty, HasNumberForPush, HasNumbersLeft, outstanding, packet_of, is_kept, kept, handed};
 
 use crate::sender::Sender;
 use gd_words::{List, NoMemory};
@@ -67,7 +67,7 @@ impl Channel {
 
     /// Takes a message to be sent; it gives the packet that goes out now, over bus X. Without memory nothing changes.
     pub fn push(&mut self, message: List<i16>) -> Result<Option<Packet>, NoMemory>
-        requires numbered { self.old.sending.numbered < 4294967295 }
+        requires numbered { HasNumberForPush self.old }
         requires some { 0 < length message }
         ensures sent { IfOk result (λ packet. packet ≡ sent_by_push message self.old) }
         ensures after { OnOk result (self.new ≡ after_push message self.old) }
@@ -145,6 +145,17 @@ impl Channel {
         self.sender.clear();
         self.joiner.clear();
         self.down = true;
+    }
+
+    /// The packet that tells the other node that this one is alive; none to a node that is marked down.
+    pub fn alive(&self) -> Option<Packet>
+        ensures { result ≡ alive_of self.now }
+    {
+        if self.down {
+            None
+        } else {
+            Some(self.packet_of(PacketKind::Alive))
+        }
     }
 
     /// Whether nothing is outstanding or queued.

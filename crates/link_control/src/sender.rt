@@ -1,4 +1,4 @@
-ghost use Rattle.std.specs.Prelude.{◌≡◌, ◌<◌, ◌≤◌, ◌+◌, OnOk, OnErr};
+ghost use Rattle.std.specs.Prelude.{◌≡◌, ◌<◌, ◌≤◌, ◌+◌, true, OnOk, OnErr};
 ghost use Rattle.link_control.specs.Ends.{Sending, idle_after, begun, is_idle, pushed, is_ended_by, acknowledged, is_sent_again, ticked, piece_of, moved_on};
 
 use gd_words::{List, NoMemory};
@@ -74,11 +74,11 @@ impl Sender {
 
     /// Takes a message. Without memory nothing changes.
     pub fn push(&mut self, message: List<i16>) -> Result<(), NoMemory>
-        requires { self.old.numbered < 4294967295 }
+        requires { is_idle self.old ≡ true → self.old.numbered < 4294967295 }
         ensures after { OnOk result (self.new ≡ pushed message self.old) }
         ensures err { OnErr result (self.new ≡ self.old) }
     {
-        let was_idle = self.queue.is_empty();
+        let was_idle = self.is_idle();
         self.queue.push_back(message)?;
         if was_idle {
             self.begin();
