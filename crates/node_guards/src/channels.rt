@@ -2,7 +2,7 @@ ghost use Rattle.std.specs.Prelude.{◌≡◌, true, false, Some, None};
 ghost use Rattle.std.specs.Option.{option_map};
 ghost use Rattle.wire.specs.declared.bus_name.BusName.TheVariants.{X, Y};
 ghost use Rattle.wire.specs.declared.packet.PacketKind.TheVariants as kind;
-ghost use Rattle.link_control.specs.Ends.{after_down, after_packet, after_push, after_tick, handed_by_packet, is_empty, sent_by_packet, sent_by_push, sent_by_tick};
+ghost use Rattle.link_control.specs.Ends.{after_down, after_packet, after_push, after_tick, alive_of, handed_by_packet, is_empty, sent_by_packet, sent_by_push, sent_by_tick};
 ghost use Rattle.node_guards.specs.Channels.{acknowledgement, begun, fresh, full_piece, last_piece};
 ghost use Rattle.node_guards.specs.Packets.{message_of, packet_of};
 
@@ -44,4 +44,11 @@ pub fn a_node_that_is_down_is_left_alone()
     ensures tick { sent_by_tick (after_tick (after_down begun)) ≡ None }
     ensures packet { sent_by_packet (full_piece 1) (after_down fresh) ≡ None }
     ensures empty { is_empty (after_down begun) ≡ true }
+{}
+
+/// A node tells another one that it is alive, unless that one is marked down.
+pub fn an_alive_packet_goes_to_who_is_up()
+    ensures up { alive_of fresh ≡ Some (packet_of 1 2 kind.Alive) }
+    ensures busy { alive_of begun ≡ Some (packet_of 1 2 kind.Alive) }
+    ensures down { alive_of (after_down begun) ≡ None }
 {}
