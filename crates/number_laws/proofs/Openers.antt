@@ -34,7 +34,7 @@ use Rattle.computed_changes.specs.Fitting.{depths_of, put_fitting}
 use Rattle.computed_changes.specs.Checkpoints.{is_next_for, is_of_last}
 use Rattle.computed_changes.specs.Handed.{brought_to, copy_in, handed_done, replied_done, step_by}
 use Rattle.computed_changes.specs.Replies.{awaits, awaits_at, printed_at, printed_done, printed_where}
-use Rattle.world_semantics.proofs.Lifted.{lifted, mark_done, own_made, passed_done, run_as, run_at}
+use Rattle.world_semantics.proofs.Lifted.{lifted, mark_done, own_made, run_as, run_at}
 use Rattle.computed_changes.proofs.Lifted.{acknowledged_where, applied_made, applied_where, asked_done, checkpoint_done, got_done, got_where, taken_done}
 use Rattle.computed_changes.specs.Stopped.{stop_where, stop_done, marked_where, mark_where, marked_done}
 use Rattle.letters.specs.Again.{rerouted, awaited_at, awaited_from, entered_last, if_acts_on, asks_again, tells_again, of_copies, of_terminals, terminals_ask, sent_again}
@@ -164,12 +164,8 @@ module _ (site : Site) (w : World) where
   run-point : (number : ℕ) (k : Which) (pair : Pair) (stands : Point) → AnyNames site (run_at site number k pair w stands)
   run-point number k pair point.Mark = by (may_pass w.marks k pair) (copy_of k pair).sent
     where
-      passed : (again : Bool) → AreNaming site (passed_done number k pair w again).sendings
-      passed true = tt
-      passed false = tt
-
       by : (passes sent : Bool) → AnyNames site (mark_done number k pair w passes sent)
-      by true sent = passed _
+      by true sent = tt
       by false true = tt
       by false false = (tt, tt)
   run-point number k pair point.Inner = acts-named number k pair point.Inner
