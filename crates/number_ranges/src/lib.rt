@@ -3,3 +3,4 @@
 //!
 //! Below stands `message_wires` with what an event makes of a state. What changes numbers requires that they have room;
 //! `number_laws` shows that they have before each event of what is played.
+#![tactic(auto)]
