@@ -1,3 +1,2 @@
-mod NumberRead
 pub mod Ranges
 mod Refused

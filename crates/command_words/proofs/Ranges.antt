@@ -5,9 +5,9 @@ use Rattle.std.specs.List.{after_first, before_first}
 use Rattle.std.specs.Str.{bytes_eq}
 use Rattle.std.proofs.lemmas.Bool.{and_parts, leb-true}
 use Rattle.clap.specs.Words.{Row, Text, first_of}
+use Rattle.deck_lines.specs.Numbers.{number_of}
 use Rattle.command_words.specs.Asked.{IsInRange, acts_in, asked_by, check_as, command_as, command_in, load_as, load_of, run_as, stop_at, stop_of, sweep_as, sweep_of}
 use Rattle.command_words.specs.Line.{parse_of}
-use Rattle.command_words.specs.Numbers.{number_of}
 use Rattle.command_words.specs.declared.asked.Command.TheVariants.{Run, Load, Sweep}
 use Rattle.player.specs.declared.stop.Stop.{Stop}
 

@@ -4,8 +4,8 @@ use Rattle.std.specs.List.{before_first, after_first}
 use Rattle.std.specs.Option.{option_map_or}
 use Rattle.std.specs.Str.{bytes_eq}
 use Rattle.clap.specs.Words.{Row, Text, first_of}
+use Rattle.deck_lines.specs.Numbers.{number_of}
 use Rattle.command_words.specs.Line.{parse_of}
-use Rattle.command_words.specs.Numbers.{number_of}
 use Rattle.command_words.specs.declared.asked.Command.{Command}
 use Rattle.command_words.specs.declared.asked.Command.TheVariants.{Run, Check, Load, Sweep}
 use Rattle.player.specs.declared.stop.Stop.{Stop}

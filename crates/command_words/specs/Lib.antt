@@ -1,4 +1,3 @@
 pub mod Asked
 pub mod Guarded
 pub mod Line
-pub mod Numbers

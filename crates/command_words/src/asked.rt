@@ -3,8 +3,8 @@ ghost use Rattle.clap.specs.Words.{found_of, rows_of};
 ghost use Rattle.command_words.specs.Asked.{IsInRange, acts_in, asked_by, check_as, command_as, command_in, load_as, load_of, run_as, stop_at, stop_of, sweep_as, sweep_of};
 
 use crate::line::{parsed, text_of};
-use crate::numbers::number_of;
 use clap::ArgMatches;
+use deck_lines::number_of;
 use gd_words::NoMemory;
 use player::Stop;
 use std::alloc::Global;
@@ -97,7 +97,7 @@ fn load_as(number: Option<&str>, acts: bool, fail: Option<&str>) -> Option<Comma
     ensures { result ≡ load_as (option_map (λ s. s.now) number.entry) acts (option_map (λ s. s.now) fail.entry) }
 {
     match (number, acts, fail) {
-        (Some(number), false, None) => load_of(number_of(number)),
+        (Some(number), false, None) => load_of(number_of(number.as_bytes())),
         _ => None,
     }
 }
@@ -115,7 +115,7 @@ fn sweep_as(number: Option<&str>, acts: bool, fail: Option<&str>) -> Option<Comm
     ensures { result ≡ sweep_as (option_map (λ s. s.now) number.entry) acts (option_map (λ s. s.now) fail.entry) }
 {
     match (number, acts, fail) {
-        (Some(number), false, None) => sweep_of(number_of(number)),
+        (Some(number), false, None) => sweep_of(number_of(number.as_bytes())),
         _ => None,
     }
 }
@@ -133,7 +133,7 @@ fn stop_of(text: &str) -> Option<Stop>
     ensures { result ≡ stop_of text.now }
 {
     let (processor, after) = text.split_once(':')?;
-    stop_at(number_of(processor), number_of(after))
+    stop_at(number_of(processor.as_bytes()), number_of(after.as_bytes()))
 }
 
 fn stop_at(processor: Option<u32>, after: Option<u32>) -> Option<Stop>
