@@ -4,9 +4,9 @@ use denote.Hole.Carrier.{shown, out}
 use Rattle.tal_tree.specs.declared.statement.What.{out-What}
 use Rattle.tal_tree.specs.declared.statement.What.TheBlock.{shown-the_row-Statement-0}
 use Rattle.advice.specs.Choice.{deepest}
-use Rattle.advice_guards.specs.Programs.{two_lists, elements, asking_once, asking_twice, asking_four, unreached, branching, calling, targeting, shared, again, serving}
+use Rattle.advice_guards.specs.Programs.{two_lists, elements, asking_once, asking_twice, asking_four, asking_five, unreached, branching, calling, targeting, shared, again, serving}
 use Rattle.advice_guards.proofs.Listed.{AreAll}
-use Rattle.advice_guards.proofs.Stands.{again_stands, again_ways, branching_stands, branching_ways, calling_stands, element_stands, four_stands, four_ways, once_stands, serving_stands, serving_ways, shared_stands, shared_ways, targeting_stands, three_ways, twice_stands, two_stands, two_ways, unreached_stands, unreached_ways}
+use Rattle.advice_guards.proofs.Stands.{again_stands, again_ways, branching_stands, branching_ways, calling_stands, element_stands, five_stands, four_stands, four_ways, once_stands, serving_stands, serving_ways, shared_stands, shared_ways, targeting_stands, three_ways, twice_stands, two_stands, two_ways, unreached_stands, unreached_ways}
 
 pub two_lists-all : AreAll two_lists two_stands two_ways
 unfolding out-What shown-the_row-Statement-0 shown out
@@ -59,3 +59,7 @@ serving-all = record { begins = refl; lead = refl }
 pub deepest_four-all : AreAll (deepest asking_four) four_stands four_ways
 unfolding out-What shown-the_row-Statement-0 shown out
 deepest_four-all = record { begins = refl; lead = refl }
+
+pub deepest_five-all : AreAll (deepest asking_five) five_stands two_ways
+unfolding out-What shown-the_row-Statement-0 shown out
+deepest_five-all = record { begins = refl; lead = refl }

@@ -1,3 +1,4 @@
 pub mod All
+pub mod Levels
 pub mod Listed
 pub mod Stands

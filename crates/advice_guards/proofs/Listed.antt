@@ -22,7 +22,7 @@ both : (a b : Bool) → IsTrue (a && b) → IsTrue a × IsTrue b
 both true b is = (refl, is)
 both false b is = never is
 
-each-does : {A : Type 0} (test : A → Bool) (xs : List A) (x : A) → IsTrue (list_all test xs) → IsAmong x xs → IsTrue (test x)
+pub each-does : {A : Type 0} (test : A → Bool) (xs : List A) (x : A) → IsTrue (list_all test xs) → IsAmong x xs → IsTrue (test x)
 each-does test [] x all among = absurd among
 each-does test (y ∷ ys) x all (inl same) = subst (λ z. IsTrue (test z)) (sym same) (both _ _ all).0
 each-does test (y ∷ ys) x all (inr among) = each-does test ys x (both _ _ all).1 among

@@ -4,7 +4,7 @@ use Rattle.process_semantics.specs.State.{Entry, runs_of}
 use Rattle.path_semantics.specs.declared.dues.Dues.{Dues}
 use Rattle.path_semantics.specs.Dues.{no_dues, after_entry}
 use Rattle.path_semantics.specs.Place.{Place, Stand, body_of}
-use Rattle.advice_guards.specs.Programs.{two_lists, stopping, unreached, calling, targeting, shared, elements, first_branch, second_branch, branching, round, again, asking_once, asking_twice, asking_four, turn, serving}
+use Rattle.advice_guards.specs.Programs.{two_lists, stopping, unreached, calling, targeting, shared, elements, first_branch, second_branch, branching, round, again, asking_once, asking_twice, asking_four, asking_five, turn, serving}
 
 -- at a place, where these globals are due, these files were asked, and a request was read or not
 abbrev stand : Place → List ℕ → List ℕ → Bool → Stand
@@ -47,6 +47,9 @@ four_stands = along no_dues (body_of asking_four 0)
 
 abbrev pub four_ways : List (List ℕ)
 four_ways = (1 ∷ []) ∷ (2 ∷ []) ∷ (3 ∷ []) ∷ (4 ∷ []) ∷ [] ∷ []
+
+abbrev pub five_stands : List Stand
+five_stands = along no_dues (body_of asking_five 0)
 
 -- with an IF, whose first branch stops
 

@@ -1,6 +1,7 @@
 ghost use Rattle.std.specs.Prelude.{◌≡◌, [], ◌∷◌};
-ghost use Rattle.advice.specs.Answer.{checkpoints_of, IsAnswer};
-ghost use Rattle.advice_guards.specs.Programs.{serving, two_lists, at, marks};
+ghost use Rattle.path_semantics.specs.declared.reason.Reason.TheVariants.{Input, Depth};
+ghost use Rattle.advice.specs.Answer.{checkpoints_of, IsAnswer, IsUnmendable};
+ghost use Rattle.advice_guards.specs.Programs.{serving, two_lists, hasty, asking_five, at, marks};
 
 /// The CHECKPOINTs of a program in the order of its text.
 pub fn checkpoints_are_all_in_order()
@@ -16,4 +17,10 @@ pub fn answers_are_told()
           ∷ record { statement = 5; line = 15; items = 1 ∷ []; files = [] } ∷ [];
       depths = 1 ∷ 1 ∷ [];
     }) }
+{}
+
+/// A REPLY without a CHECKPOINT behind the READUPDATE is unmendable, and so is a fifth WRITEREAD, each with its shortest path.
+pub fn what_is_unmendable_is_told()
+    ensures input { IsUnmendable hasty Input (1 ∷ 2 ∷ []) }
+    ensures depth { IsUnmendable asking_five (Depth 1) (1 ∷ 2 ∷ 3 ∷ 4 ∷ 5 ∷ []) }
 {}
