@@ -40,9 +40,9 @@ module _ (items files : ℕ) where
   abbrev Own : Statement → Type 0
   Own statement = TouchesOwn (out-What statement.what)
 
-  record AreOwn (dues : Dues) : Type 0 where
-    globals : (item : ℕ) → IsAmong item dues.globals → item < items
-    asked : (file : ℕ) → IsAmong file dues.asked → file < files
+  pub record AreOwn (dues : Dues) : Type 0 where
+    pub globals : (item : ℕ) → IsAmong item dues.globals → item < items
+    pub asked : (file : ℕ) → IsAmong file dues.asked → file < files
 
   changed-own : (more : List ℕ) (dues : Dues) → ((item : ℕ) → IsAmong item more → item < items) → AreOwn dues → AreOwn (with_changed more dues)
   changed-own more dues there own = record {
@@ -185,7 +185,8 @@ all-own program regular procedure statement among inner =
     let at = place-of procedure program.procedures among in
     touches-own program (length procedure.locals) procedure.gives (out-What statement.what) ((regular.procedures at.0 procedure at.1).statements statement inner)
 
-dues-own : (program : Program) → IsRegular program → (path : List ℕ) (stand : Stand) → Leads program path stand → AreOwn (length program.items) (length program.files) stand.dues
+-- what is due where a path leads is of the program's own globals and files
+pub dues-own : (program : Program) → IsRegular program → (path : List ℕ) (stand : Stand) → Leads program path stand → AreOwn (length program.items) (length program.files) stand.dues
 dues-own program regular path stand leads =
     led-own (length program.items) (length program.files) program
     (entries-kept (Own (length program.items) (length program.files)) program (all-own program regular)) path stand leads

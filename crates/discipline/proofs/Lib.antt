@@ -1,16 +1,9 @@
 pub mod Goals
-pub mod Amounts
 pub mod Cut
-pub mod Queued
 pub mod Unbroken
 pub mod Verdicts
-pub mod Advanced
-pub mod Marks
-pub mod Advancing
-pub mod Trails
 pub mod Idle
 pub mod Impossible
-pub mod Numbers
 pub mod Settling
 pub mod Tried
 pub mod Finding

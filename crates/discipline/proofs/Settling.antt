@@ -141,7 +141,7 @@ zero-after reason (Last statement) due before may none =
     ap (λ (b : Bool). if b then 1 else due) both.0 ∙ none-is due before may both.1
 
 zero-along : (program : Program) (reason : Reason) (entry : Entry) (targets : List ℕ) (due : ℕ) (before : Bool) → MayBe due before
-    → (adds_changed reason targets || due_after reason entry before) ≡ false → cut_after program reason entry targets due ≡ 0
+    → (adds_changed reason targets || due_after reason entry before) ≡ false → cut_after (most_of program reason) reason entry targets due ≡ 0
 zero-along program reason entry targets due before may none =
     let both = or-none (adds_changed reason targets) (due_after reason entry before) none in
     let most = most_of program reason in
@@ -169,7 +169,7 @@ module _ (nodes : List Node) (sets : List Reasons) (count : length sets ≡ leng
   may-be n k due here at (inr (set, there, has)) = inr (subst (λ (s : Reasons). IsTrue (has_reason s reason)) (same-in set here (sym there ∙ at)) has)
 
   stepped : (n k j due : ℕ) (node : Node) (edge : Edge) → slice_get nodes k ≡ Some node → Mark n k due → IsAmong edge (edges_of node) → edge.goal ≡ At j
-      → Mark (n + 1) j (cut_after program reason node.entry edge.targets due)
+      → Mark (n + 1) j (cut_after (most_of program reason) reason node.entry edge.targets due)
   stepped n k j due node edge got mark among goal =
       let inside : k < length nodes = slice_get_within nodes k node got in
       let here = set-at sets k (subst (λ m. k < m) (sym count) inside) in
@@ -178,7 +178,7 @@ module _ (nodes : List Node) (sets : List Reasons) (count : length sets ≡ leng
     where
       by_case : (here : Reasons) → slice_get sets k ≡ Some here → (there : Reasons) → slice_get sets j ≡ Some there
           → IsTrue (adds_changed reason edge.targets || due_after reason node.entry (has_reason here reason)) ⊎ ((adds_changed reason edge.targets || due_after reason node.entry (has_reason here reason)) ≡ false)
-          → Mark (n + 1) j (cut_after program reason node.entry edge.targets due)
+          → Mark (n + 1) j (cut_after (most_of program reason) reason node.entry edge.targets due)
       by_case here at there is (inl due_there) = inr (there, is, settled k node here got at edge j there reason among goal is near due_there)
       by_case here at there is (inr none) = inl (zero-along program reason node.entry edge.targets due (has_reason here reason) (may-be n k due here at mark) none)
 

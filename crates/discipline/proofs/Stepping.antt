@@ -22,8 +22,7 @@ use Rattle.discipline.specs.declared.walker.Way.TheVariants.{Onward, Into, End}
 use Rattle.discipline.specs.declared.walker.Ways.{Ways}
 use Rattle.reason_dues.specs.Amounts.{amount, most_of, after_entry}
 use Rattle.discipline.specs.Walker.{rest_at, Tells, IsNext, LeadsBy, EachLeads, listed, AreWays, IsAt, IsSettled, HasGone, TellsNextIn}
-use Rattle.discipline.proofs.Cut.{entry-cut}
-use Rattle.discipline.proofs.Unbroken.{cut-none}
+use Rattle.reason_dues.proofs.Cut.{cut-none, entry-cut}
 use Rattle.discipline.proofs.Walking.{onward, entered, begins}
 
 module _ (program : Program) (ordered : IsOrdered program) (limits : IsWithinLimits program) where
@@ -61,7 +60,7 @@ module _ (program : Program) (ordered : IsOrdered program) (limits : IsWithinLim
   started reason empty new number last last_due none numbered pushed settles =
       settles (body_of program program.main ∷ []) no_dues
       (begins program ordered limits new number numbered (pushed (subst (λ (ps : List Position). length ps < 64) (sym none) (omega arith)) ∙ ap (λ (ps : List Position). record { procedure = program.main; number = number } ∷ ps) none))
-      (sym (cut-none program reason))
+      (sym (cut-none (most_of program reason) reason))
 
 -- A step
 
@@ -80,7 +79,7 @@ pub cut-by : (program : Program) (reason : Reason) (most due low after new : ℕ
     → (dues : Dues) (entry : Entry) → found ≡ entry → due ≡ min (most_of program reason) (amount reason dues) → new ≡ min (most_of program reason) (amount reason (dues_after dues entry))
 cut-by program reason most due low after new found is_most is_low is_after is_new dues entry same is =
     is_new ∙ ap (min most) (is_after ∙ ap (after_entry reason found) is_low) ∙ ap (λ (m : ℕ). min m (after_entry reason found (min m due))) is_most
-    ∙ ap (λ (e : Entry). min (most_of program reason) (after_entry reason e (min (most_of program reason) due))) same ∙ entry-cut program reason dues entry due is
+    ∙ ap (λ (e : Entry). min (most_of program reason) (after_entry reason e (min (most_of program reason) due))) same ∙ entry-cut (most_of program reason) reason dues entry due is
 
 -- the places of ways, with what the walker makes of them
 module _ (program : Program) (reason : Reason) (positions : List Position) (due after : ℕ) (position : Position) (result : Option Found) (top : Some position ≡ slice_get positions 0)

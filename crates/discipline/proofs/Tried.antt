@@ -1,6 +1,6 @@
 -- Reasons that are tried one after the other.
-use Rattle.std.proofs.Common.{◌≡◌, ◌≤◌, ◌<◌, ◌⊎◌, inl, inr, ℕ, zero, suc, ◌+◌, true, arith, List, [], ◌∷◌, length, add-one, Option, Some, None, slice_get, reverse, refl, ap, subst, sym, ◌∙◌}
-use Rattle.std.specs.Prelude.{is_some}
+use Rattle.std.proofs.Common.{◌≡◌, ◌≤◌, ◌<◌, ◌⊎◌, inl, inr, ℕ, zero, suc, ◌+◌, ◌&&◌, Bool, true, arith, List, [], ◌∷◌, length, Option, Some, None, slice_get, refl, ap, subst, sym, ◌∙◌}
+use Rattle.std.specs.Prelude.{is_some, nat_le}
 use Rattle.gd_words.proofs.Among.{among-at}
 use Rattle.tal_tree.specs.Limits.{IsWithinLimits}
 use Rattle.tal_tree.specs.Regular.{IsRegular}
@@ -10,34 +10,73 @@ use Rattle.path_semantics.specs.declared.reason.Reason.{Reason}
 use Rattle.path_semantics.specs.declared.reason.Reason.TheVariants.{Data, SyncBlock, Input, Depth}
 use Rattle.path_semantics.specs.Accepted.{IsAccepted}
 use Rattle.path_semantics.specs.Bounds.{IsWithinBounds}
-use Rattle.path_semantics.specs.Break.{Breaks}
+use Rattle.path_semantics.specs.declared.dues.Dues.{Dues}
+use Rattle.path_semantics.specs.Break.{Breaks, breaks_entry}
+use Rattle.path_semantics.specs.Place.{next_entry}
+use Rattle.process_semantics.specs.State.{Entry}
 use Rattle.flow_paths.specs.Flow.{IsFlow}
 use Rattle.flow_paths.specs.Graph.{Node}
-use Rattle.discipline.specs.declared.queue.Visit.{Visit}
-use Rattle.reason_dues.specs.Amounts.{is_there, most_of, depth_in}
+use Rattle.reason_dues.specs.Amounts.{is_there, may_break_at, most_of, depth_in}
+use Rattle.due_search.specs.declared.queue.Visit.{Visit}
+use Rattle.due_search.specs.declared.search.Aim.{Aim}
+use Rattle.due_search.specs.Ends.{counted, ends_next, IsEnd, IsFirstEnd, AreReached, HasFound}
+use Rattle.due_search.proofs.Paths.{ends-cut, none-ends}
 use Rattle.discipline.specs.Suspects.{IsKnown}
-use Rattle.discipline.specs.Search.{back, HasEnded}
 use Rattle.discipline.specs.Verdict.{IsLeast, NoneBefore}
+use Rattle.discipline.proofs.Cut.{breaks-is}
 use Rattle.discipline.proofs.Impossible.{no-item, no-file, no-depth}
-use Rattle.discipline.proofs.Queued.{least-there, none-there}
 
 abbrev NoneFor : Program → Reason → Type 0
 NoneFor program reason = (path : List ℕ) → Breaks program path reason → ⊥
 
 -- What a search tells of a reason
 
-module _ (program : Program) (nodes : List Node) (flow : IsFlow program nodes) (reason : Reason) (queue : List Visit) where
-  pub ended-none : HasEnded program nodes reason queue None → NoneFor program reason
-  ended-none searched = none-there program nodes flow reason queue (length queue) searched.search searched.done (omega arith)
+abbrev pub aim_with : Reason → ℕ → Aim
+aim_with reason most = record { reason = reason; most = most; ends = true }
 
-  pub ended-some : (head : ℕ) → HasEnded program nodes reason queue (Some head) → (path : List ℕ)
-      → ((visit : Visit) → slice_get queue head ≡ Some visit → path ≡ reverse (back nodes queue (visit.steps + 1) head)) → IsLeast program reason path
-  ended-some head ended path is =
-      let searched = ended.0 in
-      let at = ended.1 in
-      subst (IsLeast program reason)
-      (sym (is at.visit at.got ∙ ap (λ (n : ℕ). reverse (back nodes queue n head)) (add-one at.visit.steps)))
-      (least-there program nodes flow reason queue head searched.search searched.done at.visit at.node at.got at.there at.breaks)
+module _ (program : Program) (reason : Reason) (there : is_there program reason ≡ true) where
+  abbrev aim : Aim
+  aim = aim_with reason (most_of program reason)
+
+  -- an entry ends the search where it breaks
+  ends-is : (dues : Dues) (next : Option Entry) → ends_next aim dues next ≡ breaks_entry program reason dues next
+  ends-is dues None = refl
+  ends-is dues (Some entry) =
+      ends-cut aim entry dues
+      ∙ ap (λ (b : Bool). may_break_at reason entry && (b && nat_le (most_of program reason) (counted aim dues))) (sym there)
+      ∙ sym (breaks-is program reason dues entry)
+
+  end-breaks : (path : List ℕ) → IsEnd program aim path → Breaks program path reason
+  end-breaks path end = record {
+    front = end.front;
+    number = end.number;
+    stand = end.stand;
+    split = end.split;
+    leads = end.leads;
+    next = end.next;
+    breaks = sym (ends-is end.stand.dues (next_entry end.stand)) ∙ end.ends;
+  }
+
+  breaks-end : (path : List ℕ) → Breaks program path reason → IsEnd program aim path
+  breaks-end path broken = record {
+    front = broken.front;
+    number = broken.number;
+    stand = broken.stand;
+    split = broken.split;
+    leads = broken.leads;
+    next = broken.next;
+    ends = ends-is broken.stand.dues (next_entry broken.stand) ∙ broken.breaks;
+  }
+
+  module _ (nodes : List Node) (flow : IsFlow program nodes) (most : ℕ) (is_most : most ≡ most_of program reason) (queue : List Visit) where
+    pub found-none : HasFound nodes (aim_with reason most) queue None → NoneFor program reason
+    found-none reached path broken =
+        none-ends program nodes flow aim queue (subst (λ (m : ℕ). AreReached nodes (aim_with reason m) queue) is_most reached) path (breaks-end path broken)
+
+    pub found-some : (path : List ℕ) → HasFound nodes (aim_with reason most) queue (Some path) → IsLeast program reason path
+    found-some path found =
+        let first = subst (λ (m : ℕ). IsFirstEnd program (aim_with reason m) path) is_most (found program flow) in
+        record { breaks = end-breaks path first.ends; least = λ other broken. first.least other (breaks-end other broken) }
 
 -- What is known of how much breaks
 

@@ -17,26 +17,23 @@ use Rattle.flow_paths.specs.Flow.{IsFlow}
 use Rattle.flow_paths.specs.Walk.{IsKept, IsMet}
 use Rattle.flow_paths.proofs.Along.{led}
 use Rattle.reason_dues.specs.Amounts.{amount, most_of, cut_after, breaks_with}
-use Rattle.discipline.proofs.Amounts.{amount-none}
-use Rattle.discipline.proofs.Cut.{breaks-is, along-edge}
-
-pub cut-none : (program : Program) (reason : Reason) → min (most_of program reason) (amount reason no_dues) ≡ 0
-cut-none program reason = ap (min (most_of program reason)) (amount-none reason) ∙ (omega arith)
+use Rattle.reason_dues.proofs.Cut.{along-edge, cut-none}
+use Rattle.discipline.proofs.Cut.{breaks-is}
 
 module _ (program : Program) (nodes : List Node) (flow : IsFlow program nodes) (reason : Reason) (M : ℕ → ℕ → ℕ → Type 0) where
   pub record AreMarked : Type 0 where
     pub first : 0 < length nodes → M 0 0 0
     pub step : (n k j due : ℕ) (node : Node) (edge : Edge) → slice_get nodes k ≡ Some node → M n k due → IsAmong edge (edges_of node) → edge.goal ≡ At j
-        → M (n + 1) j (cut_after program reason node.entry edge.targets due)
+        → M (n + 1) j (cut_after (most_of program reason) reason node.entry edge.targets due)
 
   abbrev Holds : ℕ → ℕ → Dues → Type 0
   Holds n k dues = M n k (min (most_of program reason) (amount reason dues))
 
   kept : AreMarked → IsKept nodes Holds
   kept marked = record {
-    first = λ some. subst (M 0 0) (sym (cut-none program reason)) (marked.first some);
+    first = λ some. subst (M 0 0) (sym (cut-none (most_of program reason) reason)) (marked.first some);
     step = λ n k j number dues later holds step. subst (M (n + 1) j)
-        (sym (ap (λ (d : Dues). min (most_of program reason) (amount reason d)) step.due ∙ along-edge program reason dues step.node.entry step.edge.targets))
+        (sym (ap (λ (d : Dues). min (most_of program reason) (amount reason d)) step.due ∙ along-edge (most_of program reason) reason dues step.node.entry step.edge.targets))
         (marked.step n k j (min (most_of program reason) (amount reason dues)) step.node step.edge step.got holds step.among step.goal);
   }
 

@@ -31,8 +31,8 @@ use Rattle.discipline.specs.declared.walker.Way.TheVariants.{Onward, Into}
 use Rattle.reason_dues.specs.Amounts.{amount, most_of, after_changed}
 use Rattle.discipline.specs.Finding.{IsFoundAmong, IsFoundIn, IsFirstNumber}
 use Rattle.discipline.specs.Walker.{rest_at, Tells, IsNext, LeadsBy, IsAt, IsSettled, TellsNextIn, KeepsSettled}
-use Rattle.discipline.proofs.Amounts.{amount-changed}
-use Rattle.discipline.proofs.Cut.{changed-cut}
+use Rattle.reason_dues.proofs.Amounts.{amount-changed}
+use Rattle.reason_dues.proofs.Cut.{changed-cut}
 
 -- What comes next at a position
 

@@ -7,15 +7,15 @@ ghost use Rattle.path_semantics.specs.Bounds.{IsWithinBounds};
 ghost use Rattle.flow_paths.specs.Flow.{IsFlow};
 ghost use Rattle.reason_dues.specs.Sets.{IsNear};
 ghost use Rattle.discipline.specs.Suspects.{IsKnown, HaveNodes, AreSuspects};
-ghost use Rattle.discipline.specs.Search.{IsClear};
+ghost use Rattle.due_search.specs.Search.{IsClear};
 ghost use Rattle.discipline.specs.Verdict.{NoneBefore, IsVerdict, IsTried, AreTriedBefore};
 
-use crate::search::Search;
 use crate::suspects::suspects;
+use due_search::{Aim, Search};
 use flow_paths::{Flow, FlowFault};
 use gd_words::NoMemory;
 use path_semantics::{Reason, Refusal};
-use reason_dues::Reasons;
+use reason_dues::{Reasons, most_of};
 use std::alloc::Global;
 use tal_tree::Program;
 
@@ -53,130 +53,135 @@ fn check_reasons(alloc: Global, program: &Program, flow: &Flow<'_>) -> Result<()
         Ok(suspects) => suspects,
         Err(memory) => return Err(Refusal::NoMemory(memory)),
     };
-    search.try_items(alloc, program, flow, suspects)?;
-    search.try_files(alloc, program, flow, suspects)?;
-    search.try_reason(alloc, program, flow, suspects, Reason::Input)?;
-    search.try_depths(alloc, program, flow, suspects)
+    try_items(alloc, program, flow, suspects, &mut search)?;
+    try_files(alloc, program, flow, suspects, &mut search)?;
+    try_reason(alloc, program, flow, suspects, &mut search, Reason::Input)?;
+    try_depths(alloc, program, flow, suspects, &mut search)
 }
 
-impl Search {
-    /// Tries the globals, as they are declared.
-    fn try_items(
-        &mut self,
-        alloc: Global,
-        program: &Program,
-        flow: &Flow<'_>,
-        suspects: Reasons,
-    ) -> Result<(), Refusal>
-        requires ordered { IsOrdered program.now }
-        requires limits { IsWithinLimits program.now }
-        requires regular { IsRegular program.now }
-        requires bounds { IsWithinBounds program.now }
-        requires flow { IsFlow program.now flow.now }
-        requires suspects { AreSuspects flow.now suspects }
-        requires nodes { HaveNodes flow.now suspects }
-        requires clear { IsClear self.old.seen.items }
-        requires room { length self.old.seen.items ≡ length flow.now * 5 }
-        ensures tried { AreTriedBefore program.now (SyncBlock 0) result }
-        ensures clear { OnOk result (IsClear self.new.seen.items) }
-        ensures room { length self.new.seen.items ≡ length self.old.seen.items }
-    {
-        for item in 0..program.items.len() as u16 {
-            self.try_reason(alloc, program, flow, suspects, Reason::Data(item))?;
-        }
-        Ok(())
+/// Tries the globals, as they are declared.
+fn try_items(
+    alloc: Global,
+    program: &Program,
+    flow: &Flow<'_>,
+    suspects: Reasons,
+    search: &mut Search,
+) -> Result<(), Refusal>
+    requires ordered { IsOrdered program.now }
+    requires limits { IsWithinLimits program.now }
+    requires regular { IsRegular program.now }
+    requires bounds { IsWithinBounds program.now }
+    requires flow { IsFlow program.now flow.now }
+    requires suspects { AreSuspects flow.now suspects }
+    requires nodes { HaveNodes flow.now suspects }
+    requires clear { IsClear search.old.seen.items }
+    requires room { length search.old.seen.items ≡ length flow.now * 5 }
+    ensures tried { AreTriedBefore program.now (SyncBlock 0) result }
+    ensures clear { OnOk result (IsClear search.new.seen.items) }
+    ensures room { length search.new.seen.items ≡ length search.old.seen.items }
+{
+    for item in 0..program.items.len() as u16 {
+        try_reason(alloc, program, flow, suspects, search, Reason::Data(item))?;
     }
+    Ok(())
+}
 
-    /// Tries the files, as they are opened.
-    fn try_files(
-        &mut self,
-        alloc: Global,
-        program: &Program,
-        flow: &Flow<'_>,
-        suspects: Reasons,
-    ) -> Result<(), Refusal>
-        requires ordered { IsOrdered program.now }
-        requires limits { IsWithinLimits program.now }
-        requires regular { IsRegular program.now }
-        requires bounds { IsWithinBounds program.now }
-        requires flow { IsFlow program.now flow.now }
-        requires suspects { AreSuspects flow.now suspects }
-        requires nodes { HaveNodes flow.now suspects }
-        requires before { NoneBefore program.now (SyncBlock 0) }
-        requires clear { IsClear self.old.seen.items }
-        requires room { length self.old.seen.items ≡ length flow.now * 5 }
-        ensures tried { AreTriedBefore program.now Input result }
-        ensures clear { OnOk result (IsClear self.new.seen.items) }
-        ensures room { length self.new.seen.items ≡ length self.old.seen.items }
-    {
-        for file in 0..program.files.len() as u8 {
-            self.try_reason(alloc, program, flow, suspects, Reason::SyncBlock(file))?;
-        }
-        Ok(())
+/// Tries the files, as they are opened.
+fn try_files(
+    alloc: Global,
+    program: &Program,
+    flow: &Flow<'_>,
+    suspects: Reasons,
+    search: &mut Search,
+) -> Result<(), Refusal>
+    requires ordered { IsOrdered program.now }
+    requires limits { IsWithinLimits program.now }
+    requires regular { IsRegular program.now }
+    requires bounds { IsWithinBounds program.now }
+    requires flow { IsFlow program.now flow.now }
+    requires suspects { AreSuspects flow.now suspects }
+    requires nodes { HaveNodes flow.now suspects }
+    requires before { NoneBefore program.now (SyncBlock 0) }
+    requires clear { IsClear search.old.seen.items }
+    requires room { length search.old.seen.items ≡ length flow.now * 5 }
+    ensures tried { AreTriedBefore program.now Input result }
+    ensures clear { OnOk result (IsClear search.new.seen.items) }
+    ensures room { length search.new.seen.items ≡ length search.old.seen.items }
+{
+    for file in 0..program.files.len() as u8 {
+        try_reason(
+            alloc,
+            program,
+            flow,
+            suspects,
+            search,
+            Reason::SyncBlock(file),
+        )?;
     }
+    Ok(())
+}
 
-    /// Tries the depths of the files, as they are opened.
-    fn try_depths(
-        &mut self,
-        alloc: Global,
-        program: &Program,
-        flow: &Flow<'_>,
-        suspects: Reasons,
-    ) -> Result<(), Refusal>
-        requires ordered { IsOrdered program.now }
-        requires limits { IsWithinLimits program.now }
-        requires bounds { IsWithinBounds program.now }
-        requires flow { IsFlow program.now flow.now }
-        requires suspects { AreSuspects flow.now suspects }
-        requires nodes { HaveNodes flow.now suspects }
-        requires before { NoneBefore program.now (Depth 0) }
-        requires clear { IsClear self.old.seen.items }
-        requires room { length self.old.seen.items ≡ length flow.now * 5 }
-        ensures { IsVerdict program.now result }
-    {
-        for file in 0..program.files.len() as u8 {
-            self.try_reason(alloc, program, flow, suspects, Reason::Depth(file))?;
-        }
-        Ok(())
+/// Tries the depths of the files, as they are opened.
+fn try_depths(
+    alloc: Global,
+    program: &Program,
+    flow: &Flow<'_>,
+    suspects: Reasons,
+    search: &mut Search,
+) -> Result<(), Refusal>
+    requires ordered { IsOrdered program.now }
+    requires limits { IsWithinLimits program.now }
+    requires bounds { IsWithinBounds program.now }
+    requires flow { IsFlow program.now flow.now }
+    requires suspects { AreSuspects flow.now suspects }
+    requires nodes { HaveNodes flow.now suspects }
+    requires before { NoneBefore program.now (Depth 0) }
+    requires clear { IsClear search.old.seen.items }
+    requires room { length search.old.seen.items ≡ length flow.now * 5 }
+    ensures { IsVerdict program.now result }
+{
+    for file in 0..program.files.len() as u8 {
+        try_reason(alloc, program, flow, suspects, search, Reason::Depth(file))?;
     }
+    Ok(())
+}
 
-    /// Tries a reason: searches for a shortest path that breaks for it, if it is among those for which any may.
-    fn try_reason(
-        &mut self,
-        alloc: Global,
-        program: &Program,
-        flow: &Flow<'_>,
-        suspects: Reasons,
-        reason: Reason,
-    ) -> Result<(), Refusal>
-        requires ordered { IsOrdered program.now }
-        requires limits { IsWithinLimits program.now }
-        requires bounds { IsWithinBounds program.now }
-        requires flow { IsFlow program.now flow.now }
-        requires suspects { AreSuspects flow.now suspects }
-        requires nodes { HaveNodes flow.now suspects }
-        requires known { IsKnown program.now reason }
-        requires near { IsNear reason }
-        requires before { NoneBefore program.now reason }
-        requires clear { IsClear self.old.seen.items }
-        requires room { length self.old.seen.items ≡ length flow.now * 5 }
-        ensures tried { IsTried program.now reason result }
-        ensures clear { OnOk result (IsClear self.new.seen.items) }
-        ensures room { length self.new.seen.items ≡ length self.old.seen.items }
-    {
-        if !suspects.has(reason) {
-            return Ok(());
-        }
-        match self.first_break(program, flow, reason) {
-            Ok(None) => {
-                self.clear();
-                Ok(())
-            }
-            Ok(Some(place)) => match self.path_to(alloc, flow, place) {
-                Ok(path) => Err(Refusal::Broken { reason, path }),
-                Err(memory) => Err(Refusal::NoMemory(memory)),
-            },
-            Err(memory) => Err(Refusal::NoMemory(memory)),
-        }
+/// Tries a reason: searches for a shortest path that breaks for it, if it is among those for which any may.
+fn try_reason(
+    alloc: Global,
+    program: &Program,
+    flow: &Flow<'_>,
+    suspects: Reasons,
+    search: &mut Search,
+    reason: Reason,
+) -> Result<(), Refusal>
+    requires ordered { IsOrdered program.now }
+    requires limits { IsWithinLimits program.now }
+    requires bounds { IsWithinBounds program.now }
+    requires flow { IsFlow program.now flow.now }
+    requires suspects { AreSuspects flow.now suspects }
+    requires nodes { HaveNodes flow.now suspects }
+    requires known { IsKnown program.now reason }
+    requires near { IsNear reason }
+    requires before { NoneBefore program.now reason }
+    requires clear { IsClear search.old.seen.items }
+    requires room { length search.old.seen.items ≡ length flow.now * 5 }
+    ensures tried { IsTried program.now reason result }
+    ensures clear { OnOk result (IsClear search.new.seen.items) }
+    ensures room { length search.new.seen.items ≡ length search.old.seen.items }
+{
+    if !suspects.has(reason) {
+        return Ok(());
+    }
+    let most = most_of(program, reason);
+    let aim = Aim {
+        reason,
+        most,
+        ends: true,
+    };
+    match search.run(alloc, flow, aim) {
+        Ok(None) => Ok(()),
+        Ok(Some(path)) => Err(Refusal::Broken { reason, path }),
+        Err(memory) => Err(Refusal::NoMemory(memory)),
     }
 }

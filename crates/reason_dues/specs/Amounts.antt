@@ -84,9 +84,9 @@ most_of program (SyncBlock file) = 1
 most_of program Input = 1
 most_of program (Depth file) = depth_in (slice_get program.files file)
 
--- so much after an entry and a change of these globals, cut at what breaks: more makes no difference
-abbrev pub cut_after : Program → Reason → Entry → List ℕ → ℕ → ℕ
-cut_after program reason entry globals n = min (most_of program reason) (after_changed reason globals (after_entry reason entry n))
+-- so much after an entry and a change of these globals, cut at the most that matters: more makes no difference
+abbrev pub cut_after : ℕ → Reason → Entry → List ℕ → ℕ → ℕ
+cut_after most reason entry globals n = min most (after_changed reason globals (after_entry reason entry n))
 
 -- whether a reason speaks of a file that is there, if of a file's depth
 abbrev pub is_there : Program → Reason → Bool

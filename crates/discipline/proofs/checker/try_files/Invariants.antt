@@ -1,0 +1,9 @@
+use Rattle.std.proofs.Common.{◌≡◌, length}
+use Rattle.path_semantics.specs.declared.reason.Reason.TheVariants.{SyncBlock}
+use Rattle.due_search.specs.Search.{IsClear}
+use Rattle.discipline.specs.Verdict.{NoneBefore}
+use Rattle.discipline.proofs.checker.try_files.Given as goal
+
+abbrev pub invariant-loop-file : goal.invariant-loop-file
+invariant-loop-file l =
+    NoneBefore l.program (SyncBlock l.file) × IsClear l.search.seen.items × (length l.search.seen.items ≡ length l.fn.search.seen.items)

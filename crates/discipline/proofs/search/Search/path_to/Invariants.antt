@@ -1,8 +1,0 @@
-use Rattle.std.proofs.Common.{◌≡◌, ◌<◌, ◌++◌, ◌-◌, length}
-use Rattle.discipline.specs.Search.{back}
-use Rattle.discipline.proofs.search.Search.path_to.Given as goal
-
-abbrev pub invariant-loop : goal.invariant-loop
-invariant-loop l =
-    (l.at < length l.self.queue.items)
-    × (l.numbers.items ++ back l.flow l.self.queue.items (l.count - l.counter) l.at ≡ back l.flow l.self.queue.items l.count l.fn.place)

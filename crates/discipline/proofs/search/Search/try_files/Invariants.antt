@@ -1,9 +1,0 @@
-use Rattle.std.proofs.Common.{◌≡◌, length}
-use Rattle.path_semantics.specs.declared.reason.Reason.TheVariants.{SyncBlock}
-use Rattle.discipline.specs.Search.{IsClear}
-use Rattle.discipline.specs.Verdict.{NoneBefore}
-use Rattle.discipline.proofs.search.Search.try_files.Given as goal
-
-abbrev pub invariant-loop-file : goal.invariant-loop-file
-invariant-loop-file l =
-    NoneBefore l.program (SyncBlock l.file) × IsClear l.self.seen.items × (length l.self.seen.items ≡ length l.fn.self.seen.items)
