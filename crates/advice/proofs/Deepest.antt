@@ -1,5 +1,5 @@
 -- A program with the greatest depths has the paths of the program, with the same dues; where it breaks for a depth a file is asked after four.
-use Rattle.std.proofs.Common.{◌≡◌, ◌≤◌, ℕ, ◌&&◌, nat_le, Bool, true, false, IsTrue, List, [], ◌∷◌, map, slice_get, Option, Some, None, option_map, arith, refl, ap, subst, sym, ◌∙◌}
+use Rattle.std.proofs.Common.{◌≡◌, ◌≤◌, ℕ, ◌==◌, ◌&&◌, ◌||◌, nat_le, Bool, true, false, IsTrue, List, [], ◌∷◌, map, slice_get, Option, Some, None, option_map, arith, refl, ap, subst, sym, ◌∙◌}
 use Rattle.std.proofs.lemmas.Option.{slice_get-map}
 use Rattle.gd_words.specs.Members.{IsAmong}
 use Rattle.tal_tree.specs.declared.program.FileUse.{FileUse}
@@ -9,7 +9,7 @@ use Rattle.tal_tree.specs.declared.statement.What.{What, What-F, out-What}
 use Rattle.process_semantics.specs.State.{Entry, Run, Test, Last}
 use Rattle.path_semantics.specs.declared.dues.Dues.{Dues}
 use Rattle.path_semantics.specs.declared.reason.Reason.TheVariants.{Input, Depth}
-use Rattle.path_semantics.specs.Break.{asked_count, is_reached, breaks_depth, breaks_entry}
+use Rattle.path_semantics.specs.Break.{asked_count, is_reached, breaks_by, breaks_entry}
 use Rattle.path_semantics.specs.Dues.{after_entry}
 use Rattle.path_semantics.specs.Path.{Walks, Leads}
 use Rattle.path_semantics.specs.Place.{Place, Stand, ways_of, settled, stands_after, first_stand}
@@ -53,9 +53,14 @@ module _ (program : Program) where
   reached-told None count is = absurd (let wrong : false ≡ true = is in cc)
   reached-told (Some file) count is = ((file, refl), let few : IsTrue (nat_le 4 count) = is in grind arith)
 
+  or-none : (b : Bool) → (b || false) ≡ b
+  or-none true = refl
+  or-none false = refl
+
   depth-layer : (file : ℕ) (dues : Dues) (layer : What-F What Statement)
-      → breaks_depth (deepest program) file dues layer ≡ (is_ask file layer && is_reached (slice_get (deepest program).files file) (asked_count file dues))
-  depth-layer file dues (What-F.WriteRead asked buffer send room got) = refl
+      → breaks_by (deepest program) (Depth file) dues layer ≡ (is_ask file layer && is_reached (slice_get (deepest program).files file) (asked_count file dues))
+  depth-layer file dues (What-F.WriteRead asked buffer send room got) =
+      ap (λ (b : Bool). b && is_reached (slice_get (deepest program).files file) (asked_count file dues)) (or-none (asked == file))
   depth-layer file dues _ = refl
 
   depth-next : (file : ℕ) (dues : Dues) (next : Option Entry)

@@ -1,5 +1,5 @@
 -- For what an entry breaks that names what is chosen, told of the entry as it is.
-use Rattle.std.proofs.Common.{◌≡◌, ◌≤◌, ℕ, zero, suc, ◌+◌, ◌==◌, nat_le, Bool, true, false, not, ◌&&◌, IsTrue, List, [], ◌∷◌, slice_get, Option, Some, None, option_map, arith, refl, ap, subst, sym, ◌∙◌}
+use Rattle.std.proofs.Common.{◌≡◌, ◌≤◌, ℕ, zero, suc, ◌+◌, ◌==◌, nat_le, Bool, true, false, not, ◌&&◌, ◌||◌, IsTrue, List, [], ◌∷◌, slice_get, Option, Some, None, option_map, arith, refl, ap, subst, sym, ◌∙◌}
 use Rattle.gd_words.specs.Members.{is_among}
 use Rattle.tal_tree.specs.declared.program.FileUse.{FileUse}
 use Rattle.tal_tree.specs.declared.program.Program.{Program}
@@ -8,7 +8,7 @@ use Rattle.tal_tree.specs.declared.statement.What.{What, What-F, out-What}
 use Rattle.process_semantics.specs.State.{Entry, Run, Test, Last}
 use Rattle.path_semantics.specs.declared.dues.Dues.{Dues}
 use Rattle.path_semantics.specs.declared.reason.Reason.TheVariants.{Data, SyncBlock, Input, Depth}
-use Rattle.path_semantics.specs.Break.{asked_count, is_reached, breaks_data, breaks_sync, breaks_input, breaks_depth, breaks_entry}
+use Rattle.path_semantics.specs.Break.{asked_count, is_reached, omits_item, omits_file, sends, breaks_by, breaks_entry}
 use Rattle.advice.specs.Choice.{Choice, files_with, with_choice}
 use Rattle.advice.specs.Due.{is_checkpoint, is_ask, is_checkpoint_next, is_ask_next}
 use Rattle.advice_laws.specs.Stands.{entry_with}
@@ -32,6 +32,10 @@ not-is false is = refl
 is-not : (a : Bool) → a ≡ false → IsTrue (not a)
 is-not a isnt = ap not isnt
 
+or-none : (b : Bool) → (b || false) ≡ b
+or-none true = refl
+or-none false = refl
+
 itself : (n : ℕ) → IsTrue (n == n)
 itself n = grind arith
 
@@ -52,31 +56,31 @@ file-at choice from zero sum (file ∷ rest) is = ap (λ (n : ℕ). Some (record
 file-at choice from (suc place) sum (file ∷ rest) is = file-at choice (suc from) place sum rest (omega arith)
 
 module _ (choice : Choice) where
-  unnamed-item : (item : ℕ) (dues : Dues) (number : ℕ) (layer : What-F What Statement) → IsTrue (breaks_data item dues (layer_with choice number layer))
+  unnamed-item : (item : ℕ) (dues : Dues) (number : ℕ) (layer : What-F What Statement) → IsTrue (omits_item item (layer_with choice number layer) && is_among item dues.globals)
       → IsTrue (is_checkpoint layer) × IsTrue (is_among item dues.globals) × (is_among item (choice.items number) ≡ false)
   unnamed-item item dues number (What-F.Checkpoint items files) broken =
-      let told = each (is_among item dues.globals) (not (is_among item (choice.items number))) broken in (refl, told.0, not-is (is_among item (choice.items number)) told.1)
+      let told = each (not (is_among item (choice.items number))) (is_among item dues.globals) broken in (refl, told.1, not-is (is_among item (choice.items number)) told.0)
   unnamed-item item dues number _ broken = never broken
 
   item-unnamed : (item : ℕ) (dues : Dues) (number : ℕ) (layer : What-F What Statement) → IsTrue (is_checkpoint layer) → IsTrue (is_among item dues.globals)
-      → is_among item (choice.items number) ≡ false → IsTrue (breaks_data item dues (layer_with choice number layer))
+      → is_among item (choice.items number) ≡ false → IsTrue (omits_item item (layer_with choice number layer) && is_among item dues.globals)
   item-unnamed item dues number (What-F.Checkpoint items files) is due missing =
-      both (is_among item dues.globals) (not (is_among item (choice.items number))) due (is-not (is_among item (choice.items number)) missing)
+      both (not (is_among item (choice.items number))) (is_among item dues.globals) (is-not (is_among item (choice.items number)) missing) due
   item-unnamed item dues number _ is due missing = never is
 
-  unnamed-file : (file : ℕ) (dues : Dues) (number : ℕ) (layer : What-F What Statement) → IsTrue (breaks_sync file dues (layer_with choice number layer))
+  unnamed-file : (file : ℕ) (dues : Dues) (number : ℕ) (layer : What-F What Statement) → IsTrue (omits_file file (layer_with choice number layer) && is_among file dues.asked)
       → IsTrue (is_checkpoint layer) × IsTrue (is_among file dues.asked) × (is_among file (choice.files number) ≡ false)
   unnamed-file file dues number (What-F.Checkpoint items files) broken =
-      let told = each (is_among file dues.asked) (not (is_among file (choice.files number))) broken in (refl, told.0, not-is (is_among file (choice.files number)) told.1)
+      let told = each (not (is_among file (choice.files number))) (is_among file dues.asked) broken in (refl, told.1, not-is (is_among file (choice.files number)) told.0)
   unnamed-file file dues number _ broken = never broken
 
   file-unnamed : (file : ℕ) (dues : Dues) (number : ℕ) (layer : What-F What Statement) → IsTrue (is_checkpoint layer) → IsTrue (is_among file dues.asked)
-      → is_among file (choice.files number) ≡ false → IsTrue (breaks_sync file dues (layer_with choice number layer))
+      → is_among file (choice.files number) ≡ false → IsTrue (omits_file file (layer_with choice number layer) && is_among file dues.asked)
   file-unnamed file dues number (What-F.Checkpoint items files) is due missing =
-      both (is_among file dues.asked) (not (is_among file (choice.files number))) due (is-not (is_among file (choice.files number)) missing)
+      both (not (is_among file (choice.files number))) (is_among file dues.asked) (is-not (is_among file (choice.files number)) missing) due
   file-unnamed file dues number _ is due missing = never is
 
-  input-layer : (dues : Dues) (number : ℕ) (layer : What-F What Statement) → breaks_input dues (layer_with choice number layer) ≡ breaks_input dues layer
+  input-layer : (dues : Dues) (number : ℕ) (layer : What-F What Statement) → (sends (layer_with choice number layer) && dues.read) ≡ (sends layer && dues.read)
   input-layer dues number (What-F.Reply buffer count) = refl
   input-layer dues number _ = refl
 
@@ -84,9 +88,10 @@ module _ (choice : Choice) where
     abbrev chosen : Program
     chosen = with_choice program choice
 
-    depth-layer : (file : ℕ) (dues : Dues) (number : ℕ) (layer : What-F What Statement) → breaks_depth chosen file dues (layer_with choice number layer)
+    depth-layer : (file : ℕ) (dues : Dues) (number : ℕ) (layer : What-F What Statement) → breaks_by chosen (Depth file) dues (layer_with choice number layer)
         ≡ (is_ask file layer && is_reached (slice_get chosen.files file) (asked_count file dues))
-    depth-layer file dues number (What-F.WriteRead asked buffer send room got) = refl
+    depth-layer file dues number (What-F.WriteRead asked buffer send room got) =
+        ap (λ (b : Bool). b && is_reached (slice_get chosen.files file) (asked_count file dues)) (or-none (asked == file))
     depth-layer file dues number _ = refl
 
     -- Data: a CHECKPOINT for which a global that is due isn't chosen
@@ -97,7 +102,7 @@ module _ (choice : Choice) where
     data-told item dues (Some (Last statement)) broken = never broken
     data-told item dues (Some (Run statement)) broken =
         let told = unnamed-item item dues statement.number (out-What statement.what)
-        (subst (λ (layer : What-F What Statement). IsTrue (breaks_data item dues layer)) (layer-is choice statement.number statement.what) broken) in
+        (subst (λ (layer : What-F What Statement). IsTrue (omits_item item layer && is_among item dues.globals)) (layer-is choice statement.number statement.what) broken) in
         (statement.number, both (statement.number == statement.number) (is_checkpoint (out-What statement.what)) (itself statement.number) told.0, told.1, told.2)
 
     pub told-data : (item : ℕ) (dues : Dues) (number : ℕ) (next : Option Entry) → IsTrue (is_checkpoint_next number next) → IsTrue (is_among item dues.globals)
@@ -107,7 +112,7 @@ module _ (choice : Choice) where
     told-data item dues number (Some (Last statement)) is due missing = never is
     told-data item dues number (Some (Run statement)) is due missing =
         let told = each (statement.number == number) (is_checkpoint (out-What statement.what)) is in
-        subst (λ (layer : What-F What Statement). IsTrue (breaks_data item dues layer)) (sym (layer-is choice statement.number statement.what))
+        subst (λ (layer : What-F What Statement). IsTrue (omits_item item layer && is_among item dues.globals)) (sym (layer-is choice statement.number statement.what))
         (item-unnamed item dues statement.number (out-What statement.what) told.1 due
         (ap (λ (n : ℕ). is_among item (choice.items n)) (same-number statement.number number told.0) ∙ missing))
 
@@ -119,7 +124,7 @@ module _ (choice : Choice) where
     sync-told file dues (Some (Last statement)) broken = never broken
     sync-told file dues (Some (Run statement)) broken =
         let told = unnamed-file file dues statement.number (out-What statement.what)
-        (subst (λ (layer : What-F What Statement). IsTrue (breaks_sync file dues layer)) (layer-is choice statement.number statement.what) broken) in
+        (subst (λ (layer : What-F What Statement). IsTrue (omits_file file layer && is_among file dues.asked)) (layer-is choice statement.number statement.what) broken) in
         (statement.number, both (statement.number == statement.number) (is_checkpoint (out-What statement.what)) (itself statement.number) told.0, told.1, told.2)
 
     pub told-sync : (file : ℕ) (dues : Dues) (number : ℕ) (next : Option Entry) → IsTrue (is_checkpoint_next number next) → IsTrue (is_among file dues.asked)
@@ -129,7 +134,7 @@ module _ (choice : Choice) where
     told-sync file dues number (Some (Last statement)) is due missing = never is
     told-sync file dues number (Some (Run statement)) is due missing =
         let told = each (statement.number == number) (is_checkpoint (out-What statement.what)) is in
-        subst (λ (layer : What-F What Statement). IsTrue (breaks_sync file dues layer)) (sym (layer-is choice statement.number statement.what))
+        subst (λ (layer : What-F What Statement). IsTrue (omits_file file layer && is_among file dues.asked)) (sym (layer-is choice statement.number statement.what))
         (file-unnamed file dues statement.number (out-What statement.what) told.1 due
         (ap (λ (n : ℕ). is_among file (choice.files n)) (same-number statement.number number told.0) ∙ missing))
 
@@ -138,7 +143,7 @@ module _ (choice : Choice) where
     input-told dues None = refl
     input-told dues (Some (Test statement)) = refl
     input-told dues (Some (Last statement)) = refl
-    input-told dues (Some (Run statement)) = ap (breaks_input dues) (layer-is choice statement.number statement.what) ∙ input-layer dues statement.number (out-What statement.what)
+    input-told dues (Some (Run statement)) = ap (λ (layer : What-F What Statement). sends layer && dues.read) (layer-is choice statement.number statement.what) ∙ input-layer dues statement.number (out-What statement.what)
 
     depth-next : (file : ℕ) (dues : Dues) (next : Option Entry) → breaks_entry chosen (Depth file) dues (option_map (entry_with choice) next)
         ≡ (is_ask_next file next && is_reached (slice_get chosen.files file) (asked_count file dues))
@@ -146,7 +151,7 @@ module _ (choice : Choice) where
     depth-next file dues (Some (Test statement)) = refl
     depth-next file dues (Some (Last statement)) = refl
     depth-next file dues (Some (Run statement)) =
-        ap (breaks_depth chosen file dues) (layer-is choice statement.number statement.what) ∙ depth-layer file dues statement.number (out-What statement.what)
+        ap (breaks_by chosen (Depth file) dues) (layer-is choice statement.number statement.what) ∙ depth-layer file dues statement.number (out-What statement.what)
 
     reached-told : (place count : ℕ) (file : Option FileUse) → IsTrue (is_reached (option_map (λ (one : FileUse). record one { depth = choice.depth place }) file) count)
         → ((one : FileUse) × (file ≡ Some one)) × (choice.depth place ≤ count)

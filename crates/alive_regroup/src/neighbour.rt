@@ -40,7 +40,7 @@ impl Neighbour {
         }
     }
 
-    /// After a check.
+    /// What is known of the processor after a round's check of who was heard.
     pub fn checked(&self) -> Neighbour
         ensures { result ≡ checked self.now }
     {
@@ -62,7 +62,7 @@ impl Neighbour {
         }
     }
 
-    /// After a report from it.
+    /// What is known of the processor after a report from it.
     pub fn reported(&self, set: ProcessorSet) -> Neighbour
         ensures { result ≡ reported set self.now }
     {

@@ -1,5 +1,6 @@
 ghost use Rattle.std.specs.Prelude.{◌≡◌, ◌+◌, ◌<◌, ◌^◌, IfOk, Some, None};
 ghost use Rattle.std.specs.Bool.{OnTrue, OnFalse};
+ghost use Rattle.gd_words.specs.Ranges.{HasNext};
 ghost use Rattle.process_semantics.specs.declared.point.Point.TheVariants.{Inner, Take, Ask, Await, Answer, Mark, Device};
 ghost use Rattle.process_semantics.specs.Image.{image_of, listed_items, listed_files, restored};
 ghost use Rattle.process_semantics.specs.Process.{ProcessState, point, in_hand, after_inner, after_took, asked_file, asked_words, after_asked, after_got, answer_of, after_answered, after_mark, call_of, after_device};
@@ -61,13 +62,13 @@ pub trait Behaviour: Drop {
     /// What it does to its device.
     fn device(&self) -> DeviceCall
         requires point { point (state self.now) ≡ Device }
-        requires numbers { last_write_of (state self.now) + 1 < 2 ^ 32 }
+        requires numbers { HasNext (last_write_of (state self.now)) }
         ensures { result ≡ call_of (state self.now) };
 
     /// The step at its device, with the words that stood on the sector.
     fn device_done(&mut self, found: &Sector)
         requires point { point (state self.old) ≡ Device }
-        requires numbers { last_write_of (state self.old) + 1 < 2 ^ 32 }
+        requires numbers { HasNext (last_write_of (state self.old)) }
         ensures { state self.new ≡ after_device (state self.old) found.now };
 
     /// What it names at a mark.

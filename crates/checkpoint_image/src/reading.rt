@@ -64,14 +64,14 @@ fn pair_in(words: &[i16]) -> Option<(u32, &[i16])>
     }
 }
 
-/// How many parts there are of a list.
+/// The count with which the words begin, at most 32,767, and the words after it. `None` if there is no such count.
 fn count_in(words: &[i16]) -> Option<(u16, &[i16])>
     ensures { Gives (λ r. (r.0, r.1.now)) result (number_in 32767 words.now) }
 {
     number_in(32_767, words)
 }
 
-/// So many words.
+/// The first `count` words, and those after them. `None` if there are fewer.
 fn words_in(count: u16, words: &[i16]) -> Option<(&[i16], &[i16])>
     ensures { Gives (λ r. (r.0.now, r.1.now)) result (words_in count words.now) }
 {

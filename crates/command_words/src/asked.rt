@@ -46,7 +46,7 @@ fn command_in(matches: &ArgMatches) -> Option<Command>
     command_as(mode, number, acts, fail)
 }
 
-// `get_flag` promises nothing of other values than `true` and `false`.
+// Whether the words ask for the acts. Not by `get_flag`, which promises nothing of other values than `true` and `false`.
 fn acts_in(matches: &ArgMatches) -> bool
     ensures { result ≡ acts_in (rows_of (found_of matches.now)) }
 {

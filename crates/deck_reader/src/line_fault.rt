@@ -63,7 +63,7 @@ pub fn heading_of(outline: &Outline, placing: Placing) -> Result<Heading, LineFa
     })
 }
 
-/// One more disc.
+/// The disc that the line declares, or the line's fault.
 pub fn disc_of(
     outline: &Outline,
     placing: Placing,
@@ -107,7 +107,7 @@ pub fn terminal_of(
     })
 }
 
-/// So many more single events.
+/// The sums with these single events added, or the fault that there are more than a deck may ask for.
 fn more_singles(sums: Sums, more: u32) -> Result<Sums, LineFault>
     ensures { result ≡ more_singles sums more }
 {
@@ -120,7 +120,7 @@ fn more_singles(sums: Sums, more: u32) -> Result<Sums, LineFault>
     Ok(Sums { singles, rounds })
 }
 
-/// So many more rounds.
+/// The sums with these rounds added, or the fault that there are more than a deck may ask for.
 fn more_rounds(sums: Sums, more: u32) -> Result<Sums, LineFault>
     ensures { result ≡ more_rounds sums more }
 {

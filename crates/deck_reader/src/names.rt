@@ -131,7 +131,7 @@ pub fn earlier(one: Option<Misnamed>, other: Option<Misnamed>) -> Option<Misname
     }
 }
 
-/// The fault of such a line.
+/// The fault of a deck for a line that names amiss.
 pub fn name_fault(misnamed: Misnamed) -> DeckFault
     ensures { result ≡ name_fault misnamed }
 {

@@ -159,7 +159,7 @@ fn disc_told(
     }
 }
 
-/// With one more process, whose name is new.
+/// The outline with one more process, whose name is new.
 fn with_process(outline: Outline, process: (Name, ProcessLines)) -> Result<Outline, NoMemory>
     requires new { has_name outline.processes process.0 ≡ false }
     ensures { IfOk result (λ next. next ≡ with_process outline process) }
@@ -269,7 +269,7 @@ fn in_requests(
     }
 }
 
-/// With one more terminal, whose name is new.
+/// The outline with one more terminal, whose name is new.
 fn with_terminal(outline: Outline, name: Name, terminal: TerminalLines) -> Result<Outline, NoMemory>
     requires new { has_name outline.terminals name ≡ false }
     ensures { IfOk result (λ next. next ≡ with_terminal outline name terminal) }
@@ -308,7 +308,7 @@ fn long_request_told(outline: Outline, terminal: &TerminalLines, number: u32) ->
     }
 }
 
-/// One more event line, or END.
+/// What comes of a line inside the schedule: the next stage, or where the deck breaks off.
 fn in_schedule(outline: Outline, number: u32, saying: Saying) -> Result<Step, NoMemory>
     requires few { AreFew outline }
     ensures { IfOk result (λ next. next ≡ in_schedule outline number saying) }
@@ -327,7 +327,7 @@ fn in_schedule(outline: Outline, number: u32, saying: Saying) -> Result<Step, No
     }
 }
 
-/// One more event line, with what all ask for together.
+/// The next stage after an event line, with what all lines ask for together.
 fn asked(outline: Outline, number: u32, sums: Sums, line: Option<Line>) -> Result<Step, NoMemory>
     ensures { IfOk result (λ next. next ≡ step.Next (at.Schedule (record outline { events = with_event outline.events number sums line }))) }
 {

@@ -51,7 +51,7 @@ fn at_end(alloc: Global, stage: Stage, count: u32) -> Told
     }
 }
 
-/// The last program has no end.
+/// What all lines say if the text ends inside a program: the fault of its pair's line, else that END is missing.
 fn unended(outline: Outline, heading: Result<Heading, LineFault>, line: u32, count: u32) -> Told
     ensures { result ≡ unended outline heading line count }
 {

@@ -1,5 +1,6 @@
 ghost use Rattle.std.specs.Option.{option_copied};
 ghost use Rattle.std.specs.Prelude.{◌≡◌, ◌≢◌, ◌<◌, ◌+◌, ◌^◌};
+ghost use Rattle.gd_words.specs.Ranges.{HasNext};
 ghost use Rattle.process_semantics.specs.Disc.{disc_start, disc_took, disc_marked, disc_call, disc_done, disc_answer, disc_answered};
 ghost use Rattle.process_semantics.specs.declared.point.Point.TheVariants.{Inner, Take, Ask, Await, Answer, Mark, Device};
 
@@ -49,7 +50,7 @@ impl Progress {
         }
     }
 
-    /// It stands at no point of programs alone.
+    /// A law: a disc process never stands at a point that only programs have.
     pub fn stands_at_no_other_point(&self)
         ensures inner { self.now.label ≢ Inner }
         ensures ask { self.now.label ≢ Ask }
@@ -113,7 +114,7 @@ impl Progress {
     /// What is to be done to the device for the request in hand, on a disc of so many sectors.
     pub fn call(&self, sectors: u8) -> DeviceCall
         requires point { self.now.label ≡ Device }
-        requires numbers { self.now.last_write + 1 < 2 ^ 32 }
+        requires numbers { HasNext self.now.last_write }
         ensures { result ≡ disc_call sectors self.now }
     {
         match &self.phase {
@@ -125,7 +126,7 @@ impl Progress {
     /// The step at Device, with the words that stood on the sector.
     pub fn done(&mut self, sectors: u8, found: &Sector)
         requires point { self.old.label ≡ Device }
-        requires numbers { self.old.last_write + 1 < 2 ^ 32 }
+        requires numbers { HasNext self.old.last_write }
         ensures { self.new ≡ disc_done sectors self.old found.now }
     {
         match mem::replace(&mut self.phase, Phase::Idle) {

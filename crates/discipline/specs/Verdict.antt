@@ -1,14 +1,13 @@
 -- The verdict on a program: accepted, or the first cause for which it is refused.
-use Rattle.std.specs.Prelude.{◌≡◌, ◌≤◌, ◌<◌, ℕ, min, List, length, ⊤, Result, Ok, Err}
+use Rattle.std.specs.Prelude.{◌≡◌, ◌≤◌, ◌<◌, ℕ, List, length, ⊤, Result, Ok, Err}
 use Rattle.tal_tree.specs.declared.program.Program.{Program}
 use Rattle.path_semantics.specs.declared.reason.Reason.{Reason}
 use Rattle.path_semantics.specs.declared.reason.Reason.TheVariants.{Data, SyncBlock, Input, Depth}
 use Rattle.path_semantics.specs.declared.reason.Refusal.{Refusal}
 use Rattle.path_semantics.specs.declared.reason.Refusal.TheVariants.{TooDeep, TooLarge, Broken, NoMemory}
 use Rattle.path_semantics.specs.Accepted.{IsAccepted}
-use Rattle.path_semantics.specs.Bounds.{IsWithinBounds}
+use Rattle.path_semantics.specs.Bounds.{IsWithinBounds, HasTooDeepCalls, IsTooLarge}
 use Rattle.path_semantics.specs.Break.{Breaks}
-use Rattle.flow_paths.specs.Bounds.{depth_of, size_of}
 
 -- the order in which reasons are tried: globals as they are declared, then files as they are opened, then input, then depths as files are opened
 abbrev pub IsEarlier : Reason → Reason → Type 0
@@ -48,8 +47,8 @@ pub record IsFirst (program : Program) (reason : Reason) (path : List ℕ) : Typ
 -- for it. Want of memory is free
 abbrev pub IsVerdict : Program → Result ⊤ Refusal → Type 0
 IsVerdict program (Ok _) = IsAccepted program
-IsVerdict program (Err TooDeep) = 16 < depth_of program
-IsVerdict program (Err (TooLarge n)) = (depth_of program ≤ 16) × (8192 < size_of program) × (n ≡ min (size_of program) 4294967295)
+IsVerdict program (Err TooDeep) = HasTooDeepCalls program
+IsVerdict program (Err (TooLarge size)) = IsTooLarge program size
 IsVerdict program (Err (Broken reason path)) = IsFirst program reason path
 IsVerdict program (Err (NoMemory _)) = Unit {0}
 

@@ -38,7 +38,7 @@ pub(crate) fn find(statements: &[Statement], after: u32, number: u32) -> Option<
     None
 }
 
-/// The same in one statement.
+/// The entry of a number in one statement, and those inside it.
 #[cycle(find)]
 fn find_in(statement: &Statement, after: u32, number: u32) -> Option<Found<'_>>
     ensures { IsFoundIn (rests (statement.now ∷ [])) after number result }

@@ -1,8 +1,8 @@
-use crate::programs::program_of;
 use discipline::{breaks, check, is_path};
 use path_semantics::{Reason, Refusal};
 use std::alloc::Global;
 use std::test::Fail;
+use worked_programs::program_of;
 
 /// The bank up to its turns, the first of whose statements has the number 5.
 const BANK: &[u8] =

@@ -52,10 +52,9 @@ none-counted n (m ∷ ns) e =
     let rest = none-counted n ns parts.1 in
     let both = sum_by-cons (λ (k : ℕ). cond (k == n) 1 0) m ns in omega (arith, both, first, rest)
 
-unlisted : (due named : Bool) → (due && not named) ≡ false → named ≡ false → due ≡ false
-unlisted true true e f = absurd (cc)
-unlisted true false e f = absurd (cc)
-unlisted false named e f = refl
+unlisted : (due named : Bool) → (not named && due) ≡ false → named ≡ false → due ≡ false
+unlisted due true e f = absurd (cc)
+unlisted due false e f = e
 
 module _ {site : Site} {number : ℕ} {spec : ProcessSpec} where
   -- the next number on a file on which nothing was asked since

@@ -1,8 +1,6 @@
 ghost use Rattle.std.specs.Prelude.{◌≡◌, ◌≤◌, ◌<◌, ◌+◌, ◌*◌, ℕ, length, reverse, slice_get, Some, IfOk, OnOk};
 ghost use Rattle.process_semantics.specs.Rests.{number_of};
 ghost use Rattle.process_semantics.specs.SeenEntries.{entry_of};
-ghost use Rattle.tal_tree.specs.Statements.{last_of};
-ghost use Rattle.tal_tree.specs.declared.statement.What.{out-What};
 ghost use Rattle.due_search.specs.declared.queue.Visit.{Visit};
 ghost use Rattle.due_search.specs.Ends.{AreNumbered, HasFound, HasStopped};
 ghost use Rattle.due_search.specs.Search.{first_visit, mark_of, ends_with, HasRoom, IsMarked, IsClear, Comes, ComesBy, visit_after, back, IsTrail, IsSearched, Advances};
@@ -10,11 +8,10 @@ ghost use Rattle.due_search.specs.Search.{first_visit, mark_of, ends_with, HasRo
 use crate::queue::Visit;
 use flow_paths::{Edge, Flow, Goal};
 use gd_words::{List, NoMemory};
-use path_semantics::Reason;
+use path_semantics::{Reason, entry_number};
 use process_semantics::Entry;
 use reason_dues::{after_entry, cut_changed, may_break_at};
 use std::alloc::Global;
-use tal_tree::What;
 
 /// A search by levels: the visits in the order in which they come, and for each node and each amount due whether such a visit
 /// has come.
@@ -234,24 +231,5 @@ fn number(entry: Entry<'_>) -> u16
     requires { number_of (entry_of entry) ≤ 2000 }
     ensures { result ≡ number_of (entry_of entry.entry) }
 {
-    match entry {
-        Entry::Run(statement) => statement.number,
-        Entry::Test(statement) => statement.number + 1,
-        Entry::Last(statement) => last_of(&statement.what),
-    }
-}
-
-fn last_of(what: &What) -> u16
-    ensures { result ≡ last_of (out-What what.now) }
-{
-    match what {
-        What::For {
-            variable: _,
-            from: _,
-            to: _,
-            body: _,
-            last,
-        } => *last,
-        _ => 0,
-    }
+    entry_number(entry) as u16
 }

@@ -6,8 +6,7 @@ use Rattle.tal_tree.specs.Rows.{rows}
 use Rattle.tal_tree.specs.declared.program.Procedure.{Procedure}
 use Rattle.tal_tree.specs.declared.statement.Statement.{Statement}
 use Rattle.tal_tree.specs.declared.statement.What.{What, What-F, out-What}
-use Rattle.path_semantics.specs.Bounds.{size_from, in_order}
-use Rattle.flow_paths.specs.Bounds.{told}
+use Rattle.path_semantics.specs.Bounds.{size_from, in_order, told}
 use Rattle.flow_paths.specs.Layout.{size_in, size_row, size_at}
 use Rattle.flow_paths.proofs.Called.{sized}
 use Rattle.flow_paths.proofs.Layers.{size_of, size_by, size-is}

@@ -1,10 +1,9 @@
 -- What comes of building a program's graph.
-use Rattle.std.specs.Prelude.{◌≡◌, ◌<◌, ◌≤◌, List, Result, Ok, Err}
+use Rattle.std.specs.Prelude.{List, Result, Ok, Err}
 use Rattle.tal_tree.specs.declared.program.Program.{Program}
-use Rattle.path_semantics.specs.Bounds.{IsWithinBounds}
+use Rattle.path_semantics.specs.Bounds.{IsWithinBounds, HasTooDeepCalls, IsTooLarge}
 use Rattle.flow_paths.specs.declared.fault.FlowFault.{FlowFault}
 use Rattle.flow_paths.specs.declared.fault.FlowFault.TheVariants.{TooDeep, TooLarge, NoMemory}
-use Rattle.flow_paths.specs.Bounds.{depth_of, size_of, told}
 use Rattle.flow_paths.specs.Flow.{IsFlow}
 use Rattle.flow_paths.specs.Graph.{Node}
 
@@ -12,6 +11,6 @@ use Rattle.flow_paths.specs.Graph.{Node}
 -- graph, where memory suffices
 abbrev pub IsBuilt : Program → Result (List Node) FlowFault → Type 0
 IsBuilt program (Ok nodes) = IsWithinBounds program × IsFlow program nodes
-IsBuilt program (Err TooDeep) = 16 < depth_of program
-IsBuilt program (Err (TooLarge size)) = (depth_of program ≤ 16) × (8192 < size_of program) × (size ≡ told (size_of program))
+IsBuilt program (Err TooDeep) = HasTooDeepCalls program
+IsBuilt program (Err (TooLarge size)) = IsTooLarge program size
 IsBuilt program (Err (NoMemory _)) = IsWithinBounds program

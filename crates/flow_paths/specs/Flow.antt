@@ -7,7 +7,7 @@ use Rattle.path_semantics.specs.Place.{Place, Stand, next_in, successors, first_
 use Rattle.flow_paths.specs.declared.graph.Edge.{Edge}
 use Rattle.flow_paths.specs.declared.graph.Goal.{Goal}
 use Rattle.flow_paths.specs.declared.graph.Goal.TheVariants.{At, Left, Ended}
-use Rattle.flow_paths.specs.Bounds.{size_of}
+use Rattle.path_semantics.specs.Bounds.{size_of}
 use Rattle.flow_paths.specs.Graph.{Node, edges_of, start_of}
 
 -- of so many nodes, each of which stands at a place

@@ -1,4 +1,3 @@
-pub mod Bounds
 pub mod Built
 pub mod Flow
 pub mod Graph

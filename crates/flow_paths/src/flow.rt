@@ -1,8 +1,7 @@
 ghost use Rattle.std.specs.Prelude.{◌≡◌, ◌<◌, ◌≤◌, map, length, slice_get, Some, IfOk};
 ghost use Rattle.tal_tree.specs.Limits.{IsWithinLimits};
 ghost use Rattle.tal_tree.specs.Ordered.{IsOrdered};
-ghost use Rattle.path_semantics.specs.Bounds.{sizes as program_sizes};
-ghost use Rattle.flow_paths.specs.Bounds.{size_of, told};
+ghost use Rattle.path_semantics.specs.Bounds.{sizes as program_sizes, size_of, told};
 ghost use Rattle.flow_paths.specs.Built.{IsBuilt};
 ghost use Rattle.flow_paths.specs.Flow.{IsFlow};
 ghost use Rattle.flow_paths.specs.Graph.{AreClosed, IsWithin};

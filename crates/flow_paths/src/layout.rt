@@ -262,7 +262,7 @@ fn lay_called<'a>(
     Ok(())
 }
 
-/// Where so many statements, or nodes, begin. Where there are none it goes on so.
+/// The edge to the node at `at`, where `count` statements or nodes begin. If there are none, it is the edge `after`.
 fn start(alloc: Global, count: usize, at: u16, after: &Edge) -> Result<Edge, NoMemory>
     ensures { IfOk result (λ edge. edge ≡ start_at count at after.now) }
 {

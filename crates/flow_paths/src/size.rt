@@ -1,7 +1,6 @@
 ghost use Rattle.std.specs.Prelude.{◌≡◌, ◌≤◌, length, map};
-ghost use Rattle.path_semantics.specs.Bounds.{sizes};
+ghost use Rattle.path_semantics.specs.Bounds.{sizes, told};
 ghost use Rattle.tal_tree.specs.Rows.{rows};
-ghost use Rattle.flow_paths.specs.Bounds.{told};
 ghost use Rattle.flow_paths.specs.Layout.{size_in, size_row, size_at};
 
 use arrayvec::ArrayVec;

@@ -1,8 +1,8 @@
-use crate::programs::program_of;
 use flow_paths::{Flow, FlowFault};
 use gd_words::NoMemory;
 use std::alloc::Global;
 use std::test::Fail;
+use worked_programs::program_of;
 
 /// A procedure: its name, and how often it calls the one before it, or how many assignments it has where it is the first.
 #[derive(Drop)]

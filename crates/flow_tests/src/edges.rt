@@ -1,8 +1,7 @@
-use crate::programs::program_of;
 use flow_paths::{Edge, Flow, Goal, Node};
-use process_semantics::Entry;
+use path_semantics::entry_number;
 use std::test::Fail;
-use tal_tree::What;
+use worked_programs::program_of;
 
 /// A program with each kind of statement that leads elsewhere: calls with a target, one of which ends two procedures and one of
 /// which is of an empty procedure, RETURN, WHILE, FOR, IF and STOP.
@@ -57,23 +56,6 @@ const fn two(number: u16, first: Way, second: Way) -> Place {
     }
 }
 
-fn number_of(entry: Entry<'_>) -> u16 {
-    match entry {
-        Entry::Run(statement) => statement.number,
-        Entry::Test(statement) => statement.number.saturating_add(1),
-        Entry::Last(statement) => match &statement.what {
-            What::For {
-                variable: _,
-                from: _,
-                to: _,
-                body: _,
-                last,
-            } => *last,
-            _ => 0,
-        },
-    }
-}
-
 fn is_way(edge: &Edge, way: &Way) -> bool {
     edge.goal == way.goal && edge.targets.as_slice() == way.targets
 }
@@ -84,7 +66,7 @@ fn is_place(node: &Node<'_>, place: &Place) -> bool {
         (Some(edge), Some(way)) => is_way(edge, way),
         _ => false,
     };
-    number_of(node.entry()) == place.number
+    entry_number(node.entry()) == u32::from(place.number)
         && node.caller() == place.caller
         && is_way(node.first(), &place.first)
         && second

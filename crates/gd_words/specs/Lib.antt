@@ -4,6 +4,7 @@ pub mod Members
 pub mod PaddedIdent
 pub mod PaddedName
 pub mod PaddedText
+pub mod Ranges
 pub mod Spelling
 pub mod formers
 pub mod Memory

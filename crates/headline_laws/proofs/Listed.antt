@@ -1,7 +1,7 @@
 -- When a program is accepted whose stands can be listed: each leads only to others of the list, and at none a statement breaks.
-use Rattle.std.proofs.Common.{◌≡◌, inl, inr, ℕ, ◌==◌, Bool, true, false, not, ◌&&◌, List, [], ◌∷◌, map, slice_get, Option, Some, None, refl, ap, subst, sym}
+use Rattle.std.proofs.Common.{◌≡◌, inl, inr, ℕ, ◌==◌, Bool, true, false, not, ◌&&◌, ◌||◌, List, [], ◌∷◌, map, slice_get, Option, Some, None, refl, ap, subst, sym}
 use Rattle.std.specs.List.{list_all}
-use Rattle.std.proofs.lemmas.Bool.{eqb-true}
+use Rattle.std.proofs.lemmas.Bool.{eqb-true, and_right}
 use Rattle.gd_words.specs.Members.{IsAmong, is_among}
 use Rattle.gd_words.proofs.Among.{among-at}
 use Rattle.gd_words.proofs.AmongTest.{among_there}
@@ -14,8 +14,8 @@ use Rattle.path_semantics.specs.declared.reason.Reason.{Reason}
 use Rattle.path_semantics.specs.declared.reason.Reason.TheVariants.{Data, SyncBlock, Input, Depth}
 use Rattle.path_semantics.specs.Accepted.{IsAccepted}
 use Rattle.path_semantics.specs.Bounds.{IsWithinBounds}
-use Rattle.path_semantics.specs.Dues.{after_entry}
-use Rattle.path_semantics.specs.Break.{Breaks, asked_count, is_reached, breaks_data, breaks_sync, breaks_input, breaks_depth, breaks_by, breaks_entry, breaks_at}
+use Rattle.path_semantics.specs.Dues.{after_entry, asked_by}
+use Rattle.path_semantics.specs.Break.{Breaks, asked_count, is_reached, omits_item, omits_file, sends, breaks_by, breaks_entry, breaks_at}
 use Rattle.path_semantics.specs.Path.{Walks}
 use Rattle.path_semantics.specs.Place.{Stand, next_entry, successors, first_stand}
 
@@ -42,45 +42,41 @@ all-do p [] x all among = absurd among
 all-do p (y ∷ xs) x all (inl same) = subst (λ z. p z ≡ true) (sym same) (both _ _ all).0
 all-do p (y ∷ xs) x all (inr among) = all-do p xs x (both _ _ all).1 among
 
-named-by : (due names : List ℕ) (n : ℕ) (is : Bool)
-    → is_among n due ≡ is → list_all (λ m. is_among m names) due ≡ true → (is && not (is_among n names)) ≡ false
-named-by due names n true there all = ap (λ b. not b) (all-do (λ m. is_among m names) due n all (among_there n due there))
-named-by due names n false there all = refl
+named : (due names : List ℕ) (n : ℕ) (is : Bool) → is_among n due ≡ is → list_all (λ m. is_among m names) due ≡ true → (not (is_among n names) && is) ≡ false
+named due names n true there all = ap (λ b. not b && true) (all-do (λ m. is_among m names) due n all (among_there n due there))
+named due names n false there all = and_right (not (is_among n names)) false refl
 
-named : (due names : List ℕ) (n : ℕ) → list_all (λ m. is_among m names) due ≡ true → (is_among n due && not (is_among n names)) ≡ false
-named due names n all = named-by due names n (is_among n due) refl all
+named-item : (item : ℕ) (program : Program) (dues : Dues) (what : What-F What Statement)
+    → is_safe program dues what ≡ true → (omits_item item what && is_among item dues.globals) ≡ false
+named-item item program dues (What-F.Checkpoint items files) safe = named dues.globals items item (is_among item dues.globals) refl (both _ _ safe).0
+named-item item program dues _ safe = refl
 
-unnamed-data : (item : ℕ) (program : Program) (dues : Dues) (what : What-F What Statement)
-    → is_safe program dues what ≡ true → breaks_data item dues what ≡ false
-unnamed-data item program dues (What-F.Checkpoint items files) safe = named dues.globals items item (both _ _ safe).0
-unnamed-data item program dues _ safe = refl
+named-file : (file : ℕ) (program : Program) (dues : Dues) (what : What-F What Statement)
+    → is_safe program dues what ≡ true → (omits_file file what && is_among file dues.asked) ≡ false
+named-file file program dues (What-F.Checkpoint items files) safe = named dues.asked files file (is_among file dues.asked) refl (both _ _ safe).1
+named-file file program dues _ safe = refl
 
-unnamed-sync : (file : ℕ) (program : Program) (dues : Dues) (what : What-F What Statement)
-    → is_safe program dues what ≡ true → breaks_sync file dues what ≡ false
-unnamed-sync file program dues (What-F.Checkpoint items files) safe = named dues.asked files file (both _ _ safe).1
-unnamed-sync file program dues _ safe = refl
-
-unread : (program : Program) (dues : Dues) (what : What-F What Statement) → is_safe program dues what ≡ true → breaks_input dues what ≡ false
+unread : (program : Program) (dues : Dues) (what : What-F What Statement) → is_safe program dues what ≡ true → (sends what && dues.read) ≡ false
 unread program dues (What-F.WriteRead file buffer send room got) safe = isnt dues.read (both _ _ safe).0
 unread program dues (What-F.Reply buffer count) safe = isnt dues.read safe
 unread program dues _ safe = refl
 
 unreached-by : (program : Program) (dues : Dues) (asked file : ℕ) (is : Bool) → (asked == file) ≡ is
     → is_reached (slice_get program.files asked) (asked_count asked dues) ≡ false
-    → (is && is_reached (slice_get program.files file) (asked_count file dues)) ≡ false
+    → ((is || false) && is_reached (slice_get program.files file) (asked_count file dues)) ≡ false
 unreached-by program dues asked file true same free =
     subst (λ f. is_reached (slice_get program.files f) (asked_count f dues) ≡ false) (eqb-true asked file same) free
 unreached-by program dues asked file false same free = refl
 
 unreached : (program : Program) (file : ℕ) (dues : Dues) (what : What-F What Statement)
-    → is_safe program dues what ≡ true → breaks_depth program file dues what ≡ false
+    → is_safe program dues what ≡ true → (is_among file (asked_by what) && is_reached (slice_get program.files file) (asked_count file dues)) ≡ false
 unreached program file dues (What-F.WriteRead asked buffer send room got) safe = unreached-by program dues asked file (asked == file) refl (isnt _ (both _ _ safe).1)
 unreached program file dues _ safe = refl
 
 safe-by : (program : Program) (reason : Reason) (dues : Dues) (what : What-F What Statement)
     → is_safe program dues what ≡ true → breaks_by program reason dues what ≡ false
-safe-by program (Data item) dues what safe = unnamed-data item program dues what safe
-safe-by program (SyncBlock file) dues what safe = unnamed-sync file program dues what safe
+safe-by program (Data item) dues what safe = named-item item program dues what safe
+safe-by program (SyncBlock file) dues what safe = named-file file program dues what safe
 safe-by program Input dues what safe = unread program dues what safe
 safe-by program (Depth file) dues what safe = unreached program file dues what safe
 

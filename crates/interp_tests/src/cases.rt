@@ -1,10 +1,11 @@
-use crate::programs::{image_of, program_of};
+use crate::programs::image_of;
 use crate::walks::{ANSWERS, ASKS, ENDS, WAITS, walk};
 use checkpoint_image::Behaviour;
 use gd_words::{List, NoMemory};
 use std::alloc::Global;
 use std::test::Fail;
 use tal_interp::TalProcess;
+use worked_programs::{ADDER, BANK, program_of};
 
 const GLOBALS: &[u8] = b"INT rcv, disk, got, i, x; INT buf[0:3]; INT out[0:3]; INT big[1:20]; ";
 
@@ -274,43 +275,6 @@ const CASES: &[Case] = &[
         LATER_TRAP,
     ),
 ];
-
-/// Adds each request to a total, and answers it.
-const ADDER: &[u8] = b"INT total, got, rcv; INT buf[0:0];
-PROC add MAIN;
-BEGIN
-  CALL CHECKMONITOR;
-  CALL OPEN(\"$RECEIVE\", rcv, 1);
-  WHILE 1 DO
-  BEGIN
-    CALL READUPDATE(rcv, buf, 1, got);
-    total := total + buf[0];
-    buf[0] := total;
-    CALL CHECKPOINT(total, got, buf);
-    CALL REPLY(buf, 1);
-  END;
-END;";
-
-/// Adds each request to a total, has the total written to a disc, and answers it.
-const BANK: &[u8] = b"INT total, got, rcv, disk; INT buf[0:0]; INT out[0:2];
-PROC bank MAIN;
-BEGIN
-  CALL CHECKMONITOR;
-  CALL OPEN(\"$RECEIVE\", rcv, 1);
-  CALL OPEN(\"$DATA\", disk, 1);
-  WHILE 1 DO
-  BEGIN
-    CALL READUPDATE(rcv, buf, 1, got);
-    total := total + buf[0];
-    CALL CHECKPOINT(buf, out, got, total, disk);
-    out[0] := 2;
-    out[1] := 0;
-    out[2] := total;
-    CALL WRITEREAD(disk, out, 3, 1, got);
-    buf[0] := total;
-    CALL REPLY(buf, 1);
-  END;
-END;";
 
 /// Answers the power of two words, by two procedures that stand in calls.
 const POWERS: &[u8] = b"INT rcv, got, answered; INT buf[0:1];

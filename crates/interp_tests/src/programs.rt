@@ -1,26 +1,12 @@
 ghost use Rattle.std.specs.Prelude.{◌≡◌, ◌≤◌, [], length, IfOk};
 ghost use Rattle.process_images.specs.Images.{listable_from};
-ghost use Rattle.tal_interp.specs.Sound.{IsLoadable};
 ghost use Rattle.tal_tree.specs.Shapes.{has_words};
 
 use checkpoint_image::{Behaviour, Listed};
 use gd_words::{List, NoMemory};
 use std::alloc::Global;
-use std::test::Fail;
 use tal_interp::TalProcess;
-use tal_reader::read_program;
-use tal_tree::{Item, Program, Shape};
-
-/// The program of a text; no text of these tests is longer than a million bytes.
-pub fn program_of(alloc: Global, text: &[u8]) -> Result<Program, Fail>
-    ensures { IfOk result IsLoadable }
-{
-    if text.len() > 1_000_000 {
-        return Err(Fail::from("a longer text"));
-    }
-    let program = read_program(alloc, text)?;
-    Ok(program)
-}
+use tal_tree::{Item, Shape};
 
 /// The words of a process's image with all items that have words.
 pub fn image_of(alloc: Global, process: &TalProcess) -> Result<List<i16>, NoMemory> {

@@ -1,4 +1,5 @@
 ghost use Rattle.std.specs.Prelude.{◌≡◌, ◌<◌, ◌+◌, ◌^◌, reverse, IfOk, OnOk, OnErr};
+ghost use Rattle.gd_words.specs.Ranges.{HasNextLong};
 ghost use Rattle.world_semantics.specs.Shares.{closing, covered, covering, entering, letting_go, passing, share_from};
 
 use crate::kept::KeptActs;
@@ -54,7 +55,7 @@ impl CopyShare {
 
     /// An act of a copy of the process enters the kept acts, or is held, or was kept already. The copy's position has a number after it.
     pub fn enter(&mut self, process: u8, done: Act, kept: &mut KeptActs) -> Result<(), NoMemory>
-        requires { self.old.position + 1 < 2 ^ 64 }
+        requires { HasNextLong self.old.position }
         ensures share { OnOk result (self.new ≡ (entering process done kept.old self.old).share) }
         ensures kept { OnOk result (kept.new ≡ (entering process done kept.old self.old).kept) }
         ensures err { OnErr result ((self.new ≡ self.old) × (kept.new ≡ kept.old)) }

@@ -2,6 +2,7 @@
 -- Bartlett's; one outstanding piece at a time, and when it is sent again, are our own.
 use Rattle.std.specs.Prelude.{◌≡◌, ℕ, ◌+◌, ◌*◌, ◌<◌, ◌==◌, ◌&&◌, not, nat_lt, nat_le, ℤ, Bool, true, false, List, [], ◌∷◌, ◌++◌, length, Option, Some, None, if◌then◌else◌}
 use Rattle.std.specs.Option.{option_map}
+use Rattle.gd_words.specs.Ranges.{HasNext}
 use Rattle.wire.specs.declared.bus_name.BusName.{BusName}
 use Rattle.wire.specs.declared.bus_name.BusName.TheVariants as bus
 use Rattle.wire.specs.declared.piece.Piece.{Piece}
@@ -192,8 +193,8 @@ is_empty e = is_idle e.sending
 
 -- whether one more piece can be numbered, and one more kept: numbers end at 4,294,967,295
 abbrev pub HasNumbersLeft : End → Type 0
-HasNumbersLeft e = (e.sending.numbered < 4294967295) × (e.receiving.kept < 4294967295)
+HasNumbersLeft e = (HasNext e.sending.numbered) × (HasNext e.receiving.kept)
 
 -- what is pushed finds a number: it needs one where it goes at once
 abbrev pub HasNumberForPush : End → Type 0
-HasNumberForPush e = e.down ≡ false → is_idle e.sending ≡ true → e.sending.numbered < 4294967295
+HasNumberForPush e = e.down ≡ false → is_idle e.sending ≡ true → HasNext e.sending.numbered

@@ -1,4 +1,5 @@
 ghost use Rattle.std.specs.Prelude.{◌≡◌, ◌<◌, ◌↔◌, IsTrue, List as Items, length, IfOk, OnOk, OnErr, Some, None, if◌then◌else◌};
+ghost use Rattle.gd_words.specs.Ranges.{HasNext};
 ghost use Rattle.wire.specs.declared.packet.PacketKind.TheVariants as kind;
 ghost use Rattle.link_control.specs.Ends.{End, new_end, after_push, sent_by_push, after_packet, sent_by_packet, handed_by_packet, after_tick, sent_by_tick, after_down, alive_of, is_empty, HasNumberForPush, HasNumbersLeft, outstanding, packet_of, is_kept, kept, handed};
 
@@ -88,8 +89,8 @@ impl Channel {
     /// Treats a packet that came from the other node. A piece that it sends goes over bus X, an acknowledgement over the bus by
     /// which the packet came. Without memory nothing changes.
     pub fn on_packet(&mut self, packet: &Packet) -> Result<Arrived, NoMemory>
-        requires numbered { self.old.sending.numbered < 4294967295 }
-        requires kept { self.old.receiving.kept < 4294967295 }
+        requires numbered { HasNext self.old.sending.numbered }
+        requires kept { HasNext self.old.receiving.kept }
         ensures sent { IfOk result (λ arrived. arrived.send ≡ sent_by_packet packet.now self.old) }
         ensures delivered { IfOk result (λ arrived. arrived.delivered ≡ handed_by_packet packet.now self.old) }
         ensures after { OnOk result (self.new ≡ after_packet packet.now self.old) }
@@ -202,7 +203,7 @@ impl Channel {
     }
 
     fn keep(&mut self, number: u32, piece: &Piece) -> Result<Option<List<i16>>, NoMemory>
-        requires { self.old.receiving.kept < 4294967295 }
+        requires { HasNext self.old.receiving.kept }
         ensures delivered { IfOk result (λ message. message ≡ handed number piece.now self.old.receiving) }
         ensures after { OnOk result (self.new ≡ record self.old { receiving = kept number piece.now self.old.receiving }) }
         ensures err { OnErr result (self.new ≡ self.old) }

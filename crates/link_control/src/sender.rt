@@ -1,4 +1,5 @@
 ghost use Rattle.std.specs.Prelude.{◌≡◌, ◌<◌, ◌≤◌, ◌+◌, true, OnOk, OnErr};
+ghost use Rattle.gd_words.specs.Ranges.{HasNext};
 ghost use Rattle.link_control.specs.Ends.{Sending, idle_after, begun, is_idle, pushed, is_ended_by, acknowledged, is_sent_again, ticked, piece_of, moved_on};
 
 use gd_words::{List, NoMemory};
@@ -74,7 +75,7 @@ impl Sender {
 
     /// Takes a message. Without memory nothing changes.
     pub fn push(&mut self, message: List<i16>) -> Result<(), NoMemory>
-        requires { is_idle self.old ≡ true → self.old.numbered < 4294967295 }
+        requires { is_idle self.old ≡ true → HasNext self.old.numbered }
         ensures after { OnOk result (self.new ≡ pushed message self.old) }
         ensures err { OnErr result (self.new ≡ self.old) }
     {
@@ -88,7 +89,7 @@ impl Sender {
 
     /// Takes an acknowledgement; whether it ended the outstanding piece.
     pub fn acknowledge(&mut self, number: u32) -> bool
-        requires { self.old.numbered < 4294967295 }
+        requires { HasNext self.old.numbered }
         ensures ended { result ≡ is_ended_by number self.old }
         ensures after { self.new ≡ acknowledged number self.old }
     {
@@ -127,7 +128,7 @@ impl Sender {
     }
 
     fn begin(&mut self)
-        requires { self.old.numbered < 4294967295 }
+        requires { HasNext self.old.numbered }
         ensures { self.new ≡ begun self.old.queue self.old.numbered }
     {
         if !self.queue.is_empty() {
@@ -139,7 +140,7 @@ impl Sender {
     }
 
     fn move_on(&mut self)
-        requires { self.old.numbered < 4294967295 }
+        requires { HasNext self.old.numbered }
         ensures { self.new ≡ moved_on self.old.queue self.old }
     {
         let Some(message) = self.queue.front() else {

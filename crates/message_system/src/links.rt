@@ -1,4 +1,5 @@
 ghost use Rattle.std.specs.Prelude.{◌≡◌, ◌⊎◌, ◌≤◌, ◌<◌, ◌-◌, ◌^◌, ◌↔◌, [], ok_or, option_map, option_copied, Some, None, false, IsOk, IsSome, IfOk, IfErr, IfSome, IfNone, OnOk, OnErr};
+ghost use Rattle.gd_words.specs.Ranges.{HasNextLong};
 ghost use Rattle.message_system.specs.declared.link.Side.TheVariants.{Asked, Arrived};
 ghost use Rattle.message_system.specs.declared.link.LinkFault.TheVariants.{NoSuchLink};
 ghost use Rattle.message_system.specs.Linking.{at, asked_at, arrived_at, reply_at, reply_to, replied, read, changed_at, without, Opens, IsOldest, NonePasses, with_table, is_unread, is_of, is_wanted};
@@ -41,7 +42,7 @@ impl Links {
 
     /// Opens the link of a requester that sends this request, and gives its number.
     pub fn link(&mut self, request: Request) -> Result<usize, NoMemory>
-        requires { self.old.opened < 2 ^ 64 - 1 }
+        requires { HasNextLong self.old.opened }
         ensures opens { IfOk result (Opens self.old self.new (Asked request None)) }
         ensures err { OnErr result (self.new ≡ self.old) }
     {
@@ -70,7 +71,6 @@ impl Links {
         ensures open { IsOk result ↔ IsSome (asked_at self.old.table number) }
         ensures fault { IfErr result (λ fault. fault ≡ NoSuchLink) }
         ensures after { OnOk result (self.new ≡ with_table (changed_at number (replied words)) self.old) }
-        ensures count { self.new.opened ≡ self.old.opened }
         ensures err { OnErr result (self.new ≡ self.old) }
     {
         match self.links.get_mut(number) {
@@ -84,7 +84,6 @@ impl Links {
     pub fn break_link(&mut self, number: usize) -> Result<Words, LinkFault>
         ensures answer { result ≡ reply_at self.old.table number }
         ensures ends { OnOk result (self.new ≡ with_table (without number) self.old) }
-        ensures count { self.new.opened ≡ self.old.opened }
         ensures err { OnErr result (self.new ≡ self.old) }
     {
         let words = match self.links.get(number) {
@@ -97,7 +96,7 @@ impl Links {
 
     /// Opens the link of a server to which this request came, and gives its number.
     pub fn arrived(&mut self, request: Request) -> Result<usize, NoMemory>
-        requires { self.old.opened < 2 ^ 64 - 1 }
+        requires { HasNextLong self.old.opened }
         ensures opens { IfOk result (Opens self.old self.new (Arrived request false)) }
         ensures err { OnErr result (self.new ≡ self.old) }
     {
@@ -120,7 +119,6 @@ impl Links {
     pub fn read_link(&mut self, number: usize) -> Result<Request, LinkFault>
         ensures answer { result ≡ ok_or (arrived_at self.old.table number) NoSuchLink }
         ensures after { OnOk result (self.new ≡ with_table (changed_at number read) self.old) }
-        ensures count { self.new.opened ≡ self.old.opened }
         ensures err { OnErr result (self.new ≡ self.old) }
     {
         match self.links.get_mut(number) {
@@ -134,7 +132,6 @@ impl Links {
     pub fn write_link(&mut self, number: usize, words: &Words) -> Result<Reply, LinkFault>
         ensures answer { result ≡ ok_or (option_map (reply_to words.now) (arrived_at self.old.table number)) NoSuchLink }
         ensures ends { OnOk result (self.new ≡ with_table (without number) self.old) }
-        ensures count { self.new.opened ≡ self.old.opened }
         ensures err { OnErr result (self.new ≡ self.old) }
     {
         let reply = match self.served(number) {
@@ -162,7 +159,6 @@ impl Links {
         ensures open { IsOk result ↔ IsSome (arrived_at self.old.table number) }
         ensures fault { IfErr result (λ fault. fault ≡ NoSuchLink) }
         ensures ends { OnOk result (self.new ≡ with_table (without number) self.old) }
-        ensures count { self.new.opened ≡ self.old.opened }
         ensures err { OnErr result (self.new ≡ self.old) }
     {
         if self.served(number).is_none() {
@@ -186,7 +182,7 @@ impl Links {
     }
 
     fn open(&mut self, side: Side) -> Result<usize, NoMemory>
-        requires { self.old.opened < 2 ^ 64 - 1 }
+        requires { HasNextLong self.old.opened }
         ensures opens { IfOk result (Opens self.old self.new side) }
         ensures err { OnErr result (self.new ≡ self.old) }
     {

@@ -62,7 +62,7 @@ impl NodeCopy {
         Ok(())
     }
 
-    /// A checkpoint came: it is applied whole, or ignored, and then nothing changes.
+    /// Applies a checkpoint that came, whole, or ignores it. It answers whether it was applied.
     pub fn apply(&mut self, message: &ImageMessage) -> bool
         ensures told { result ≡ is_some (core_applying self.old.depths self.old.copy message.now) }
         ensures copy { self.new ≡ with_changed self.old (copy_applying self.old.copy message.now (core_applying self.old.depths self.old.copy message.now)) }

@@ -1,7 +1,7 @@
 ghost use Rattle.std.specs.Prelude.{◌≡◌, ◌∷◌, length, OnOk};
 ghost use Rattle.tal_tree.specs.declared.act.Act.TheVariants as act;
 ghost use Rattle.tal_tree.specs.declared.act.Shown.TheVariants as shown;
-ghost use Rattle.number_ranges.specs.HasRoom.{HasNext};
+ghost use Rattle.gd_words.specs.Ranges.{HasNext};
 
 use crate::records::Records;
 use gd_words::{NoMemory, Reply, Request};

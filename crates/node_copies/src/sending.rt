@@ -1,6 +1,6 @@
 ghost use Rattle.std.specs.Prelude.{◌≡◌, ◌++◌, ◌∷◌, [], List, Some, length, map, IfOk, OnOk};
 ghost use Rattle.gd_words.specs.declared.message.Request.{Request as AskedRequest};
-ghost use Rattle.number_ranges.specs.HasRoom.{HasNext};
+ghost use Rattle.gd_words.specs.Ranges.{HasNext};
 ghost use Rattle.world_semantics.specs.Messages.{Asking as AskingMessage, Replying, sent_at};
 ghost use Rattle.world_semantics.specs.Own.{around_with, request_to};
 ghost use Rattle.world_semantics.specs.Running.{after_call};

@@ -1,5 +1,5 @@
 ghost use Rattle.std.specs.Prelude.{◌≡◌, [], ◌∷◌, length, reverse, OnOk, OnErr};
-ghost use Rattle.number_ranges.specs.HasRoom.{HasNext};
+ghost use Rattle.gd_words.specs.Ranges.{HasNext};
 ghost use Rattle.node_copies.specs.ShownCounts.{is_write, replies_in, writes_in};
 
 use gd_words::NoMemory;
@@ -19,7 +19,7 @@ pub struct ShownLog {
 impl Model for ShownLog {
     ghost use Rattle.std.specs.Prelude.{◌≡◌, List};
     ghost use Rattle.tal_tree.specs.declared.act.Shown.{Shown};
-    ghost use Rattle.number_ranges.specs.HasRoom.{HasNext};
+    ghost use Rattle.gd_words.specs.Ranges.{HasNext};
     ghost use Rattle.node_copies.specs.ShownCounts.{replies_in, writes_in};
 
     ghost Value = { List Shown };

@@ -1,5 +1,5 @@
 -- What a copy does by itself raises each number by one at most.
-use Rattle.std.proofs.Common.{◌≡◌, ◌≤◌, ℕ, ◌+◌, ◌-◌, ◌==◌, ◌&&◌, ℤ, pos, Bool, true, false, if◌then◌else◌, List, [], ◌∷◌, ◌++◌, length, Option, Some, None, nat_lt, nat_le, slice_get, map, option_map, refl, arith, length-append, length-drop, int_eq}
+use Rattle.std.proofs.Common.{◌≡◌, ◌≤◌, ℕ, ◌+◌, ◌-◌, ℤ, Bool, true, false, if◌then◌else◌, List, [], ◌∷◌, ◌++◌, length, Option, Some, None, nat_lt, slice_get, map, option_map, refl, arith, length-append, length-drop}
 use Rattle.std.specs.Option.{unwrap_or}
 use Rattle.gd_words.specs.declared.device.DeviceCall.{DeviceCall}
 use Rattle.gd_words.specs.declared.device.DeviceCall.TheVariants.{Nothing, Read, Write}
@@ -9,11 +9,11 @@ use Rattle.tal_tree.specs.declared.site.Site.{Site}
 use Rattle.tal_tree.specs.declared.site.Who.TheVariants as who
 use Rattle.process_semantics.specs.declared.point.Point.{Point}
 use Rattle.process_semantics.specs.declared.point.Point.TheVariants as point
-use Rattle.process_semantics.specs.Disc as disc
 use Rattle.process_semantics.specs.Process as process
 use Rattle.process_semantics.specs.Process.{ProcessState, Runs, Serves}
 use Rattle.plain_semantics.specs.declared.slot.Opener.{Opener}
 use Rattle.plain_semantics.specs.Openers.{openers_of, opener_of}
+use Rattle.plain_semantics.proofs.Writes.{call-next}
 use Rattle.checkpoint_image.specs.declared.receive.OpenerBlock.{OpenerBlock}
 use Rattle.checkpoint_image.specs.declared.receive.ReceiveBlock.{ReceiveBlock}
 use Rattle.checkpoint_image.specs.Receive.{Chosen, chosen, chosen_by, is_next, last_ones, standing}
@@ -54,28 +54,10 @@ pub state-marked : (n : ℕ) (d : Bool) (s : ProcessState) → StateWithin n d s
 state-marked n d (Runs code s) is = is
 state-marked n d (Serves sectors s) is = is
 
-call-at-number : (last number : ℕ) (kind : ℤ) (words : List ℤ) (sector : Option ℕ) → last ≤ number
-    → disc.last_write_after last (disc.call_at number kind words sector) ≤ number
-call-at-number last number kind words None low = low
-call-at-number last number kind words (Some sector) low =
-    by (int_eq kind (pos 1) && (length words == 0)) (int_eq kind (pos 2) && nat_le 1 (length words) && nat_le (length words) 8)
-  where
-    by : (reads writes : Bool)
-        → disc.last_write_after last (if reads then Read sector else if writes then Write sector (disc.filled words) number else Nothing) ≤ number
-    by true writes = low
-    by false true = omega arith
-    by false false = low
-
--- the number of the last write after an act is the one before it or the next one
-call-number : (sectors last number : ℕ) (words : List ℤ) → last ≤ number → disc.last_write_after last (disc.call_of sectors number words) ≤ number
-call-number sectors last number [] low = low
-call-number sectors last number (kind ∷ []) low = low
-call-number sectors last number (kind ∷ sector ∷ words) low = call-at-number last number kind words (disc.sector_of sectors sector) low
-
 pub state-device : (n : ℕ) (d : Bool) (s : ProcessState) (found : List ℤ) → StateWithin n d s → StateWithin (n + 1) d (process.after_device s found)
 state-device n d (Runs code s) found is = (is.0, omega arith)
 state-device n d (Serves sectors s) found is =
-    let one = call-number sectors s.last_write (s.last_write + 1) (unwrap_or s.request []) (omega arith) in
+    let one = call-next sectors s.last_write (unwrap_or s.request []) in
     (is.0, let low = is.1 in omega (arith, one, low))
 
 -- Numbers of a core

@@ -27,7 +27,8 @@ use Rattle.machine_states.specs.States.{Played, Makes, Skips, WouldStop}
 use Rattle.message_wires.specs.Wires.{Sent, Wires, has_room, put_on, posted, all_posted, is_of, without_number, paid, without_packet, is_due, put_again}
 use Rattle.message_wires.specs.Play.{Whole, whole_at_boot, after_done, made_by, after_any, handed, comes_in, deliver_played, lose_played, repeat_played, has_stopped, fail_played, marked_by, marks_from, ticked, tick_played, packet_at, play}
 use Rattle.message_wires.specs.Runs.{IsPlayed, played_none, played_more, skipped}
-use Rattle.number_ranges.specs.HasRoom.{HasNext, CopyHasRoom, TerminalHasRoom, HasRoom}
+use Rattle.gd_words.specs.Ranges.{HasNext}
+use Rattle.number_ranges.specs.HasRoom.{CopyHasRoom, TerminalHasRoom, HasRoom}
 use Rattle.number_laws.proofs.Each.{Each, each-all, each-more, each-get, each-append, each-map, each-always, each-filter, each-remove}
 use Rattle.number_laws.proofs.Within.{serves, CoreWithin, CopyWithin, PairWithin, MessageWithin, AreSendings, AreSent, WiresWithin, WorldWithin, DoneWithin, AnyWithin, TerminalWithin, wires-more, world-more, held_in, kept_in}
 use Rattle.number_laws.proofs.Runs.{run-within}

@@ -2,6 +2,7 @@
 -- is counted of terminals and what was shown have 32 bits, and positions and the count of letters 64. The ranges are our own.
 use Rattle.std.specs.Prelude.{◌≡◌, ◌<◌, ℕ, ◌^◌, length, slice_get, Some}
 use Rattle.std.specs.List.{All}
+use Rattle.gd_words.specs.Ranges.{HasNext, HasNextLong}
 use Rattle.schedule.specs.declared.event.Event.{Event}
 use Rattle.checkpoint_image.specs.declared.receive.OpenerBlock.{OpenerBlock}
 use Rattle.checkpoint_image.specs.Behaving.{last_write_of}
@@ -10,13 +11,6 @@ use Rattle.world_semantics.specs.declared.which.Which.{Which}
 use Rattle.world_semantics.specs.World.{Copy, Pair, Terminal, World, copy_of}
 use Rattle.machine_states.specs.States.{Makes}
 use Rattle.message_wires.specs.Play.{Whole, play}
-
--- a number of 32 bits, or of 64, that isn't the last one
-abbrev pub HasNext : ℕ → Type 0
-HasNext number = number < 4294967295
-
-abbrev pub HasNextLong : ℕ → Type 0
-HasNextLong number = number < 18446744073709551615
 
 -- of a copy: the number of the next request on each file, the number last taken from each opener, that of a disc's last write, that of the last checkpoint,
 -- the era if it watches, since only then it may take over, and its position

@@ -1,8 +1,5 @@
 -- A site within the limits of decks is small enough for the layout of messages.
-use Rattle.std.proofs.Common.{◌≡◌, ◌≤◌, ◌<◌, ℕ, suc, ◌+◌, ◌*◌, ◌==◌, ℤ, Bool, true, false, if◌then◌else◌, List, [], ◌∷◌, length, Option, Some, None, slice_get, option_and_then, refl, sym, subst, arith, inl, inr}
-use Rattle.std.specs.List.{All}
-use Rattle.std.proofs.lemmas.List.{length-append}
-use Rattle.std.proofs.lemmas.List.Elements.{All-head, All-tail}
+use Rattle.std.proofs.Common.{◌≡◌, ◌≤◌, ◌<◌, ℕ, suc, ◌+◌, ◌==◌, ℤ, Bool, true, false, if◌then◌else◌, List, [], ◌∷◌, length, Option, Some, None, slice_get, option_and_then, refl, sym, subst, arith, inl, inr}
 use Rattle.std.proofs.lemmas.Option.{get_or_from_slice_get, slice_get_within}
 use Rattle.gd_words.specs.Members.{IsAmong}
 use Rattle.gd_words.proofs.Among.{among-at, among-either}
@@ -18,52 +15,11 @@ use Rattle.tal_tree.specs.declared.site.Who.TheVariants as who
 use Rattle.plain_semantics.specs.Machine.{next_request}
 use Rattle.plain_semantics.specs.Openers.{opens, file_opener, files_from, files_of, processes_from, terminal_opener, terminals_from, openers_by, openers_of}
 use Rattle.plain_semantics.specs.SiteLimits.{KeepsSiteLimits}
+use Rattle.plain_semantics.proofs.Few.{openers-few}
 use Rattle.tal_laws.proofs.Ordered.{read_is_ordered}
 use Rattle.tal_laws.proofs.WithinLimits.{read_is_within}
 use Rattle.headline_laws.specs.Premises.{IsAcceptedSite}
 use Rattle.letters_layout.specs.Fitting.{IsSmall}
-
--- How many openers there are. The crate of openers knows this too, and tells no other crate
-
-few-if : (test : Bool) (opener : OpenerSpec) → length (if test then opener ∷ [] else []) ≤ 1
-few-if true opener = omega arith
-few-if false opener = omega arith
-
-files-few : (name : List ℕ) (process number : ℕ) (files : List FileUse) → length (files_from name process number files) ≤ length files
-files-few name process number [] = omega arith
-files-few name process number (file ∷ files) =
-    let both = length-append (file_opener name process number file) (files_from name process (number + 1) files) in
-    let one = few-if (opens name file.target) (record { who = who.File process number; depth = file.depth }) in
-    let more = files-few name process (number + 1) files in omega (arith, both, one, more)
-
-processes-few : (name : List ℕ) (number : ℕ) (specs : List ProcessSpec) → All (λ (spec : ProcessSpec). length (files_of spec.what) ≤ 8) specs
-    → length (processes_from name number specs) ≤ 8 * length specs
-processes-few name number [] few = omega arith
-processes-few name number (spec ∷ specs) few =
-    let both = length-append (files_from name number 0 (files_of spec.what)) (processes_from name (number + 1) specs) in
-    let one = files-few name number 0 (files_of spec.what) in
-    let most = All-head (λ (s : ProcessSpec). length (files_of s.what) ≤ 8) spec specs few in
-    let more = processes-few name (number + 1) specs (All-tail (λ (s : ProcessSpec). length (files_of s.what) ≤ 8) spec specs few) in
-    omega (arith, both, one, most, more)
-
-terminals-few : (process number : ℕ) (specs : List TerminalSpec) → length (terminals_from process number specs) ≤ length specs
-terminals-few process number [] = omega arith
-terminals-few process number (spec ∷ specs) =
-    let both = length-append (terminal_opener process number spec) (terminals_from process (number + 1) specs) in
-    let one = few-if (spec.target == process) (record { who = who.Terminal number; depth = 1 }) in
-    let more = terminals-few process (number + 1) specs in omega (arith, both, one, more)
-
-openers-few : (site : Site) (process : ℕ) → KeepsSiteLimits site → length (openers_of site process) ≤ 144
-openers-few site process keeps = by (slice_get site.processes process)
-  where
-    by : (named : Option ProcessSpec) → length (openers_by site process named) ≤ 144
-    by None = omega arith
-    by (Some named) =
-        let both = length-append (processes_from named.name 0 site.processes) (terminals_from process 0 site.terminals) in
-        let files = processes-few named.name 0 site.processes keeps.files in
-        let terminals = terminals-few process 0 site.terminals in
-        let most = keeps.processes in
-        let too = keeps.terminals in omega (arith, both, files, terminals, most, too)
 
 -- Depths
 

@@ -13,7 +13,8 @@ use Rattle.machine_states.specs.States.{Played, Makes, Skips, WouldStop}
 use Rattle.message_wires.specs.Play.{Whole, after_any, made_by, marked_by, marks_from, play}
 use Rattle.message_wires.specs.Wires.{Wires, all_posted, posted}
 use Rattle.number_laws.proofs.Counts.{marks-grow}
-use Rattle.number_ranges.specs.HasRoom.{HasNextLong, HasRoom, HasRoomForLetters}
+use Rattle.gd_words.specs.Ranges.{HasNextLong}
+use Rattle.number_ranges.specs.HasRoom.{HasRoom, HasRoomForLetters}
 use Rattle.world_copies.specs.Room.{AllWatchersHaveRoom}
 use Rattle.world_copies.specs.Told.{sent_in}
 use Rattle.world_copies.proofs.Room.{all-marked-room}

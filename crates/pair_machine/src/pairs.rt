@@ -59,7 +59,7 @@ impl Pairs {
         })
     }
 
-    /// One event.
+    /// Plays one event, and tells what came of it. This is the machine's only step.
     pub fn event(&mut self, event: Event) -> Result<Effect, NoMemory>
         requires room { HasRoom self.old.state }
         requires letters { HasRoomForLetters self.old.state }

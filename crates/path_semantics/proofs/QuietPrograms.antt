@@ -1,5 +1,6 @@
 -- Programs without CHECKPOINT, READUPDATE, WRITEREAD and REPLY break nowhere.
-use Rattle.std.proofs.Common.{◌≡◌, ℕ, true, false, List, [], ◌∷◌, refl, inl}
+use Rattle.std.proofs.Common.{◌≡◌, ℕ, ◌&&◌, Bool, true, false, List, [], ◌∷◌, refl, ap, inl}
+use Rattle.gd_words.specs.Members.{is_among}
 use Rattle.tal_tree.specs.declared.program.Program.{Program}
 use Rattle.tal_tree.specs.declared.statement.What.{What, What-F, out-What}
 use Rattle.tal_tree.specs.declared.statement.Statement.{Statement}
@@ -8,7 +9,8 @@ use Rattle.path_semantics.specs.declared.dues.Dues.{Dues}
 use Rattle.path_semantics.specs.declared.reason.Reason.{Reason}
 use Rattle.path_semantics.specs.declared.reason.Reason.TheVariants.{Data, SyncBlock, Input, Depth}
 use Rattle.path_semantics.specs.Place.{Place, next_in}
-use Rattle.path_semantics.specs.Break.{Breaks, breaks_data, breaks_sync, breaks_input, breaks_depth, breaks_by, breaks_entry, breaks_at}
+use Rattle.path_semantics.specs.Break.{Breaks, omits_item, omits_file, sends, may_break, is_enough, breaks_by, breaks_entry, breaks_at}
+use Rattle.path_semantics.specs.Dues.{asked_by}
 use Rattle.path_semantics.specs.Quiet.{IsQuietStatement, IsQuiet}
 use Rattle.path_semantics.proofs.Entries.{HoldsAt, entries-kept}
 use Rattle.path_semantics.proofs.Kept.{kept-led}
@@ -16,28 +18,31 @@ use Rattle.path_semantics.proofs.Kept.{kept-led}
 abbrev Quiet : Statement → Type 0
 Quiet statement = IsQuietStatement (out-What statement.what)
 
-quiet-data : (item : ℕ) (dues : Dues) (what : What-F What Statement) → IsQuietStatement what → breaks_data item dues what ≡ false
-quiet-data item dues (What-F.Checkpoint items files) quiet = absurd quiet
-quiet-data item dues _ quiet = refl
+quiet-item : (item : ℕ) (what : What-F What Statement) → IsQuietStatement what → omits_item item what ≡ false
+quiet-item item (What-F.Checkpoint items files) quiet = absurd quiet
+quiet-item item _ quiet = refl
 
-quiet-sync : (file : ℕ) (dues : Dues) (what : What-F What Statement) → IsQuietStatement what → breaks_sync file dues what ≡ false
-quiet-sync file dues (What-F.Checkpoint items files) quiet = absurd quiet
-quiet-sync file dues _ quiet = refl
+quiet-file : (file : ℕ) (what : What-F What Statement) → IsQuietStatement what → omits_file file what ≡ false
+quiet-file file (What-F.Checkpoint items files) quiet = absurd quiet
+quiet-file file _ quiet = refl
 
-quiet-input : (dues : Dues) (what : What-F What Statement) → IsQuietStatement what → breaks_input dues what ≡ false
-quiet-input dues (What-F.WriteRead file buffer send room got) quiet = absurd quiet
-quiet-input dues (What-F.Reply buffer count) quiet = absurd quiet
-quiet-input dues _ quiet = refl
+quiet-sent : (what : What-F What Statement) → IsQuietStatement what → sends what ≡ false
+quiet-sent (What-F.WriteRead file buffer send room got) quiet = absurd quiet
+quiet-sent (What-F.Reply buffer count) quiet = absurd quiet
+quiet-sent _ quiet = refl
 
-quiet-depth : (program : Program) (file : ℕ) (dues : Dues) (what : What-F What Statement) → IsQuietStatement what → breaks_depth program file dues what ≡ false
-quiet-depth program file dues (What-F.WriteRead asked buffer send room got) quiet = absurd quiet
-quiet-depth program file dues _ quiet = refl
+quiet-asked : (file : ℕ) (what : What-F What Statement) → IsQuietStatement what → is_among file (asked_by what) ≡ false
+quiet-asked file (What-F.WriteRead asked buffer send room got) quiet = absurd quiet
+quiet-asked file _ quiet = refl
+
+quiet-may : (reason : Reason) (what : What-F What Statement) → IsQuietStatement what → may_break reason what ≡ false
+quiet-may (Data item) what quiet = quiet-item item what quiet
+quiet-may (SyncBlock file) what quiet = quiet-file file what quiet
+quiet-may Input what quiet = quiet-sent what quiet
+quiet-may (Depth file) what quiet = quiet-asked file what quiet
 
 quiet-by : (program : Program) (reason : Reason) (dues : Dues) (what : What-F What Statement) → IsQuietStatement what → breaks_by program reason dues what ≡ false
-quiet-by program (Data item) dues what quiet = quiet-data item dues what quiet
-quiet-by program (SyncBlock file) dues what quiet = quiet-sync file dues what quiet
-quiet-by program Input dues what quiet = quiet-input dues what quiet
-quiet-by program (Depth file) dues what quiet = quiet-depth program file dues what quiet
+quiet-by program reason dues what quiet = ap (λ (b : Bool). b && is_enough program reason dues) (quiet-may reason what quiet)
 
 quiet-at : (program : Program) (reason : Reason) (dues : Dues) (place : Place) → HoldsAt Quiet place → breaks_entry program reason dues (next_in place) ≡ false
 quiet-at program reason dues [] quiet = refl

@@ -1,5 +1,5 @@
 -- How deep a program's calls go, and how large it is with its calls written out.
-use Rattle.std.specs.Prelude.{ℕ, ◌+◌, ◌≤◌, max, List, [], ◌∷◌, ◌++◌, map, length, sum, slice_get}
+use Rattle.std.specs.Prelude.{◌≡◌, ℕ, ◌+◌, ◌≤◌, ◌<◌, max, min, List, [], ◌∷◌, ◌++◌, map, length, sum, slice_get}
 use Rattle.std.specs.Option.{unwrap_or}
 use Rattle.tal_tree.specs.declared.program.Program.{Program}
 use Rattle.tal_tree.specs.declared.program.Procedure.{Procedure}
@@ -35,7 +35,27 @@ depths program = in_order depth_from [] program.procedures
 abbrev pub sizes : Program → List ℕ
 sizes program = in_order size_from [] program.procedures
 
+-- how deep a program's calls go: MAIN's depth
+abbrev pub depth_of : Program → ℕ
+depth_of program = unwrap_or (slice_get (depths program) program.main) 0
+
+-- how large a program is with all calls written out: MAIN's size
+abbrev pub size_of : Program → ℕ
+size_of program = unwrap_or (slice_get (sizes program) program.main) 0
+
 -- MAIN's calls go at most 16 procedures deep, MAIN counted, and with all calls written out it has at most 8,192 numbers
 pub record IsWithinBounds (program : Program) : Type 0 where
-  pub depth : unwrap_or (slice_get (depths program) program.main) 0 ≤ 16
-  pub size : unwrap_or (slice_get (sizes program) program.main) 0 ≤ 8192
+  pub depth : depth_of program ≤ 16
+  pub size : size_of program ≤ 8192
+
+-- MAIN's calls go deeper
+abbrev pub HasTooDeepCalls : Program → Type 0
+HasTooDeepCalls program = 16 < depth_of program
+
+-- a size as far as it is told
+abbrev pub told : ℕ → ℕ
+told size = min size 4294967295
+
+-- MAIN's calls don't, but it has more numbers, which are told
+abbrev pub IsTooLarge : Program → ℕ → Type 0
+IsTooLarge program size = (depth_of program ≤ 16) × (8192 < size_of program) × (size ≡ told (size_of program))

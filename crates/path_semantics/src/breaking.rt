@@ -2,7 +2,8 @@ ghost use Rattle.std.specs.Prelude.{◌≡◌, ◌==◌, count_by};
 ghost use Rattle.std.specs.Option.{option_copied};
 ghost use Rattle.tal_tree.specs.declared.statement.What.{out-What};
 ghost use Rattle.gd_words.specs.Members.{is_among};
-ghost use Rattle.path_semantics.specs.Break.{asked_count, is_reached, breaks_data, breaks_sync, breaks_input, breaks_depth, breaks_by, breaks_at};
+ghost use Rattle.path_semantics.specs.Dues.{asked_by};
+ghost use Rattle.path_semantics.specs.Break.{asked_count, is_reached, omits_item, omits_file, sends, may_break, is_enough, breaks_by, breaks_at};
 
 use crate::dues::Dues;
 use crate::reason::Reason;
@@ -25,42 +26,65 @@ impl<'a> Stand<'a> {
 fn breaks_by(program: &Program, reason: Reason, dues: &Dues, what: &What) -> bool
     ensures { result ≡ breaks_by program.now reason dues.now (out-What what.now) }
 {
+    may_break(reason, what) && is_enough(program, reason, dues)
+}
+
+/// Whether a statement breaks for a reason where enough is due.
+#[inline(always)]
+pub fn may_break(reason: Reason, what: &What) -> bool
+    ensures { result ≡ may_break reason (out-What what.now) }
+{
     match reason {
-        Reason::Data(item) => breaks_data(item, dues, what),
-        Reason::SyncBlock(file) => breaks_sync(file, dues, what),
-        Reason::Input => breaks_input(dues, what),
-        Reason::Depth(file) => breaks_depth(program, file, dues, what),
+        Reason::Data(item) => omits_item(what, item),
+        Reason::SyncBlock(file) => omits_file(what, file),
+        Reason::Input => sends(what),
+        Reason::Depth(file) => asks(what, file),
     }
 }
 
-fn breaks_data(item: u16, dues: &Dues, what: &What) -> bool
-    ensures { result ≡ breaks_data item dues.now (out-What what.now) }
+/// Whether enough is due for a reason to break.
+fn is_enough(program: &Program, reason: Reason, dues: &Dues) -> bool
+    ensures { result ≡ is_enough program.now reason dues.now }
+{
+    match reason {
+        Reason::Data(item) => has_item(dues.globals.as_slice(), item),
+        Reason::SyncBlock(file) => has_file(dues.asked.as_slice(), file),
+        Reason::Input => dues.read,
+        Reason::Depth(file) => {
+            let count = asked_count(dues, file);
+            is_reached(program.files.get(usize::from(file)), count)
+        }
+    }
+}
+
+fn omits_item(what: &What, item: u16) -> bool
+    ensures { result ≡ omits_item item (out-What what.now) }
 {
     match what {
         What::Checkpoint { items, files: _ } => {
-            let due = has_item(dues.globals.as_slice(), item);
             let named = has_item(items.as_slice(), item);
-            due && !named
+            !named
         }
         _ => false,
     }
 }
 
-fn breaks_sync(file: u8, dues: &Dues, what: &What) -> bool
-    ensures { result ≡ breaks_sync file dues.now (out-What what.now) }
+fn omits_file(what: &What, file: u8) -> bool
+    ensures { result ≡ omits_file file (out-What what.now) }
 {
     match what {
         What::Checkpoint { items: _, files } => {
-            let due = has_file(dues.asked.as_slice(), file);
             let named = has_file(files.as_slice(), file);
-            due && !named
+            !named
         }
         _ => false,
     }
 }
 
-fn breaks_input(dues: &Dues, what: &What) -> bool
-    ensures { result ≡ breaks_input dues.now (out-What what.now) }
+/// Whether a statement is a WRITEREAD or a REPLY.
+#[inline(always)]
+pub fn sends(what: &What) -> bool
+    ensures { result ≡ sends (out-What what.now) }
 {
     match what {
         What::WriteRead {
@@ -69,17 +93,19 @@ fn breaks_input(dues: &Dues, what: &What) -> bool
             send: _,
             room: _,
             got: _,
-        } => dues.read,
+        } => true,
         What::Reply {
             buffer: _,
             count: _,
-        } => dues.read,
+        } => true,
         _ => false,
     }
 }
 
-fn breaks_depth(program: &Program, file: u8, dues: &Dues, what: &What) -> bool
-    ensures { result ≡ breaks_depth program.now file dues.now (out-What what.now) }
+/// Whether a statement is a WRITEREAD on this file.
+#[inline(always)]
+pub fn asks(what: &What, file: u8) -> bool
+    ensures { result ≡ is_among file (asked_by (out-What what.now)) }
 {
     match what {
         What::WriteRead {
@@ -88,11 +114,7 @@ fn breaks_depth(program: &Program, file: u8, dues: &Dues, what: &What) -> bool
             send: _,
             room: _,
             got: _,
-        } => {
-            let count = asked_count(dues, file);
-            let reached = is_reached(program.files.get(usize::from(file)), count);
-            *asked == file && reached
-        }
+        } => *asked == file,
         _ => false,
     }
 }

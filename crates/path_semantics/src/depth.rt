@@ -1,6 +1,6 @@
 ghost use Rattle.std.specs.Prelude.{◌≡◌, ◌≤◌, [], ◌∷◌, length, slice_get};
 ghost use Rattle.std.specs.Option.{unwrap_or};
-ghost use Rattle.path_semantics.specs.Bounds.{greatest, of_called, depths};
+ghost use Rattle.path_semantics.specs.Bounds.{greatest, of_called, depth_of};
 
 use arrayvec::ArrayVec;
 use tal_tree::{Program, Statement, What};
@@ -10,7 +10,7 @@ use tal_tree::{Program, Statement, What};
 /// of the checkpoint discipline. A text has at most 64 procedures, so this takes no memory.
 pub fn call_depth(program: &Program) -> u32
     requires few { length program.now.procedures ≤ 64 }
-    ensures depth { result ≡ unwrap_or (slice_get (depths program.now) program.now.main) 0 }
+    ensures depth { result ≡ depth_of program.now }
     ensures most { result ≤ 64 }
 {
     let procedures = program.procedures.as_slice();

@@ -103,12 +103,13 @@ impl<'a> Stand<'a> {
     {
         match self.next() {
             None => None,
-            Some(entry) => Some(number_of(entry)),
+            Some(entry) => Some(entry_number(entry)),
         }
     }
 }
 
-fn number_of(entry: Entry<'_>) -> u32
+/// The number of an entry: that of its statement, and those of a FOR's test and of its last assignment.
+pub fn entry_number(entry: Entry<'_>) -> u32
     ensures { result ≡ number_of (entry_of entry.entry) }
 {
     match entry {

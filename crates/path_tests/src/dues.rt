@@ -1,7 +1,7 @@
-use crate::programs::program_of;
 use path_semantics::{Reason, breaks_there, leads_somewhere};
 use std::alloc::Global;
 use std::test::Fail;
+use worked_programs::program_of;
 
 /// A program whose path ends with a CHECKPOINT that names nothing, and which of its first four globals are due there.
 struct Due {

@@ -1,8 +1,8 @@
-use crate::programs::program_of;
 use path_semantics::{Reason, breaks_there, call_depth, leads_somewhere};
 use std::alloc::Global;
 use std::test::Fail;
 use tal_tree::Program;
+use worked_programs::program_of;
 
 /// The numbers of the globals of the bank.
 const TOTAL: u16 = 0;

@@ -1,8 +1,7 @@
 -- An act raises the greatest number of a write by 1 at most.
-use Rattle.std.proofs.Common.{◌≡◌, ◌≤◌, ◌<◌, ℕ, zero, suc, ◌+◌, ◌*◌, ◌==◌, ◌&&◌, ℤ, pos, Bool, true, false, if◌then◌else◌, List, [], ◌∷◌, length, Option, Some, None, nat_le, slice_get, slice_set, int_eq, refl, ap, arith}
+use Rattle.std.proofs.Common.{◌≡◌, ◌≤◌, ◌<◌, ℕ, zero, suc, ◌+◌, ◌*◌, ℤ, List, [], ◌∷◌, length, Option, Some, None, slice_get, slice_set, refl, ap, arith}
 use native.Mathlib.Nat.{mul_comm, mul-suc}
 use Rattle.std.specs.Option.{unwrap_or}
-use Rattle.gd_words.specs.declared.device.DeviceCall.TheVariants.{Nothing, Read, Write}
 use Rattle.tal_tree.specs.declared.act.Act.{Act}
 use Rattle.tal_tree.specs.declared.act.Act.TheVariants.{Step, Take, Enter, Print}
 use Rattle.tal_tree.specs.declared.site.Kind.{Kind}
@@ -12,7 +11,6 @@ use Rattle.tal_tree.specs.declared.site.Site.{Site}
 use Rattle.tal_tree.specs.declared.site.Who.TheVariants as who
 use Rattle.process_semantics.specs.declared.point.Point.{Point}
 use Rattle.process_semantics.specs.declared.point.Point.TheVariants as point
-use Rattle.process_semantics.specs.Disc as disc
 use Rattle.process_semantics.specs.Process as process
 use Rattle.process_semantics.specs.Process.{ProcessState, Runs, Serves}
 use Rattle.checkpoint_image.specs.Behaving.{last_write_of}
@@ -21,6 +19,7 @@ use Rattle.plain_semantics.specs.declared.slot.Slot.{Slot}
 use Rattle.plain_semantics.specs.declared.slot.Slot.TheVariants.{Empty, Waiting, Taken, Answered}
 use Rattle.plain_semantics.specs.Machine.{Plain, PlainProcess, Made, made, plain_start, processes_at_first, own_opener, slot_of, slot_put, with_slot, with_process, with_state, got_made, step_at, step_made, take_slot, take_at, take_made, next_request, entered_at, enter_request, enter_made, print_made}
 use Rattle.plain_semantics.specs.Openers.{opener_of}
+use Rattle.plain_semantics.proofs.Writes.{call-next}
 use Rattle.schedule.specs.declared.event.Event.{Event}
 use Rattle.schedule.specs.declared.event.Event.TheVariants as event
 use Rattle.schedule.specs.declared.line.Line.{Line}
@@ -72,26 +71,9 @@ last-marked : (s : ProcessState) → last_write_of (process.after_mark s) ≡ la
 last-marked (Runs code s) = refl
 last-marked (Serves sectors s) = refl
 
-call-at-low : (last number : ℕ) (kind : ℤ) (words : List ℤ) (sector : Option ℕ) → last ≤ number
-    → disc.last_write_after last (disc.call_at number kind words sector) ≤ number
-call-at-low last number kind words None low = low
-call-at-low last number kind words (Some sector) low =
-    by (int_eq kind (pos 1) && (length words == 0)) (int_eq kind (pos 2) && nat_le 1 (length words) && nat_le (length words) 8)
-  where
-    by : (reads writes : Bool)
-        → disc.last_write_after last (if reads then Read sector else if writes then Write sector (disc.filled words) number else Nothing) ≤ number
-    by true writes = low
-    by false true = omega arith
-    by false false = low
-
-call-low : (sectors last number : ℕ) (words : List ℤ) → last ≤ number → disc.last_write_after last (disc.call_of sectors number words) ≤ number
-call-low sectors last number [] low = low
-call-low sectors last number (kind ∷ []) low = low
-call-low sectors last number (kind ∷ sector ∷ words) low = call-at-low last number kind words (disc.sector_of sectors sector) low
-
 last-device : (s : ProcessState) (found : List ℤ) → last_write_of (process.after_device s found) ≤ last_write_of s + 1
 last-device (Runs code s) found = omega arith
-last-device (Serves sectors s) found = call-low sectors s.last_write (s.last_write + 1) (unwrap_or s.request []) (omega arith)
+last-device (Serves sectors s) found = call-next sectors s.last_write (unwrap_or s.request [])
 
 -- Of acts
 

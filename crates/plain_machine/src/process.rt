@@ -1,4 +1,5 @@
 ghost use Rattle.std.specs.Prelude.{◌≡◌, ◌≤◌, ◌<◌, IfOk, length, map, replicate, slice_set};
+ghost use Rattle.gd_words.specs.Ranges.{HasNext};
 ghost use Rattle.checkpoint_image.specs.Behaving.{last_write_of};
 ghost use Rattle.plain_semantics.specs.Openers.{openers_of};
 ghost use Rattle.plain_semantics.specs.SiteLimits.{KeepsSiteLimits};
@@ -134,7 +135,7 @@ impl PlainProcess {
     /// Acts on the disc device, and tells what it did. The number of its last write has a next.
     pub(crate) fn device(&mut self) -> DeviceCall
         requires stands { point self.old.state ≡ Point.Device }
-        requires room { last_write_of self.old.state < 4294967295 }
+        requires room { HasNext (last_write_of self.old.state) }
         ensures call { result ≡ call_of self.old.state }
         ensures state { self.new ≡ record self.old { state = after_device self.old.state (found_by self.old.sectors (call_of self.old.state)); sectors = written_by self.old.sectors (call_of self.old.state) } }
     {

@@ -64,7 +64,7 @@ impl<'a> Wires<'a> {
         self.site.terminals.len() as u8
     }
 
-    /// The request of a terminal after so many.
+    /// The request that a terminal sends after it has entered `entered` of them. `None` if it has no more.
     pub(crate) fn request(&self, terminal: usize, entered: u32) -> Option<&Words>
         ensures request { option_copied result ≡ next_request self.now terminal entered }
         ensures few { IfSome result (λ words. entered < 1000) }

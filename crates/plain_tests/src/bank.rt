@@ -1,49 +1,13 @@
 ghost use Rattle.std.specs.Prelude.{IfOk, OnOk};
 ghost use Rattle.plain_machine.specs.Standing.{AreLoadable, IsPlayable};
 ghost use Rattle.processes.specs.Seen.{IsLoadableKind};
-ghost use Rattle.tal_interp.specs.Sound.{IsLoadable};
 
 use gd_words::{List, Name, NoMemory, Words};
 use plain_semantics::keeps_site_limits;
 use std::alloc::Global;
 use std::test::Fail;
-use tal_reader::read_program;
-use tal_tree::{Kind, ProcessSpec, Program, Site, TerminalSpec};
-
-/// Adds each deposit to a total, has the total written to sector 0, and answers it.
-const BANK: &[u8] = b"
-INT total, got, rcv, disk;
-INT buf[0:0];
-INT out[0:2];
-PROC bank MAIN;
-BEGIN
-  CALL CHECKMONITOR;
-  CALL OPEN(\"$RECEIVE\", rcv, 1);
-  CALL OPEN(\"$DATA\", disk, 1);
-  WHILE 1 DO
-  BEGIN
-    CALL READUPDATE(rcv, buf, 1, got);
-    total := total + buf[0];
-    CALL CHECKPOINT(buf, out, got, total, disk);
-    out[0] := 2;
-    out[1] := 0;
-    out[2] := total;
-    CALL WRITEREAD(disk, out, 3, 1, got);
-    buf[0] := total;
-    CALL REPLY(buf, 1)
-  END
-END;";
-
-/// The program of a text; no text of these tests is longer than a million bytes.
-fn program_of(alloc: Global, text: &[u8]) -> Result<Program, Fail>
-    ensures { IfOk result IsLoadable }
-{
-    if text.len() > 1_000_000 {
-        return Err(Fail::from("a longer text"));
-    }
-    let program = read_program(alloc, text)?;
-    Ok(program)
-}
+use tal_tree::{Kind, ProcessSpec, Site, TerminalSpec};
+use worked_programs::{BANK, program_of};
 
 /// A process more, in the processors 0 and 1.
 fn add(processes: &mut List<ProcessSpec>, name: &[u8], what: Kind) -> Result<(), Fail>

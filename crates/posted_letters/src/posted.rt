@@ -2,7 +2,7 @@ ghost use Rattle.std.specs.Prelude.{◌≡◌, length, slice_get, IfOk, OnOk};
 ghost use Rattle.std.specs.Option.{option_map};
 ghost use Rattle.message_wires.specs.Idle.{none_owed};
 ghost use Rattle.message_wires.specs.Wires.{paid, paid_between, posted, wires_again, wires_at_boot, without_packet};
-ghost use Rattle.number_ranges.specs.HasRoom.{HasNextLong};
+ghost use Rattle.gd_words.specs.Ranges.{HasNextLong};
 ghost use Rattle.posted_letters.specs.Repeats.{IsRepeated};
 
 use crate::bus::Bus;

@@ -1,5 +1,6 @@
 ghost use Rattle.std.specs.Prelude.{◌≡◌, ◌<◌, ◌+◌, ◌^◌, true, is_some, IfOk, OnOk, OnErr};
 ghost use Rattle.std.specs.Option.{option_map, unwrap_or};
+ghost use Rattle.gd_words.specs.Ranges.{HasNext};
 ghost use Rattle.process_semantics.specs.declared.point.Point.TheVariants.{Mark};
 ghost use Rattle.process_semantics.specs.Process.{point};
 ghost use Rattle.world_semantics.specs.declared.role.Role.TheVariants.{Watching, Gone};
@@ -16,7 +17,7 @@ impl<B: Behaviour> CopyControl<B> {
     /// The checkpoint of the mark at which it stands, for the other copy of its process. Its number has 32 bits. An error changes nothing.
     pub fn checkpoint_out(&mut self, alloc: Global, process: u8) -> Result<ImageMessage, NoMemory>
         requires point { point self.old.core.state ≡ Mark }
-        requires number { self.old.number + 1 < 2 ^ 32 }
+        requires number { HasNext self.old.number }
         ensures message { IfOk result (λ message. message ≡ copy_checkpoint process self.old) }
         ensures ok { OnOk result (self.new ≡ copy_sending self.old) }
         ensures err { OnErr result (self.new ≡ self.old) }
@@ -33,7 +34,7 @@ impl<B: Behaviour> CopyControl<B> {
         })
     }
 
-    /// A checkpoint came: it is applied whole, or ignored, and then nothing changes. It takes no memory.
+    /// Applies a checkpoint that came, whole, or ignores it. It answers whether it was applied. It takes no memory.
     pub fn checkpoint_in(&mut self, message: &ImageMessage) -> bool
         ensures told { result ≡ is_some (copy_applying message.now self.old) }
         ensures copy { self.new ≡ unwrap_or (copy_applying message.now self.old) self.old }
@@ -96,7 +97,7 @@ impl<B: Behaviour> CopyControl<B> {
     /// the next era has 32 bits.
     pub fn take_over(&mut self)
         requires watching { self.old.role ≡ Watching }
-        requires era { self.old.era + 1 < 2 ^ 32 }
+        requires era { HasNext self.old.era }
         ensures { self.new ≡ copy_taking_over self.old }
     {
         self.role = Role::Acting;

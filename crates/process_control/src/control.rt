@@ -1,5 +1,6 @@
 ghost use Rattle.std.specs.Prelude.{◌≡◌, ◌<◌, ◌≤◌, ◌+◌, ◌^◌, All, false, length, Some, IfOk};
 ghost use Rattle.std.specs.Option.{option_map};
+ghost use Rattle.gd_words.specs.Ranges.{HasNext};
 ghost use Rattle.process_semantics.specs.declared.point.Point.TheVariants.{Inner, Take, Ask, Await, Answer, Device};
 ghost use Rattle.process_semantics.specs.Process.{asked_file, call_of, in_hand, point};
 ghost use Rattle.whole_states.specs.Listing.{files_of};
@@ -193,7 +194,7 @@ impl<B: Behaviour> CopyControl<B> {
     /// Asks on a file, and awaits the reply from now on. The number after that of this request has 32 bits.
     pub fn ask(&mut self) -> Asking
         requires point { point self.old.core.state ≡ Ask }
-        requires number { next_on self.old.core (asked_file self.old.core.state) + 1 < 2 ^ 32 }
+        requires number { HasNext (next_on self.old.core (asked_file self.old.core.state)) }
         ensures asking { result ≡ asking_of self.old.core }
         ensures copy { self.new ≡ with_core self.old (core_asking self.old.core) }
     {
@@ -220,7 +221,7 @@ impl<B: Behaviour> CopyControl<B> {
     /// What it does to its device.
     pub fn device(&self) -> DeviceCall
         requires point { point self.now.core.state ≡ Device }
-        requires numbers { last_write_of self.now.core.state + 1 < 2 ^ 32 }
+        requires numbers { HasNext (last_write_of self.now.core.state) }
         ensures { result ≡ call_of self.now.core.state }
     {
         self.core.device()
@@ -229,7 +230,7 @@ impl<B: Behaviour> CopyControl<B> {
     /// The step at its device, with the words that stood on the sector.
     pub fn device_done(&mut self, found: &Sector)
         requires point { point self.old.core.state ≡ Device }
-        requires numbers { last_write_of self.old.core.state + 1 < 2 ^ 32 }
+        requires numbers { HasNext (last_write_of self.old.core.state) }
         ensures { self.new ≡ with_core self.old (core_acting found.now self.old.core) }
     {
         self.core.device_done(found);

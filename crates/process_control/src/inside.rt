@@ -1,5 +1,6 @@
 ghost use Rattle.std.specs.Prelude.{◌≡◌, ◌<◌, ◌≤◌, ◌+◌, ◌^◌, All, false, is_some, length, Some, IfOk};
 ghost use Rattle.std.specs.Option.{unwrap_or};
+ghost use Rattle.gd_words.specs.Ranges.{HasNext};
 ghost use Rattle.process_semantics.specs.declared.point.Point.TheVariants.{Inner, Take, Ask, Await, Answer, Mark, Device};
 ghost use Rattle.process_semantics.specs.Process.{asked_file, call_of, in_hand, point};
 ghost use Rattle.whole_states.specs.Listing.{files_of};
@@ -128,7 +129,7 @@ impl<B: Behaviour> CopyCore<B> {
 
     pub fn ask(&mut self) -> Asking
         requires point { point self.old.core.state ≡ Ask }
-        requires number { next_on self.old.core (asked_file self.old.core.state) + 1 < 2 ^ 32 }
+        requires number { HasNext (next_on self.old.core (asked_file self.old.core.state)) }
         ensures asking { result ≡ asking_of self.old.core }
         ensures core { self.new ≡ record self.old { core = core_asking self.old.core } }
     {
@@ -167,7 +168,7 @@ impl<B: Behaviour> CopyCore<B> {
 
     pub fn device(&self) -> DeviceCall
         requires point { point self.now.core.state ≡ Device }
-        requires numbers { last_write_of self.now.core.state + 1 < 2 ^ 32 }
+        requires numbers { HasNext (last_write_of self.now.core.state) }
         ensures { result ≡ call_of self.now.core.state }
     {
         self.behaviour.device()
@@ -175,7 +176,7 @@ impl<B: Behaviour> CopyCore<B> {
 
     pub fn device_done(&mut self, found: &Sector)
         requires point { point self.old.core.state ≡ Device }
-        requires numbers { last_write_of self.old.core.state + 1 < 2 ^ 32 }
+        requires numbers { HasNext (last_write_of self.old.core.state) }
         ensures { self.new ≡ record self.old { core = core_acting found.now self.old.core } }
     {
         self.behaviour.device_done(found);

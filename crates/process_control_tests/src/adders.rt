@@ -9,25 +9,8 @@ use process_semantics::Point;
 use processes::Process;
 use std::alloc::Global;
 use std::test::Fail;
+use worked_programs::LOGGING_ADDER;
 use world_semantics::Role;
-
-/// Adds each request to a total, has the total written to a log, and answers it.
-const ADDER: &[u8] = b"INT total, got, rcv, log; INT buf[0:0];
-PROC add MAIN;
-BEGIN
-  CALL CHECKMONITOR;
-  CALL OPEN(\"$RECEIVE\", rcv, 1);
-  CALL OPEN(\"$LOG\", log, 1);
-  WHILE 1 DO
-  BEGIN
-    CALL READUPDATE(rcv, buf, 1, got);
-    total := total + buf[0];
-    buf[0] := total;
-    CALL CHECKPOINT(total, got, buf, log);
-    CALL WRITEREAD(log, buf, 1, 1, got);
-    CALL REPLY(buf, 1);
-  END;
-END;";
 
 /// The first checkpoint, with the word 5 in hand: the frame and three items, the number of the log, and two openers.
 const FIRST_WORDS: &[i16] = &[
@@ -76,7 +59,7 @@ const TAKEOVER: &[Turn<'static>] = &[
 /// Two copies of the adder, which two terminals ask.
 #[tactic(auto, using(crate::proofs::Openers::all_of_depth))]
 fn adders(alloc: Global) -> Result<Copies<Process>, Fail> {
-    start_both(alloc, ADDER, &[terminal(1); 2])
+    start_both(alloc, LOGGING_ADDER, &[terminal(1); 2])
 }
 
 /// Whether a copy stands at the start of its process, in this role.

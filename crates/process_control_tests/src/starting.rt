@@ -13,18 +13,15 @@ use process_control::CopyControl;
 use processes::Process;
 use std::alloc::Global;
 use std::test::Fail;
-use tal_reader::read_program;
 use tal_tree::{Kind, OpenerSpec, Who};
+use worked_programs::program_of;
 use world_semantics::Role;
 
-/// A pair that runs the program of a text; no text of these tests is longer than a million bytes.
+/// A pair that runs the program of a text.
 fn pair_of(alloc: Global, text: &[u8]) -> Result<Kind, Fail>
     ensures { IfOk result IsLoadableKind }
 {
-    if text.len() > 1_000_000 {
-        return Err(Fail::from("a longer text"));
-    }
-    let program = read_program(alloc, text)?;
+    let program = program_of(alloc, text)?;
     Ok(Kind::Pair(program))
 }
 

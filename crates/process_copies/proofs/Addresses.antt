@@ -6,7 +6,7 @@ use Rattle.tal_tree.specs.declared.site.OpenerSpec.{OpenerSpec}
 use Rattle.tal_tree.specs.declared.site.Who.{Who}
 use Rattle.plain_semantics.specs.Openers.{opener_at, opener_of, opener_on, openers_by, place_from, same_who, server_by}
 use Rattle.plain_semantics.specs.SiteLimits.{KeepsSiteLimits}
-use Rattle.process_copies.proofs.Few.{openers-few}
+use Rattle.plain_semantics.proofs.Few.{openers-few}
 use Rattle.process_copies.specs.Starting.{HasAddress}
 
 -- a place among openers is one of theirs

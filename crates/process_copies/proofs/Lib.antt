@@ -3,5 +3,4 @@ pub mod Addresses
 mod Applying
 mod Beginnings
 mod Depths
-mod Few
 mod Steps

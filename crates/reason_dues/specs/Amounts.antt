@@ -1,5 +1,5 @@
 -- How much of what a reason speaks of is due, as one number, and at which number its statements break.
-use Rattle.std.specs.Prelude.{ℕ, ◌+◌, Bool, true, false, not, ◌&&◌, if◌then◌else◌, nat_le, min, List, slice_get, Option, Some, None, is_some}
+use Rattle.std.specs.Prelude.{ℕ, ◌+◌, Bool, true, false, ◌&&◌, if◌then◌else◌, nat_le, min, List, slice_get, Option, Some, None, is_some}
 use Rattle.gd_words.specs.Members.{is_among}
 use Rattle.tal_tree.specs.declared.program.FileUse.{FileUse}
 use Rattle.tal_tree.specs.declared.program.Program.{Program}
@@ -10,7 +10,7 @@ use Rattle.path_semantics.specs.declared.dues.Dues.{Dues}
 use Rattle.path_semantics.specs.declared.reason.Reason.{Reason}
 use Rattle.path_semantics.specs.declared.reason.Reason.TheVariants.{Data, SyncBlock, Input, Depth}
 use Rattle.path_semantics.specs.Dues.{changed_by, asked_by, reads}
-use Rattle.path_semantics.specs.Break.{asked_count}
+use Rattle.path_semantics.specs.Break.{asked_count, may_break}
 
 abbrev pub one_if : Bool → ℕ
 one_if b = if b then 1 else 0
@@ -94,64 +94,6 @@ is_there program (Data item) = true
 is_there program (SyncBlock file) = true
 is_there program Input = true
 is_there program (Depth file) = is_some (slice_get program.files file)
-
--- a CHECKPOINT that doesn't name a global
-abbrev pub omits_item : ℕ → What-F What Statement → Bool
-omits_item item (What-F.Checkpoint items files) = not (is_among item items)
-omits_item item (What-F.Assign _ _) = false
-omits_item item (What-F.AssignCall _ _ _) = false
-omits_item item (What-F.If _ _ _) = false
-omits_item item (What-F.While _ _) = false
-omits_item item (What-F.For _ _ _ _ _) = false
-omits_item item (What-F.Call _ _) = false
-omits_item item (What-F.Return _) = false
-omits_item item (What-F.ReadUpdate _ _ _) = false
-omits_item item (What-F.Reply _ _) = false
-omits_item item (What-F.WriteRead _ _ _ _ _) = false
-omits_item item What-F.CheckMonitor = false
-omits_item item (What-F.Open _) = false
-omits_item item What-F.Stop = false
-
--- a CHECKPOINT that doesn't name a file
-abbrev pub omits_file : ℕ → What-F What Statement → Bool
-omits_file file (What-F.Checkpoint items files) = not (is_among file files)
-omits_file file (What-F.Assign _ _) = false
-omits_file file (What-F.AssignCall _ _ _) = false
-omits_file file (What-F.If _ _ _) = false
-omits_file file (What-F.While _ _) = false
-omits_file file (What-F.For _ _ _ _ _) = false
-omits_file file (What-F.Call _ _) = false
-omits_file file (What-F.Return _) = false
-omits_file file (What-F.ReadUpdate _ _ _) = false
-omits_file file (What-F.Reply _ _) = false
-omits_file file (What-F.WriteRead _ _ _ _ _) = false
-omits_file file What-F.CheckMonitor = false
-omits_file file (What-F.Open _) = false
-omits_file file What-F.Stop = false
-
--- a WRITEREAD or REPLY
-abbrev pub sends : What-F What Statement → Bool
-sends (What-F.WriteRead _ _ _ _ _) = true
-sends (What-F.Reply _ _) = true
-sends (What-F.Assign _ _) = false
-sends (What-F.AssignCall _ _ _) = false
-sends (What-F.If _ _ _) = false
-sends (What-F.While _ _) = false
-sends (What-F.For _ _ _ _ _) = false
-sends (What-F.Call _ _) = false
-sends (What-F.Return _) = false
-sends (What-F.ReadUpdate _ _ _) = false
-sends (What-F.Checkpoint _ _) = false
-sends What-F.CheckMonitor = false
-sends (What-F.Open _) = false
-sends What-F.Stop = false
-
--- whether a statement breaks for a reason where enough is due
-abbrev pub may_break : Reason → What-F What Statement → Bool
-may_break (Data item) what = omits_item item what
-may_break (SyncBlock file) what = omits_file file what
-may_break Input what = sends what
-may_break (Depth file) what = is_among file (asked_by what)
 
 -- whether an entry breaks for a reason where enough is due
 abbrev pub may_break_at : Reason → Entry → Bool

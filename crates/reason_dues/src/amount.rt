@@ -3,10 +3,10 @@ ghost use Rattle.std.specs.Option.{option_copied};
 ghost use Rattle.gd_words.specs.Members.{is_among};
 ghost use Rattle.tal_tree.specs.declared.statement.What.{out-What};
 ghost use Rattle.process_semantics.specs.SeenEntries.{entry_of};
-ghost use Rattle.path_semantics.specs.Dues.{global_of_spot, global_of, changed_by, changed_by_return, target_of, asked_by, reads};
-ghost use Rattle.reason_dues.specs.Amounts.{clears, adds, adds_changed, one_more, after_what, after_changed, after_entry, omits_item, omits_file, sends, may_break, may_break_at, depth_in, most_of};
+ghost use Rattle.path_semantics.specs.Dues.{global_of_spot, global_of, changed_by, changed_by_return, target_of, reads};
+ghost use Rattle.reason_dues.specs.Amounts.{clears, adds, adds_changed, one_more, after_what, after_changed, after_entry, may_break_at, depth_in, most_of};
 
-use path_semantics::Reason;
+use path_semantics::{Reason, asks, may_break};
 use process_semantics::Entry;
 use tal_tree::{FileUse, Program, Spot, Variable, What};
 
@@ -170,18 +170,6 @@ pub fn may_break_at(reason: Reason, entry: Entry<'_>) -> bool
     }
 }
 
-#[inline(always)]
-fn may_break(reason: Reason, what: &What) -> bool
-    ensures { result ≡ may_break reason (out-What what.now) }
-{
-    match reason {
-        Reason::Data(item) => omits_item(what, item),
-        Reason::SyncBlock(file) => omits_file(what, file),
-        Reason::Input => sends(what),
-        Reason::Depth(file) => asks(what, file),
-    }
-}
-
 /// Whether a statement adds to what is due.
 #[inline(always)]
 fn adds(reason: Reason, what: &What) -> bool
@@ -215,42 +203,6 @@ pub(crate) fn reads(what: &What) -> bool
             most: _,
             got: _,
         } => true,
-        _ => false,
-    }
-}
-
-#[inline(always)]
-pub(crate) fn sends(what: &What) -> bool
-    ensures { result ≡ sends (out-What what.now) }
-{
-    match what {
-        What::WriteRead {
-            file: _,
-            buffer: _,
-            send: _,
-            room: _,
-            got: _,
-        } => true,
-        What::Reply {
-            buffer: _,
-            count: _,
-        } => true,
-        _ => false,
-    }
-}
-
-#[inline(always)]
-fn asks(what: &What, file: u8) -> bool
-    ensures { result ≡ is_among file (asked_by (out-What what.now)) }
-{
-    match what {
-        What::WriteRead {
-            file: asked,
-            buffer: _,
-            send: _,
-            room: _,
-            got: _,
-        } => *asked == file,
         _ => false,
     }
 }
@@ -305,29 +257,5 @@ fn is_global(variable: Variable, item: u16) -> bool
     match variable {
         Variable::Local(_) => false,
         Variable::Simple(global) => global == item,
-    }
-}
-
-fn omits_item(what: &What, item: u16) -> bool
-    ensures { result ≡ omits_item item (out-What what.now) }
-{
-    match what {
-        What::Checkpoint { items, files: _ } => {
-            let named = items.as_slice().contains(&item);
-            !named
-        }
-        _ => false,
-    }
-}
-
-fn omits_file(what: &What, file: u8) -> bool
-    ensures { result ≡ omits_file file (out-What what.now) }
-{
-    match what {
-        What::Checkpoint { items: _, files } => {
-            let named = files.as_slice().contains(&file);
-            !named
-        }
-        _ => false,
     }
 }

@@ -5,13 +5,14 @@ ghost use Rattle.tal_tree.specs.declared.statement.What.{out-What};
 ghost use Rattle.process_semantics.specs.SeenEntries.{entry_of};
 ghost use Rattle.path_semantics.specs.Dues.{changed_by, asked_by, global_of_spot, global_of};
 ghost use Rattle.path_semantics.specs.declared.reason.Reason.{Reason};
-ghost use Rattle.reason_dues.specs.Amounts.{adds, adds_changed, omits_item, omits_file, may_break, may_break_at};
+ghost use Rattle.path_semantics.specs.Break.{omits_item, omits_file, may_break};
+ghost use Rattle.reason_dues.specs.Amounts.{adds, adds_changed, may_break_at};
 ghost use Rattle.path_semantics.specs.declared.reason.Reason.TheVariants.{Data, SyncBlock, Input, Depth};
 ghost use Rattle.reason_dues.specs.Sets.{has_number, AreNumbers, AreReasons, IsNear, has_reason, due_after};
 
-use crate::amount::{reads, sends};
+use crate::amount::reads;
 use crate::number_set::Numbers;
-use path_semantics::Reason;
+use path_semantics::{Reason, sends};
 use process_semantics::Entry;
 use tal_tree::{Spot, Variable, What};
 

@@ -94,7 +94,7 @@ impl<'a> Schedule<'a> {
         }
     }
 
-    /// The stop comes now, and the event after it.
+    /// Notes that the stop was given, and holds back the event that comes after it.
     fn hold_back(&mut self, event: Event)
         ensures { self.new ≡ record self.old { agenda = record self.old.agenda { stop = None; held_back = Some event } } }
     {
@@ -118,7 +118,7 @@ impl<'a> Schedule<'a> {
         }
     }
 
-    /// Begins the next line, if there is one.
+    /// Begins the next line, and answers whether there was one.
     fn begin_line(&mut self) -> bool
         ensures { IsBegun self.old.agenda.lines self.old result self.new }
     {

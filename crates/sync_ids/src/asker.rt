@@ -1,4 +1,5 @@
 ghost use Rattle.std.specs.Prelude.{◌≡◌, ◌<◌, ◌≤◌, ◌+◌, length, replicate, slice_get, slice_index, slice_set};
+ghost use Rattle.gd_words.specs.Ranges.{HasNext};
 
 use arrayvec::ArrayVec;
 use std::marker::Model;
@@ -63,7 +64,7 @@ impl Asker {
     /// The next request on a file was sent.
     pub fn asked(&mut self, file: u8)
         requires there { file < length self.old }
-        requires room { slice_index self.old file < 4294967295 }
+        requires room { HasNext (slice_index self.old file) }
         ensures { self.new ≡ slice_set self.old file (slice_index self.old file + 1) }
     {
         self.next[usize::from(file)] += 1;

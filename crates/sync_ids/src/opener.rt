@@ -1,4 +1,5 @@
 ghost use Rattle.std.specs.Prelude.{◌≡◌, ◌<◌, ◌≤◌, ◌+◌, [], ◌∷◌, ◌++◌, length, IfOk, OnOk};
+ghost use Rattle.gd_words.specs.Ranges.{HasNext};
 ghost use Rattle.circular_buffer.specs.Buffer.{buffer};
 ghost use Rattle.checkpoint_image.specs.Receive.{answered, last_ones, reply_kept, standing_in};
 ghost use Rattle.sync_ids.specs.Openers.{block_of, depth_of, untaken_of, with_block};
@@ -70,7 +71,7 @@ impl Opener {
 
     /// Takes its next request.
     pub fn take(&mut self)
-        requires { self.old.taken < 4294967295 }
+        requires { HasNext self.old.taken }
         ensures block { block_of self.new ≡ record (block_of self.old) { taken = self.old.taken + 1 } }
         ensures depth { depth_of self.new ≡ depth_of self.old }
     {

@@ -1,4 +1,5 @@
 ghost use Rattle.std.specs.Prelude.{◌≡◌, ℕ, ◌<◌, ◌≤◌, IsTrue, All, if◌then◌else◌, length, map, slice_get, Some, None, IfOk, IsSome};
+ghost use Rattle.gd_words.specs.Ranges.{HasNext};
 ghost use Rattle.checkpoint_image.specs.Receive.{after_answering, after_taking, holds, standing_at};
 ghost use Rattle.checkpoint_image.specs.declared.receive.OpenerBlock.{OpenerBlock};
 ghost use Rattle.sync_ids.specs.Openers.{block_of, depth_of, untaken_of};
@@ -80,7 +81,7 @@ impl Receive {
     /// Takes the next request of an opener: it is in hand then.
     pub fn take(&mut self, opener: u16)
         requires there { opener < length self.old.depths }
-        requires room { last_taken self.old.table opener < 4294967295 }
+        requires room { HasNext (last_taken self.old.table opener) }
         ensures table { (block : OpenerBlock) → slice_get self.old.table.openers opener ≡ Some block → self.new.table ≡ after_taking opener block self.old.table }
         ensures held { self.new.table.in_hand ≡ Some opener }
         ensures depths { self.new.depths ≡ self.old.depths }

@@ -19,7 +19,7 @@ use tal_tree::{FileUse, Target};
 /// The most files.
 const FILES: usize = 8;
 
-/// What a procedure declared after a place isn't known there as.
+/// What a found name means to the procedure of this number: a procedure that stands after it isn't known to it.
 fn declared_before(number: u16, found: Option<Meaning>) -> Option<Meaning>
     ensures { result ≡ declared_before number found }
 {

@@ -56,7 +56,7 @@ fn number_in(words: &[i16]) -> Option<(u16, &[i16])>
     }
 }
 
-/// So many words.
+/// The first `count` words, and those after them. `None` if there are fewer.
 fn words_in(count: usize, words: &[i16]) -> Option<(&[i16], &[i16])>
     ensures { Gives (λ r. (r.0.now, r.1.now)) result (words_in count words.now) }
 {

@@ -137,7 +137,7 @@ impl Interpreter {
         }
     }
 
-    /// Goes back to the caller, if there is one.
+    /// Goes back to the caller, and answers whether there was one.
     fn leave(&mut self) -> bool
         ensures left { OnTrue result (self.new ≡ record self.old { state = left self.old.state }) }
         ensures runs { OnTrue result (1 ≤ length self.new.state.frames) }

@@ -169,7 +169,7 @@ fn judge_body(
     judge_row(more, alloc, scope, judged.walk, judged.least)
 }
 
-/// What stands before the procedure that follows one of a heading, where its statements leave a walk.
+/// What is known after a procedure, from what was known before it, its heading, and the walk as its statements leave it.
 pub fn passed(progress: Progress, heading: &Heading, walk: Walk) -> Progress
     ensures { result ≡ passed progress (seen_heading heading.now) walk }
 {

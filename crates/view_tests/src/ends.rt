@@ -4,57 +4,31 @@ use machine_views::{Mark, SectorView, TerminalView, View, view};
 use runner::{Outcome, command};
 use std::alloc::{AllocError, Global};
 use std::test::Fail;
+use worked_programs::{ADDER, BANK};
 use world_semantics::Role;
 
 /// The adding server, before it has done anything.
-const ADDER: &[u8] = b"processors 2
+const ADDER_DECK: [&[u8]; 3] = [
+    b"processors 2
 pair $ADD 1 0
-INT total, got, rcv;
-INT buf[0:0];
-PROC add MAIN;
-BEGIN
-  CALL CHECKMONITOR;
-  CALL OPEN(\"$RECEIVE\", rcv, 1);
-  WHILE 1 DO
-  BEGIN
-    CALL READUPDATE(rcv, buf, 1, got);
-    total := total + buf[0];
-    buf[0] := total;
-    CALL CHECKPOINT(total, got, buf);
-    CALL REPLY(buf, 1);
-  END;
-END;
+",
+    ADDER,
+    b"
 .
 schedule
 drain 0
 END
-";
+",
+];
 
 /// A bank, which the processor of its primary leaves after the first write.
-const BANK: &[u8] = b"processors 3
+const BANK_DECK: [&[u8]; 3] = [
+    b"processors 3
 disc $DATA 0 1 2
 pair $BANK 1 2
-INT total, got, rcv, disk;
-INT buf[0:0];
-INT out[0:2];
-PROC bank MAIN;
-BEGIN
-  CALL CHECKMONITOR;
-  CALL OPEN(\"$RECEIVE\", rcv, 1);
-  CALL OPEN(\"$DATA\", disk, 1);
-  WHILE 1 DO
-  BEGIN
-    CALL READUPDATE(rcv, buf, 1, got);
-    total := total + buf[0];
-    CALL CHECKPOINT(buf, out, got, total, disk);
-    out[0] := 2;
-    out[1] := 0;
-    out[2] := total;
-    CALL WRITEREAD(disk, out, 3, 1, got);
-    buf[0] := total;
-    CALL REPLY(buf, 1);
-  END;
-END;
+",
+    BANK,
+    b"
 .
 terminal $T1 $BANK
 send 5
@@ -63,14 +37,18 @@ until W 1 4000
 fail 1
 drain 4000
 END
-";
+",
+];
 
-/// What the machine tells after the run of a deck.
-fn view_after(alloc: Global, deck: &[u8]) -> Result<View, Fail> {
+/// What the machine tells after the run of a deck, which is written in parts.
+fn view_after(alloc: Global, deck: &[&[u8]]) -> Result<View, Fail> {
     let mut words = Vec::new(alloc);
     words.push(String::from_str(alloc, "guardian")?)?;
     words.push(String::from_str(alloc, "run")?)?;
-    let bytes = List::from_vec(Vec::from_slice(alloc, deck)?);
+    let mut bytes = List::new(alloc);
+    for part in deck {
+        bytes.extend_from_slice(part)?;
+    }
     let mut source = MemorySource::new(bytes, List::new(alloc));
     let mut sink = MemorySink::new(alloc, 1000, List::new(alloc))?;
     let Outcome { status: _, run } = command(alloc, words.as_slice(), &mut source, &mut sink);
@@ -85,7 +63,7 @@ fn view_after(alloc: Global, deck: &[u8]) -> Result<View, Fail> {
 
 #[test]
 fn copies_stand_at_their_start(rt: HostRuntime) -> Result<(), Fail> {
-    let view = view_after(rt.alloc(), ADDER)?;
+    let view = view_after(rt.alloc(), &ADDER_DECK)?;
     assert!(rt; view.stopped.is_empty() && view.down.is_empty() && view.sectors.is_empty());
     let copies = view.copies.as_slice();
     assert!(rt; copies.iter().map(|copy| copy.processor).eq([0, 1]));
@@ -104,7 +82,7 @@ fn copies_stand_at_their_start(rt: HostRuntime) -> Result<(), Fail> {
 
 #[test]
 fn a_stop_is_told(rt: HostRuntime) -> Result<(), Fail> {
-    let view = view_after(rt.alloc(), BANK)?;
+    let view = view_after(rt.alloc(), &BANK_DECK)?;
     assert!(rt; view.stopped.as_slice() == [1].as_slice());
     let down = [0, 2, 16].map(|node| Mark { node, down: 1 });
     assert!(rt; view.down.as_slice() == down.as_slice());

@@ -2,6 +2,7 @@
 use Rattle.std.proofs.Common.{◌≡◌, ◌≤◌, ◌<◌, ℕ, ◌+◌, ◌==◌, ℤ, pos, ◌&&◌, nat_le, Bool, true, false, if◌then◌else◌, List, [], ◌∷◌, length, Option, Some, None, refl, subst, sym, arith}
 use Rattle.std.specs.Option.{unwrap_or}
 use Rattle.std.specs.Ordering.{int_eq}
+use Rattle.gd_words.specs.Ranges.{HasNext}
 use Rattle.gd_words.specs.declared.device.DeviceCall.{DeviceCall}
 use Rattle.gd_words.specs.declared.device.DeviceCall.TheVariants.{Nothing, Read, Write}
 use Rattle.process_semantics.specs.Disc.{disc_start, disc_took, disc_marked, disc_done, disc_answered, disc_call, call_of, call_at, sector_of, filled, reply_of, last_write_after}
@@ -78,7 +79,7 @@ call-next last sectors (kind ∷ at ∷ words) = by (sector_of sectors at)
         (if-next last (int_eq kind (pos 2) && nat_le 1 (length words) && nat_le (length words) 8) (Write sector (filled words) (last + 1)) Nothing
         (omega arith) (omega arith))
 
-pub device-disc : {s : DiscState} (sectors : ℕ) (found : List ℤ) → s.label ≡ Device → length found ≤ 8 → s.last_write < 4294967295 → IsWholeDisc s
+pub device-disc : {s : DiscState} (sectors : ℕ) (found : List ℤ) → s.label ≡ Device → length found ≤ 8 → HasNext s.last_write → IsWholeDisc s
     → IsWholeDisc (disc_done sectors s found)
 device-disc {s} sectors found at few low is = record {
   fits = let call = disc_call sectors s in

@@ -1,5 +1,6 @@
 -- The steps of processes of either kind: but for that at Ask they come to whole states that await nothing.
 use Rattle.std.proofs.Common.{◌≡◌, ◌≢◌, ◌≤◌, ◌<◌, ℕ, ℤ, List, true, length, refl, subst}
+use Rattle.gd_words.specs.Ranges.{HasNext}
 use Rattle.gd_words.specs.Members.{IsAmong}
 use Rattle.tal_tree.specs.Regular.{IsRegular}
 use Rattle.tal_tree.specs.declared.site.Kind.{Kind}
@@ -70,7 +71,7 @@ marked-process (Runs program s) at is = (is.0, marked-awake program s at is.1)
 marked-process (Serves sectors s) at is = marked-disc at is
 
 pub device-process : (s : ProcessState) (found : List ℤ) → process.point s ≡ point.Device → length found ≤ 8
-    → ((sectors : ℕ) (disc : DiscState) → s ≡ Serves sectors disc → disc.last_write < 4294967295) → IsWholeProcess s
+    → ((sectors : ℕ) (disc : DiscState) → s ≡ Serves sectors disc → HasNext disc.last_write) → IsWholeProcess s
     → IsWholeProcess (process.after_device s found)
 device-process (Runs program s) found at few low is = is
 device-process (Serves sectors s) found at few low is = device-disc sectors found at few (low sectors s refl) is

@@ -1,4 +1,5 @@
 ghost use Rattle.std.specs.Prelude.{◌≡◌, ◌≤◌, ◌<◌, ℕ, ℤ, true, false, List, length};
+ghost use Rattle.gd_words.specs.Ranges.{HasNext};
 ghost use Rattle.gd_words.specs.Members.{IsAmong};
 ghost use Rattle.tal_tree.specs.declared.site.Kind.{Kind};
 ghost use Rattle.process_semantics.specs.declared.disc.DiscState.{DiscState};
@@ -19,7 +20,7 @@ pub fn states_stay_whole()
     ensures answered { (s : ProcessState) → point s ≡ Answer → IsWholeProcess s → IsWholeProcess (after_answered s) }
     ensures marked { (s : ProcessState) → point s ≡ Mark → IsWholeProcess s → IsWholeProcess (after_mark s) }
     ensures device { (s : ProcessState) (found : List ℤ) → point s ≡ Device → length found ≤ 8
-        → ((sectors : ℕ) (disc : DiscState) → s ≡ Serves sectors disc → disc.last_write < 4294967295) → IsWholeProcess s → IsWholeProcess (after_device s found) }
+        → ((sectors : ℕ) (disc : DiscState) → s ≡ Serves sectors disc → HasNext disc.last_write) → IsWholeProcess s → IsWholeProcess (after_device s found) }
 {}
 
 /// What is in hand: nothing at Take, a request from the step at Take until that at Answer, and no other step changes it.

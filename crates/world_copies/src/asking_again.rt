@@ -154,7 +154,7 @@ impl WorldCopies {
         found(&self.places, terminal)
     }
 
-    /// The request of a terminal after so many.
+    /// The request that a terminal sends after it has entered `entered` of them. `None` if it has no more.
     pub(crate) fn request_after(&self, terminal: usize, entered: u32) -> Option<&Words>
         ensures { option_copied result ≡ next_request self.now.site terminal entered }
     {

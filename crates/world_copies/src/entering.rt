@@ -1,7 +1,8 @@
 ghost use Rattle.std.specs.Prelude.{◌≡◌, true, ◌∷◌, [], IfOk, OnOk};
 ghost use Rattle.std.specs.Option.{option_map};
 ghost use Rattle.computed_changes.specs.Entered.{enter_done, enter_where, entered_done};
-ghost use Rattle.number_ranges.specs.HasRoom.{HasNext, WorldHasRoom};
+ghost use Rattle.gd_words.specs.Ranges.{HasNext};
+ghost use Rattle.number_ranges.specs.HasRoom.{WorldHasRoom};
 ghost use Rattle.plain_semantics.specs.Machine.{next_request};
 ghost use Rattle.node_copies.specs.Seen.{told_by};
 ghost use Rattle.world_copies.specs.SiteWorld.{changed_by};
@@ -80,7 +81,7 @@ impl WorldCopies {
         }
     }
 
-    /// The request of a terminal after so many.
+    /// The request that a terminal sends after it has entered `entered` of them. `None` if it has no more.
     fn next_request(&self, terminal: u8, entered: u32) -> Option<Words>
         ensures { result ≡ next_request self.now.site terminal entered }
     {

@@ -48,7 +48,7 @@ impl WorldCopies {
         Ok(sendings)
     }
 
-    /// What takes over where a node marks a processor does so. What it tells again is added to `told`.
+    /// Makes each copy on the node take over whose other copy was on the processor. What they send again is added to `told`.
     fn mark_processes(
         &mut self,
         node: u8,

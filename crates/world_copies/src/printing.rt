@@ -1,6 +1,6 @@
 ghost use Rattle.std.specs.Prelude.{◌≡◌, length, slice_get, IfOk, OnOk};
 ghost use Rattle.computed_changes.specs.Replies.{awaits_at, is_to, printed_done};
-ghost use Rattle.number_ranges.specs.HasRoom.{HasNext};
+ghost use Rattle.gd_words.specs.Ranges.{HasNext};
 ghost use Rattle.node_copies.specs.Seen.{told_by};
 ghost use Rattle.world_copies.specs.SiteWorld.{changed_by};
 ghost use Rattle.world_copies.specs.Told.{sent_in};

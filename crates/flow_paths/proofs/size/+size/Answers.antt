@@ -1,7 +1,7 @@
 use Rattle.std.proofs.Common.{◌≡◌, ◌+◌, List, take, arith, ap, ◌∙◌}
 use Rattle.tal_tree.specs.Rows.{rows}
 use Rattle.tal_tree.specs.declared.statement.Statement.{Statement}
-use Rattle.flow_paths.specs.Bounds.{told}
+use Rattle.path_semantics.specs.Bounds.{told}
 use Rattle.flow_paths.specs.Layout.{size_in, size_row, size_at}
 use Rattle.flow_paths.proofs.Sizes.{size-if, size-while, size-for, one-more-size}
 use Rattle.flow_paths.proofs.size.+size.Goals as goal

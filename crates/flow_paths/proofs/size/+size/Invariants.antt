@@ -1,6 +1,6 @@
 use Rattle.std.proofs.Common.{◌≡◌, take}
 use Rattle.tal_tree.specs.Rows.{rows}
-use Rattle.flow_paths.specs.Bounds.{told}
+use Rattle.path_semantics.specs.Bounds.{told}
 use Rattle.flow_paths.specs.Layout.{size_row, size_at}
 use Rattle.flow_paths.proofs.size.+size.Given as goal
 

@@ -1,9 +1,8 @@
 use Rattle.std.proofs.Common.{◌≡◌, ℕ, ◌+◌, List, length, ap, subst, sym, ◌∙◌}
 use Rattle.std.proofs.lemmas.List.{length_push}
-use Rattle.path_semantics.specs.Bounds.{sizes}
+use Rattle.path_semantics.specs.Bounds.{sizes, told}
 use Rattle.tal_tree.specs.Rows.{rows}
 use Rattle.tal_tree.specs.declared.statement.Statement.{Statement}
-use Rattle.flow_paths.specs.Bounds.{told}
 use Rattle.flow_paths.specs.Layout.{size_row, size_at}
 use Rattle.flow_paths.proofs.Told.{TellsSizes, one-more-told}
 use Rattle.flow_paths.proofs.size.sizes.Goals as goal

@@ -5,8 +5,7 @@ use Rattle.std.proofs.lemmas.Result.{IfOk-weaker}
 use Rattle.tal_tree.specs.Rows.{rows}
 use Rattle.tal_tree.specs.declared.program.Procedure.{Procedure}
 use Rattle.tal_tree.specs.declared.statement.Statement.{Statement}
-use Rattle.path_semantics.specs.Bounds.{sizes}
-use Rattle.flow_paths.specs.Bounds.{told}
+use Rattle.path_semantics.specs.Bounds.{sizes, told}
 use Rattle.flow_paths.specs.Flow.{IsFlow}
 use Rattle.flow_paths.specs.Graph.{Node}
 use Rattle.flow_paths.specs.Layout.{size_at, leaving, lay_row, graph_at}

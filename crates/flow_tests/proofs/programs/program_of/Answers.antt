@@ -1,9 +1,0 @@
-use Rattle.tal_laws.proofs.Ordered.{read_is_ordered}
-use Rattle.tal_laws.proofs.WithinLimits.{read_is_within}
-use Rattle.flow_tests.proofs.programs.program_of.Goals as goal
-
-pub returns-clause-ordered : goal.returns-clause-ordered
-returns-clause-ordered c = read_is_ordered c.args.text.now _ c.in_ok-program.ensures
-
-pub returns-clause-limits : goal.returns-clause-limits
-returns-clause-limits c = read_is_within c.args.text.now _ c.in_ok-program.ensures
