@@ -5,17 +5,17 @@ use Rattle.tal_tree.specs.declared.act.Act.{Act}
 use Rattle.tal_tree.specs.declared.site.Site.{Site}
 use Rattle.schedule.specs.declared.event.Event.{Event}
 use Rattle.schedule.specs.declared.line.Line.{Line}
-use Rattle.player.specs.declared.stop.Stop.{Stop}
+use Rattle.player.specs.declared.stop.ProcessorStop.{ProcessorStop}
 use Rattle.plain_semantics.specs.Machine.{IsNoneLeft, IsPossible, made_all, plain_start, shown_by}
 use Rattle.world_semantics.specs.Kept.{acts_of, closed}
 use Rattle.world_semantics.specs.World.{World}
 use Rattle.message_wires.specs.Idle.{is_idle}
-use Rattle.message_wires.specs.Play.{Whole}
+use Rattle.message_wires.specs.Play.{MachineState}
 use Rattle.message_wires.specs.Runs.{IsPlayed}
 use Rattle.pair_machine.specs.Seen.{closed_state}
 use Rattle.world_copies.specs.Closed.{closed_world}
 use Rattle.schedule_runs.specs.Ends.{EndsAs, IsRunOf}
-use Rattle.schedule_runs.specs.Runs.{Agenda, Plays}
+use Rattle.schedule_runs.specs.Runs.{Agenda, PlaysSchedule}
 use Rattle.schedule_runs.specs.declared.ran.Ending.{Ending}
 use Rattle.schedule_runs.specs.declared.ran.Ending.TheVariants.{Idle, Cut, Second}
 use Rattle.schedule_runs.specs.declared.ran.Ran.{Ran}
@@ -32,25 +32,25 @@ none-possible site acts none = subst IsSome (sym none.1) refl
 
 -- what is known of states that events were played to, on this site
 pub record Known (site : Site) : Type 0 where
-  pub possible : (events : List Event) (s : Whole) → length events < 4294967295 → IsPlayed site events s → IsPossible site (acts_of s.world)
-  pub shown : (events : List Event) (s : Whole) → length events < 4294967295 → IsPlayed site events s
+  pub possible : (events : List Event) (s : MachineState) → length events < 4294967295 → IsPlayed site events s → IsPossible site (acts_of s.world)
+  pub shown : (events : List Event) (s : MachineState) → length events < 4294967295 → IsPlayed site events s
       → shown_by site (acts_of s.world) ≡ reverse s.world.shown
-  pub none : (events : List Event) (s : Whole) → length events < 4294967295 → IsPlayed site events s → is_idle s ≡ true → IsNoneLeft site (closed s.world)
-  pub closed_shown : (events : List Event) (s : Whole) → length events < 4294967295 → IsPlayed site events s → is_idle s ≡ true
+  pub none : (events : List Event) (s : MachineState) → length events < 4294967295 → IsPlayed site events s → is_idle s ≡ true → IsNoneLeft site (closed s.world)
+  pub closed_shown : (events : List Event) (s : MachineState) → length events < 4294967295 → IsPlayed site events s → is_idle s ≡ true
       → shown_by site (closed s.world) ≡ reverse s.world.shown
   pub closed_acts : (w : World) → acts_of (closed_world w) ≡ closed w
-  pub schedule : (lines : List Line) (stop : Option Stop) (events : List Event) (agenda : Agenda) (s : Whole) → Plays site lines stop events agenda s
+  pub schedule : (lines : List Line) (stop : Option ProcessorStop) (events : List Event) (agenda : Agenda) (s : MachineState) → PlaysSchedule site lines stop events agenda s
       → IsPlayed site events s
 
-module _ (site : Site) (known : Known site) (lines : List Line) (stop : Option Stop) (events : List Event) (few : length events < 4294967295) where
-  keeps-on : (s : Whole) (ending : Ending) → IsPlayed site events s → (ending ≡ Idle → ⊥) → Keeps site s.world ending
+module _ (site : Site) (known : Known site) (lines : List Line) (stop : Option ProcessorStop) (events : List Event) (few : length events < 4294967295) where
+  keeps-on : (s : MachineState) (ending : Ending) → IsPlayed site events s → (ending ≡ Idle → ⊥) → Keeps site s.world ending
   keeps-on s ending played goes_on = record {
     possible = known.possible events s few played;
     shown = sym (known.shown events s few played);
     none = λ idle. absurd (goes_on idle);
   }
 
-  keeps-closed : (s : Whole) → IsPlayed site events s → is_idle s ≡ true → Keeps site (closed_world s.world) Idle
+  keeps-closed : (s : MachineState) → IsPlayed site events s → is_idle s ≡ true → Keeps site (closed_world s.world) Idle
   keeps-closed s played idle =
       let none : IsNoneLeft site (acts_of (closed_world s.world)) =
       subst (IsNoneLeft site) (sym (known.closed_acts s.world)) (known.none events s few played idle) in
@@ -60,18 +60,18 @@ module _ (site : Site) (known : Known site) (lines : List Line) (stop : Option S
         none = λ same. none;
       }
 
-  pub keeps-ended : (s left : Whole) (asked : ℕ) (ending : Ending) → EndsAs site lines stop events s left asked ending → Keeps site left.world ending
+  pub keeps-ended : (s left : MachineState) (asked : ℕ) (ending : Ending) → EndsAs site lines stop events s left asked ending → Keeps site left.world ending
   keeps-ended s left asked Idle ends =
-      subst (λ (one : Whole). Keeps site one.world Idle) (sym ends.2)
+      subst (λ (one : MachineState). Keeps site one.world Idle) (sym ends.2)
       (keeps-closed s (known.schedule lines stop events ends.0.agenda s ends.0.played) ends.1)
   keeps-ended s left asked Cut ends =
-      subst (λ (one : Whole). Keeps site one.world Cut) (sym ends.2)
+      subst (λ (one : MachineState). Keeps site one.world Cut) (sym ends.2)
       (keeps-on s Cut (known.schedule lines stop events ends.0.agenda s ends.0.played) (λ e. cc))
   keeps-ended s left asked (Second processor) ends =
-      subst (λ (one : Whole). Keeps site one.world (Second processor)) (sym ends.1)
+      subst (λ (one : MachineState). Keeps site one.world (Second processor)) (sym ends.1)
       (keeps-on s (Second processor) (known.schedule lines stop events ends.0.agenda s ends.0.played) (λ e. cc))
 
-pub run-keeps : (site : Site) (lines : List Line) (stop : Option Stop) (ran : Ran) → Known site → IsRunOf site lines stop ran → KeepsPossibleActs site ran
+pub run-keeps : (site : Site) (lines : List Line) (stop : Option ProcessorStop) (ran : Ran) → Known site → IsRunOf site lines stop ran → KeepsPossibleActs site ran
 run-keeps site lines stop ran known is =
     let keeps = keeps-ended site known lines stop is.events is.few is.state ran.machine.state ran.asked ran.ending is.ends in
     record { possible = keeps.possible; shown = keeps.shown; none = keeps.none }

@@ -6,7 +6,7 @@ use Rattle.std.proofs.lemmas.Option.{get_or_from_slice_get, slice_get-get_or, sl
 use Rattle.awaited_requests.specs.Seats.{IsLaidOut}
 use Rattle.deck_reader.specs.Limits.{HasShortRequests, IsKindWithinLimits, IsProcessWithinLimits, IsSiteWithinLimits}
 use Rattle.gd_words.proofs.Among.{among-at}
-use Rattle.headline_laws.specs.Premises.{IsAcceptedSite}
+use Rattle.accepted_sites.specs.Premises.{IsAcceptedSite}
 use Rattle.loading_laws.proofs.Loading.{read-is-loadable}
 use Rattle.plain_semantics.specs.Openers.{files_of}
 use Rattle.plain_semantics.specs.SiteLimits.{KeepsSiteLimits}

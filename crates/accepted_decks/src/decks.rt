@@ -4,8 +4,8 @@ ghost use Rattle.deck_reader.specs.Decks.{Decks};
 ghost use Rattle.deck_reader.specs.declared.deck.Deck.{Deck};
 ghost use Rattle.verdicts.specs.Refused.{AreAccepted, AreJudgeable};
 ghost use Rattle.awaited_requests.specs.Seats.{IsLaidOut};
-ghost use Rattle.headline_laws.specs.Premises.{IsAcceptedSite};
-ghost use Rattle.player.specs.declared.stop.Stop.{Stop};
+ghost use Rattle.accepted_sites.specs.Premises.{IsAcceptedSite};
+ghost use Rattle.player.specs.declared.stop.ProcessorStop.{ProcessorStop};
 ghost use Rattle.process_copies.specs.Starting.{IsStartable};
 ghost use Rattle.schedule_runs.specs.Lengths.{AsksForFewEvents};
 
@@ -21,7 +21,7 @@ pub fn an_accepted_deck_meets_the_premises()
     ensures judgeable { (bytes : List ℕ) (deck : Deck) → Decks bytes deck → AreJudgeable deck.site.processes }
     ensures startable { (bytes : List ℕ) (deck : Deck) → Decks bytes deck → IsStartable deck.site }
     ensures laid_out { (bytes : List ℕ) (deck : Deck) → Decks bytes deck → IsLaidOut deck.site }
-    ensures few { (bytes : List ℕ) (deck : Deck) (stop : Option Stop) → Decks bytes deck → AsksForFewEvents deck.site deck.lines stop }
+    ensures few { (bytes : List ℕ) (deck : Deck) (stop : Option ProcessorStop) → Decks bytes deck → AsksForFewEvents deck.site deck.lines stop }
     ensures accepted { (bytes : List ℕ) (deck : Deck) → Decks bytes deck → AreAccepted deck.site.processes → IsAcceptedSite deck.site }
 {
     a_deck_keeps_the_limits();

@@ -2,9 +2,9 @@
 ghost use Rattle.std.specs.Prelude.{List, Option};
 ghost use Rattle.tal_tree.specs.declared.site.Site.{Site};
 ghost use Rattle.schedule.specs.declared.line.Line.{Line};
-ghost use Rattle.player.specs.declared.stop.Stop.{Stop};
+ghost use Rattle.player.specs.declared.stop.ProcessorStop.{ProcessorStop};
 ghost use Rattle.awaited_requests.specs.Seats.{IsLaidOut};
-ghost use Rattle.headline_laws.specs.Premises.{IsAcceptedSite};
+ghost use Rattle.accepted_sites.specs.Premises.{IsAcceptedSite};
 ghost use Rattle.schedule_runs.specs.Ends.{IsRunOf};
 ghost use Rattle.schedule_runs.specs.declared.ran.Ran.{Ran};
 ghost use Rattle.accepted_decks.specs.Left.{KeepsPossibleActs};
@@ -15,7 +15,7 @@ use world_copies::laws::a_closed_world_has_the_closed_run;
 
 /// Whatever its schedule, a run of an accepted site keeps possible acts, and none is left at an idle end.
 pub fn a_run_of_an_accepted_site_keeps_possible_acts()
-    ensures { (site : Site) (lines : List Line) (stop : Option Stop) (ran : Ran) → IsAcceptedSite site → IsLaidOut site → IsRunOf site lines stop ran
+    ensures { (site : Site) (lines : List Line) (stop : Option ProcessorStop) (ran : Ran) → IsAcceptedSite site → IsLaidOut site → IsRunOf site lines stop ran
         → KeepsPossibleActs site ran }
 {
     what_is_played_is_possible();

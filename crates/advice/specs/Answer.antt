@@ -8,7 +8,7 @@ use Rattle.tal_tree.specs.declared.statement.Statement.{Statement}
 use Rattle.tal_tree.specs.declared.statement.What.{out-What}
 use Rattle.path_semantics.specs.declared.reason.Reason.{Reason}
 use Rattle.path_semantics.specs.declared.reason.Reason.TheVariants.{Data, SyncBlock, Input, Depth}
-use Rattle.path_semantics.specs.declared.reason.Refusal.TheVariants as verdict
+use Rattle.path_semantics.specs.declared.reason.RefusalFault.TheVariants as verdict
 use Rattle.path_semantics.specs.Bounds.{IsWithinBounds}
 use Rattle.path_semantics.specs.Break.{Breaks}
 use Rattle.discipline.specs.Verdict.{IsEarlier, IsLeast, IsVerdict}

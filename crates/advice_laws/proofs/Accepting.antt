@@ -4,7 +4,7 @@ use Rattle.std.proofs.lemmas.Option.{slice_get_within}
 use Rattle.gd_words.specs.Members.{is_among}
 use Rattle.tal_tree.specs.declared.program.FileUse.{FileUse}
 use Rattle.tal_tree.specs.declared.program.Program.{Program}
-use Rattle.process_semantics.specs.Rests.{number_of}
+use Rattle.process_semantics.specs.Rests.{entry_number}
 use Rattle.process_semantics.specs.State.{Entry}
 use Rattle.path_semantics.specs.declared.dues.Dues.{Dues}
 use Rattle.path_semantics.specs.declared.reason.Reason.{Reason}
@@ -67,9 +67,9 @@ module _ (choice : Choice) (program : Program) where
     breaks = subst (λ (next : Option Entry). IsTrue (breaks_entry chosen reason broken.stand.dues next)) (sym (next-kept choice broken.stand.place)) broken.breaks;
   }
 
-  number-there : (next : Option Entry) → is_some next ≡ true → (number : ℕ) × (option_map number_of next ≡ Some number)
+  number-there : (next : Option Entry) → is_some next ≡ true → (number : ℕ) × (option_map entry_number next ≡ Some number)
   number-there None some = never some
-  number-there (Some entry) some = (number_of entry, refl)
+  number-there (Some entry) some = (entry_number entry, refl)
 
   some-breaks : (reason : Reason) (dues : Dues) (next : Option Entry) → IsTrue (breaks_entry chosen reason dues (option_map (entry_with choice) next)) → is_some next ≡ true
   some-breaks reason dues None broken = never broken

@@ -8,7 +8,7 @@ use Rattle.tal_tree.specs.declared.program.Procedure.{Procedure}
 use Rattle.tal_tree.specs.declared.program.Program.{Program}
 use Rattle.tal_tree.specs.declared.statement.Statement.{Statement}
 use Rattle.tal_tree.specs.declared.statement.What.{What, What-F, out-What}
-use Rattle.process_semantics.specs.Rests.{number_of}
+use Rattle.process_semantics.specs.Rests.{entry_number}
 use Rattle.process_semantics.specs.State.{Entry, Run, Test, Last, runs_of, first_of}
 use Rattle.path_semantics.specs.declared.dues.Dues.{Dues}
 use Rattle.path_semantics.specs.Dues.{no_dues, with_changed, changed_by, after_statement, after_entry, target_of, changed_by_return}
@@ -32,7 +32,7 @@ module _ (choice : Choice) where
   last-layer number (What-F.For variable from to body last) = refl
   last-layer number _ = refl
 
-  number-kept : (entry : Entry) → number_of (entry_with choice entry) ≡ number_of entry
+  number-kept : (entry : Entry) → entry_number (entry_with choice entry) ≡ entry_number entry
   number-kept (Run statement) = refl
   number-kept (Test statement) = refl
   number-kept (Last statement) = ap last_of (layer-is choice statement.number statement.what) ∙ last-layer statement.number (out-What statement.what)
@@ -46,13 +46,13 @@ module _ (choice : Choice) where
   next-kept [] = refl
   next-kept (frame ∷ callers) = first-kept frame
 
-  number-next : (next : Option Entry) → option_map number_of (option_map (entry_with choice) next) ≡ option_map number_of next
+  number-next : (next : Option Entry) → option_map entry_number (option_map (entry_with choice) next) ≡ option_map entry_number next
   number-next None = refl
   number-next (Some entry) = ap (λ (number : ℕ). Some number) (number-kept entry)
 
   -- and has the same number
   pub number-at-kept : (stand : Stand) → number_at (stand_with choice stand) ≡ number_at stand
-  number-at-kept stand = ap (option_map number_of) (next-kept stand.place) ∙ number-next (next_in stand.place)
+  number-at-kept stand = ap (option_map entry_number) (next-kept stand.place) ∙ number-next (next_in stand.place)
 
   changed-layer : (number : ℕ) (layer : What-F What Statement) → changed_by (layer_with choice number layer) ≡ changed_by layer
   changed-layer number (What-F.Checkpoint items files) = refl

@@ -6,22 +6,22 @@ use Rattle.schedule.specs.declared.event.Event.{Event}
 use Rattle.schedule.specs.declared.event.Event.TheVariants.{Fail}
 use Rattle.schedule.specs.declared.line.Line.{Line}
 use Rattle.player.specs.declared.standing.Sizes.{Sizes}
-use Rattle.player.specs.declared.standing.Standing.{Standing}
-use Rattle.player.specs.declared.standing.Standing.TheVariants as standing
+use Rattle.player.specs.declared.standing.LinePlace.{LinePlace}
+use Rattle.player.specs.declared.standing.LinePlace.TheVariants as standing
 use Rattle.player.specs.declared.standing.Move.{Move}
-use Rattle.player.specs.declared.stop.Stop.{Stop}
+use Rattle.player.specs.declared.stop.ProcessorStop.{ProcessorStop}
 use Rattle.player.specs.Lines.{begun, next_event}
 
 -- The next event of a schedule
 
 -- where a schedule stands: its line, the lines after it, the stop that is still to come, and the event that was to come when a stop came before it
 pub record Agenda : Type 0 where
-  pub standing : Standing
+  pub standing : LinePlace
   pub lines : List Line
-  pub stop : Option Stop
+  pub stop : Option ProcessorStop
   pub held_back : Option Event
 
-abbrev pub agenda_of : List Line → Option Stop → Agenda
+abbrev pub agenda_of : List Line → Option ProcessorStop → Agenda
 agenda_of lines stop = record { standing = standing.Ended; lines = lines; stop = stop; held_back = None }
 
 -- the next event, and where the schedule stands then
@@ -30,14 +30,14 @@ pub record Plan : Type 0 where
   pub agenda : Agenda
 
 -- the next event of a line and the lines after it, where the line gives this: its own, or else that of the first line after it that gives one
-abbrev pub planned_by : Sizes → Counts → Option Stop → List Line → Option Move → Option Plan
+abbrev pub planned_by : Sizes → Counts → Option ProcessorStop → List Line → Option Move → Option Plan
 planned_by sizes counts stop lines (Some move) =
     Some (record { event = move.event; agenda = record { standing = move.standing; lines = lines; stop = stop; held_back = None } })
 planned_by sizes counts stop [] None = None
 planned_by sizes counts stop (line ∷ lines) None = planned_by sizes counts stop lines (next_event sizes (begun line) counts)
 
 -- the processor whose stop comes just before the event that so many events precede
-abbrev pub coming : Option Stop → ℕ → Option ℕ
+abbrev pub coming : Option ProcessorStop → ℕ → Option ℕ
 coming None before = None
 coming (Some stop) before = if stop.after == before then Some stop.processor else None
 
@@ -62,7 +62,7 @@ upcoming sizes before counts agenda = upcoming_after sizes before counts agenda 
 
 -- on a machine with such states, of which these counts are taken, and whose states go on so with an event: these events of a schedule with a stop came from
 -- this state at the beginning one after the other, each as its counts gave it, and lead to a state and to where the schedule stands
-pub data PlaysOn {S : Type 0} (sizes : Sizes) (counts : S → Counts) (goes : S → Event → S → Type 0) (start : S) (lines : List Line) (stop : Option Stop)
+pub data PlaysOn {S : Type 0} (sizes : Sizes) (counts : S → Counts) (goes : S → Event → S → Type 0) (start : S) (lines : List Line) (stop : Option ProcessorStop)
     : List Event → Agenda → S → Type 0 where
   plays_none : PlaysOn sizes counts goes start lines stop [] (agenda_of lines stop) start
   plays_on : {events : List Event} {agenda : Agenda} {s next : S} → (plan : Plan) → PlaysOn sizes counts goes start lines stop events agenda s

@@ -7,12 +7,12 @@ ghost use Rattle.schedule.specs.declared.line.Line.{Line};
 ghost use Rattle.player.specs.Lines.{next_event};
 ghost use Rattle.player.specs.declared.standing.Move.{Move};
 ghost use Rattle.player.specs.declared.standing.Sizes.{Sizes};
-ghost use Rattle.player.specs.declared.standing.Standing.{Standing};
+ghost use Rattle.player.specs.declared.standing.LinePlace.{LinePlace};
 ghost use Rattle.agendas.specs.Agendas.{Agenda, Plan, planned_by, stopped_by, upcoming};
 
 /// Where the line at which a schedule stands gives an event, that one comes.
 pub fn an_event_of_a_line_comes()
-    ensures { (sizes : Sizes) (before : ℕ) (counts : Counts) (standing : Standing) (lines : List Line) (move : Move)
+    ensures { (sizes : Sizes) (before : ℕ) (counts : Counts) (standing : LinePlace) (lines : List Line) (move : Move)
         → next_event sizes standing counts ≡ Some move
         → upcoming sizes before counts (record { standing = standing; lines = lines; stop = None; held_back = None })
         ≡ Some (record { event = move.event; agenda = record { standing = move.standing; lines = lines; stop = None; held_back = None } }) }

@@ -26,30 +26,30 @@ is_more missed.One = false
 is_more missed.More = true
 
 -- after an alive packet from it
-abbrev pub heard : Neighbour → Neighbour
-heard Absent = Absent
-heard (Up came misses report) = Up true misses report
-heard Down = Down
+abbrev pub neighbour_after_alive : Neighbour → Neighbour
+neighbour_after_alive Absent = Absent
+neighbour_after_alive (Up came misses report) = Up true misses report
+neighbour_after_alive Down = Down
 
 -- after a check: no check has missed it where an alive packet came since the last one, and else one more has
-abbrev pub checked : Neighbour → Neighbour
-checked Absent = Absent
-checked (Up came misses report) = Up false (if came then missed.None else risen misses) report
-checked Down = Down
+abbrev pub neighbour_after_check : Neighbour → Neighbour
+neighbour_after_check Absent = Absent
+neighbour_after_check (Up came misses report) = Up false (if came then missed.None else risen misses) report
+neighbour_after_check Down = Down
 
 -- after a report from it
-abbrev pub reported : ProcessorSet → Neighbour → Neighbour
-reported set Absent = Absent
-reported set (Up came misses report) = Up came misses set
-reported set Down = Down
+abbrev pub neighbour_after_report : ProcessorSet → Neighbour → Neighbour
+neighbour_after_report set Absent = Absent
+neighbour_after_report set (Up came misses report) = Up came misses set
+neighbour_after_report set Down = Down
 
--- after it was marked down
-abbrev pub marked : Neighbour → Neighbour
-marked Absent = Absent
-marked (Up came misses report) = Down
-marked Down = Down
+-- after it was noted down
+abbrev pub neighbour_after_down : Neighbour → Neighbour
+neighbour_after_down Absent = Absent
+neighbour_after_down (Up came misses report) = Down
+neighbour_after_down Down = Down
 
--- it is another processor that isn't marked down
+-- it is another processor that isn't noted down
 abbrev pub is_up : Neighbour → Bool
 is_up Absent = false
 is_up (Up came misses report) = true
@@ -96,7 +96,7 @@ does_check w = nat_lt w.me 16 && w.checks
 
 -- after a check, which has told the silent set where that changed
 abbrev pub after_check : Watching → Watching
-after_check w = record w { checks = false; neighbours = map checked w.neighbours; told = silent_set (map checked w.neighbours) }
+after_check w = record w { checks = false; neighbours = map neighbour_after_check w.neighbours; told = silent_set (map neighbour_after_check w.neighbours) }
 
 abbrev pub after_tick : Watching → Watching
 after_tick w = if does_check w then after_check w else record w { checks = true }
@@ -106,7 +106,7 @@ abbrev pub set_to_tell : ProcessorSet → ProcessorSet → Option ProcessorSet
 set_to_tell before now = if pointwise beq before.members now.members then None else Some now
 
 abbrev pub told_by_tick : Watching → Option ProcessorSet
-told_by_tick w = if does_check w then set_to_tell w.told (silent_set (map checked w.neighbours)) else None
+told_by_tick w = if does_check w then set_to_tell w.told (silent_set (map neighbour_after_check w.neighbours)) else None
 
 -- The hold line
 
@@ -118,16 +118,16 @@ is_silent_at processor w = unwrap_or (option_map is_silent (slice_get w.neighbou
 abbrev pub all_but : ℕ → (Neighbour → Bool) → List Neighbour → Bool
 all_but processor passes neighbours = list_all passes (take processor neighbours) && list_all passes (drop (processor + 1) neighbours)
 
--- the node is the lowest of the processors that it hasn't marked down, this one aside
+-- the node is the lowest of the processors that it hasn't noted down, this one aside
 abbrev pub is_coordinator : ℕ → Watching → Bool
 is_coordinator processor w = all_but processor (λ one. not (is_up one)) (take w.me w.neighbours)
 
--- all agree: this processor is in the node's own silent set and in the last report of each other one that isn't marked down, and the node is the coordinator
+-- all agree: this processor is in the node's own silent set and in the last report of each other one that isn't noted down, and the node is the coordinator
 abbrev pub is_held : ℕ → Watching → Bool
 is_held processor w =
     nat_lt w.me 16 && is_silent_at processor w && is_coordinator processor w && all_but processor (agrees processor) w.neighbours
 
--- whether a processor is marked down
+-- whether a processor is noted down
 abbrev pub is_marked : ℕ → Watching → Bool
 is_marked processor w = unwrap_or (option_map is_down (slice_get w.neighbours processor)) false
 

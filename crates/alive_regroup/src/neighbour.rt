@@ -1,5 +1,5 @@
 ghost use Rattle.std.specs.Prelude.{◌≡◌};
-ghost use Rattle.alive_regroup.specs.Watching.{risen, is_more, checked, heard, is_silent, is_up, is_down, reported, agrees, marked};
+ghost use Rattle.alive_regroup.specs.Watching.{risen, is_more, neighbour_after_check, neighbour_after_alive, is_silent, is_up, is_down, neighbour_after_report, agrees, neighbour_after_down};
 
 use crate::set::ProcessorSet;
 
@@ -27,7 +27,7 @@ pub enum Neighbour {
 impl Neighbour {
     /// An alive packet came from it.
     pub fn hear(&mut self)
-        ensures { self.new ≡ heard self.old }
+        ensures { self.new ≡ neighbour_after_alive self.old }
     {
         match self {
             Neighbour::Absent => {}
@@ -42,7 +42,7 @@ impl Neighbour {
 
     /// What is known of the processor after a round's check of who was heard.
     pub fn checked(&self) -> Neighbour
-        ensures { result ≡ checked self.now }
+        ensures { result ≡ neighbour_after_check self.now }
     {
         match self {
             Neighbour::Absent => Neighbour::Absent,
@@ -64,7 +64,7 @@ impl Neighbour {
 
     /// What is known of the processor after a report from it.
     pub fn reported(&self, set: ProcessorSet) -> Neighbour
-        ensures { result ≡ reported set self.now }
+        ensures { result ≡ neighbour_after_report set self.now }
     {
         match self {
             Neighbour::Absent => Neighbour::Absent,
@@ -83,7 +83,7 @@ impl Neighbour {
 
     /// After the node has marked it down.
     pub fn marked(&self) -> Neighbour
-        ensures { result ≡ marked self.now }
+        ensures { result ≡ neighbour_after_down self.now }
     {
         match self {
             Neighbour::Absent => Neighbour::Absent,

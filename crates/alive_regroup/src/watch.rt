@@ -1,7 +1,7 @@
 ghost use Rattle.std.specs.Prelude.{◌≡◌, ◌≤◌, ◌<◌, ◌+◌, ℕ, take, drop, true, false, map, not, length, IfSome, IfNone};
 ghost use Rattle.std.specs.List.{list_all};
 ghost use Rattle.alive_regroup.specs.Sets.{has};
-ghost use Rattle.alive_regroup.specs.Watching.{Watching, heard, reported, marked, is_down, is_up, is_silent, changed_at, checked, is_marked, after_tick, told_by_tick, is_coordinator, is_held, all_but, agrees, begun, at_first, is_silent_at};
+ghost use Rattle.alive_regroup.specs.Watching.{Watching, neighbour_after_alive, neighbour_after_report, neighbour_after_down, is_down, is_up, is_silent, changed_at, neighbour_after_check, is_marked, after_tick, told_by_tick, is_coordinator, is_held, all_but, agrees, begun, at_first, is_silent_at};
 
 use crate::neighbour::{Missed, Neighbour};
 use crate::set::ProcessorSet;
@@ -46,7 +46,7 @@ impl Watch {
 
     /// An alive packet came from a processor.
     pub fn heard(&mut self, from: u8)
-        ensures { self.new ≡ changed_at from heard self.old }
+        ensures { self.new ≡ changed_at from neighbour_after_alive self.old }
     {
         let place = usize::from(from);
         if let Some(_there) = self.neighbours.get(place) {
@@ -56,7 +56,7 @@ impl Watch {
 
     /// A report came from a processor.
     pub fn on_report(&mut self, from: u8, set: ProcessorSet)
-        ensures { self.new ≡ changed_at from (reported set) self.old }
+        ensures { self.new ≡ changed_at from (neighbour_after_report set) self.old }
     {
         let place = usize::from(from);
         if let Some(neighbour) = self.neighbours.get(place) {
@@ -66,7 +66,7 @@ impl Watch {
 
     /// The node has marked a processor down.
     pub fn on_down(&mut self, processor: u8)
-        ensures { self.new ≡ changed_at processor marked self.old }
+        ensures { self.new ≡ changed_at processor neighbour_after_down self.old }
     {
         let place = usize::from(processor);
         if let Some(neighbour) = self.neighbours.get(place) {
@@ -206,7 +206,7 @@ fn at_first(me: u8, processors: u8, place: u8) -> Neighbour
 }
 
 fn all_checked(neighbours: &[Neighbour; 16]) -> [Neighbour; 16]
-    ensures { result ≡ map checked neighbours.now }
+    ensures { result ≡ map neighbour_after_check neighbours.now }
 {
     let mut after = [Neighbour::Absent; 16];
     for (place, one) in neighbours.iter().enumerate() {

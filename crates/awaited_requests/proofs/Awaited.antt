@@ -11,8 +11,8 @@ use Rattle.world_semantics.specs.declared.which.Which.{Which}
 use Rattle.plain_histories.specs.Slots.{IsSlot, is_empty, is_waiting, is_taken, is_answered}
 use Rattle.plain_histories.proofs.Openers.{opener-is}
 use Rattle.plain_histories.proofs.Possible.{booked-ran}
-use Rattle.headline.specs.Fit.{IsFit}
-use Rattle.headline.specs.Invariant.{Invariant}
+use Rattle.takeover_laws.specs.Fit.{IsFit}
+use Rattle.takeover_laws.specs.Invariant.{Invariant}
 use Rattle.awaited_requests.specs.Awaited.{IsAwaited, StandsThere}
 use Rattle.awaited_requests.proofs.Leads.{copy-takes}
 use Rattle.awaited_requests.proofs.Near.{awaited-near}

@@ -4,8 +4,8 @@ use Rattle.std.proofs.lemmas.List.Elements.{filter_map-append}
 use Rattle.tal_tree.specs.declared.act.Act.{Act}
 use Rattle.tal_tree.specs.declared.site.ProcessSpec.{ProcessSpec}
 use Rattle.tal_tree.specs.declared.site.Site.{Site}
-use Rattle.world_semantics.specs.Core.{Core, Deed, Went, Marked, Took, Asked, Got, Answered, Acted}
-use Rattle.world_semantics.specs.World.{Copy, Pair, Mark, copy_of}
+use Rattle.world_semantics.specs.Core.{Core, Deed, Went, Checkpointed, Took, Asked, Got, Answered, Acted}
+use Rattle.world_semantics.specs.World.{Copy, Pair, Down, copy_of}
 use Rattle.world_semantics.specs.declared.role.Role.TheVariants.{Acting, Gone}
 use Rattle.world_semantics.specs.declared.which.Which.{Which}
 use Rattle.world_semantics.specs.declared.which.Which.TheVariants.{First, Second}
@@ -13,13 +13,13 @@ use Rattle.process_histories.specs.Histories.{HasDone}
 use Rattle.process_histories.specs.Words.{take_from, answer_to, taken_from, answered_to}
 use Rattle.plain_histories.specs.Booking.{AreHeld, none_held, take_held, step_held}
 use Rattle.plain_histories.specs.Ledgers.{Ledger}
-use Rattle.headline.specs.Invariant.{AreRepeatable, Stage, IsLead, is_level, is_applied, is_behind, Watches, IsOther, is_lost, is_due, is_even, has_applied, FirstLeads, with_other, alone, IsLed, by_first, by_second}
-use Rattle.headline.proofs.Checkpoints.{other-rests}
-use Rattle.headline.proofs.Repeating.{repeatable-join}
+use Rattle.takeover_laws.specs.Invariant.{AreRepeatable, Stage, IsLead, is_level, is_applied, is_behind, Watches, IsOther, is_lost, is_due, is_even, has_applied, FirstLeads, with_other, alone, IsLed, by_first, by_second}
+use Rattle.takeover_laws.proofs.Checkpoints.{other-rests}
+use Rattle.takeover_laws.proofs.Repeating.{repeatable-join}
 
 -- Leads
 
-module _ {site : Site} {marks : List Mark} {ledger : Ledger} {number : ℕ} {spec : ProcessSpec} {deeds : List Deed} where
+module _ {site : Site} {marks : List Down} {ledger : Ledger} {number : ℕ} {spec : ProcessSpec} {deeds : List Deed} where
   first-lead : {pair : Pair} → FirstLeads site marks ledger number spec deeds pair → (stage : Stage) × IsLead site ledger number spec deeds pair.first stage
   first-lead (with_other {stage = stage} role lead behind other) = (stage, lead)
   first-lead (alone {stage = stage} role lead applied unsent gone marked) = (stage, lead)
@@ -58,7 +58,7 @@ held-answers place (step_held held) = held-answers place held
 repeatable-takes : (place : ℕ) (deeds : List Deed) → AreRepeatable deeds → taken_from place deeds ≡ []
 repeatable-takes place [] all = refl
 repeatable-takes place (Went ∷ deeds) all = repeatable-takes place deeds all.1
-repeatable-takes place (Marked ∷ deeds) all = absurd all.0
+repeatable-takes place (Checkpointed ∷ deeds) all = absurd all.0
 repeatable-takes place (Took one words ∷ deeds) all = absurd all.0
 repeatable-takes place (Asked file words ∷ deeds) all = repeatable-takes place deeds all.1
 repeatable-takes place (Got file words ∷ deeds) all = repeatable-takes place deeds all.1
@@ -101,7 +101,7 @@ module _ {site : Site} {number : ℕ} {spec : ProcessSpec} {deeds : List Deed} w
   other-takes (is_even watches next unsent told) there = watching-takes watches
   other-takes (has_applied watches next) there = watching-takes watches
 
-  module _ {marks : List Mark} {ledger : Ledger} where
+  module _ {marks : List Down} {ledger : Ledger} where
     second-takes : {pair : Pair} → FirstLeads site marks ledger number spec deeds pair → pair.second.role ≢ Gone → HasAllTakes site number spec deeds pair.second.core
     second-takes (with_other role lead behind other) there = other-takes other there
     second-takes (alone role lead applied unsent gone marked) there = absurd (there gone)

@@ -10,7 +10,7 @@ use Rattle.process_semantics.specs.declared.point.Point.TheVariants as point
 use Rattle.process_semantics.specs.Process as process
 use Rattle.plain_semantics.specs.declared.slot.Opener.{Opener}
 use Rattle.plain_semantics.specs.Openers.{files_of, openers_of, opener_of}
-use Rattle.world_semantics.specs.Core.{Core, Deed, Went, Marked, Took, Asked, Got, Answered, Acted, goes, marks, takes, asks, gets, answers, acts, next_on}
+use Rattle.world_semantics.specs.Core.{Core, Deed, Went, Checkpointed, Took, Asked, Got, Answered, Acted, goes, marks, takes, asks, gets, answers, acts, next_on}
 use Rattle.world_semantics.specs.World.{Copy, World, copy_of}
 use Rattle.world_semantics.proofs.Lists.{some-same}
 use Rattle.process_histories.specs.Histories.{HasDone, nothing_done, one_more}
@@ -18,16 +18,16 @@ use Rattle.process_histories.specs.Words.{ask_on, get_on, requests_on, replies_o
 use Rattle.process_histories.proofs.Counts.{asked-count, none-awaited, one-awaited}
 use Rattle.process_histories.proofs.Deeds.{done-last, stands-there}
 use Rattle.process_histories.proofs.Steady.{calm-away, marked-calm, done-steady}
-use Rattle.disciplines.specs.Disciplined.{AreUnmarked}
+use Rattle.discipline_laws.specs.Disciplined.{AreUncheckpointed}
 use Rattle.plain_histories.specs.Agreeing.{StandsFor}
 use Rattle.plain_histories.specs.Booking.{AreBooked, AreHeld, none_held, take_held, step_held}
 use Rattle.plain_histories.specs.Ledgers.{requests_of, Ledger}
 use Rattle.plain_histories.proofs.Possible.{booked-ran}
-use Rattle.headline.specs.Fit.{IsFit}
-use Rattle.headline.specs.Invariant.{Invariant, Stage, IsLead, is_level, is_applied, is_behind}
-use Rattle.headline.proofs.Backed.{next-is}
-use Rattle.headline.proofs.Own.{quiet-held}
-use Rattle.headline.proofs.Repeating.{unmarked-join, repeatable-unmarked, repeatable-join, no-mark}
+use Rattle.takeover_laws.specs.Fit.{IsFit}
+use Rattle.takeover_laws.specs.Invariant.{Invariant, Stage, IsLead, is_level, is_applied, is_behind}
+use Rattle.takeover_laws.proofs.Backed.{next-is}
+use Rattle.takeover_laws.proofs.Own.{quiet-held}
+use Rattle.takeover_laws.proofs.Repeating.{unmarked-join, repeatable-unmarked, repeatable-join, no-mark}
 use Rattle.awaited_requests.specs.Awaited.{IsAwaited, by_copy, by_terminal}
 use Rattle.awaited_requests.proofs.Depths.{depth-of}
 use Rattle.awaited_requests.proofs.Leads.{acting-leads, count-join}
@@ -39,15 +39,15 @@ pub record IsNear (site : Site) (ledger : Ledger) (one : Who) (opener : Opener) 
   pub last : (spec : OpenerSpec) → slice_get (openers_of site opener.server) opener.place ≡ Some spec → length (requests_of ledger one) < n + spec.depth
 
 module _ (site : Site) (fit : IsFit site) (number : ℕ) (spec : ProcessSpec) (there : slice_get site.processes number ≡ Some spec) where
-  -- deeds since the last mark, at which no reply on a file was awaited
+  -- deeds since the last checkpoint, at which no reply on a file was awaited
   record SinceMark (file : ℕ) (deeds : List Deed) : Type 0 where
     since : List Deed
     before : List Deed
     split : deeds ≡ since ++ before
-    unmarked : AreUnmarked since
+    unmarked : AreUncheckpointed since
     even : length (requests_on file before) ≡ length (replies_on file before)
 
-  one-later : (file : ℕ) (deed : Deed) {deeds : List Deed} → deed ≢ Marked → SinceMark file deeds → SinceMark file (deed ∷ deeds)
+  one-later : (file : ℕ) (deed : Deed) {deeds : List Deed} → deed ≢ Checkpointed → SinceMark file deeds → SinceMark file (deed ∷ deeds)
   one-later file deed other s = record {
     since = deed ∷ s.since;
     before = s.before;
@@ -59,9 +59,9 @@ module _ (site : Site) (fit : IsFit site) (number : ℕ) (spec : ProcessSpec) (t
   since-mark : (file : ℕ) {deeds : List Deed} {core : Core} → HasDone site number spec deeds core → SinceMark file deeds
   since-mark file nothing_done = record { since = []; before = []; split = refl; unmarked = tt; even = refl }
   since-mark file (one_more {deeds = deeds} {before = core} done (marks at)) =
-      let none = none-awaited (process.after_mark core.state) file (calm-away _ (marked-calm core.state (done-steady (fit.regular number spec there) done) at)) in
+      let none = none-awaited (process.after_checkpoint core.state) file (calm-away _ (marked-calm core.state (done-steady (fit.regular number spec there) done) at)) in
       let count = asked-count (fit.regular number spec there) (one_more done (marks at)) file in
-      record { since = []; before = Marked ∷ deeds; split = refl; unmarked = tt; even = omega (arith, count, none) }
+      record { since = []; before = Checkpointed ∷ deeds; split = refl; unmarked = tt; even = omega (arith, count, none) }
   since-mark file (one_more done (goes at)) = one-later file Went (λ e. absurd (cc)) (since-mark file done)
   since-mark file (one_more done (takes {place = place} {words = words} block at known)) = one-later file (Took place words) (λ e. absurd (cc)) (since-mark file done)
   since-mark file (one_more done (asks {file = on} {words = words} at named said)) = one-later file (Asked on words) (λ e. absurd (cc)) (since-mark file done)
@@ -70,9 +70,9 @@ module _ (site : Site) (fit : IsFit site) (number : ℕ) (spec : ProcessSpec) (t
       one-later file (Answered place words) (λ e. absurd (cc)) (since-mark file done)
   since-mark file (one_more done (acts {call = call} {found = found} at is)) = one-later file (Acted call found) (λ e. absurd (cc)) (since-mark file done)
 
-  -- a process awaits a reply, or did before deeds without a mark: the depth covers all that it asked since the mark before
+  -- a process awaits a reply, or did before deeds without a checkpoint: the depth covers all that it asked since the checkpoint before
   near-file : (file n : ℕ) (opener : Opener) (deeds more past : List Deed) {core after : Core} → opener_of site (who.File number file) ≡ Some opener
-      → deeds ≡ more ++ past → AreUnmarked more → HasDone site number spec deeds after → HasDone site number spec past core → process.point core.state ≡ point.Await
+      → deeds ≡ more ++ past → AreUncheckpointed more → HasDone site number spec deeds after → HasDone site number spec past core → process.point core.state ≡ point.Await
       → process.asked_file core.state ≡ file → next_on core file ≡ n + 1 → (1 ≤ n) × (n ≤ length (requests_on file deeds))
       × ((of : OpenerSpec) → slice_get (openers_of site opener.server) opener.place ≡ Some of → length (requests_on file deeds) < n + of.depth)
   near-file file n opener deeds more past {core = core} {after = after} opens split unmarked whole done at named next =
@@ -99,7 +99,7 @@ module _ (site : Site) (fit : IsFit site) (number : ℕ) (spec : ProcessSpec) (t
       )
 
 module _ (site : Site) (fit : IsFit site) where
-  -- a lead that awaits a reply holds no acts and is at no mark
+  -- a lead that awaits a reply holds no acts and is at no checkpoint
   near-lead : {acts_kept : List _} {shown : List _} (ledger : Ledger) (booked : AreBooked site acts_kept shown ledger) (number : ℕ) (spec : ProcessSpec)
       (there : slice_get site.processes number ≡ Some spec) (file n : ℕ) (opener : Opener) (copy : Copy) {stage : Stage} → opener_of site (who.File number file) ≡ Some opener
       → IsLead site ledger number spec (ledger.deeds number) copy stage → process.point copy.core.state ≡ point.Await → process.asked_file copy.core.state ≡ file
@@ -109,7 +109,7 @@ module _ (site : Site) (fit : IsFit site) where
       stands : StandsFor site number spec (ledger.deeds number) ((booked-ran fit.regular booked).agrees.processes number spec there).0
       stands = ((booked-ran fit.regular booked).agrees.processes number spec there).2
 
-      near : (more past : List Deed) → ledger.deeds number ≡ more ++ past → AreUnmarked more → HasDone site number spec past copy.core
+      near : (more past : List Deed) → ledger.deeds number ≡ more ++ past → AreUncheckpointed more → HasDone site number spec past copy.core
           → IsNear site ledger (who.File number file) opener n
       near more past split unmarked done =
           let is = near-file site fit number spec there file n opener (ledger.deeds number) more past opens split unmarked stands.done done at named next in

@@ -13,8 +13,8 @@ use Rattle.world_semantics.specs.Follows.{IsRun}
 use Rattle.world_semantics.specs.Kept.{Enters, holds_on, repeats, begins, keeps}
 use Rattle.world_semantics.specs.Messages.{Sending, Cause}
 use Rattle.world_semantics.specs.Passes.{Passes, by_send, by_pass_again, by_pass, by_apply, by_acknowledge}
-use Rattle.world_semantics.specs.Rules.{Change, by_own, by_checkpoint, by_request, by_early_request, by_enter, by_print, by_stop, by_mark, stopped_copy, stopped_pair, takes_over, taker, after_marking, marked_pair}
-use Rattle.world_semantics.specs.World.{Copy, Pair, Terminal, Mark, World, boot, pair_at_boot, pairs_at_boot, has_marked, copy_of, other_of, with_copy}
+use Rattle.world_semantics.specs.Rules.{Change, by_own, by_checkpoint, by_request, by_early_request, by_enter, by_print, by_stop, by_mark, stopped_copy, stopped_pair, takes_over, taker, pair_after_down, pair_at_down}
+use Rattle.world_semantics.specs.World.{Copy, Pair, Terminal, Down, World, boot, pair_at_boot, pairs_at_boot, has_noted, copy_of, other_of, with_copy}
 use Rattle.world_semantics.specs.declared.role.Role.{Role}
 use Rattle.world_semantics.specs.declared.role.Role.TheVariants.{Acting, Watching, Gone}
 use Rattle.world_semantics.specs.declared.which.Which.{Which}
@@ -24,7 +24,7 @@ use Rattle.world_semantics.proofs.Lists.{set-all, map-all}
 use Rattle.world_semantics.proofs.Reached.{one-acts}
 use Rattle.world_semantics.proofs.Roles.{RolesOf, AllRoles, taker-is, roles-begin, change-roles}
 use Rattle.world_semantics.proofs.Runs.{holds-on}
-use Rattle.headline.proofs.Beginning.{first-pair}
+use Rattle.takeover_laws.proofs.Beginning.{first-pair}
 use Rattle.awaited_requests.specs.Seats.{IsLaidOut, IsSeated, AreSeated}
 
 -- One process
@@ -79,14 +79,14 @@ second-stays false true none = absurd (cc)
 second-stays false false none = refl
 
 -- where no copy takes over at a mark, a node on which the second copy watches has still not marked the first one's processor
-unmarked-still : (marks : List Mark) (node processor : ℕ) (pair : Pair) → pair.second.role ≡ Watching → taker node processor pair ≡ None
-    → has_marked marks pair.second.processor pair.first.processor ≡ false
-    → has_marked (record { node = node; down = processor } ∷ marks) pair.second.processor pair.first.processor ≡ false
+unmarked-still : (marks : List Down) (node processor : ℕ) (pair : Pair) → pair.second.role ≡ Watching → taker node processor pair ≡ None
+    → has_noted marks pair.second.processor pair.first.processor ≡ false
+    → has_noted (record { node = node; down = processor } ∷ marks) pair.second.processor pair.first.processor ≡ false
 unmarked-still marks node processor pair watching none unmarked =
     by (node == pair.second.processor) refl (processor == pair.first.processor) refl (second-stays (takes_over node processor First pair) (takes_over node processor Second pair) none)
   where
     by : (here : Bool) → (node == pair.second.processor) ≡ here → (down : Bool) → (processor == pair.first.processor) ≡ down → takes_over node processor Second pair ≡ false
-        → has_marked (record { node = node; down = processor } ∷ marks) pair.second.processor pair.first.processor ≡ false
+        → has_noted (record { node = node; down = processor } ∷ marks) pair.second.processor pair.first.processor ≡ false
     by true is true same stays =
         let takes : takes_over node processor Second pair ≡ true = rw (
           watching,
@@ -97,7 +97,7 @@ unmarked-still marks node processor pair watching none unmarked =
     by true is false same stays = rw (is, same) unmarked
     by false is down same stays = rw is unmarked
 
-module _ (stopped : List Bool) (marks : List Mark) where
+module _ (stopped : List Bool) (marks : List Down) where
   acting-seat : (k : Which) (pair next : Pair) → (copy_of k pair).role ≡ Acting → Follows k pair next → RolesOf stopped pair → IsSeated stopped marks pair
       → IsSeated stopped marks next
   acting-seat First pair next acting same roles seat = record {
@@ -168,7 +168,7 @@ module _ (stopped : List Bool) (marks : List Mark) where
       holds Second acts = seat.one_holds Second (still-is processor pair.second Acting (λ e. absurd (cc)) acts)
 
   mark-seat : (node processor : ℕ) (pair : Pair) (k : Option Which) → taker node processor pair ≡ k → RolesOf stopped pair → IsSeated stopped marks pair
-      → IsSeated stopped (record { node = node; down = processor } ∷ marks) (after_marking k pair)
+      → IsSeated stopped (record { node = node; down = processor } ∷ marks) (pair_after_down k pair)
   mark-seat node processor pair (Some First) takes roles seat = absurd (roles.first_leads (taker-is node processor pair First takes).watching)
   mark-seat node processor pair (Some Second) takes roles seat = record {
     first = seat.first;
@@ -176,7 +176,7 @@ module _ (stopped : List Bool) (marks : List Mark) where
     apart = seat.apart;
     unmarked = λ watching. absurd (cc);
     free = λ watching. absurd (cc);
-    one_holds = λ k acts. hold-none (after_marking (Some Second) pair) refl refl k;
+    one_holds = λ k acts. hold-none (pair_after_down (Some Second) pair) refl refl k;
   }
   mark-seat node processor pair None takes roles seat = record {
     first = seat.first;
@@ -229,7 +229,7 @@ seats-change {site = site} w next cause sendings change roles seats = record {
         map-all (λ n p. IsSeated (slice_set w.stopped processor true) w.marks p) (stopped_pair processor) w.processes
         (λ n p there. stop-seat w.stopped w.marks processor p (seats.pairs n p there))
     by-pairs (by_mark node processor stopped runs unmarked) =
-        map-all (λ n p. IsSeated w.stopped (record { node = node; down = processor } ∷ w.marks) p) (marked_pair node processor) w.processes
+        map-all (λ n p. IsSeated w.stopped (record { node = node; down = processor } ∷ w.marks) p) (pair_at_down node processor) w.processes
         (λ n p there. mark-seat w.stopped w.marks node processor p (taker node processor p) refl (roles n p there) (seats.pairs n p there))
 
 -- Beginning

@@ -7,7 +7,7 @@ use Rattle.tal_tree.specs.declared.site.Site.{Site}
 use Rattle.tal_tree.specs.declared.site.Who.{Who}
 use Rattle.plain_semantics.specs.declared.slot.Opener.{Opener}
 use Rattle.plain_semantics.specs.Openers.{opener_of}
-use Rattle.checkpoint_image.specs.declared.receive.Standing.TheVariants.{Next, Kept}
+use Rattle.checkpoint_image.specs.declared.receive.RequestStanding.TheVariants.{Next, Kept}
 use Rattle.checkpoint_image.specs.Receive.{standing_at}
 use Rattle.world_semantics.specs.declared.role.Role.TheVariants.{Acting, Watching}
 use Rattle.world_semantics.specs.declared.which.Which.{Which}

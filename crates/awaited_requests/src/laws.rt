@@ -9,7 +9,7 @@ ghost use Rattle.world_semantics.specs.Follows.{IsRun};
 ghost use Rattle.world_semantics.specs.World.{Pair, World, copy_of};
 ghost use Rattle.world_semantics.specs.declared.role.Role.TheVariants.{Gone};
 ghost use Rattle.world_semantics.specs.declared.which.Which.{Which};
-ghost use Rattle.headline.specs.Fit.{IsFit};
+ghost use Rattle.takeover_laws.specs.Fit.{IsFit};
 ghost use Rattle.awaited_requests.specs.Awaited.{IsAwaited, StandsThere};
 ghost use Rattle.awaited_requests.specs.Seats.{IsLaidOut, AreSeated};
 

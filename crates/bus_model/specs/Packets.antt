@@ -1,6 +1,6 @@
 -- The packets on a bus. That a bus has room for 4,096 of them is this project's own rule.
 use Rattle.std.specs.Prelude.{Bool, nat_lt, List, [], ◌∷◌, ◌++◌, length, Option, Some, None, if◌then◌else◌}
-use Rattle.wire.specs.declared.packet.Packet.{Packet}
+use Rattle.packet_words.specs.declared.packet.Packet.{Packet}
 
 -- whether one more packet goes onto the bus
 abbrev pub has_room : List Packet → Bool

@@ -7,7 +7,7 @@ use gd_words::NoMemory;
 use std::alloc::Global;
 use std::collections::VecDeque;
 use std::marker::Model;
-use wire::Packet;
+use packet_words::Packet;
 
 /// Most packets on a bus.
 const ROOM: usize = 4_096;
@@ -21,7 +21,7 @@ pub struct Bus {
 impl Model for Bus {
     ghost use Rattle.std.specs.Prelude.{List, ◌≤◌, length};
     ghost use Rattle.std.specs.VecDeque.{deque_capacity};
-    ghost use Rattle.wire.specs.declared.packet.Packet.{Packet};
+    ghost use Rattle.packet_words.specs.declared.packet.Packet.{Packet};
 
     ghost Value = { List Packet };
 

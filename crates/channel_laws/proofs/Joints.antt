@@ -4,10 +4,10 @@ use Rattle.std.proofs.lemmas.List.{append-nil, append_assoc}
 use Rattle.std.proofs.lemmas.Bool.{eqb-true, ltb-true, ltb-false}
 use Rattle.std.specs.Prelude.{None, ◌==◌, nat_lt, nat_le, if◌then◌else◌}
 use Rattle.std.specs.Option.{option_to_list}
-use Rattle.wire.specs.declared.bus_name.BusName.{BusName}
-use Rattle.wire.specs.declared.piece.Piece.{Piece}
-use Rattle.wire.specs.Pieces.{pieces, joined, completed, first_piece}
-use Rattle.link_control.specs.Ends.{Sending, Receiving, numbered_at, begun, pushed, ticked, moved_on, is_next}
+use Rattle.packet_words.specs.declared.bus_name.BusName.{BusName}
+use Rattle.packet_words.specs.declared.piece.Piece.{Piece}
+use Rattle.packet_words.specs.Pieces.{pieces, joined, completed, first_piece}
+use Rattle.link_control.specs.Ends.{Sending, Receiving, numbered_at, begun, after_push_of, after_tick_of, moved_on, is_next}
 use Rattle.channel_laws.specs.Way.{Way, AtSender, AtReceiver, IsJoint, IsCut, IsPieceOf, IsWithin, quiet_way, pushing, coming, telling, ticking, total, first_of, Filled, opened}
 use Rattle.channel_laws.proofs.Places.{total-append, filled-more, filled-rest, within-more, none-within, part-more, same-place, cut-is, part-and_piece, whole-at_last, count-at_last, more-after}
 
@@ -27,20 +27,20 @@ opened-few (q ∷ queue) = omega arith
 
 -- A message is pushed
 
-pub numbered-pushed : (m : List ℤ) (s : Sending) → s.numbered ≤ (pushed m s).numbered
+pub numbered-pushed : (m : List ℤ) (s : Sending) → s.numbered ≤ (after_push_of m s).numbered
 numbered-pushed m s = go s.queue s.place s.numbered s.waited s.resend_bus
   where
     go : (queue : List (List ℤ)) (place numbered : ℕ) (waited : Bool) (resend_bus : BusName)
-        → numbered ≤ (pushed m (record { queue = queue; place = place; numbered = numbered; waited = waited; resend_bus = resend_bus })).numbered
+        → numbered ≤ (after_push_of m (record { queue = queue; place = place; numbered = numbered; waited = waited; resend_bus = resend_bus })).numbered
     go [] place numbered waited resend_bus = omega arith
     go (q ∷ queue) place numbered waited resend_bus = omega arith
 
-sender-pushed : (pushes : List (List ℤ)) (a : ℕ) (m : List ℤ) (s : Sending) → 0 < length m → AtSender pushes a s → AtSender (pushes ++ m ∷ []) a (pushed m s)
+sender-pushed : (pushes : List (List ℤ)) (a : ℕ) (m : List ℤ) (s : Sending) → 0 < length m → AtSender pushes a s → AtSender (pushes ++ m ∷ []) a (after_push_of m s)
 sender-pushed pushes a m s n h = go s.queue s.place s.numbered s.waited s.resend_bus h
   where
     go : (queue : List (List ℤ)) (place numbered : ℕ) (waited : Bool) (resend_bus : BusName)
         → AtSender pushes a (record { queue = queue; place = place; numbered = numbered; waited = waited; resend_bus = resend_bus })
-        → AtSender (pushes ++ m ∷ []) a (pushed m (record { queue = queue; place = place; numbered = numbered; waited = waited; resend_bus = resend_bus }))
+        → AtSender (pushes ++ m ∷ []) a (after_push_of m (record { queue = queue; place = place; numbered = numbered; waited = waited; resend_bus = resend_bus }))
     go [] place numbered waited resend_bus h = record {
       done = h.done;
       sent = ap (λ xs. xs ++ m ∷ []) (h.sent ∙ append-nil h.done);
@@ -148,23 +148,23 @@ joint-telling number w told j = go w.sender.queue w.sender.place w.sender.number
 -- The sender's node ticks
 
 -- a tick leaves which piece is outstanding
-pub same-piece : {A : Type 0} (f : List (List ℤ) → ℕ → ℕ → A) (s : Sending) → f (ticked s).queue (ticked s).place (ticked s).numbered ≡ f s.queue s.place s.numbered
+pub same-piece : {A : Type 0} (f : List (List ℤ) → ℕ → ℕ → A) (s : Sending) → f (after_tick_of s).queue (after_tick_of s).place (after_tick_of s).numbered ≡ f s.queue s.place s.numbered
 same-piece {A = A} f s = go s.queue s.place s.numbered s.waited s.resend_bus
   where
     go : (queue : List (List ℤ)) (place numbered : ℕ) (waited : Bool) (resend_bus : BusName)
-        → f (ticked (record { queue = queue; place = place; numbered = numbered; waited = waited; resend_bus = resend_bus })).queue
-        (ticked (record { queue = queue; place = place; numbered = numbered; waited = waited; resend_bus = resend_bus })).place
-        (ticked (record { queue = queue; place = place; numbered = numbered; waited = waited; resend_bus = resend_bus })).numbered ≡ f queue place numbered
+        → f (after_tick_of (record { queue = queue; place = place; numbered = numbered; waited = waited; resend_bus = resend_bus })).queue
+        (after_tick_of (record { queue = queue; place = place; numbered = numbered; waited = waited; resend_bus = resend_bus })).place
+        (after_tick_of (record { queue = queue; place = place; numbered = numbered; waited = waited; resend_bus = resend_bus })).numbered ≡ f queue place numbered
     go [] place numbered waited resend_bus = refl
     go (q ∷ queue) place numbered true resend_bus = refl
     go (q ∷ queue) place numbered false resend_bus = refl
 
-sender-ticked : (pushes : List (List ℤ)) (a : ℕ) (s : Sending) → AtSender pushes a s → AtSender pushes a (ticked s)
+sender-ticked : (pushes : List (List ℤ)) (a : ℕ) (s : Sending) → AtSender pushes a s → AtSender pushes a (after_tick_of s)
 sender-ticked pushes a s h = go s.queue s.place s.numbered s.waited s.resend_bus h
   where
     go : (queue : List (List ℤ)) (place numbered : ℕ) (waited : Bool) (resend_bus : BusName)
         → AtSender pushes a (record { queue = queue; place = place; numbered = numbered; waited = waited; resend_bus = resend_bus })
-        → AtSender pushes a (ticked (record { queue = queue; place = place; numbered = numbered; waited = waited; resend_bus = resend_bus }))
+        → AtSender pushes a (after_tick_of (record { queue = queue; place = place; numbered = numbered; waited = waited; resend_bus = resend_bus }))
     go [] place numbered waited resend_bus h = h
     go (q ∷ queue) place numbered true resend_bus h = record { done = h.done; sent = h.sent; place = h.place; count = h.count; numbered = h.numbered }
     go (q ∷ queue) place numbered false resend_bus h = record { done = h.done; sent = h.sent; place = h.place; count = h.count; numbered = h.numbered }

@@ -4,13 +4,13 @@ use Rattle.std.proofs.lemmas.List.{append-nil}
 use Rattle.std.proofs.lemmas.Bool.{eqb-true, eq-eqb, leb-true}
 use Rattle.std.specs.Prelude.{Option, Some, None, ◌==◌, ◌&&◌, if◌then◌else◌}
 use Rattle.std.specs.Option.{option_to_list, option_map}
-use Rattle.wire.specs.declared.piece.Piece.{Piece}
-use Rattle.wire.specs.declared.packet.Packet.{Packet}
-use Rattle.wire.specs.declared.packet.PacketKind.{PacketKind}
-use Rattle.wire.specs.declared.packet.PacketKind.TheVariants as kind
-use Rattle.wire.specs.Pieces.{piece_at}
+use Rattle.packet_words.specs.declared.piece.Piece.{Piece}
+use Rattle.packet_words.specs.declared.packet.Packet.{Packet}
+use Rattle.packet_words.specs.declared.packet.PacketKind.{PacketKind}
+use Rattle.packet_words.specs.declared.packet.PacketKind.TheVariants as kind
+use Rattle.packet_words.specs.Pieces.{piece_at}
 use Rattle.link_control.specs.declared.channel.Resent.{Resent}
-use Rattle.link_control.specs.Ends.{End, Sending, packet_of, outstanding, after_push, sent_by_push, after_packet, after_kind, sent_by_packet, sent_by_kind, after_tick, sent_by_tick, after_down, piece_of, pushed, acknowledged, ticked, kept, is_kept, is_idle, is_ended_by, is_sent_again}
+use Rattle.link_control.specs.Ends.{End, Sending, packet_of, packet_outstanding, after_push, sent_by_push, after_packet, after_kind, sent_by_packet, sent_by_kind, after_tick, sent_by_tick, after_down, piece_of, after_push_of, after_acknowledgement, after_tick_of, kept, is_kept, is_idle, is_ended_by, is_sent_again}
 use Rattle.channel_laws.specs.Way.{Way, IsJoint, IsPieceOf, IsReceiptOf, pushing, coming, telling, ticking}
 use Rattle.gd_words.specs.Members.{IsAmong}
 use Rattle.channel_laws.specs.Net.{Net, put, Runs, at_end, pushed_net, arrived_net, ticked_net, packet_in, ways_by, incarnation_of, quiet_net, Goes, pushes, arrives, ticks, lives, bus_changes, stops, marks, Leads, at_once, later, IsTold, IsRight, IsNamed, IsTied, IsWhole}
@@ -68,7 +68,7 @@ packet-right reloads g x y e k names told = record {
 
 -- and so the packet of an outstanding piece
 pub right-outstanding : (reloads : ℕ → ℕ) (g : ℕ → ℕ → Way) (x y : ℕ) (e : End) → IsNamed reloads x y e → e.sending ≡ (g x y).sender → IsJoint (g x y)
-    → (q : Packet) → outstanding e ≡ Some q → IsRight reloads g q
+    → (q : Packet) → packet_outstanding e ≡ Some q → IsRight reloads g q
 right-outstanding reloads g x y e names tie j q is = by_queue e.sending.queue refl is
   where
     by_piece : (m : List ℤ) (queue : List (List ℤ)) → e.sending.queue ≡ m ∷ queue → (o : Option Piece) → piece_at e.sending.place m ≡ o
@@ -152,7 +152,7 @@ sent-if false o q e = absurd cc
 
 -- a call changes the sender's end
 whole-sender : (n : Net) (x y : ℕ) (s : Sending) (v : Way) (sent : Option Packet) → v.receiver ≡ (n.ways x y).receiver → s ≡ v.sender → IsJoint v → IsLater (n.ways x y) v
-    → ((q : Packet) → sent ≡ Some q → outstanding (record (n.ends x y) { sending = s }) ≡ Some q) → Runs n x y → IsWhole n
+    → ((q : Packet) → sent ≡ Some q → packet_outstanding (record (n.ends x y) { sending = s }) ≡ Some q) → Runs n x y → IsWhole n
     → IsWhole (at_end x y (record (n.ends x y) { sending = s }) sent (put x y v n.ways) n)
 whole-sender n x y s v sent r t j rises new h w = record {
   joint = put-all (λ a b u. IsJoint u) x y v n.ways j w.joint;
@@ -171,22 +171,22 @@ whole-sender n x y s v sent r t j rises new h w = record {
 
 whole-pushed : (n : Net) (x y : ℕ) (m : List ℤ) → 0 < length m → Runs n x y → IsWhole n → IsWhole (pushed_net x y m n)
 whole-pushed n x y m some h w = subst (λ e. IsWhole (at_end x y e (sent_by_push m (n.ends x y)) (put x y (pushing m (n.ways x y)) n.ways) n)) (sym is)
-    (whole-sender n x y (pushed m (n.ends x y).sending) (pushing m (n.ways x y)) (sent_by_push m (n.ends x y)) refl (ap (pushed m) (w.tied x y h).sending)
+    (whole-sender n x y (after_push_of m (n.ends x y).sending) (pushing m (n.ways x y)) (sent_by_push m (n.ends x y)) refl (ap (after_push_of m) (w.tied x y h).sending)
     (joint-pushing m (n.ways x y) some (w.joint x y)) (later-pushing m (n.ways x y)) new h w)
   where
     e : End
     e = n.ends x y
 
-    is : after_push m e ≡ record e { sending = pushed m e.sending }
-    is = when-up e (record e { sending = pushed m e.sending }) h.1
+    is : after_push m e ≡ record e { sending = after_push_of m e.sending }
+    is = when-up e (record e { sending = after_push_of m e.sending }) h.1
 
-    new : (q : Packet) → sent_by_push m e ≡ Some q → outstanding (record e { sending = pushed m e.sending }) ≡ Some q
-    new q s = sym (ap outstanding is)
-        ∙ sent-if (is_idle e.sending) (outstanding (after_push m e)) q (sym (when-up None (if is_idle e.sending then outstanding (after_push m e) else None) h.1) ∙ s)
+    new : (q : Packet) → sent_by_push m e ≡ Some q → packet_outstanding (record e { sending = after_push_of m e.sending }) ≡ Some q
+    new q s = sym (ap packet_outstanding is)
+        ∙ sent-if (is_idle e.sending) (packet_outstanding (after_push m e)) q (sym (when-up None (if is_idle e.sending then packet_outstanding (after_push m e) else None) h.1) ∙ s)
 
 whole-ticked : (n : Net) (x y : ℕ) → Runs n x y → IsWhole n → IsWhole (ticked_net x y n)
 whole-ticked n x y h w = subst (λ e. IsWhole (at_end x y e (option_map packet_in (sent_by_tick (n.ends x y))) (put x y (ticking (n.ways x y)) n.ways) n)) (sym is)
-    (whole-sender n x y (ticked (n.ends x y).sending) (ticking (n.ways x y)) (option_map packet_in (sent_by_tick (n.ends x y))) refl (ap ticked (w.tied x y h).sending)
+    (whole-sender n x y (after_tick_of (n.ends x y).sending) (ticking (n.ways x y)) (option_map packet_in (sent_by_tick (n.ends x y))) refl (ap after_tick_of (w.tied x y h).sending)
     (joint-ticking (n.ways x y) (w.joint x y)) (later-ticking (n.ways x y)) new h w)
   where
     e : End
@@ -195,35 +195,35 @@ whole-ticked n x y h w = subst (λ e. IsWhole (at_end x y e (option_map packet_i
     again : Option Packet → Option Resent
     again o = option_map (λ packet. record { bus = e.sending.resend_bus; packet = packet }) o
 
-    is : after_tick e ≡ record e { sending = ticked e.sending }
-    is = when-up e (record e { sending = ticked e.sending }) h.1
+    is : after_tick e ≡ record e { sending = after_tick_of e.sending }
+    is = when-up e (record e { sending = after_tick_of e.sending }) h.1
 
     same : (o : Option Packet) → option_map packet_in (again o) ≡ o
     same None = refl
     same (Some q) = refl
 
-    by_test : (b : Bool) (q : Packet) → option_map packet_in (if b then again (outstanding e) else None) ≡ Some q → outstanding e ≡ Some q
-    by_test true q s = sym (same (outstanding e)) ∙ s
+    by_test : (b : Bool) (q : Packet) → option_map packet_in (if b then again (packet_outstanding e) else None) ≡ Some q → packet_outstanding e ≡ Some q
+    by_test true q s = sym (same (packet_outstanding e)) ∙ s
     by_test false q s = absurd cc
 
-    new : (q : Packet) → option_map packet_in (sent_by_tick e) ≡ Some q → outstanding (record e { sending = ticked e.sending }) ≡ Some q
+    new : (q : Packet) → option_map packet_in (sent_by_tick e) ≡ Some q → packet_outstanding (record e { sending = after_tick_of e.sending }) ≡ Some q
     new q s = same-piece (λ queue place numbered. option_map (λ piece. packet_of e (kind.Piece numbered piece)) (piece_of queue place)) e.sending
-        ∙ by_test (is_sent_again e.sending) q (sym (ap (option_map packet_in) (when-up None (if is_sent_again e.sending then again (outstanding e) else None) h.1)) ∙ s)
+        ∙ by_test (is_sent_again e.sending) q (sym (ap (option_map packet_in) (when-up None (if is_sent_again e.sending then again (packet_outstanding e) else None) h.1)) ∙ s)
 
 whole-told : (n : Net) (x y : ℕ) (p : Packet) (number : ℕ) → p.kind ≡ kind.Acknowledgement number → IsReceiptOf (n.ways x y) number → Runs n x y → IsWhole n
     → IsWhole (at_end x y (after_packet p (n.ends x y)) (sent_by_packet p (n.ends x y)) (put x y (telling number (n.ways x y)) n.ways) n)
 whole-told n x y p number k o h w = subst (λ e. IsWhole (at_end x y e (sent_by_packet p (n.ends x y)) (put x y (telling number (n.ways x y)) n.ways) n)) (sym is)
-    (whole-sender n x y (acknowledged number (n.ends x y).sending) (telling number (n.ways x y)) (sent_by_packet p (n.ends x y)) refl (ap (acknowledged number) (w.tied x y h).sending)
+    (whole-sender n x y (after_acknowledgement number (n.ends x y).sending) (telling number (n.ways x y)) (sent_by_packet p (n.ends x y)) refl (ap (after_acknowledgement number) (w.tied x y h).sending)
     (joint-telling number (n.ways x y) o.1 (w.joint x y)) (later-telling number (n.ways x y)) new h w)
   where
     e : End
     e = n.ends x y
 
-    is : after_packet p e ≡ record e { sending = acknowledged number e.sending }
+    is : after_packet p e ≡ record e { sending = after_acknowledgement number e.sending }
     is = when-up e (after_kind p.kind e) h.1 ∙ ap (λ k. after_kind k e) k
 
-    new : (q : Packet) → sent_by_packet p e ≡ Some q → outstanding (record e { sending = acknowledged number e.sending }) ≡ Some q
-    new q s = sent-if (is_ended_by number e.sending) (outstanding (record e { sending = acknowledged number e.sending })) q
+    new : (q : Packet) → sent_by_packet p e ≡ Some q → packet_outstanding (record e { sending = after_acknowledgement number e.sending }) ≡ Some q
+    new q s = sent-if (is_ended_by number e.sending) (packet_outstanding (record e { sending = after_acknowledgement number e.sending })) q
         (sym (when-up None (sent_by_kind p.kind e) h.1 ∙ ap (λ k. sent_by_kind k e) k) ∙ s)
 
 whole-come : (n : Net) (x y : ℕ) (p : Packet) (number : ℕ) (piece : Piece) → p.kind ≡ kind.Piece number piece → IsPieceOf (n.ways y x) number piece → Runs n x y → IsWhole n

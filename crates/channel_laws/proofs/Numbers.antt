@@ -1,20 +1,20 @@
 -- Numbers rise by at most one in a call.
 use Rattle.std.proofs.Common.{◌≤◌, ◌+◌, ◌*◌, ℕ, ℤ, Bool, true, false, List, [], ◌∷◌, length, arith}
 use Rattle.std.specs.Prelude.{◌==◌, nat_lt, if◌then◌else◌}
-use Rattle.wire.specs.declared.bus_name.BusName.{BusName}
-use Rattle.wire.specs.declared.piece.Piece.{Piece}
-use Rattle.wire.specs.declared.packet.PacketKind.{PacketKind}
-use Rattle.wire.specs.declared.packet.PacketKind.TheVariants as kind
-use Rattle.wire.specs.Pieces.{joined}
-use Rattle.link_control.specs.Ends.{End, Sending, Receiving, numbered_at, begun, pushed, moved_on, acknowledged, ticked, kept, is_next, after_kind}
+use Rattle.packet_words.specs.declared.bus_name.BusName.{BusName}
+use Rattle.packet_words.specs.declared.piece.Piece.{Piece}
+use Rattle.packet_words.specs.declared.packet.PacketKind.{PacketKind}
+use Rattle.packet_words.specs.declared.packet.PacketKind.TheVariants as kind
+use Rattle.packet_words.specs.Pieces.{joined}
+use Rattle.link_control.specs.Ends.{End, Sending, Receiving, numbered_at, begun, after_push_of, moved_on, after_acknowledgement, after_tick_of, kept, is_next, after_kind}
 use Rattle.channel_laws.specs.Way.{IsOneOn}
 use Rattle.channel_laws.proofs.Joints.{same-piece}
 
-pub one-pushed : (m : List ℤ) (s : Sending) → (pushed m s).numbered ≤ s.numbered + 1
+pub one-pushed : (m : List ℤ) (s : Sending) → (after_push_of m s).numbered ≤ s.numbered + 1
 one-pushed m s = go s.queue s.place s.numbered s.waited s.resend_bus
   where
     go : (queue : List (List ℤ)) (place numbered : ℕ) (waited : Bool) (resend_bus : BusName)
-        → (pushed m (record { queue = queue; place = place; numbered = numbered; waited = waited; resend_bus = resend_bus })).numbered ≤ numbered + 1
+        → (after_push_of m (record { queue = queue; place = place; numbered = numbered; waited = waited; resend_bus = resend_bus })).numbered ≤ numbered + 1
     go [] place numbered waited resend_bus = omega arith
     go (q ∷ queue) place numbered waited resend_bus = omega arith
 
@@ -22,7 +22,7 @@ one-begun : (queue : List (List ℤ)) (numbered : ℕ) → (begun queue numbered
 one-begun [] numbered = omega arith
 one-begun (q ∷ queue) numbered = omega arith
 
-one-acknowledged : (number : ℕ) (s : Sending) → (acknowledged number s).numbered ≤ s.numbered + 1
+one-acknowledged : (number : ℕ) (s : Sending) → (after_acknowledgement number s).numbered ≤ s.numbered + 1
 one-acknowledged number s = go s.queue s.place s.numbered s.waited s.resend_bus
   where
     moved : (q : List ℤ) (queue : List (List ℤ)) (place numbered : ℕ) (b : Bool)
@@ -37,7 +37,7 @@ one-acknowledged number s = go s.queue s.place s.numbered s.waited s.resend_bus
     ended q queue place numbered waited resend_bus false = omega arith
 
     go : (queue : List (List ℤ)) (place numbered : ℕ) (waited : Bool) (resend_bus : BusName)
-        → (acknowledged number (record { queue = queue; place = place; numbered = numbered; waited = waited; resend_bus = resend_bus })).numbered ≤ numbered + 1
+        → (after_acknowledgement number (record { queue = queue; place = place; numbered = numbered; waited = waited; resend_bus = resend_bus })).numbered ≤ numbered + 1
     go [] place numbered waited resend_bus = omega arith
     go (q ∷ queue) place numbered waited resend_bus = ended q queue place numbered waited resend_bus (number == numbered)
 
@@ -53,7 +53,7 @@ one-kind kind.Alive e = (omega arith, omega arith)
 one-kind (kind.Piece number piece) e = (omega arith, one-kept number piece e.receiving)
 one-kind (kind.Acknowledgement number) e = (one-acknowledged number e.sending, omega arith)
 
-pub one-ticked : (s : Sending) → (ticked s).numbered ≤ s.numbered + 1
+pub one-ticked : (s : Sending) → (after_tick_of s).numbered ≤ s.numbered + 1
 one-ticked s = omega (arith, same-piece (λ queue place numbered. numbered) s)
 
 pub one-unless_down : (b : Bool) (e next : End) → IsOneOn e next → IsOneOn e (if b then e else next)

@@ -3,11 +3,11 @@ use Rattle.std.proofs.Common.{◌≡◌, ◌<◌, ◌≤◌, ◌+◌, ◌*◌, �
 use Rattle.std.proofs.lemmas.List.{append_assoc, length-take, length-take-le}
 use Rattle.std.proofs.lemmas.Bool.{leb-false, le-leb, lt-ltb, eq-eqb}
 use Rattle.std.specs.Prelude.{◌==◌, ◌||◌, nat_lt, nat_le, Some, if◌then◌else◌}
-use Rattle.wire.specs.declared.bus_name.BusName.{BusName}
-use Rattle.wire.specs.declared.piece.Piece.{Piece}
-use Rattle.wire.specs.Pieces.{joined, piece_at}
-use Rattle.wire.specs.Layout.{is_piece}
-use Rattle.link_control.specs.Ends.{Sending, Receiving, numbered_at, begun, ticked, acknowledged, moved_on, is_next, kept}
+use Rattle.packet_words.specs.declared.bus_name.BusName.{BusName}
+use Rattle.packet_words.specs.declared.piece.Piece.{Piece}
+use Rattle.packet_words.specs.Pieces.{joined, piece_at}
+use Rattle.packet_words.specs.Layout.{is_piece}
+use Rattle.link_control.specs.Ends.{Sending, Receiving, numbered_at, begun, after_tick_of, after_acknowledgement, moved_on, is_next, kept}
 use Rattle.channel_laws.specs.Way.{Way, IsJoint, IsCut, IsPieceOf, IsReceiptOf, pushing, coming, telling, ticking, opened}
 use Rattle.channel_laws.proofs.Places.{cut-is}
 use Rattle.channel_laws.proofs.Joints.{numbered-pushed, same-piece}
@@ -18,7 +18,7 @@ pub numbered-begun : (queue : List (List ℤ)) (numbered : ℕ) → numbered ≤
 numbered-begun [] numbered = omega arith
 numbered-begun (q ∷ queue) numbered = omega arith
 
-pub numbered-acknowledged : (number : ℕ) (s : Sending) → s.numbered ≤ (acknowledged number s).numbered
+pub numbered-acknowledged : (number : ℕ) (s : Sending) → s.numbered ≤ (after_acknowledgement number s).numbered
 numbered-acknowledged number s = go s.queue s.place s.numbered s.waited s.resend_bus
   where
     moved : (q : List ℤ) (queue : List (List ℤ)) (place numbered : ℕ) (b : Bool)
@@ -33,11 +33,11 @@ numbered-acknowledged number s = go s.queue s.place s.numbered s.waited s.resend
     ended q queue place numbered waited resend_bus false = omega arith
 
     go : (queue : List (List ℤ)) (place numbered : ℕ) (waited : Bool) (resend_bus : BusName)
-        → numbered ≤ (acknowledged number (record { queue = queue; place = place; numbered = numbered; waited = waited; resend_bus = resend_bus })).numbered
+        → numbered ≤ (after_acknowledgement number (record { queue = queue; place = place; numbered = numbered; waited = waited; resend_bus = resend_bus })).numbered
     go [] place numbered waited resend_bus = omega arith
     go (q ∷ queue) place numbered waited resend_bus = ended q queue place numbered waited resend_bus (number == numbered)
 
-pub numbered-ticked : (s : Sending) → s.numbered ≤ (ticked s).numbered
+pub numbered-ticked : (s : Sending) → s.numbered ≤ (after_tick_of s).numbered
 numbered-ticked s = omega (arith, same-piece (λ queue place numbered. numbered) s)
 
 pub kept-rises : (number : ℕ) (piece : Piece) (r : Receiving) → r.kept ≤ (kept number piece r).kept
@@ -77,10 +77,10 @@ pub later-coming : (number : ℕ) (piece : Piece) (w : Way) → IsLater w (comin
 later-coming number piece w = (λ other more o. o, λ other o. (o.0, omega (arith, o.1, kept-rises number piece w.receiver)))
 
 pub later-telling : (number : ℕ) (w : Way) → IsLater w (telling number w)
-later-telling number w = later-sender w (acknowledged number w.sender) (numbered-acknowledged number w.sender)
+later-telling number w = later-sender w (after_acknowledgement number w.sender) (numbered-acknowledged number w.sender)
 
 pub later-ticking : (w : Way) → IsLater w (ticking w)
-later-ticking w = later-sender w (ticked w.sender) (numbered-ticked w.sender)
+later-ticking w = later-sender w (after_tick_of w.sender) (numbered-ticked w.sender)
 
 -- the outstanding piece is of its way
 pub piece-outstanding : (w : Way) (q : List ℤ) (queue : List (List ℤ)) (piece : Piece) → IsJoint w → w.sender.queue ≡ q ∷ queue → piece_at w.sender.place q ≡ Some piece

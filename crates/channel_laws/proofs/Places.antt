@@ -4,8 +4,8 @@ use Rattle.std.proofs.lemmas.List.{take_all}
 use Rattle.std.proofs.Math.Seq.{take-add}
 use Rattle.std.proofs.lemmas.Bool.{leb-true, leb-false, ltb-true}
 use Rattle.std.specs.Prelude.{Some, None, nat_le, nat_lt, if◌then◌else◌}
-use Rattle.wire.specs.declared.piece.Piece.{Piece}
-use Rattle.wire.specs.Pieces.{pieces, piece_at, first_piece}
+use Rattle.packet_words.specs.declared.piece.Piece.{Piece}
+use Rattle.packet_words.specs.Pieces.{pieces, piece_at, first_piece}
 use Rattle.channel_laws.specs.Way.{total, IsWithin, first_of, Filled}
 
 pub total-append : (xs ys : List (List ℤ)) → total (xs ++ ys) ≡ total xs + total ys

@@ -3,14 +3,14 @@ use Rattle.std.proofs.Common.{◌≡◌, ◌≢◌, ◌⊎◌, inl, inr, ◌≤�
 use Rattle.std.proofs.lemmas.Bool.{eqb-true, eqb-false, ltb-true, ltb-false, le-leb, lt-ltb}
 use Rattle.std.specs.Prelude.{Option, Some, None, ◌==◌, nat_lt, if◌then◌else◌}
 use Rattle.std.specs.Option.{option_map, option_to_list}
-use Rattle.wire.specs.declared.bus_name.BusName.{BusName}
-use Rattle.wire.specs.declared.piece.Piece.{Piece}
-use Rattle.wire.specs.declared.packet.Packet.{Packet}
-use Rattle.wire.specs.declared.packet.PacketKind.{PacketKind}
-use Rattle.wire.specs.declared.packet.PacketKind.TheVariants as kind
-use Rattle.wire.specs.Pieces.{joined, piece_at, first_piece}
+use Rattle.packet_words.specs.declared.bus_name.BusName.{BusName}
+use Rattle.packet_words.specs.declared.piece.Piece.{Piece}
+use Rattle.packet_words.specs.declared.packet.Packet.{Packet}
+use Rattle.packet_words.specs.declared.packet.PacketKind.{PacketKind}
+use Rattle.packet_words.specs.declared.packet.PacketKind.TheVariants as kind
+use Rattle.packet_words.specs.Pieces.{joined, piece_at, first_piece}
 use Rattle.link_control.specs.declared.channel.Resent.{Resent}
-use Rattle.link_control.specs.Ends.{End, Sending, packet_of, outstanding, after_push, after_packet, after_kind, after_tick, pushed, after_down, sent_by_push, sent_by_packet, sent_by_kind, sent_by_tick, ticked, kept, is_kept, is_next, is_sent_again}
+use Rattle.link_control.specs.Ends.{End, Sending, packet_of, packet_outstanding, after_push, after_packet, after_kind, after_tick, after_push_of, after_down, sent_by_push, sent_by_packet, sent_by_kind, sent_by_tick, after_tick_of, kept, is_kept, is_next, is_sent_again}
 use Rattle.channel_laws.specs.Way.{Way, IsJoint, IsEnded, IsWithin, pushing, coming, telling, ticking}
 use Rattle.gd_words.specs.Members.{IsAmong}
 use Rattle.channel_laws.specs.Net.{Net, Goes, put, put_one, Runs, packet_in, ways_by, arrived_net, ticked_net, pushes, arrives, ticks, lives, bus_changes, stops, marks, IsWhole}
@@ -216,7 +216,7 @@ mid-packet n a b l came m p i r h = mid-came n a b l came p (arrived_net p.recei
 mid-tick : (n a b : ℕ) (l : Net) (came : List Packet) (m : Net) (x y : ℕ) → Runs m x y → IsMid n a b l came m → IsMid n a b l came (ticked_net x y m)
 mid-tick n a b l came m x y r h = mid-on n a b l came m (put x y (after_tick (m.ends x y)) m.ends) (option_to_list (option_map packet_in (sent_by_tick (m.ends x y))))
     (put x y (ticking (m.ways x y)) m.ways) (ticks x y r)
-    (downs-put m x y (after_tick (m.ends x y)) (ap (λ (u : End). u.down) (when-up (m.ends x y) (record (m.ends x y) { sending = ticked (m.ends x y).sending }) r.1)))
+    (downs-put m x y (after_tick (m.ends x y)) (ap (λ (u : End). u.down) (when-up (m.ends x y) (record (m.ends x y) { sending = after_tick_of (m.ends x y).sending }) r.1)))
     (way-put n x y (ticking (m.ways x y)) m.ways (way-ticking n (m.ways x y)) a b) h
 
 put-one-other : (x a : ℕ) (f : ℕ → Bool) → x ≢ a → f a ≡ false → put_one x true f a ≡ false
@@ -241,7 +241,7 @@ mid-passes n a b w low here there nothing = record {
 }
 mid-passes n a b {l = l} w low here there (by_push {came = came} {m = m} x y message some r q) =
     mid-on n a b l came m (put x y (after_push message (m.ends x y)) m.ends) (option_to_list (sent_by_push message (m.ends x y))) (put x y (pushing message (m.ways x y)) m.ways)
-    (pushes x y message some r) (downs-put m x y (after_push message (m.ends x y)) (ap (λ (u : End). u.down) (when-up (m.ends x y) (record (m.ends x y) { sending = pushed message (m.ends x y).sending }) r.1)))
+    (pushes x y message some r) (downs-put m x y (after_push message (m.ends x y)) (ap (λ (u : End). u.down) (when-up (m.ends x y) (record (m.ends x y) { sending = after_push_of message (m.ends x y).sending }) r.1)))
     (way-put n x y (pushing message (m.ways x y)) m.ways (way-pushing n message (m.ways x y)) a b) (mid-passes n a b w low here there q)
 mid-passes n a b {l = l} w low here there (by_packet {came = came} {m = m} p i r q) = mid-packet n a b l came m p i r (mid-passes n a b w low here there q)
 mid-passes n a b {l = l} w low here there (by_drop {came = came} {m = m} p gone q) =
@@ -287,7 +287,7 @@ mid-passes n a b {l = l} w low here there (by_mark {came = came} {m = m} x y gon
 
 -- a piece that has waited is sent again
 tick-sends : (n : ℕ) (e : End) (w : Way) → e.down ≡ false → e.sending ≡ w.sender → IsJoint w → n ≤ w.sender.numbered → HasWaited n w.sender
-    → IsEnded n (ticked w.sender) ⊎ ((piece : Piece) × (option_map packet_in (sent_by_tick e) ≡ Some (packet_of e (kind.Piece n piece))))
+    → IsEnded n (after_tick_of w.sender) ⊎ ((piece : Piece) × (option_map packet_in (sent_by_tick e) ≡ Some (packet_of e (kind.Piece n piece))))
 tick-sends n e w up tie j low k = go w.sender.queue w.sender.place w.sender.numbered w.sender.waited w.sender.resend_bus tie j.sending.place low k
   where
     end : Sending → End
@@ -296,7 +296,7 @@ tick-sends n e w up tie j low k = go w.sender.queue w.sender.place w.sender.numb
     go : (queue : List (List ℤ)) (place numbered : ℕ) (waited : Bool) (resend_bus : BusName)
         → e.sending ≡ record { queue = queue; place = place; numbered = numbered; waited = waited; resend_bus = resend_bus } → IsWithin place queue → n ≤ numbered
         → HasWaited n (record { queue = queue; place = place; numbered = numbered; waited = waited; resend_bus = resend_bus })
-        → IsEnded n (ticked (record { queue = queue; place = place; numbered = numbered; waited = waited; resend_bus = resend_bus }))
+        → IsEnded n (after_tick_of (record { queue = queue; place = place; numbered = numbered; waited = waited; resend_bus = resend_bus }))
         ⊎ ((piece : Piece) × (option_map packet_in (sent_by_tick e) ≡ Some (packet_of e (kind.Piece n piece))))
     go [] place numbered waited resend_bus tie within low k = inl (omega (arith, low))
     go (q ∷ queue) place numbered false resend_bus tie within low (inl x) = inl x
@@ -314,15 +314,15 @@ tick-sends n e w up tie j low k = go w.sender.queue w.sender.place w.sender.numb
 
         sends : n ≡ numbered → option_map packet_in (sent_by_tick e) ≡ Some (packet_of e (kind.Piece n piece))
         sends same = ap (option_map packet_in) (when-up None (if is_sent_again e.sending then again else None) up)
-            ∙ ap (λ (s : Sending). option_map packet_in (if is_sent_again s then option_map (λ packet. record { bus = s.resend_bus; packet = packet }) (outstanding (end s)) else None)) tie
+            ∙ ap (λ (s : Sending). option_map packet_in (if is_sent_again s then option_map (λ packet. record { bus = s.resend_bus; packet = packet }) (packet_outstanding (end s)) else None)) tie
             ∙ ap (λ o. option_map packet_in (option_map (λ packet. record { bus = resend_bus; packet = packet }) (option_map (λ piece. packet_of e (kind.Piece numbered piece)) o))) cut
             ∙ ap (λ number. Some (packet_of e (kind.Piece number piece))) (sym same)
           where
             again : Option Resent
-            again = option_map (λ packet. record { bus = e.sending.resend_bus; packet = packet }) (outstanding e)
+            again = option_map (λ packet. record { bus = e.sending.resend_bus; packet = packet }) (packet_outstanding e)
 
         by_number : (b : Bool) → nat_lt n numbered ≡ b
-            → IsEnded n (ticked s) ⊎ ((piece : Piece) × (option_map packet_in (sent_by_tick e) ≡ Some (packet_of e (kind.Piece n piece))))
+            → IsEnded n (after_tick_of s) ⊎ ((piece : Piece) × (option_map packet_in (sent_by_tick e) ≡ Some (packet_of e (kind.Piece n piece))))
         by_number true is = inl (omega (arith, ltb-true _ _ is))
         by_number false is = inr (piece, sends (omega (arith, low, ltb-false _ _ is)))
 
@@ -332,7 +332,7 @@ net-sends n a b m w low r k = go (tick-sends n (m.ends a b) (m.ways a b) r.1 (w.
     e : End
     e = m.ends a b
 
-    go : IsEnded n (ticked (m.ways a b).sender) ⊎ ((piece : Piece) × (option_map packet_in (sent_by_tick e) ≡ Some (packet_of e (kind.Piece n piece)))) → SentIn n a b (ticked_net a b m)
+    go : IsEnded n (after_tick_of (m.ways a b).sender) ⊎ ((piece : Piece) × (option_map packet_in (sent_by_tick e) ≡ Some (packet_of e (kind.Piece n piece)))) → SentIn n a b (ticked_net a b m)
     go (inl x) = inl (inl (subst (λ (u : Way). IsEnded n u.sender) (sym (put-same a b (ticking (m.ways a b)) m.ways)) x))
     go (inr x) = inr (
       x.0,

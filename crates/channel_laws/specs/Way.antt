@@ -1,9 +1,9 @@
 -- One direction of a channel, from a node to a node: both ends together, and what went between them.
 use Rattle.std.specs.Prelude.{◌≡◌, ◌≤◌, ◌<◌, ℕ, ◌+◌, ◌*◌, ℤ, List, [], ◌∷◌, ◌++◌, length, take, Some}
 use Rattle.std.specs.Option.{option_to_list}
-use Rattle.wire.specs.declared.piece.Piece.{Piece}
-use Rattle.wire.specs.Pieces.{pieces, piece_at}
-use Rattle.link_control.specs.Ends.{Sending, Receiving, End, idle_after, nothing_in_part, pushed, acknowledged, ticked, kept, handed}
+use Rattle.packet_words.specs.declared.piece.Piece.{Piece}
+use Rattle.packet_words.specs.Pieces.{pieces, piece_at}
+use Rattle.link_control.specs.Ends.{Sending, Receiving, End, idle_after, nothing_in_part, after_push_of, after_acknowledgement, after_tick_of, kept, message_of_piece}
 
 -- the messages ever pushed at the sender's end, the oldest first; that end; the receiver's end; and the messages that it handed over
 pub record Way : Type 0 where
@@ -19,19 +19,19 @@ quiet_way = record { pushes = []; sender = idle_after 0; receiver = nothing_in_p
 
 -- a message is pushed
 abbrev pub pushing : List ℤ → Way → Way
-pushing message w = record w { pushes = w.pushes ++ message ∷ []; sender = pushed message w.sender }
+pushing message w = record w { pushes = w.pushes ++ message ∷ []; sender = after_push_of message w.sender }
 
 -- a piece comes
 abbrev pub coming : ℕ → Piece → Way → Way
-coming number piece w = record w { receiver = kept number piece w.receiver; out = w.out ++ option_to_list (handed number piece w.receiver) }
+coming number piece w = record w { receiver = kept number piece w.receiver; out = w.out ++ option_to_list (message_of_piece number piece w.receiver) }
 
 -- an acknowledgement comes
 abbrev pub telling : ℕ → Way → Way
-telling number w = record w { sender = acknowledged number w.sender }
+telling number w = record w { sender = after_acknowledgement number w.sender }
 
 -- the sender's node ticks
 abbrev pub ticking : Way → Way
-ticking w = record w { sender = ticked w.sender }
+ticking w = record w { sender = after_tick_of w.sender }
 
 -- What both ends keep
 
@@ -61,12 +61,12 @@ opened (message ∷ rest) = 1
 
 -- at the sender's end: the pushed messages are those acknowledged whole, then the queue. So many pieces are acknowledged, and numbered are these and the
 -- outstanding one
-pub record AtSender (pushes : List (List ℤ)) (acknowledged : ℕ) (s : Sending) : Type 0 where
+pub record AtSender (pushes : List (List ℤ)) (after_acknowledgement : ℕ) (s : Sending) : Type 0 where
   pub done : List (List ℤ)
   pub sent : pushes ≡ done ++ s.queue
   pub place : IsWithin s.place s.queue
-  pub count : acknowledged ≡ total done + s.place
-  pub numbered : s.numbered ≡ acknowledged + opened s.queue
+  pub count : after_acknowledgement ≡ total done + s.place
+  pub numbered : s.numbered ≡ after_acknowledgement + opened s.queue
 
 -- at the receiver's end: the pushed messages are those handed over, then the rest. Of the first of the rest some pieces are kept, and so are its words in
 -- them
@@ -82,9 +82,9 @@ pub record AtReceiver (pushes out : List (List ℤ)) (r : Receiving) : Type 0 wh
 pub record IsJoint (w : Way) : Type 0 where
   pub filled : Filled w.pushes
   pub acknowledged : ℕ
-  pub sending : AtSender w.pushes acknowledged w.sender
+  pub sending : AtSender w.pushes after_acknowledgement w.sender
   pub receiving : AtReceiver w.pushes w.out w.receiver
-  pub acknowledged_is_kept : acknowledged ≤ w.receiver.kept
+  pub acknowledged_is_kept : after_acknowledgement ≤ w.receiver.kept
   pub kept_is_numbered : w.receiver.kept ≤ w.sender.numbered
 
 -- What goes on the buses

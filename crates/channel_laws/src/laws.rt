@@ -1,8 +1,8 @@
 ghost use Rattle.std.specs.Prelude.{◌≡◌, ◌≤◌, ◌<◌, ℕ, ℤ, List, [], ◌∷◌, ◌++◌, length, true};
 ghost use Rattle.std.specs.Option.{option_to_list};
-ghost use Rattle.wire.specs.declared.packet.Packet.{Packet};
-ghost use Rattle.wire.specs.declared.piece.Piece.{Piece};
-ghost use Rattle.wire.specs.Layout.{is_packet};
+ghost use Rattle.packet_words.specs.declared.packet.Packet.{Packet};
+ghost use Rattle.packet_words.specs.declared.piece.Piece.{Piece};
+ghost use Rattle.packet_words.specs.Layout.{is_packet};
 ghost use Rattle.link_control.specs.Ends.{End, after_push, after_packet, after_tick, after_down, is_empty, handed_by_packet};
 ghost use Rattle.channel_laws.specs.Way.{Way, IsJoint, IsPieceOf, IsReceiptOf, IsOutstanding, IsEnded, IsOneOn, pushing, coming, telling, ticking};
 ghost use Rattle.gd_words.specs.Members.{IsAmong};

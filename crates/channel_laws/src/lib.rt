@@ -1,7 +1,7 @@
 //! What both ends of channels promise together, among any number of nodes, with packets that are lost, repeated, late and in any
 //! order, and nodes that stop and are marked down.
 //!
-//! Below stand `wire` and `link_control` with the definition of one end. The layers above keep a net whole event by event
+//! Below stand `packet_words` and `link_control` with the definition of one end. The layers above keep a net whole event by event
 //! (`nets_stay_whole`) and read off it what was handed over, what is in flight, and when a piece has ended. No code runs here.
 #![tactic(auto)]
 

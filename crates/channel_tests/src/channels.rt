@@ -2,7 +2,7 @@ use gd_words::List;
 use link_control::{Arrived, Channel, Resent};
 use std::alloc::AllocError;
 use std::test::Fail;
-use wire::{BusName, Incarnation, Packet, PacketKind, cut};
+use packet_words::{BusName, Incarnation, Packet, PacketKind, cut};
 
 /// What a packet tells, and what happens at an end: such a packet comes, or a tick.
 #[derive(Clone, Copy, PartialEq, Eq)]
@@ -12,7 +12,7 @@ enum Told {
     Acknowledgement(u32),
 }
 
-fn told_by(packet: &Option<Packet>) -> Told {
+fn told_packet(packet: &Option<Packet>) -> Told {
     match packet {
         None => Told::Nothing,
         Some(packet) => match &packet.kind {
@@ -57,7 +57,7 @@ fn arrive(channel: &mut Channel, packet: Option<Packet>) -> Result<(Told, usize)
     }
     let Arrived { send, delivered } = channel.on_packet(&packet)?;
     let words = delivered.map_or(0, |message| message.len());
-    Ok((told_by(&send), words))
+    Ok((told_packet(&send), words))
 }
 
 #[test]
@@ -75,7 +75,7 @@ fn a_message_comes_once(rt: HostRuntime) -> Result<(), Fail> {
         return Err(Fail::from(AllocError));
     }
     let first = sender.push(message)?;
-    assert!(rt; told_by(&first) == Told::Piece(1));
+    assert!(rt; told_packet(&first) == Told::Piece(1));
     for bus in [None, Some(BusName::Y), Some(BusName::X), Some(BusName::Y)] {
         let resent = sender.on_tick();
         assert!(rt; resent.map(|again| again.bus) == bus);

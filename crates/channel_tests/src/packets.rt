@@ -1,6 +1,6 @@
 use bus_model::Bus;
 use std::test::Fail;
-use wire::{Incarnation, Packet, PacketKind, Piece, PieceWords};
+use packet_words::{Incarnation, Packet, PacketKind, Piece, PieceWords};
 
 /// A packet's words, where it is within its ranges.
 fn words_of(packet: &Packet) -> Option<[i16; 16]> {
@@ -114,15 +114,15 @@ fn a_bus_has_room_for_4096(rt: HostRuntime) -> Result<(), Fail> {
     let rows = [(5, 5), (5, 6), (0, 0), (4_092, 4_095)];
     for (position, number) in rows {
         let taken = bus.take(position);
-        assert!(rt; number_of(taken.as_ref()) == Some(number), "{number}");
+        assert!(rt; packet_number(taken.as_ref()) == Some(number), "{number}");
     }
     assert!(rt; bus.repeat(0) == Some(true));
     assert!(rt; bus.len() == 4_093);
-    assert!(rt; number_of(bus.get(4_092)) == Some(1));
+    assert!(rt; packet_number(bus.get(4_092)) == Some(1));
     Ok(())
 }
 
-fn number_of(packet: Option<&Packet>) -> Option<u32> {
+fn packet_number(packet: Option<&Packet>) -> Option<u32> {
     match &packet?.kind {
         PacketKind::Acknowledgement { number } => Some(*number),
         _ => None,

@@ -1,6 +1,6 @@
 use gd_words::List;
 use std::test::Fail;
-use wire::{Joiner, cut};
+use packet_words::{Joiner, cut};
 
 /// Messages are cut into so many pieces, and joined again.
 #[test]

@@ -7,8 +7,8 @@ use Rattle.checkpoint_image.specs.declared.message.FileNumber.{FileNumber}
 use Rattle.checkpoint_image.specs.declared.message.Image.{Image}
 use Rattle.checkpoint_image.specs.declared.message.ImageMessage.{ImageMessage}
 use Rattle.checkpoint_image.specs.declared.reading.Heading.{Heading}
-use Rattle.checkpoint_image.specs.declared.reading.Stop.{Stop}
-use Rattle.checkpoint_image.specs.declared.reading.Stop.TheVariants as stop
+use Rattle.checkpoint_image.specs.declared.reading.ReadingFault.{ReadingFault}
+use Rattle.checkpoint_image.specs.declared.reading.ReadingFault.TheVariants as stop
 use Rattle.checkpoint_image.specs.declared.receive.OpenerBlock.{OpenerBlock}
 use Rattle.checkpoint_image.specs.declared.receive.ReceiveBlock.{ReceiveBlock}
 
@@ -97,6 +97,6 @@ Gives view None found = found ≡ None
 Gives view (Some x) found = found ≡ Some (view x)
 
 -- the same where memory may run out, which tells nothing
-abbrev pub Tells : {X Y : Type 0} → (X → Y) → Result X Stop → Option Y → Type 0
+abbrev pub Tells : {X Y : Type 0} → (X → Y) → Result X ReadingFault → Option Y → Type 0
 Tells view (Ok x) found = found ≡ Some (view x)
 Tells view (Err e) found = (e ≡ stop.NoMemory no_memory → ⊥) → found ≡ None

@@ -7,8 +7,8 @@ use Rattle.gd_words.specs.declared.message.Request.{Request}
 use Rattle.gd_words.specs.declared.message.Reply.{Reply}
 use Rattle.checkpoint_image.specs.declared.receive.OpenerBlock.{OpenerBlock}
 use Rattle.checkpoint_image.specs.declared.receive.ReceiveBlock.{ReceiveBlock}
-use Rattle.checkpoint_image.specs.declared.receive.Standing.{Standing}
-use Rattle.checkpoint_image.specs.declared.receive.Standing.TheVariants.{Next, InHand, Kept, Old, Ahead}
+use Rattle.checkpoint_image.specs.declared.receive.RequestStanding.{RequestStanding}
+use Rattle.checkpoint_image.specs.declared.receive.RequestStanding.TheVariants.{Next, InHand, Kept, Old, Ahead}
 
 -- Standing
 
@@ -29,29 +29,29 @@ answered false block = block.taken
 abbrev pub reply_kept : ℕ → List (List ℤ) → ℕ → Option (List ℤ)
 reply_kept last kept number = if nat_le number last then slice_get (reverse kept) (last - number) else None
 
-abbrev pub kept_or_old : Option (List ℤ) → Standing
+abbrev pub kept_or_old : Option (List ℤ) → RequestStanding
 kept_or_old None = Old
 kept_or_old (Some words) = Kept words
 
 -- how a number stands to an opener's block: Next is the one after the last taken and Ahead a later one; the last taken is InHand while it is in hand;
 -- a number whose reply is kept is Kept, and any other is Old
-abbrev pub standing_in : Bool → OpenerBlock → ℕ → Standing
+abbrev pub standing_in : Bool → OpenerBlock → ℕ → RequestStanding
 standing_in held block number =
     if number == block.taken + 1 then Next
     else if nat_lt (block.taken + 1) number then Ahead
     else if held && number == block.taken then InHand
     else kept_or_old (reply_kept (answered held block) block.kept number)
 
-abbrev pub standing_by : Bool → Option OpenerBlock → ℕ → Standing
+abbrev pub standing_by : Bool → Option OpenerBlock → ℕ → RequestStanding
 standing_by held None number = Old
 standing_by held (Some block) number = standing_in held block number
 
 -- how a number of the opener at a place stands to a receive table
-abbrev pub standing_at : ReceiveBlock → ℕ → ℕ → Standing
+abbrev pub standing_at : ReceiveBlock → ℕ → ℕ → RequestStanding
 standing_at table opener number = standing_by (holds table opener) (slice_get table.openers opener) number
 
 -- how a request stands to a receive table
-abbrev pub standing : ReceiveBlock → Request → Standing
+abbrev pub standing : ReceiveBlock → Request → RequestStanding
 standing table request = standing_at table request.opener request.number
 
 -- Taking and answering
@@ -88,7 +88,7 @@ waits waiting request =
     if is_outdone request waiting then waiting else filter (λ other. not (is_same_opener request other)) waiting ++ request ∷ []
 
 -- whether a request of this standing waits where its process acts
-abbrev pub is_waiting : Standing → Bool
+abbrev pub is_waiting : RequestStanding → Bool
 is_waiting Next = true
 is_waiting Ahead = true
 is_waiting _ = false
@@ -101,7 +101,7 @@ came table waiting request = if is_waiting (standing table request) then waits w
 abbrev pub reply_to : Request → List ℤ → Reply
 reply_to request words = record { process = request.process; opener = request.opener; number = request.number; words = words }
 
-abbrev pub repeated_by : Request → Standing → List Reply
+abbrev pub repeated_by : Request → RequestStanding → List Reply
 repeated_by request (Kept words) = reply_to request words ∷ []
 repeated_by request _ = []
 
@@ -122,7 +122,7 @@ pub record Chosen : Type 0 where
   pub request : Request
   pub rest : List Request
 
-abbrev pub is_next : Standing → Bool
+abbrev pub is_next : RequestStanding → Bool
 is_next Next = true
 is_next _ = false
 

@@ -1,9 +1,9 @@
 ghost use Rattle.std.specs.Prelude.{◌≡◌, ◌+◌, ◌<◌, ◌^◌, IfOk, Some, None};
 ghost use Rattle.std.specs.Bool.{OnTrue, OnFalse};
 ghost use Rattle.gd_words.specs.Ranges.{HasNext};
-ghost use Rattle.process_semantics.specs.declared.point.Point.TheVariants.{Inner, Take, Ask, Await, Answer, Mark, Device};
+ghost use Rattle.process_semantics.specs.declared.point.Point.TheVariants.{Inner, Take, Ask, Await, Answer, AtCheckpoint, Device};
 ghost use Rattle.process_semantics.specs.Image.{image_of, listed_items, listed_files, restored};
-ghost use Rattle.process_semantics.specs.Process.{ProcessState, point, in_hand, after_inner, after_took, asked_file, asked_words, after_asked, after_got, answer_of, after_answered, after_mark, call_of, after_device};
+ghost use Rattle.process_semantics.specs.Process.{ProcessState, point, in_hand, after_inner, after_took, asked_file, asked_words, after_asked, after_got, answer_of, after_answered, after_checkpoint, call_of, after_device};
 ghost use Rattle.whole_states.specs.Listing.{MayList};
 ghost use Rattle.checkpoint_image.specs.Behaving.{last_write_of};
 
@@ -71,18 +71,18 @@ pub trait Behaviour: Drop {
         requires numbers { HasNext (last_write_of (state self.old)) }
         ensures { state self.new ≡ after_device (state self.old) found.now };
 
-    /// What it names at a mark.
+    /// What it names at a checkpoint.
     fn listed(&self) -> &Listed
-        requires { point (state self.now) ≡ Mark }
+        requires { point (state self.now) ≡ AtCheckpoint }
         ensures items { result.now.items ≡ listed_items (state self.now) }
         ensures files { result.now.files ≡ listed_files (state self.now) };
 
-    /// Goes on after a mark.
+    /// Goes on after a checkpoint.
     fn marked(&mut self)
-        requires { point (state self.old) ≡ Mark }
-        ensures { state self.new ≡ after_mark (state self.old) };
+        requires { point (state self.old) ≡ AtCheckpoint }
+        ensures { state self.new ≡ after_checkpoint (state self.old) };
 
-    /// The words of its image with what is listed: at a mark that of the state after it.
+    /// The words of its image with what is listed: at a checkpoint that of the state after it.
     fn image(&self, alloc: Global, listed: &Listed) -> Result<List<i16>, NoMemory>
         requires { MayList (state self.now) listed.now.items listed.now.files }
         ensures { IfOk result (λ words. words ≡ image_of listed.now.items (state self.now)) };

@@ -4,7 +4,7 @@ ghost use Rattle.checkpoint_image.specs.declared.message.ImageMessage.{ImageMess
 
 use crate::message::ImageMessage;
 use crate::putting::{put_heading, put_image};
-use crate::reading::{Stop, message_in};
+use crate::reading::{ReadingFault, message_in};
 use gd_words::{List, NoMemory};
 use std::alloc::Global;
 
@@ -45,8 +45,8 @@ pub fn from_words(alloc: Global, words: &[i16]) -> Result<Option<ImageMessage>, 
 {
     match message_in(alloc, words) {
         Ok(message) => Ok(Some(message)),
-        Err(Stop::NoMessage) => Ok(None),
-        Err(Stop::NoMemory(memory)) => Err(memory),
+        Err(ReadingFault::NoMessage) => Ok(None),
+        Err(ReadingFault::NoMemory(memory)) => Err(memory),
     }
 }
 

@@ -18,4 +18,4 @@ pub mod receive;
 pub use behaviour::{Behaviour, Listed};
 pub use layout::{from_words, to_words, words_tell_their_message};
 pub use message::{FileNumber, Image, ImageMessage, TakenMessage};
-pub use receive::{OpenerBlock, ReceiveBlock, Standing};
+pub use receive::{OpenerBlock, ReceiveBlock, RequestStanding};

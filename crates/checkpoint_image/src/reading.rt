@@ -1,7 +1,7 @@
 ghost use Rattle.std.specs.Prelude.{◌≡◌, ◌≤◌, length};
 ghost use Rattle.process_semantics.specs.Words.{words_in};
 ghost use Rattle.checkpoint_image.specs.Reading.{Gives, Tells, number_in, pair_in, body_in, many_in, listed_in, file_in, reply_in, opener_in, place_in, receive_in, contents_in, image_in, longs_in, named_in, heading_in, message_in};
-ghost use Rattle.checkpoint_image.specs.declared.reading.Stop.TheVariants as variants;
+ghost use Rattle.checkpoint_image.specs.declared.reading.ReadingFault.TheVariants as variants;
 
 use crate::message::{FileNumber, Image, ImageMessage};
 use crate::receive::{OpenerBlock, ReceiveBlock};
@@ -10,16 +10,16 @@ use std::alloc::Global;
 
 /// Why no checkpoint is read: the words aren't those of one, or there is no memory.
 #[derive(Clone, Copy, PartialEq, Eq)]
-pub enum Stop {
+pub enum ReadingFault {
     NoMessage,
     NoMemory(NoMemory),
 }
 
-impl From<NoMemory> for Stop {
+impl From<NoMemory> for ReadingFault {
     ghost from_gives = { λ memory stop. stop ≡ variants.NoMemory memory };
 
-    fn from(memory: NoMemory) -> Stop {
-        Stop::NoMemory(memory)
+    fn from(memory: NoMemory) -> ReadingFault {
+        ReadingFault::NoMemory(memory)
     }
 }
 
@@ -144,37 +144,37 @@ fn reply_in(words: &[i16]) -> Option<(Words, &[i16])>
     Some((kept_of(front), rest))
 }
 
-fn body_in(alloc: Global, words: &[i16]) -> Result<(List<i16>, &[i16]), Stop>
+fn body_in(alloc: Global, words: &[i16]) -> Result<(List<i16>, &[i16]), ReadingFault>
     ensures { Tells (λ r. (r.0, r.1.now)) result (body_in words.now) }
 {
     let Some((count, left)) = count_in(words) else {
-        return Err(Stop::NoMessage);
+        return Err(ReadingFault::NoMessage);
     };
     let Some((front, rest)) = words_in(count, left) else {
-        return Err(Stop::NoMessage);
+        return Err(ReadingFault::NoMessage);
     };
     let mut body = List::new(alloc);
     body.extend_from_slice(front)?;
     Ok((body, rest))
 }
 
-fn files_in(alloc: Global, words: &[i16]) -> Result<(List<FileNumber>, &[i16]), Stop>
+fn files_in(alloc: Global, words: &[i16]) -> Result<(List<FileNumber>, &[i16]), ReadingFault>
     ensures { Tells (λ r. (r.0, r.1.now)) result (listed_in file_in words.now) }
 {
     let Some((count, left)) = count_in(words) else {
-        return Err(Stop::NoMessage);
+        return Err(ReadingFault::NoMessage);
     };
     many_files(alloc, count, left)
 }
 
-fn many_files(alloc: Global, count: u16, words: &[i16]) -> Result<(List<FileNumber>, &[i16]), Stop>
+fn many_files(alloc: Global, count: u16, words: &[i16]) -> Result<(List<FileNumber>, &[i16]), ReadingFault>
     ensures { Tells (λ r. (r.0, r.1.now)) result (many_in file_in count words.now) }
 {
     let mut files = List::new(alloc);
     let mut left = words;
     for _turn in 0..count {
         let Some((file, rest)) = file_in(left) else {
-            return Err(Stop::NoMessage);
+            return Err(ReadingFault::NoMessage);
         };
         files.push(file)?;
         left = rest;
@@ -182,23 +182,23 @@ fn many_files(alloc: Global, count: u16, words: &[i16]) -> Result<(List<FileNumb
     Ok((files, left))
 }
 
-fn replies_in(alloc: Global, words: &[i16]) -> Result<(List<Words>, &[i16]), Stop>
+fn replies_in(alloc: Global, words: &[i16]) -> Result<(List<Words>, &[i16]), ReadingFault>
     ensures { Tells (λ r. (r.0, r.1.now)) result (listed_in reply_in words.now) }
 {
     let Some((count, left)) = count_in(words) else {
-        return Err(Stop::NoMessage);
+        return Err(ReadingFault::NoMessage);
     };
     many_replies(alloc, count, left)
 }
 
-fn many_replies(alloc: Global, count: u16, words: &[i16]) -> Result<(List<Words>, &[i16]), Stop>
+fn many_replies(alloc: Global, count: u16, words: &[i16]) -> Result<(List<Words>, &[i16]), ReadingFault>
     ensures { Tells (λ r. (r.0, r.1.now)) result (many_in reply_in count words.now) }
 {
     let mut kept = List::new(alloc);
     let mut left = words;
     for _turn in 0..count {
         let Some((reply, rest)) = reply_in(left) else {
-            return Err(Stop::NoMessage);
+            return Err(ReadingFault::NoMessage);
         };
         kept.push(reply)?;
         left = rest;
@@ -206,21 +206,21 @@ fn many_replies(alloc: Global, count: u16, words: &[i16]) -> Result<(List<Words>
     Ok((kept, left))
 }
 
-fn opener_in(alloc: Global, words: &[i16]) -> Result<(OpenerBlock, &[i16]), Stop>
+fn opener_in(alloc: Global, words: &[i16]) -> Result<(OpenerBlock, &[i16]), ReadingFault>
     ensures { Tells (λ r. (r.0, r.1.now)) result (opener_in words.now) }
 {
     let Some((taken, left)) = pair_in(words) else {
-        return Err(Stop::NoMessage);
+        return Err(ReadingFault::NoMessage);
     };
     let (kept, rest) = replies_in(alloc, left)?;
     Ok((OpenerBlock { taken, kept }, rest))
 }
 
-fn openers_in(alloc: Global, words: &[i16]) -> Result<(List<OpenerBlock>, &[i16]), Stop>
+fn openers_in(alloc: Global, words: &[i16]) -> Result<(List<OpenerBlock>, &[i16]), ReadingFault>
     ensures { Tells (λ r. (r.0, r.1.now)) result (listed_in opener_in words.now) }
 {
     let Some((count, left)) = count_in(words) else {
-        return Err(Stop::NoMessage);
+        return Err(ReadingFault::NoMessage);
     };
     many_openers(alloc, count, left)
 }
@@ -229,7 +229,7 @@ fn many_openers(
     alloc: Global,
     count: u16,
     words: &[i16],
-) -> Result<(List<OpenerBlock>, &[i16]), Stop>
+) -> Result<(List<OpenerBlock>, &[i16]), ReadingFault>
     ensures { Tells (λ r. (r.0, r.1.now)) result (many_in opener_in count words.now) }
 {
     let mut openers = List::new(alloc);
@@ -242,18 +242,18 @@ fn many_openers(
     Ok((openers, left))
 }
 
-fn receive_in(alloc: Global, words: &[i16]) -> Result<(ReceiveBlock, &[i16]), Stop>
+fn receive_in(alloc: Global, words: &[i16]) -> Result<(ReceiveBlock, &[i16]), ReadingFault>
     ensures { Tells (λ r. (r.0, r.1.now)) result (receive_in words.now) }
 {
     let (openers, left) = openers_in(alloc, words)?;
     let Some((in_hand, rest)) = place_in(left) else {
-        return Err(Stop::NoMessage);
+        return Err(ReadingFault::NoMessage);
     };
     Ok((ReceiveBlock { openers, in_hand }, rest))
 }
 
 /// The body and the files.
-fn contents_in(alloc: Global, words: &[i16]) -> Result<(List<i16>, List<FileNumber>, &[i16]), Stop>
+fn contents_in(alloc: Global, words: &[i16]) -> Result<(List<i16>, List<FileNumber>, &[i16]), ReadingFault>
     ensures { Tells (λ r. ((r.0, r.1), r.2.now)) result (contents_in words.now) }
 {
     let (body, left) = body_in(alloc, words)?;
@@ -261,7 +261,7 @@ fn contents_in(alloc: Global, words: &[i16]) -> Result<(List<i16>, List<FileNumb
     Ok((body, files, rest))
 }
 
-fn image_in(alloc: Global, words: &[i16]) -> Result<(Image, &[i16]), Stop>
+fn image_in(alloc: Global, words: &[i16]) -> Result<(Image, &[i16]), ReadingFault>
     ensures { Tells (λ r. (r.0, r.1.now)) result (image_in words.now) }
 {
     let (body, files, left) = contents_in(alloc, words)?;
@@ -275,11 +275,11 @@ fn image_in(alloc: Global, words: &[i16]) -> Result<(Image, &[i16]), Stop>
 }
 
 /// The checkpoint of these words.
-pub fn message_in(alloc: Global, words: &[i16]) -> Result<ImageMessage, Stop>
+pub fn message_in(alloc: Global, words: &[i16]) -> Result<ImageMessage, ReadingFault>
     ensures { Tells (λ message. message) result (message_in words.now) }
 {
     let Some((heading, left)) = heading_in(words) else {
-        return Err(Stop::NoMessage);
+        return Err(ReadingFault::NoMessage);
     };
     let (image, rest) = image_in(alloc, left)?;
     if rest.is_empty() {
@@ -290,6 +290,6 @@ pub fn message_in(alloc: Global, words: &[i16]) -> Result<ImageMessage, Stop>
             image,
         })
     } else {
-        Err(Stop::NoMessage)
+        Err(ReadingFault::NoMessage)
     }
 }

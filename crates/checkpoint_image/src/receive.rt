@@ -2,7 +2,7 @@ use gd_words::{List, Words};
 
 /// How the number of a request stands to what its process has taken from that opener.
 #[derive(Drop)]
-pub enum Standing {
+pub enum RequestStanding {
     /// It is the one after the last that was taken.
     Next,
     /// It is in hand.

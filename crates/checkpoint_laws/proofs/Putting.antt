@@ -1,21 +1,21 @@
 -- What a checkpoint carries is put in whole.
 use Rattle.std.proofs.Common.{◌≡◌, Bool, List, ℕ, Some, ap, sym, ◌∙◌}
 use Rattle.std.specs.Option.{option_map}
-use Rattle.process_semantics.specs.declared.point.Point.TheVariants.{Mark}
+use Rattle.process_semantics.specs.declared.point.Point.TheVariants.{AtCheckpoint}
 use Rattle.process_semantics.specs.Image.{image_of, listed_items, listed_files, restored}
-use Rattle.process_semantics.specs.Process.{ProcessState, point, after_mark}
+use Rattle.process_semantics.specs.Process.{ProcessState, point, after_checkpoint}
 use Rattle.whole_states.specs.Processes.{IsWholeProcess}
 use Rattle.world_semantics.specs.Core.{Core, after_passing, carried, put_in, with_files}
 use Rattle.process_images.proofs.Processes.{marked-restores}
 use Rattle.checkpoint_laws.specs.Behind.{IsBehind, AgreesInHand}
 use Rattle.checkpoint_laws.proofs.Files.{files-restored}
 
-pub put-whole : (core stale : Core) → IsWholeProcess core.state → IsWholeProcess stale.state → point core.state ≡ Mark → AgreesInHand core → IsBehind stale core
+pub put-whole : (core stale : Core) → IsWholeProcess core.state → IsWholeProcess stale.state → point core.state ≡ AtCheckpoint → AgreesInHand core → IsBehind stale core
     → put_in stale (carried core) ≡ Some (after_passing core)
 put-whole core stale is old at hand behind =
     ap (λ (h : Bool). option_map filled (restored stale.state h (image_of (listed_items core.state) core.state))) (sym hand)
     ∙ ap (option_map filled) (marked-restores core.state stale.state is old at behind.state)
-    ∙ ap (λ (next : List ℕ). Some (record { state = after_mark core.state; next = next; receive = core.receive }))
+    ∙ ap (λ (next : List ℕ). Some (record { state = after_checkpoint core.state; next = next; receive = core.receive }))
     (files-restored (listed_files core.state) core stale.next behind.files behind.next)
   where
     filled : ProcessState → Core

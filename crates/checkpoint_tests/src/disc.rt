@@ -18,7 +18,7 @@ fn a_disc_goes_on_in_the_other_copy(rt: HostRuntime) -> Result<(), Fail> {
     let mut first = DiscProcess::new(rt.alloc(), 2);
     let mut second = DiscProcess::new(rt.alloc(), 2);
     first.took(&write());
-    assert!(rt; first.at() == Point::Mark);
+    assert!(rt; first.at() == Point::AtCheckpoint);
     let image = first.image(rt.alloc(), first.listed())?;
     let wanted = [3, 2, 1, 7, 0, 0, 0];
     assert!(rt; image.as_slice() == wanted.as_slice());

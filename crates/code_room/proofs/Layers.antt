@@ -6,7 +6,7 @@ use Rattle.tal_tree.specs.declared.expression.Op.{Op}
 use Rattle.tal_tree.specs.declared.expression.Cond.{Cond, Not, And, Or}
 use Rattle.tal_tree.specs.declared.expression.Expr.{Expr, Read, Minus, Two}
 use Rattle.tal_tree.specs.declared.expression.Spot.{Spot}
-use Rattle.tal_code.specs.declared.step.Step.TheVariants as step
+use Rattle.tal_code.specs.declared.step.Instruction.TheVariants as step
 use Rattle.tal_code.specs.Waiting.{is_ready, one_more, waiting_of, waiting_for}
 use Rattle.code_room.specs.Steps.{spot_operand, operand_of, two_steps, steps_of, steps_of_spot, steps_of_test}
 

@@ -8,8 +8,8 @@ use Rattle.tal_tree.specs.declared.expression.Expr.{Expr, Number, Read, Minus, T
 use Rattle.tal_tree.specs.declared.expression.Spot.{Spot, Local, Simple, Element}
 use Rattle.tal_code.specs.declared.step.Operand.{Operand}
 use Rattle.tal_code.specs.declared.step.Operand.TheVariants as operand
-use Rattle.tal_code.specs.declared.step.Step.{Step}
-use Rattle.tal_code.specs.declared.step.Step.TheVariants as step
+use Rattle.tal_code.specs.declared.step.Instruction.{Instruction}
+use Rattle.tal_code.specs.declared.step.Instruction.TheVariants as step
 use Rattle.tal_code.specs.Parts.{Part, Valued, Tested, PartStack, nothing, with_part, parts_after, parts_after_all}
 use Rattle.tal_code.specs.Room.{LowFrom, IsLow}
 use Rattle.tal_code.specs.Words.{operand_expr}
@@ -19,35 +19,35 @@ use Rattle.code_room.proofs.ByParts.{IsByParts, by_parts, IsByTestParts, by_test
 use Rattle.tal_code.proofs.Waits.{for-read, for-minus, for-two, waiting-read, waiting-minus, waiting-two, waiting-not, waiting-and, waiting-or}
 use Rattle.code_room.proofs.Layers.{operand-read, operand-minus, operand-two, steps-read, steps-minus, steps-two, steps-not, steps-and, steps-or}
 
-after-append : (xs ys : List Step) (s : PartStack) → parts_after_all (xs ++ ys) s ≡ parts_after_all ys (parts_after_all xs s)
+after-append : (xs ys : List Instruction) (s : PartStack) → parts_after_all (xs ++ ys) s ≡ parts_after_all ys (parts_after_all xs s)
 after-append [] ys s = refl
 after-append (x ∷ xs) ys s = after-append xs ys (parts_after x s)
 
-low-start : (s : PartStack) (xs : List Step) → LowFrom s xs → length s.below ≤ 80
+low-start : (s : PartStack) (xs : List Instruction) → LowFrom s xs → length s.below ≤ 80
 low-start s [] low = low
 low-start s (x ∷ xs) low = low.0
 
 -- steps one after the other are low where the first are, and the others are after them
-low-both : (s : PartStack) (xs ys : List Step) → LowFrom s xs → LowFrom (parts_after_all xs s) ys → LowFrom s (xs ++ ys)
+low-both : (s : PartStack) (xs ys : List Instruction) → LowFrom s xs → LowFrom (parts_after_all xs s) ys → LowFrom s (xs ++ ys)
 low-both s [] ys x y = y
 low-both s (step ∷ xs) ys x y = (x.0, low-both (parts_after step s) xs ys x.1 y)
 
-low-left : (s : PartStack) (xs ys : List Step) → LowFrom s (xs ++ ys) → LowFrom s xs
+low-left : (s : PartStack) (xs ys : List Instruction) → LowFrom s (xs ++ ys) → LowFrom s xs
 low-left s [] ys low = low-start s ys low
 low-left s (step ∷ xs) ys low = (low.0, low-left (parts_after step s) xs ys low.1)
 
-low-right : (s : PartStack) (xs ys : List Step) → LowFrom s (xs ++ ys) → LowFrom (parts_after_all xs s) ys
+low-right : (s : PartStack) (xs ys : List Instruction) → LowFrom s (xs ++ ys) → LowFrom (parts_after_all xs s) ys
 low-right s [] ys low = low
 low-right s (step ∷ xs) ys low = low-right (parts_after step s) xs ys low.1
 
 -- steps put a part on top, and need room for so many words below it and one more
-pub record Puts (part : Part) (waiting : ℕ) (steps : List Step) : Type 0 where
+pub record Puts (part : Part) (waiting : ℕ) (steps : List Instruction) : Type 0 where
   pub part_is : (s : PartStack) → parts_after_all steps s ≡ with_part part s
   pub room : (s : PartStack) → length s.below + waiting < 80 → LowFrom s steps
   pub needed : (s : PartStack) → LowFrom s steps → length s.below + waiting < 80
 
 -- steps change the part on top to another, and need room for so many words below it
-pub record Changes (from to : Part) (waiting : ℕ) (steps : List Step) : Type 0 where
+pub record Changes (from to : Part) (waiting : ℕ) (steps : List Instruction) : Type 0 where
   pub part_is : (s : PartStack) → parts_after_all steps (with_part from s) ≡ with_part to s
   pub room : (s : PartStack) → length s.below < 80 → length s.below + waiting < 80 → LowFrom (with_part from s) steps
   pub needed : (s : PartStack) → LowFrom (with_part from s) steps → length s.below + waiting < 80
@@ -60,7 +60,7 @@ load o = record {
 }
 
 -- a step that leaves the words below the top
-light : (from to : Part) (x : Step) → ((s : PartStack) → parts_after x (with_part from s) ≡ with_part to s) → Changes from to 0 (x ∷ [])
+light : (from to : Part) (x : Instruction) → ((s : PartStack) → parts_after x (with_part from s) ≡ with_part to s) → Changes from to 0 (x ∷ [])
 light from to x is = record {
   part_is = is;
   room = λ s low more. (omega (arith, low), subst (λ (t : PartStack). length t.below ≤ 80) (sym (is s)) (omega (arith, low)));
@@ -68,7 +68,7 @@ light from to x is = record {
 }
 
 -- a right side's steps and then a step that takes the word below the top
-joining : (from right to : Part) (waiting : ℕ) (steps : List Step) (x : Step) → Puts right waiting steps
+joining : (from right to : Part) (waiting : ℕ) (steps : List Instruction) (x : Instruction) → Puts right waiting steps
     → ((s : PartStack) → parts_after x (with_part right (with_part from s)) ≡ with_part to s) → Changes from to (waiting + 1) (steps ++ x ∷ [])
 joining from right to waiting steps x puts is = record {
   part_is = λ s. whole s;
@@ -84,7 +84,7 @@ joining from right to waiting steps x puts is = record {
     whole s = after-append steps (x ∷ []) (with_part from s) ∙ ap (parts_after x) (puts.part_is (with_part from s)) ∙ is s
 
 -- steps that put a part and then change it
-pub then : (from to : Part) (first more : ℕ) (xs ys : List Step) → Puts from first xs → Changes from to more ys → Puts to (max first more) (xs ++ ys)
+pub then : (from to : Part) (first more : ℕ) (xs ys : List Instruction) → Puts from first xs → Changes from to more ys → Puts to (max first more) (xs ++ ys)
 then from to first more xs ys puts changes = record {
   part_is = λ s. after-append xs ys s ∙ ap (parts_after_all ys) (puts.part_is s) ∙ changes.part_is s;
   room = λ s low. low-both s xs ys (puts.room s (omega (arith, low)))
@@ -96,8 +96,8 @@ then from to first more xs ys puts changes = record {
   );
 }
 
-same : (part : Part) {first second : ℕ} {xs ys : List Step} → first ≡ second → xs ≡ ys → Puts part first xs → Puts part second ys
-same part {first} {second} {xs} {ys} count is puts = subst (λ (n : ℕ). Puts part n ys) count (subst (λ (zs : List Step). Puts part first zs) is puts)
+same : (part : Part) {first second : ℕ} {xs ys : List Instruction} → first ≡ second → xs ≡ ys → Puts part first xs → Puts part second ys
+same part {first} {second} {xs} {ys} count is puts = subst (λ (n : ℕ). Puts part n ys) count (subst (λ (zs : List Instruction). Puts part first zs) is puts)
 
 -- an operand stands for the expression that it is made of, for which nothing waits; any other makes one more wait
 abbrev IsSimple : Expr → Type 0
@@ -178,7 +178,7 @@ compare_changes rel left right computed None is =
     (joining (Valued left) (Valued right) (Tested (Compare rel left right)) (waiting_of right) (steps_of right) (step.Compare rel) computed (λ s. refl))
 
 -- a step that changes what was put, and for which nothing more waits
-and_then : (from to : Part) (waiting : ℕ) (xs : List Step) (x : Step) → Puts from waiting xs → ((s : PartStack) → parts_after x (with_part from s) ≡ with_part to s)
+and_then : (from to : Part) (waiting : ℕ) (xs : List Instruction) (x : Instruction) → Puts from waiting xs → ((s : PartStack) → parts_after x (with_part from s) ≡ with_part to s)
     → Puts to waiting (xs ++ x ∷ [])
 and_then from to waiting xs x puts is =
     let none : max waiting 0 ≡ waiting = omega arith in
@@ -224,6 +224,6 @@ pub tested : (c : Cond) → IsTested c
 tested c = by_test_parts IsTested tested_parts c
 
 -- code begins with nothing below the top
-pub low_where_few : (part : Part) (waiting : ℕ) (steps : List Step) → Puts part waiting steps → IsLow steps ↔ (waiting < 80)
+pub low_where_few : (part : Part) (waiting : ℕ) (steps : List Instruction) → Puts part waiting steps → IsLow steps ↔ (waiting < 80)
 low_where_few part waiting steps puts =
     ((λ low. let few : 0 + waiting < 80 = puts.needed nothing low in omega (arith, few)), λ few. puts.room nothing (omega (arith, few)))

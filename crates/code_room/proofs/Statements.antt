@@ -18,10 +18,10 @@ use Rattle.tal_names.specs.Scopes.{meaning_of}
 use Rattle.tal_names.specs.Systems.{system_of}
 use Rattle.tal_rules.specs.declared.walk.Walk.{Walk}
 use Rattle.tal_rules.specs.Statements.{stepped, after}
-use Rattle.tal_trees.specs.Calls.{value_of_argument, procedure_by, meaning_by, call_what, item_by, file_by, value_at, meaning_at, variable_by, items_named, files_named, values_of, values_of_arguments, system_what}
-use Rattle.tal_trees.specs.Expressions.{value_of_expr, cond_of_expr, target_of_spot}
-use Rattle.tal_trees.specs.Programs.{body_statements}
-use Rattle.tal_trees.specs.Statements.{answer_of, assign_by, statements_of, else_statements, row_statements}
+use Rattle.tal_meaning.specs.Calls.{value_of_argument, procedure_by, meaning_by, call_what, item_by, file_by, value_at, meaning_at, variable_by, items_named, files_named, values_of, values_of_arguments, system_what}
+use Rattle.tal_meaning.specs.Expressions.{value_of_expr, cond_of_expr, target_of_spot}
+use Rattle.tal_meaning.specs.Programs.{body_statements}
+use Rattle.tal_meaning.specs.Statements.{answer_of, assign_by, statements_of, else_statements, row_statements}
 use Rattle.tal_laws.proofs.Everywhere.{Everywhere, everywhere_append, among_append, everywhere_one}
 use Rattle.tal_code.specs.Waiting.{waiting_of, waiting_of_spot, waiting_of_all, waiting_of_answer, waiting_at}
 use Rattle.code_room.proofs.Layers.{for-more}

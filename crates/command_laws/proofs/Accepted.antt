@@ -3,8 +3,8 @@ use Rattle.std.proofs.Common.{◌≡◌, ◌≢◌, ◌⊎◌, inl, inr, ℕ, tr
 use Rattle.std.specs.Prelude.{⊤, Result, Ok, Err}
 use Rattle.gd_words.specs.Memory.{no_memory}
 use Rattle.tal_tree.specs.declared.site.ProcessSpec.{ProcessSpec}
-use Rattle.path_semantics.specs.declared.reason.Refusal.{Refusal}
-use Rattle.path_semantics.specs.declared.reason.Refusal.TheVariants.{NoMemory}
+use Rattle.path_semantics.specs.declared.reason.RefusalFault.{RefusalFault}
+use Rattle.path_semantics.specs.declared.reason.RefusalFault.TheVariants.{NoMemory}
 use Rattle.deck_reader.specs.Decks.{Decks}
 use Rattle.deck_reader.specs.declared.deck.Deck.{Deck}
 use Rattle.deck_reader.proofs.OneAnswer.{no_deck, one_deck}
@@ -17,7 +17,7 @@ use Rattle.runner.specs.declared.due.Due.{Due}
 use Rattle.runner.specs.declared.due.Due.TheVariants as due
 use Rattle.runner.specs.declared.task.Task.{Task}
 
-pub only-wanting : (refusal : Refusal) → (◌≡◌ {A = Result ⊤ Refusal} (Err refusal) (Ok tt)) ⊎ (◌≡◌ {A = Result ⊤ Refusal} (Err refusal) (Err (NoMemory no_memory))) → refusal ≡ NoMemory no_memory
+pub only-wanting : (refusal : RefusalFault) → (◌≡◌ {A = Result ⊤ RefusalFault} (Err refusal) (Ok tt)) ⊎ (◌≡◌ {A = Result ⊤ RefusalFault} (Err refusal) (Err (NoMemory no_memory))) → refusal ≡ NoMemory no_memory
 only-wanting refusal (inl fine) = absurd (cc)
 only-wanting refusal (inr wanting) = cc
 

@@ -10,10 +10,10 @@ use Rattle.deck_reader.specs.Decks.{Decks}
 use Rattle.deck_reader.specs.declared.deck.Deck.{Deck}
 use Rattle.gd_io.specs.declared.writing.WriteFault.{WriteFault}
 use Rattle.load_deck.specs.LoadText.{load_text}
-use Rattle.load_laws.specs.LoadDeck.{load_deck, load_lines}
+use Rattle.load_laws.specs.LoadDeck.{load_deck, load_schedule}
 use Rattle.load_laws.proofs.Accepted.{load-accepted}
 use Rattle.load_laws.proofs.Decked.{load-decks}
-use Rattle.player.specs.declared.stop.Stop.{Stop}
+use Rattle.player.specs.declared.stop.ProcessorStop.{ProcessorStop}
 use Rattle.schedule_runs.specs.declared.ran.Ending.{Ending}
 use Rattle.schedule_runs.specs.declared.ran.Ending.TheVariants as ending
 use Rattle.single_stops.proofs.Runs.{never-second}
@@ -33,11 +33,11 @@ use Rattle.runner.specs.declared.task.Telling.TheVariants.{Counts, Lines}
 use Rattle.command_laws.specs.RunStatus.{IsStatusOfCheck, IsStatusOfLoad, IsStatusOfRun}
 use Rattle.command_laws.proofs.Accepted.{IsGood, of-bytes, of-source}
 
-good-run : (deck : Deck) (stop : Option Stop) (tells : Telling) (decided : Due) → IsGood (task.Run tells stop) deck decided → IsDueOfRun deck stop tells decided
+good-run : (deck : Deck) (stop : Option ProcessorStop) (tells : Telling) (decided : Due) → IsGood (task.Run tells stop) deck decided → IsDueOfRun deck stop tells decided
 good-run deck stop tells decided (inl none) = subst (IsDueOfRun deck stop tells) (sym none) tt
 good-run deck stop tells decided (inr is) = is
 
-pub deck-run : (words : List (List ℕ)) (bytes : List ℕ) (before now : ℕ) (acts : Bool) (stop : Option Stop) (deck : Deck) (decided : Due)
+pub deck-run : (words : List (List ℕ)) (bytes : List ℕ) (before now : ℕ) (acts : Bool) (stop : Option ProcessorStop) (deck : Deck) (decided : Due)
     → asked_by words ≡ Some (Run acts stop) → Decks bytes deck → can_stop (task.Run (Lines acts) stop) deck.site ≡ true → AreAccepted deck.site.processes
     → IsDue words (Some bytes) before now decided → decided ≢ due.ReadFault → IsDueOfRun deck stop (Lines acts) decided
 deck-run words bytes before now acts stop deck decided asked spelt able accepted (inl none) read = good-run deck stop (Lines acts) decided (inl none)
@@ -87,12 +87,12 @@ ended ending.Idle = tt
 ended ending.Cut = tt
 ended (ending.Second processor) = tt
 
-run-status : (deck : Deck) (stop : Option Stop) (tells : Telling) (decided : Due) → IsDueOfRun deck stop tells decided → IsStatusOfRun (status_of decided)
+run-status : (deck : Deck) (stop : Option ProcessorStop) (tells : Telling) (decided : Due) → IsDueOfRun deck stop tells decided → IsStatusOfRun (status_of decided)
 run-status deck stop tells (due.Report report) is = ended report.run.ran.ending
 run-status deck stop tells (due.NoMemory _) is = tt
 run-status deck stop tells _ is = absurd is
 
-run-ends : (deck : Deck) (stop : Option Stop) (tells : Telling) (decided : Due) (result : Result ⊤ WriteFault) (outcome : Outcome)
+run-ends : (deck : Deck) (stop : Option ProcessorStop) (tells : Telling) (decided : Due) (result : Result ⊤ WriteFault) (outcome : Outcome)
     → IsDueOfRun deck stop tells decided → outcome ≡ outcome_of decided result → IsStatusOfRun outcome.status
 run-ends deck stop tells decided (Ok done) outcome is same = subst (λ (o : Outcome). IsStatusOfRun o.status) (sym same) (run-status deck stop tells decided is)
 run-ends deck stop tells decided (Err fault) outcome is same = subst (λ (o : Outcome). IsStatusOfRun o.status) (sym same) tt
@@ -102,7 +102,7 @@ none-failed : (decided : Due) (done : ⊤) (outcome : Outcome) → outcome ≡ o
     → decided ≢ due.ReadFault
 none-failed decided done outcome same sure read = sure (ap (λ (o : Outcome). o.status) same ∙ ap status_of read)
 
-pub deck-ends : (words : List (List ℕ)) (bytes : List ℕ) (before now : ℕ) (acts : Bool) (stop : Option Stop) (deck : Deck) (decided : Due)
+pub deck-ends : (words : List (List ℕ)) (bytes : List ℕ) (before now : ℕ) (acts : Bool) (stop : Option ProcessorStop) (deck : Deck) (decided : Due)
     (result : Result ⊤ WriteFault) (outcome : Outcome)
     → asked_by words ≡ Some (Run acts stop) → Decks bytes deck → can_stop (task.Run (Lines acts) stop) deck.site ≡ true → AreAccepted deck.site.processes
     → IsDue words (Some bytes) before now decided → outcome ≡ outcome_of decided result → outcome.status ≢ status.ReadFault → IsStatusOfRun outcome.status
@@ -118,7 +118,7 @@ load-ended : (count : ℕ) (report : Report) → IsReportOf (load_deck count) No
 load-ended count report is ending.Idle how = tt
 load-ended count report is ending.Cut how = tt
 load-ended count report is (ending.Second processor) how =
-    never-second (load_deck count).site load_lines None report.run.ran processor (omega arith) is.run how
+    never-second (load_deck count).site load_schedule None report.run.ran processor (omega arith) is.run how
 
 load-status : (count : ℕ) (decided : Due) → IsDueOfRun (load_deck count) None (Counts count) decided → IsStatusOfLoad (status_of decided)
 load-status count (due.Report report) is = load-ended count report is.0 report.run.ran.ending refl

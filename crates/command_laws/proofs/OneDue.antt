@@ -18,7 +18,7 @@ use Rattle.deck_reader.proofs.OneAnswer.{no_deck, one_deck, one_refusal}
 use Rattle.discipline.specs.Verdict.{IsVerdict}
 use Rattle.discipline.proofs.Verdicts.{accepted-ok, verdicts-agree}
 use Rattle.load_deck.specs.LoadText.{load_text}
-use Rattle.player.specs.declared.stop.Stop.{Stop}
+use Rattle.player.specs.declared.stop.ProcessorStop.{ProcessorStop}
 use Rattle.schedule_runs.specs.declared.ran.Ran.{Ran}
 use Rattle.shown_sectors.specs.Sectors.{sectors_after}
 use Rattle.shown_sectors.specs.declared.sectors.SectorWords.{SectorWords}
@@ -45,7 +45,7 @@ use Rattle.command_laws.proofs.OneSweep.{one-sweep}
 
 -- Reports
 
-pub one-report : (deck : Deck) (stop : Option Stop) (report other : Report) → IsReportOf deck stop report → IsReportOf deck stop other
+pub one-report : (deck : Deck) (stop : Option ProcessorStop) (report other : Report) → IsReportOf deck stop report → IsReportOf deck stop other
     → report.tells ≡ other.tells → report ≡ other
 one-report deck stop report other one two tells =
     same (one.site ∙ sym two.site) run
@@ -144,7 +144,7 @@ of-deck task deck (due.Accepted site) is = good is.0 is.1.0 is.1.1
 of-deck task deck (due.Report report) is = good is.0 is.1.0 is.1.1
 of-deck task deck (due.Swept rows) is = good is.0 is.1.0 is.1.1
 
-same-run : (deck : Deck) (stop : Option Stop) (tells : Telling) (one other : Due) → IsDueOfRun deck stop tells one → IsDueOfRun deck stop tells other
+same-run : (deck : Deck) (stop : Option ProcessorStop) (tells : Telling) (one other : Due) → IsDueOfRun deck stop tells one → IsDueOfRun deck stop tells other
     → IsSameDue one other
 same-run deck stop tells (due.NoMemory _) other is two = tt
 same-run deck stop tells one (due.NoMemory _) is two = is-free one

@@ -1,6 +1,6 @@
 -- A deck has one sweep.
 use Rattle.std.proofs.Common.{◌≡◌, ℕ, ◌+◌, List, [], ◌∷◌, length, Some, arith, refl, subst, sym, ap, ◌∙◌}
-use Rattle.player.specs.declared.stop.Stop.{Stop}
+use Rattle.player.specs.declared.stop.ProcessorStop.{ProcessorStop}
 use Rattle.run_table.specs.Counts.{row_of}
 use Rattle.run_table.specs.declared.rows.Row.{Row}
 use Rattle.run_table.specs.declared.rows.RunKind.{RunKind}
@@ -11,7 +11,7 @@ use Rattle.single_runs.proofs.Runs.{one-run}
 use Rattle.tal_tree.specs.declared.site.Site.{Site}
 use Rattle.schedule_sweeps.specs.Sweeps.{AreKindsOf, AreRowsFrom, IsKindOf, IsRowOf, IsSweepOf, kind_of}
 
-one-kind : (site : Site) (lines : List Line) (stop : Stop) (kind other : RunKind) → IsKindOf site lines stop kind → IsKindOf site lines stop other → kind ≡ other
+one-kind : (site : Site) (lines : List Line) (stop : ProcessorStop) (kind other : RunKind) → IsKindOf site lines stop kind → IsKindOf site lines stop other → kind ≡ other
 one-kind site lines stop kind other (ran, is, how) (too, its, so) =
     how ∙ ap (λ (ran : Ran). kind_of ran.ending) (one-run site lines (Some stop) ran too is its) ∙ sym so
 

@@ -6,7 +6,7 @@ ghost use Rattle.deck_reader.specs.Decks.{Decks};
 ghost use Rattle.deck_reader.specs.declared.deck.Deck.{Deck};
 ghost use Rattle.gd_io.specs.Faults.{HasRisen};
 ghost use Rattle.load_laws.specs.LoadDeck.{load_deck};
-ghost use Rattle.player.specs.declared.stop.Stop.{Stop};
+ghost use Rattle.player.specs.declared.stop.ProcessorStop.{ProcessorStop};
 ghost use Rattle.runner.specs.Decided.{IsDue, IsDueOfRun, IsDueOfSweep, IsReportOf};
 ghost use Rattle.runner.specs.Ends.{Ends};
 ghost use Rattle.runner.specs.Tasks.{can_stop};
@@ -27,7 +27,7 @@ use gd_io::{Sink, Source};
 /// Where the words ask for a run, and the source tells bytes that spell a deck which has the processor that is to stop and whose
 /// programs are accepted, what is due is the report of a run of that deck, unless reading fails or memory runs out.
 pub fn an_accepted_deck_is_run()
-    ensures { (words : List (List ℕ)) (bytes : List ℕ) (before now : ℕ) (acts : Bool) (stop : Option Stop) (deck : Deck) (decided : Due)
+    ensures { (words : List (List ℕ)) (bytes : List ℕ) (before now : ℕ) (acts : Bool) (stop : Option ProcessorStop) (deck : Deck) (decided : Due)
         → asked_by words ≡ Some (Run acts stop) → Decks bytes deck → can_stop (task.Run (Lines acts) stop) deck.site ≡ true → AreAccepted deck.site.processes
         → IsDue words (Some bytes) before now decided → decided ≢ due.ReadFault → IsDueOfRun deck stop (Lines acts) decided }
 {}
@@ -37,7 +37,7 @@ pub fn an_accepted_deck_is_run()
 pub fn no_accepted_deck_is_refused<S: Source, K: Sink>()
     ensures { (words : List (List ℕ)) (source source_now : S) (sink sink_now : K) (outcome : Outcome)
         → Ends S.left S.faults S.sure K.held K.faults K.sure words source source_now sink sink_now outcome
-        → (bytes : List ℕ) (acts : Bool) (stop : Option Stop) (deck : Deck) → asked_by words ≡ Some (Run acts stop)
+        → (bytes : List ℕ) (acts : Bool) (stop : Option ProcessorStop) (deck : Deck) → asked_by words ≡ Some (Run acts stop)
         → S.left source ≡ Some bytes → S.sure source → Decks bytes deck → can_stop (task.Run (Lines acts) stop) deck.site ≡ true
         → AreAccepted deck.site.processes → IsStatusOfRun outcome.status }
 {}
@@ -104,7 +104,7 @@ pub fn faults_were_counted<S: Source, K: Sink>()
 
 /// A deck with a stop has one report, by what is to be told of it.
 pub fn a_deck_has_one_report()
-    ensures { (deck : Deck) (stop : Option Stop) (report other : Report) → IsReportOf deck stop report → IsReportOf deck stop other
+    ensures { (deck : Deck) (stop : Option ProcessorStop) (report other : Report) → IsReportOf deck stop report → IsReportOf deck stop other
         → report.tells ≡ other.tells → report ≡ other }
 {}
 

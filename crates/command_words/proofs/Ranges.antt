@@ -5,11 +5,11 @@ use Rattle.std.specs.List.{after_first, before_first}
 use Rattle.std.specs.Str.{bytes_eq}
 use Rattle.std.proofs.lemmas.Bool.{and_parts, leb-true}
 use Rattle.clap.specs.Words.{Row, Text, first_of}
-use Rattle.deck_lines.specs.Numbers.{number_of}
-use Rattle.command_words.specs.Asked.{IsInRange, acts_in, asked_by, check_as, command_as, command_in, load_as, load_of, run_as, stop_at, stop_of, sweep_as, sweep_of}
+use Rattle.deck_lines.specs.Numbers.{written_number}
+use Rattle.command_words.specs.Asked.{IsInRange, asks_for_acts, asked_by, check_as, command_as, command_in, load_as, load_of, run_as, stop_at, stop_of, sweep_as, sweep_of}
 use Rattle.command_words.specs.Line.{parse_of}
 use Rattle.command_words.specs.declared.asked.Command.TheVariants.{Run, Load, Sweep}
-use Rattle.player.specs.declared.stop.Stop.{Stop}
+use Rattle.player.specs.declared.stop.ProcessorStop.{ProcessorStop}
 
 load : (number : Option ℕ) → IfSome (load_of number) IsInRange
 load None = tt
@@ -32,14 +32,14 @@ stop_in None after = tt
 stop_in (Some p) None = tt
 stop_in (Some p) (Some k) = go (nat_le p 15) refl
   where
-    at : Stop
+    at : ProcessorStop
     at = record { processor = p; after = k }
 
     go : (holds : Bool) → nat_le p 15 ≡ holds → IfSome (if holds then Some at else None) (λ stop. stop.processor ≤ 15)
     go false e = tt
     go true e = leb-true p 15 e
 
-stopped : (acts : Bool) (found : Option Stop) → IfSome found (λ stop. stop.processor ≤ 15) → IfSome (option_map (λ stop. Run acts (Some stop)) found) IsInRange
+stopped : (acts : Bool) (found : Option ProcessorStop) → IfSome found (λ stop. stop.processor ≤ 15) → IfSome (option_map (λ stop. Run acts (Some stop)) found) IsInRange
 stopped acts None h = tt
 stopped acts (Some found) h = h
 
@@ -47,7 +47,7 @@ run : (number : Option Text) (acts : Bool) (fail : Option Text) → IfSome (run_
 run (Some number) acts fail = tt
 run None acts None = tt
 run None acts (Some fail) = stopped acts (stop_of fail)
-    (stop_in (number_of (before_first (λ c. c == 58) fail)) (number_of (after_first (λ c. c == 58) fail)))
+    (stop_in (written_number (before_first (λ c. c == 58) fail)) (written_number (after_first (λ c. c == 58) fail)))
 
 check : (number : Option Text) (acts : Bool) (fail : Option Text) → IfSome (check_as number acts fail) IsInRange
 check (Some number) acts fail = tt
@@ -59,13 +59,13 @@ loaded : (number : Option Text) (acts : Bool) (fail : Option Text) → IfSome (l
 loaded None acts fail = tt
 loaded (Some number) true fail = tt
 loaded (Some number) false (Some fail) = tt
-loaded (Some number) false None = load (number_of number)
+loaded (Some number) false None = load (written_number number)
 
 swept : (number : Option Text) (acts : Bool) (fail : Option Text) → IfSome (sweep_as number acts fail) IsInRange
 swept None acts fail = tt
 swept (Some number) true fail = tt
 swept (Some number) false (Some fail) = tt
-swept (Some number) false None = sweep (number_of number)
+swept (Some number) false None = sweep (written_number number)
 
 by_mode : (runs checks loads sweeps : Bool) (number : Option Text) (acts : Bool) (fail : Option Text)
     → IfSome (if runs then run_as number acts fail else if checks then check_as number acts fail
@@ -83,7 +83,7 @@ moded (Some mode) number acts fail =
     by_mode (bytes_eq mode (codes "run")) (bytes_eq mode (codes "check")) (bytes_eq mode (codes "load")) (bytes_eq mode (codes "sweep")) number acts fail
 
 pub in_range : (rows : List Row) → IfSome (command_in rows) IsInRange
-in_range rows = moded (first_of (codes "mode") rows) (first_of (codes "number") rows) (acts_in rows) (first_of (codes "fail") rows)
+in_range rows = moded (first_of (codes "mode") rows) (first_of (codes "number") rows) (asks_for_acts rows) (first_of (codes "fail") rows)
 
 found : (rows : Option (List Row)) → IfSome (option_and_then command_in rows) IsInRange
 found None = tt

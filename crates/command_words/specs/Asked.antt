@@ -4,20 +4,20 @@ use Rattle.std.specs.List.{before_first, after_first}
 use Rattle.std.specs.Option.{option_map_or}
 use Rattle.std.specs.Str.{bytes_eq}
 use Rattle.clap.specs.Words.{Row, Text, first_of}
-use Rattle.deck_lines.specs.Numbers.{number_of}
+use Rattle.deck_lines.specs.Numbers.{written_number}
 use Rattle.command_words.specs.Line.{parse_of}
 use Rattle.command_words.specs.declared.asked.Command.{Command}
 use Rattle.command_words.specs.declared.asked.Command.TheVariants.{Run, Check, Load, Sweep}
-use Rattle.player.specs.declared.stop.Stop.{Stop}
+use Rattle.player.specs.declared.stop.ProcessorStop.{ProcessorStop}
 
 -- a stop of P, which is at most 15, just before the event that K events precede
-abbrev pub stop_at : Option ℕ → Option ℕ → Option Stop
+abbrev pub stop_at : Option ℕ → Option ℕ → Option ProcessorStop
 stop_at (Some p) (Some k) = if nat_le p 15 then Some (record { processor = p; after = k }) else None
 stop_at _ _ = None
 
 -- `P:K`, numbers before and after the first colon
-abbrev pub stop_of : Text → Option Stop
-stop_of text = stop_at (number_of (before_first (λ c. c == 58) text)) (number_of (after_first (λ c. c == 58) text))
+abbrev pub stop_of : Text → Option ProcessorStop
+stop_of text = stop_at (written_number (before_first (λ c. c == 58) text)) (written_number (after_first (λ c. c == 58) text))
 
 -- `run` takes no number, and any of the flags
 abbrev pub run_as : Option Text → Bool → Option Text → Option Command
@@ -37,7 +37,7 @@ load_of None = None
 
 -- `load` takes a number, and no flag
 abbrev pub load_as : Option Text → Bool → Option Text → Option Command
-load_as (Some number) false None = load_of (number_of number)
+load_as (Some number) false None = load_of (written_number number)
 load_as _ _ _ = None
 
 -- `sweep` of 1 to 10,000
@@ -47,7 +47,7 @@ sweep_of None = None
 
 -- `sweep` takes a number, and no flag
 abbrev pub sweep_as : Option Text → Bool → Option Text → Option Command
-sweep_as (Some number) false None = sweep_of (number_of number)
+sweep_as (Some number) false None = sweep_of (written_number number)
 sweep_as _ _ _ = None
 
 -- what a mode asks for with this number, with or without `--acts`, and with this value of `--fail`
@@ -59,13 +59,13 @@ command_as mode number acts fail =
     else if bytes_eq mode (codes "sweep") then sweep_as number acts fail else None
 
 -- whether `--acts` is given, which gives it the value `true`
-abbrev pub acts_in : List Row → Bool
-acts_in rows = option_map_or (λ text. bytes_eq text (codes "true")) (first_of (codes "acts") rows) false
+abbrev pub asks_for_acts : List Row → Bool
+asks_for_acts rows = option_map_or (λ text. bytes_eq text (codes "true")) (first_of (codes "acts") rows) false
 
 -- what the parts that clap tells apart ask for
 abbrev pub command_in : List Row → Option Command
 command_in rows = option_and_then
-    (λ mode. command_as mode (first_of (codes "number") rows) (acts_in rows) (first_of (codes "fail") rows))
+    (λ mode. command_as mode (first_of (codes "number") rows) (asks_for_acts rows) (first_of (codes "fail") rows))
     (first_of (codes "mode") rows)
 
 -- what the words ask for, the program's name first

@@ -1,12 +1,12 @@
 ghost use Rattle.std.specs.Prelude.{◌≡◌, IfOk, IfSome, map, option_map, string_bytes};
 ghost use Rattle.clap.specs.Words.{found_of, rows_of};
-ghost use Rattle.command_words.specs.Asked.{IsInRange, acts_in, asked_by, check_as, command_as, command_in, load_as, load_of, run_as, stop_at, stop_of, sweep_as, sweep_of};
+ghost use Rattle.command_words.specs.Asked.{IsInRange, asks_for_acts, asked_by, check_as, command_as, command_in, load_as, load_of, run_as, stop_at, stop_of, sweep_as, sweep_of};
 
 use crate::line::{parsed, text_of};
 use clap::ArgMatches;
-use deck_lines::number_of;
+use deck_lines::written_number;
 use gd_words::NoMemory;
-use player::Stop;
+use player::ProcessorStop;
 use std::alloc::Global;
 
 /// What a command is to do.
@@ -14,7 +14,7 @@ use std::alloc::Global;
 pub enum Command {
     /// To judge the programs of a deck, and, where all are accepted, to play it, with this stop, of a processor 0 to 15, beside those of the schedule,
     /// and to tell the acts that are kept, if they are asked for.
-    Run { acts: bool, stop: Option<Stop> },
+    Run { acts: bool, stop: Option<ProcessorStop> },
     /// To judge the programs of a deck.
     Check,
     /// To play the deck that is made for this number, 1 to 200.
@@ -41,14 +41,14 @@ fn command_in(matches: &ArgMatches) -> Option<Command>
 {
     let mode = text_of(matches, "mode")?;
     let number = text_of(matches, "number");
-    let acts = acts_in(matches);
+    let acts = asks_for_acts(matches);
     let fail = text_of(matches, "fail");
     command_as(mode, number, acts, fail)
 }
 
 // Whether the words ask for the acts. Not by `get_flag`, which promises nothing of other values than `true` and `false`.
-fn acts_in(matches: &ArgMatches) -> bool
-    ensures { result ≡ acts_in (rows_of (found_of matches.now)) }
+fn asks_for_acts(matches: &ArgMatches) -> bool
+    ensures { result ≡ asks_for_acts (rows_of (found_of matches.now)) }
 {
     match text_of(matches, "acts") {
         Some(text) => text == "true",
@@ -97,7 +97,7 @@ fn load_as(number: Option<&str>, acts: bool, fail: Option<&str>) -> Option<Comma
     ensures { result ≡ load_as (option_map (λ s. s.now) number.entry) acts (option_map (λ s. s.now) fail.entry) }
 {
     match (number, acts, fail) {
-        (Some(number), false, None) => load_of(number_of(number.as_bytes())),
+        (Some(number), false, None) => load_of(written_number(number.as_bytes())),
         _ => None,
     }
 }
@@ -115,7 +115,7 @@ fn sweep_as(number: Option<&str>, acts: bool, fail: Option<&str>) -> Option<Comm
     ensures { result ≡ sweep_as (option_map (λ s. s.now) number.entry) acts (option_map (λ s. s.now) fail.entry) }
 {
     match (number, acts, fail) {
-        (Some(number), false, None) => sweep_of(number_of(number.as_bytes())),
+        (Some(number), false, None) => sweep_of(written_number(number.as_bytes())),
         _ => None,
     }
 }
@@ -129,18 +129,18 @@ fn sweep_of(number: Option<u32>) -> Option<Command>
     }
 }
 
-fn stop_of(text: &str) -> Option<Stop>
+fn stop_of(text: &str) -> Option<ProcessorStop>
     ensures { result ≡ stop_of text.now }
 {
     let (processor, after) = text.split_once(':')?;
-    stop_at(number_of(processor.as_bytes()), number_of(after.as_bytes()))
+    stop_at(written_number(processor.as_bytes()), written_number(after.as_bytes()))
 }
 
-fn stop_at(processor: Option<u32>, after: Option<u32>) -> Option<Stop>
+fn stop_at(processor: Option<u32>, after: Option<u32>) -> Option<ProcessorStop>
     ensures { result ≡ stop_at processor after }
 {
     match (processor, after) {
-        (Some(processor), Some(after)) if processor <= 15 => Some(Stop {
+        (Some(processor), Some(after)) if processor <= 15 => Some(ProcessorStop {
             processor: processor as u8,
             after,
         }),

@@ -18,7 +18,7 @@ use Rattle.world_semantics.specs.declared.which.Which.{Which}
 use Rattle.world_semantics.specs.World.{Copy, Pair, Terminal, World, terminal_node, copy_of, other_of, with_copy, with_pair}
 use Rattle.world_semantics.specs.Messages.{Message, Asking, Replying, Checkpointing, Taking, Sending, sent_at, Cause, Handing}
 use Rattle.world_semantics.specs.Own.{Around, around, Causes, by_inner, by_take, by_ask, by_answer, by_device, by_write, by_reply}
-use Rattle.world_semantics.specs.Passes.{Passes, by_send, by_pass_again, by_pass, by_apply, by_acknowledge, taken_of, after_applying, kept_at_mark}
+use Rattle.world_semantics.specs.Passes.{Passes, by_send, by_pass_again, by_pass, by_apply, by_acknowledge, taken_of, after_applying, kept_at_checkpoint}
 use Rattle.world_semantics.specs.Rules.{Change, by_own, by_checkpoint, by_request, by_early_request, by_enter, by_print, by_stop, by_mark, after_own}
 use Rattle.world_semantics.specs.Running.{Done}
 use Rattle.world_semantics.proofs.Running.{enters-only}
@@ -133,7 +133,7 @@ passes-only site w {pair = pair} found apart named r fitting (by_apply k message
     handed-as site w r
     (subst
     (λ n. IsHanded site (copy_of k pair).processor (Checkpointing message) w (sent_at (copy_of k pair).processor (Taking (taken_of message) ∷ []))
-    (record (with_pair n (after_applying n k message applied w.kept pair) w) { kept = kept_at_mark n (copy_of (other_of k) pair) w.kept })) name
+    (record (with_pair n (after_applying n k message applied w.kept pair) w) { kept = kept_at_checkpoint n (copy_of (other_of k) pair) w.kept })) name
     (apply-only site message k pair w applied here apart role era number is (fits-as site w r fitting pair k here refl)))
 passes-only site w {pair = pair} found apart named r fitting (by_acknowledge k taken role sent i era number) =
     let name = named.takens taken i in

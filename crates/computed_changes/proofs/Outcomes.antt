@@ -10,7 +10,7 @@ use Rattle.world_semantics.specs.Follows.{Follows, enters, cannot_enter, deliver
 use Rattle.world_semantics.specs.Running.{Done, world_after, sendings_of}
 use Rattle.computed_changes.specs.Entered.{enter_done}
 use Rattle.computed_changes.specs.Handed.{handed_done}
-use Rattle.computed_changes.specs.Stopped.{stop_where, stop_done, marked_done}
+use Rattle.computed_changes.specs.Stopped.{stop_where, stop_done, down_done}
 use Rattle.computed_changes.specs.Laws.{HasCopiesApart, IsSent, FitsWhereItComes}
 use Rattle.computed_changes.proofs.Made.{handed-may}
 use Rattle.computed_changes.proofs.Only.{handed-only}
@@ -42,14 +42,14 @@ run-only w next node message sendings run apart fitting c = handed-only w next n
 
 -- Marks
 
-marked-as : (site : Site) (w : World) (y : Bool) (k node processor : ℕ) (done : Option Done) → marked_done node processor w ≡ done
+marked-as : (site : Site) (w : World) (y : Bool) (k node processor : ℕ) (done : Option Done) → down_done node processor w ≡ done
     → Follows site w (Deliver y k) (sendings_of done) (world_after w done)
 marked-as site w y k node processor None e = delivers_none
 marked-as site w y k node processor (Some done) e = delivers_mark node processor (mark-may site node processor w done e)
 
 pub mark-follows : (site : Site) (w : World) (y : Bool) (k node processor : ℕ)
-    → Follows site w (Deliver y k) (sendings_of (marked_done node processor w)) (world_after w (marked_done node processor w))
-mark-follows site w y k node processor = marked-as site w y k node processor (marked_done node processor w) refl
+    → Follows site w (Deliver y k) (sendings_of (down_done node processor w)) (world_after w (down_done node processor w))
+mark-follows site w y k node processor = marked-as site w y k node processor (down_done node processor w) refl
 
 -- Entries
 

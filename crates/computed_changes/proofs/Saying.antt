@@ -6,10 +6,10 @@ use Rattle.tal_tree.specs.declared.site.Site.{Site}
 use Rattle.checkpoint_image.specs.declared.message.ImageMessage.{ImageMessage}
 use Rattle.world_semantics.specs.declared.which.Which.{Which}
 use Rattle.world_semantics.specs.declared.which.Which.TheVariants.{First, Second}
-use Rattle.world_semantics.specs.World.{Copy, Pair, Mark, World, copy_of, with_copy}
+use Rattle.world_semantics.specs.World.{Copy, Pair, Down, World, copy_of, with_copy}
 use Rattle.world_semantics.specs.Messages.{Sending, Cause}
 use Rattle.world_semantics.specs.Passes.{Passes, by_send, by_pass_again, by_pass, by_apply, by_acknowledge, checkpoint_of, taken_of}
-use Rattle.world_semantics.specs.Rules.{Change, by_own, by_checkpoint, by_request, by_early_request, by_enter, by_print, by_stop, by_mark, stopped_pair, taker, after_marking, marked_pair}
+use Rattle.world_semantics.specs.Rules.{Change, by_own, by_checkpoint, by_request, by_early_request, by_enter, by_print, by_stop, by_mark, stopped_pair, taker, pair_after_down, pair_at_down}
 use Rattle.world_semantics.proofs.Lists.{Changed, is_new, is_same, changed, mapped}
 
 -- nothing more was sent, or the checkpoint of a copy, or that a checkpoint was taken that was sent before
@@ -29,7 +29,7 @@ with-nothing : (number : ℕ) (k : Which) (copy : Copy) (pair before : Pair) →
 with-nothing number First copy pair before c t = nothing c t
 with-nothing number Second copy pair before c t = nothing c t
 
-passes-says : {number : ℕ} {marks : List Mark} {kept after : List Act} {pair next : Pair} {cause : Cause} {sendings : List Sending}
+passes-says : {number : ℕ} {marks : List Down} {kept after : List Act} {pair next : Pair} {cause : Cause} {sendings : List Sending}
     → Passes number marks kept pair cause sendings next after → Says number pair next
 passes-says (by_send k r p s m) = let same = with-same k _ _ in a_checkpoint k same.0 same.1
 passes-says {number = n} {pair = pair} (by_pass_again k r p m l) = with-nothing n k _ pair pair refl refl
@@ -38,7 +38,7 @@ passes-says (by_apply First message applied r i e m a) = was_taken message i ref
 passes-says (by_apply Second message applied r i e m a) = was_taken message i refl refl
 passes-says {number = n} {pair = pair} (by_acknowledge k taken r s i e m) = with-nothing n k _ pair pair refl refl
 
-marking-says : (number : ℕ) (k : Option Which) (pair : Pair) → Says number pair (after_marking k pair)
+marking-says : (number : ℕ) (k : Option Which) (pair : Pair) → Says number pair (pair_after_down k pair)
 marking-says number None pair = nothing refl refl
 marking-says number (Some First) pair = nothing refl refl
 marking-says number (Some Second) pair = nothing refl refl
@@ -78,4 +78,4 @@ change-said w next cause sendings (by_early_request request k pair i there r) =
 change-said w next cause sendings (by_enter n terminal opener t e r o) = same-said w
 change-said w next cause sendings (by_print n terminal reply t e i o m) = same-said w
 change-said w next cause sendings (by_stop x r) = map-said w (stopped_pair x) (λ number pair. nothing refl refl)
-change-said w next cause sendings (by_mark node x s r n) = map-said w (marked_pair node x) (λ number pair. marking-says number (taker node x pair) pair)
+change-said w next cause sendings (by_mark node x s r n) = map-said w (pair_at_down node x) (λ number pair. marking-says number (taker node x pair) pair)

@@ -10,7 +10,7 @@ use Rattle.world_semantics.specs.declared.which.Which.{Which}
 use Rattle.world_semantics.specs.Core.{Core}
 use Rattle.world_semantics.specs.World.{Copy, Pair, copy_of, other_of, with_copy}
 use Rattle.world_semantics.specs.Messages.{Taking, sent_at}
-use Rattle.world_semantics.specs.Passes.{taken_of, after_applying, kept_at_mark}
+use Rattle.world_semantics.specs.Passes.{taken_of, after_applying, kept_at_checkpoint}
 use Rattle.world_semantics.specs.Records.{Records}
 use Rattle.world_semantics.specs.Running.{Stepped}
 use Rattle.computed_changes.specs.Fitting.{depths_of, put_fitting}
@@ -39,7 +39,7 @@ core_applying depths copy message = core_as depths copy.era copy.number copy.cor
 abbrev pub applied_step : ℕ → Which → Pair → Records → ImageMessage → Core → Stepped
 applied_step number k pair records message applied = record {
   pair = after_applying number k message applied records.kept pair;
-  records = record records { kept = kept_at_mark number (copy_of (other_of k) pair) records.kept };
+  records = record records { kept = kept_at_checkpoint number (copy_of (other_of k) pair) records.kept };
   sendings = sent_at (copy_of k pair).processor (Taking (taken_of message) ∷ []);
 }
 

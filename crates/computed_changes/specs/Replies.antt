@@ -18,7 +18,7 @@ use Rattle.world_semantics.specs.Core.{Core, core_getting, next_on}
 use Rattle.world_semantics.specs.World.{Copy, Pair, Terminal, World, copy_of, with_copy}
 use Rattle.world_semantics.specs.Records.{Records}
 use Rattle.world_semantics.specs.Running.{Done, Stepped}
-use Rattle.world_semantics.specs.Shares.{after_entering, entering, share_of}
+use Rattle.world_semantics.specs.Shares.{after_entering, share_after_act, share_of}
 
 -- whether a reply goes to the opener that stands here
 abbrev pub is_to : Option Opener → Reply → Bool
@@ -39,7 +39,7 @@ abbrev pub copy_got : ℕ → List ℤ → List Act → Copy → Copy
 copy_got number words kept copy = record (after_entering number (act.Step number) kept copy) { core = core_getting words copy.core }
 
 abbrev pub kept_got : ℕ → List Act → Copy → List Act
-kept_got number kept copy = (entering number (act.Step number) kept (share_of copy)).kept
+kept_got number kept copy = (share_after_act number (act.Step number) kept (share_of copy)).kept
 
 abbrev pub got_step : ℕ → Which → Pair → Records → Reply → Stepped
 got_step number k pair records reply = record {

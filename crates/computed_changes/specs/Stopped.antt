@@ -1,8 +1,8 @@
 -- The stop of a processor, and its mark by a node, computed.
 use Rattle.std.specs.Prelude.{ℕ, ◌&&◌, Bool, true, false, not, [], ◌∷◌, map, slice_get, slice_set, Option, Some, None}
 use Rattle.std.specs.List.{flat_map}
-use Rattle.world_semantics.specs.World.{World, is_running, has_marked}
-use Rattle.world_semantics.specs.Rules.{stopped_pair, marked_pair, told_at_mark}
+use Rattle.world_semantics.specs.World.{World, is_running, has_noted}
+use Rattle.world_semantics.specs.Rules.{stopped_pair, pair_at_down, told_at_down}
 use Rattle.world_semantics.specs.Running.{Done}
 
 -- the world after a processor stopped
@@ -19,25 +19,25 @@ abbrev pub stop_done : ℕ → World → Option Done
 stop_done processor w = stop_where processor w (slice_get w.stopped processor)
 
 -- the world after a node marked a processor, with what the copies send again that take over
-abbrev pub marked_world : ℕ → ℕ → World → Done
-marked_world node processor w = record {
-  world = record w { marks = record { node = node; down = processor } ∷ w.marks; processes = map (marked_pair node processor) w.processes };
-  sendings = flat_map (told_at_mark node processor) w.processes;
+abbrev pub world_at_down : ℕ → ℕ → World → Done
+world_at_down node processor w = record {
+  world = record w { marks = record { node = node; down = processor } ∷ w.marks; processes = map (pair_at_down node processor) w.processes };
+  sendings = flat_map (told_at_down node processor) w.processes;
 }
 
 -- whether a node may mark a processor that has stopped: the node runs, and hasn't marked it
-abbrev pub may_mark : ℕ → ℕ → World → Bool
-may_mark node processor w = is_running w.stopped node && not (has_marked w.marks node processor)
+abbrev pub may_note : ℕ → ℕ → World → Bool
+may_note node processor w = is_running w.stopped node && not (has_noted w.marks node processor)
 
 abbrev pub marked_where : ℕ → ℕ → World → Bool → Option Done
-marked_where node processor w true = Some (marked_world node processor w)
+marked_where node processor w true = Some (world_at_down node processor w)
 marked_where node processor w false = None
 
 abbrev pub mark_where : ℕ → ℕ → World → Option Bool → Option Done
-mark_where node processor w (Some true) = marked_where node processor w (may_mark node processor w)
+mark_where node processor w (Some true) = marked_where node processor w (may_note node processor w)
 mark_where node processor w (Some false) = None
 mark_where node processor w None = None
 
 -- the change that a mark makes; none where the processor hasn't stopped, the node doesn't run, or it has marked the processor
-abbrev pub marked_done : ℕ → ℕ → World → Option Done
-marked_done node processor w = mark_where node processor w (slice_get w.stopped processor)
+abbrev pub down_done : ℕ → ℕ → World → Option Done
+down_done node processor w = mark_where node processor w (slice_get w.stopped processor)

@@ -9,20 +9,20 @@ ghost use Rattle.plain_semantics.specs.Machine.{next_request};
 ghost use Rattle.plain_semantics.specs.Openers.{opener_of};
 ghost use Rattle.checkpoint_image.specs.declared.message.ImageMessage.{ImageMessage};
 ghost use Rattle.checkpoint_image.specs.declared.message.TakenMessage.{TakenMessage};
-ghost use Rattle.checkpoint_image.specs.declared.receive.Standing.TheVariants.{Kept};
+ghost use Rattle.checkpoint_image.specs.declared.receive.RequestStanding.TheVariants.{Kept};
 ghost use Rattle.checkpoint_image.specs.Receive.{standing, reply_to};
 ghost use Rattle.world_semantics.specs.declared.role.Role.TheVariants.{Acting, Watching, Gone};
 ghost use Rattle.world_semantics.specs.Core.{Core, next_on};
 ghost use Rattle.world_semantics.specs.declared.which.Which.{Which};
 ghost use Rattle.world_semantics.specs.declared.which.Which.TheVariants.{First, Second};
-ghost use Rattle.world_semantics.specs.World.{Pair, World, copy_of, terminal_node, is_running, has_marked};
+ghost use Rattle.world_semantics.specs.World.{Pair, World, copy_of, terminal_node, is_running, has_noted};
 ghost use Rattle.world_semantics.specs.World.{Terminal as AtTerminal};
 ghost use Rattle.world_semantics.specs.Messages.{Asking, Replying, Checkpointing, Taking};
 ghost use Rattle.world_semantics.specs.Running.{sendings_of};
 ghost use Rattle.computed_changes.specs.Entered.{enter_done};
 ghost use Rattle.computed_changes.specs.Fitting.{depths_of, fits};
 ghost use Rattle.computed_changes.specs.Handed.{copy_in, handed_done};
-ghost use Rattle.computed_changes.specs.Stopped.{stop_done, marked_done};
+ghost use Rattle.computed_changes.specs.Stopped.{stop_done, down_done};
 ghost use Rattle.computed_changes.specs.Laws.{IsCopyAt, GoesTo};
 
 /// A process has no copy at a node that is neither of its two processors.
@@ -110,9 +110,9 @@ pub fn a_processor_stops_once()
 
 /// Only a processor that has stopped is marked, once by a node, which runs.
 pub fn only_what_stopped_is_marked()
-    ensures running { (w : World) (node processor : ℕ) → slice_get w.stopped processor ≡ Some false → marked_done node processor w ≡ None }
-    ensures node { (w : World) (node processor : ℕ) → is_running w.stopped node ≡ false → marked_done node processor w ≡ None }
-    ensures again { (w : World) (node processor : ℕ) → has_marked w.marks node processor ≡ true → marked_done node processor w ≡ None }
+    ensures running { (w : World) (node processor : ℕ) → slice_get w.stopped processor ≡ Some false → down_done node processor w ≡ None }
+    ensures node { (w : World) (node processor : ℕ) → is_running w.stopped node ≡ false → down_done node processor w ≡ None }
+    ensures again { (w : World) (node processor : ℕ) → has_noted w.marks node processor ≡ true → down_done node processor w ≡ None }
 {}
 
 /// What a checkpoint carries fits a core that has the files which it names, and as many openers, of each of which no more replies are kept than its

@@ -9,7 +9,7 @@ ghost use Rattle.checkpoint_image.specs.declared.message.FileNumber.{FileNumber}
 ghost use Rattle.checkpoint_image.specs.declared.message.ImageMessage.{ImageMessage};
 ghost use Rattle.world_semantics.specs.declared.which.Which.{Which};
 ghost use Rattle.world_semantics.specs.World.{Pair, World, copy_of};
-ghost use Rattle.world_semantics.specs.Messages.{Message, Sending, Entering, Handing, Stopping, Marking};
+ghost use Rattle.world_semantics.specs.Messages.{Message, Sending, Entering, Handing, Stopping, NotingDown};
 ghost use Rattle.world_semantics.specs.Rules.{Change};
 ghost use Rattle.world_semantics.specs.Follows.{Follows, IsIdleFor, IsRun};
 ghost use Rattle.world_semantics.specs.Laws.{WasSent};
@@ -17,7 +17,7 @@ ghost use Rattle.world_semantics.specs.Running.{Done, world_after, sendings_of};
 ghost use Rattle.computed_changes.specs.Entered.{enter_done};
 ghost use Rattle.computed_changes.specs.Fitting.{depths_of, fits};
 ghost use Rattle.computed_changes.specs.Handed.{handed_done};
-ghost use Rattle.computed_changes.specs.Stopped.{stop_done, marked_done};
+ghost use Rattle.computed_changes.specs.Stopped.{stop_done, down_done};
 ghost use Rattle.computed_changes.specs.Laws.{HasCopiesApart, IsSent, FitsWhereItComes};
 
 /// A message that was sent makes the change that is computed where it is handed over.
@@ -71,11 +71,11 @@ pub fn a_stop_is_computed()
 
 /// A mark makes the change that is computed, no other, and none where none is.
 pub fn a_mark_is_computed()
-    ensures made { (site : Site) (w : World) (node processor : ℕ) (done : Done) → marked_done node processor w ≡ Some done
-        → Change site w (Marking node processor) done.sendings done.world }
-    ensures only { (site : Site) (w next : World) (node processor : ℕ) (sendings : List Sending) → Change site w (Marking node processor) sendings next
-        → marked_done node processor w ≡ Some (record { world = next; sendings = sendings }) }
-    ensures none { (site : Site) (w : World) (node processor : ℕ) → marked_done node processor w ≡ None → IsIdleFor site w (Marking node processor) }
+    ensures made { (site : Site) (w : World) (node processor : ℕ) (done : Done) → down_done node processor w ≡ Some done
+        → Change site w (NotingDown node processor) done.sendings done.world }
+    ensures only { (site : Site) (w next : World) (node processor : ℕ) (sendings : List Sending) → Change site w (NotingDown node processor) sendings next
+        → down_done node processor w ≡ Some (record { world = next; sendings = sendings }) }
+    ensures none { (site : Site) (w : World) (node processor : ℕ) → down_done node processor w ≡ None → IsIdleFor site w (NotingDown node processor) }
     ensures follows { (site : Site) (w : World) (y : Bool) (k node processor : ℕ)
-        → Follows site w (Deliver y k) (sendings_of (marked_done node processor w)) (world_after w (marked_done node processor w)) }
+        → Follows site w (Deliver y k) (sendings_of (down_done node processor w)) (world_after w (down_done node processor w)) }
 {}

@@ -10,7 +10,7 @@ use Rattle.tal_tree.specs.declared.program.Target.TheVariants as target
 use Rattle.tal_tree.specs.declared.site.Site.{Site}
 use Rattle.deck_reader.specs.Decks.{EachWith}
 use Rattle.deck_reader.specs.Names.{files_misnamed, is_known, is_other}
-use Rattle.deck_reader.specs.declared.names.Misnamed.{Misnamed}
+use Rattle.deck_reader.specs.declared.names.NameFault.{NameFault}
 use Rattle.deck_reader.specs.declared.outline.ProcessLines.{ProcessLines}
 use Rattle.deck_reader.proofs.DeckLimits.{same_length}
 use Rattle.deck_grammar.specs.Spells.{MayOpen, process_at}
@@ -63,7 +63,7 @@ module _ (all : List (Named ProcessLines)) (site : Site) (there : AreThere all s
       other : FileUse → Bool
       other file = is_other own file.target
 
-      amiss : Bool → Misnamed
+      amiss : Bool → NameFault
       amiss itself = record { line = line; own = itself }
 
       by : (a b : Bool) → list_all known files ≡ a → list_all other files ≡ b

@@ -22,7 +22,7 @@ use Rattle.deck_reader.specs.Decks as d
 use Rattle.deck_reader.specs.EventLineOf.{event_line}
 use Rattle.deck_reader.specs.Names.{earlier, event_misnamed, first_of, pairs_misnamed, process_misnamed, targets_misnamed}
 use Rattle.deck_reader.specs.declared.deck.Deck.{Deck}
-use Rattle.deck_reader.specs.declared.names.Misnamed.{Misnamed}
+use Rattle.deck_reader.specs.declared.names.NameFault.{NameFault}
 use Rattle.deck_reader.specs.declared.outline.Body.TheVariants as body
 use Rattle.deck_reader.specs.declared.outline.Outline.{Outline}
 use Rattle.deck_reader.specs.declared.outline.ProcessLines.{ProcessLines}
@@ -38,11 +38,11 @@ use Rattle.deck_grammar.proofs.Looked.{AreThere, files_open, same_place}
 use Rattle.deck_grammar.proofs.Parsed.{InOpening, IsPairTold, IsTerminalTold, Told, all_lead, named, pair_with, program_at, with_requests}
 
 -- neither of two lines is amiss
-neither : (a b : Option Misnamed) → first_of a b ≡ None → (a ≡ None) × (b ≡ None)
+neither : (a b : Option NameFault) → first_of a b ≡ None → (a ≡ None) × (b ≡ None)
 neither None b e = (refl, e)
 neither (Some one) b e = absurd (cc)
 
-none_earlier : (a b : Option Misnamed) → earlier a b ≡ None → (a ≡ None) × (b ≡ None)
+none_earlier : (a b : Option NameFault) → earlier a b ≡ None → (a ≡ None) × (b ≡ None)
 none_earlier None b e = (refl, e)
 none_earlier (Some one) b e = absurd (cc)
 

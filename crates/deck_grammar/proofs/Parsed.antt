@@ -28,8 +28,8 @@ use Rattle.deck_reader.specs.declared.outline.Sums.{Sums}
 use Rattle.deck_reader.specs.declared.outline.TerminalLines.{TerminalLines}
 use Rattle.deck_reader.specs.declared.step.Stage.{Stage}
 use Rattle.deck_reader.specs.declared.step.Stage.TheVariants as at
-use Rattle.deck_reader.specs.declared.step.Step.{Step}
-use Rattle.deck_reader.specs.declared.step.Step.TheVariants as step
+use Rattle.deck_reader.specs.declared.step.LineOutcome.{LineOutcome}
+use Rattle.deck_reader.specs.declared.step.LineOutcome.TheVariants as step
 use Rattle.deck_reader.specs.declared.told.Told.TheVariants as told
 use Rattle.gd_words.specs.Members.{IsAmong}
 use Rattle.deck_grammar.specs.Grammar.{AreItems, Block, Disc, Pair, Says, Terminal, point, text_of}
@@ -133,7 +133,7 @@ LeadFrom (at.Requests outline name terminal) final lines = InRequests outline na
 LeadFrom (at.Schedule outline) final lines = InSchedule outline final lines
 LeadFrom (at.Ended outline) final lines = InEnded outline final lines
 
-abbrev LeadOn : Step → Outline → List (List ℕ) → Type 0
+abbrev LeadOn : LineOutcome → Outline → List (List ℕ) → Type 0
 LeadOn (step.Next stage) final lines = LeadFrom stage final lines
 LeadOn (step.Broken breach) final lines = ⊥
 
@@ -389,6 +389,6 @@ all_lead stage count (line ∷ lines) final e =
     one_leads final line lines stage (count + 1) (by (λ next. all_lead next (count + 1) lines final) (o.next_stage stage (count + 1) line) e)
   where
     by : ((next : Stage) → o.told_after next (count + 1) lines ≡ told.Whole final → LeadFrom next final lines)
-        → (one : Step) → o.led_on (λ next. o.told_after next (count + 1) lines) one ≡ told.Whole final → LeadOn one final lines
+        → (one : LineOutcome) → o.led_on (λ next. o.told_after next (count + 1) lines) one ≡ told.Whole final → LeadOn one final lines
     by later (step.Next next) e = later next e
     by later (step.Broken breach) e = absurd (cc)

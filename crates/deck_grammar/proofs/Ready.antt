@@ -37,8 +37,8 @@ use Rattle.deck_reader.specs.declared.outline.ProgramLines.{ProgramLines}
 use Rattle.deck_reader.specs.declared.outline.TerminalLines.{TerminalLines}
 use Rattle.deck_reader.specs.declared.step.Stage.{Stage}
 use Rattle.deck_reader.specs.declared.step.Stage.TheVariants as at
-use Rattle.deck_reader.specs.declared.step.Step.{Step}
-use Rattle.deck_reader.specs.declared.step.Step.TheVariants as step
+use Rattle.deck_reader.specs.declared.step.LineOutcome.{LineOutcome}
+use Rattle.deck_reader.specs.declared.step.LineOutcome.TheVariants as step
 use Rattle.deck_reader.specs.declared.told.Told.TheVariants as told
 use Rattle.deck_reader.proofs.DeckLimits.{same_length}
 use Rattle.deck_reader.proofs.EachLemmas.{each_more}
@@ -129,7 +129,7 @@ Ready deck (at.Schedule outline) lines = ReadySchedule deck outline lines
 Ready deck (at.Ended outline) lines = d.IsDeckOf outline deck × AreItems lines []
 
 -- a step to such a stage
-abbrev pub GoesOn : Deck → List (List ℕ) → Step → Type 0
+abbrev pub GoesOn : Deck → List (List ℕ) → LineOutcome → Type 0
 GoesOn deck lines one = (next : Stage) × (one ≡ step.Next next) × Ready deck next lines
 
 -- what holds of each holds of the one that stands there

@@ -11,7 +11,7 @@ use Rattle.deck_lines.specs.declared.event_saying.EventSaying.{EventSaying}
 use Rattle.deck_lines.specs.declared.event_saying.EventSaying.TheVariants as asked
 use Rattle.deck_reader.specs.Limits.{IsProcessWithinLimits, IsTerminalWithinLimits, IsWithinDeckLimits}
 use Rattle.deck_reader.specs.Names.{misnamed_in}
-use Rattle.deck_reader.specs.Outlined.{told_by}
+use Rattle.deck_reader.specs.Outlined.{outline_of}
 use Rattle.deck_reader.specs.Schedules.{IsLineOf, rounds_of, singles_of}
 use Rattle.deck_reader.specs.declared.deck.Deck.{Deck}
 use Rattle.deck_reader.specs.declared.told.Told.{Told}
@@ -27,7 +27,7 @@ abbrev is_amiss : Told → List ProcessSpec → Bool
 is_amiss (told.Whole outline) processes = is_some (misnamed_in outline processes)
 is_amiss (told.Broken breach) processes = true
 
-pub none_spelt : (bytes : List ℕ) → ((processes : List ProcessSpec) → is_amiss (told_by (lines_of bytes)) processes ≡ true) → (deck : Deck) → Spells bytes deck → ⊥
+pub none_spelt : (bytes : List ℕ) → ((processes : List ProcessSpec) → is_amiss (outline_of (lines_of bytes)) processes ≡ true) → (deck : Deck) → Spells bytes deck → ⊥
 none_spelt bytes amiss deck spells =
     let decks = taken bytes deck spells in
     true≢false (sym (amiss deck.site.processes) ∙ ap (λ (one : Told). is_amiss one deck.site.processes) decks.outlined.1 ∙ ap is_some decks.outlined.2.named)

@@ -16,8 +16,8 @@ abbrev pub are_digits : ℕ → List ℕ → Bool
 are_digits most word = nat_le 1 (length word) && nat_le (length word) most && list_all is_ascii_digit word
 
 -- a number: one to nine digits, zeros before it allowed
-abbrev pub number_of : List ℕ → Option ℕ
-number_of word = if are_digits 9 word then Some (digits_value word) else None
+abbrev pub written_number : List ℕ → Option ℕ
+written_number word = if are_digits 9 word then Some (digits_value word) else None
 
 -- a number of five digits at most, where it isn't above a bound
 abbrev pub small_of : ℕ → List ℕ → Option ℕ

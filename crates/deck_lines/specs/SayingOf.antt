@@ -4,7 +4,7 @@ use Rattle.std.specs.List.{list_all}
 use Rattle.std.specs.Str.{bytes_eq}
 use Rattle.gd_words.specs.Spelling.{name_of}
 use Rattle.deck_lines.specs.Lines.{words_of, is_blank, is_printable, one_word, two_words, three_words, four_words}
-use Rattle.deck_lines.specs.Numbers.{number_of, word_of}
+use Rattle.deck_lines.specs.Numbers.{written_number, word_of}
 use Rattle.deck_lines.specs.EventSayingOf.{event_said}
 use Rattle.deck_lines.specs.declared.event_saying.EventKeyword.{EventKeyword}
 use Rattle.deck_lines.specs.declared.event_saying.EventKeyword.TheVariants as event
@@ -44,11 +44,11 @@ keyword_of word =
 
 -- `processors N`
 abbrev pub processors_said : List (List ℕ) → Option Saying
-processors_said parts = option_and_then (λ word. option_map said.Processors (number_of word)) (one_word parts)
+processors_said parts = option_and_then (λ word. option_map said.Processors (written_number word)) (one_word parts)
 
 -- a process's name and the processors of its two copies
 abbrev pub placing_of : List ℕ → List ℕ → List ℕ → Option Placing
-placing_of name primary backup = placed (name_of name) (number_of primary) (number_of backup)
+placing_of name primary backup = placed (name_of name) (written_number primary) (written_number backup)
   where
     placed : Option (List ℕ) → Option ℕ → Option ℕ → Option Placing
     placed (Some name) (Some primary) (Some backup) = Some (record { name = name; primary = primary; backup = backup })
@@ -57,7 +57,7 @@ placing_of name primary backup = placed (name_of name) (number_of primary) (numb
 -- `disc NAME P B SECTORS`
 abbrev pub disc_said : List (List ℕ) → Option Saying
 disc_said parts =
-    option_and_then (λ words. option_and_then (λ placing. option_map (λ sectors. said.Disc placing sectors) (number_of words.3)) (placing_of words.0 words.1 words.2)) (four_words parts)
+    option_and_then (λ words. option_and_then (λ placing. option_map (λ sectors. said.Disc placing sectors) (written_number words.3)) (placing_of words.0 words.1 words.2)) (four_words parts)
 
 -- `pair NAME P B`
 abbrev pub pair_said : List (List ℕ) → Option Saying

@@ -3,7 +3,7 @@ ghost use Rattle.deck_lines.specs.Lines.{words_of};
 ghost use Rattle.deck_lines.specs.EventSayingOf.{is_y_of, packet_of, is_writes_of, rounds_with, run_of, run_said, enter_said, deliver_said, lose_said, repeat_said, tick_said, fail_said, drain_said, mix_said, mute_said, until_said, event_said};
 
 use crate::lines::{is_blank, next_word, one_word, three_words, two_words};
-use crate::numbers::number_of;
+use crate::numbers::written_number;
 use gd_words::Name;
 
 /// The word with which an event line begins.
@@ -99,7 +99,7 @@ fn run_of(name: Name, parts: &[u8]) -> Option<EventSaying>
         return Some(EventSaying::Run(name));
     }
     let word = one_word(parts)?;
-    let times = number_of(word)?;
+    let times = written_number(word)?;
     Some(EventSaying::RunTimes { name, times })
 }
 
@@ -129,7 +129,7 @@ fn packet_of(parts: &[u8]) -> Option<PacketPlace>
 {
     let (bus, position) = two_words(parts)?;
     let y = is_y_of(bus)?;
-    let k = number_of(position)?;
+    let k = written_number(position)?;
     Some(PacketPlace { y, k })
 }
 
@@ -158,7 +158,7 @@ fn tick(parts: &[u8]) -> Option<EventSaying>
     ensures { result ≡ tick_said (words_of parts.now) }
 {
     let word = one_word(parts)?;
-    let node = number_of(word)?;
+    let node = written_number(word)?;
     Some(EventSaying::Tick(node))
 }
 
@@ -166,7 +166,7 @@ fn fail(parts: &[u8]) -> Option<EventSaying>
     ensures { result ≡ fail_said (words_of parts.now) }
 {
     let word = one_word(parts)?;
-    let processor = number_of(word)?;
+    let processor = written_number(word)?;
     Some(EventSaying::Fail(processor))
 }
 
@@ -174,7 +174,7 @@ fn drain(parts: &[u8]) -> Option<EventSaying>
     ensures { result ≡ drain_said (words_of parts.now) }
 {
     let word = one_word(parts)?;
-    let rounds = number_of(word)?;
+    let rounds = written_number(word)?;
     Some(EventSaying::Drain(rounds))
 }
 
@@ -183,8 +183,8 @@ fn rounds_with(parts: &[u8]) -> Option<(u32, u32)>
     ensures { result ≡ rounds_with (words_of parts.now) }
 {
     let (first, rounds) = two_words(parts)?;
-    let first = number_of(first)?;
-    let rounds = number_of(rounds)?;
+    let first = written_number(first)?;
+    let rounds = written_number(rounds)?;
     Some((first, rounds))
 }
 
@@ -220,8 +220,8 @@ fn until(parts: &[u8]) -> Option<EventSaying>
 {
     let (what, count, rounds) = three_words(parts)?;
     let writes = is_writes_of(what)?;
-    let count = number_of(count)?;
-    let rounds = number_of(rounds)?;
+    let count = written_number(count)?;
+    let rounds = written_number(rounds)?;
     Some(EventSaying::Until {
         writes,
         count,

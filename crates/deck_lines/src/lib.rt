@@ -11,5 +11,5 @@ pub mod saying;
 
 pub use event_saying::{EventKeyword, EventSaying, PacketPlace};
 pub use lines::{next_line, next_word, one_word, two_words};
-pub use numbers::number_of;
+pub use numbers::written_number;
 pub use saying::{Placing, Saying, saying_of};

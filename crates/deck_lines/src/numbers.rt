@@ -2,7 +2,7 @@ ghost use Rattle.std.specs.Prelude.{◌≡◌, ◌<◌, ◌≤◌, ◌^◌, ◌&
 ghost use Rattle.std.specs.Option.{ForSome};
 ghost use Rattle.std.specs.Char.{is_ascii_digit};
 ghost use Rattle.std.specs.List.{list_all};
-ghost use Rattle.deck_lines.specs.Numbers.{digits_value, are_digits, number_of, small_of, word_of, as_negative, as_positive};
+ghost use Rattle.deck_lines.specs.Numbers.{digits_value, are_digits, written_number, small_of, word_of, as_negative, as_positive};
 
 /// What decimal digits stand for.
 fn digits_value(digits: &[u8]) -> u32
@@ -30,8 +30,8 @@ fn are_all_digits(word: &[u8]) -> bool
 }
 
 /// A number: one to nine digits.
-pub fn number_of(word: &[u8]) -> Option<u32>
-    ensures { result ≡ number_of word.now }
+pub fn written_number(word: &[u8]) -> Option<u32>
+    ensures { result ≡ written_number word.now }
 {
     if are_digits(9, word) {
         Some(digits_value(word))

@@ -6,7 +6,7 @@ use crate::event_saying::{EventKeyword, EventSaying, event_said};
 use crate::lines::{
     four_words, is_blank, is_printable, next_word, one_word, three_words, two_words,
 };
-use crate::numbers::{number_of, word_of};
+use crate::numbers::{written_number, word_of};
 use gd_words::{Name, Words};
 
 /// The word with which a line begins.
@@ -56,13 +56,13 @@ pub fn saying_of(line: &[u8]) -> Saying
     ensures { result ≡ saying_of line.now }
 {
     if is_printable(line) {
-        told_by(said_by(line))
+        saying_or_form(said_by(line))
     } else {
         Saying::Formless
     }
 }
 
-fn told_by(saying: Option<Saying>) -> Saying
+fn saying_or_form(saying: Option<Saying>) -> Saying
     ensures { result ≡ or_formless saying }
 {
     match saying {
@@ -159,7 +159,7 @@ fn processors(parts: &[u8]) -> Option<Saying>
     ensures { result ≡ processors_said (words_of parts.now) }
 {
     let word = one_word(parts)?;
-    let count = number_of(word)?;
+    let count = written_number(word)?;
     Some(Saying::Processors(count))
 }
 
@@ -167,8 +167,8 @@ fn placing_of(name: &[u8], primary: &[u8], backup: &[u8]) -> Option<Placing>
     ensures { result ≡ placing_of name.now primary.now backup.now }
 {
     let name = Name::read(name)?;
-    let primary = number_of(primary)?;
-    let backup = number_of(backup)?;
+    let primary = written_number(primary)?;
+    let backup = written_number(backup)?;
     Some(Placing {
         name,
         primary,
@@ -181,7 +181,7 @@ fn disc(parts: &[u8]) -> Option<Saying>
 {
     let (name, primary, backup, sectors) = four_words(parts)?;
     let placing = placing_of(name, primary, backup)?;
-    let sectors = number_of(sectors)?;
+    let sectors = written_number(sectors)?;
     Some(Saying::Disc(placing, sectors))
 }
 

@@ -11,17 +11,17 @@ use Rattle.deck_reader.specs.Names.{IsMisnamedTarget, earlier, event_misnamed, f
 use Rattle.deck_reader.specs.Refusals.{Tells, fault_at, name_fault}
 use Rattle.deck_reader.specs.declared.line_fault.LineFault.{LineFault}
 use Rattle.deck_reader.specs.declared.line_fault.LineFault.TheVariants as line
-use Rattle.deck_reader.specs.declared.names.Misnamed.{Misnamed}
+use Rattle.deck_reader.specs.declared.names.NameFault.{NameFault}
 use Rattle.deck_reader.specs.declared.outline.Outline.{Outline}
 use Rattle.deck_reader.specs.declared.outline.ProcessLines.{ProcessLines}
 use Rattle.deck_reader.specs.declared.outline.TerminalLines.{TerminalLines}
 use Rattle.deck_reader.proofs.EachLemmas.{IsDoneTo, none_done, one_done}
 
-regrouped : (a b c : Option Misnamed) → first_of a (first_of b c) ≡ first_of (first_of a b) c
+regrouped : (a b c : Option NameFault) → first_of a (first_of b c) ≡ first_of (first_of a b) c
 regrouped None b c = refl
 regrouped (Some a) b c = refl
 
-last_of : (a : Option Misnamed) → first_of a None ≡ a
+last_of : (a : Option NameFault) → first_of a None ≡ a
 last_of None = refl
 last_of (Some a) = refl
 
@@ -35,7 +35,7 @@ pairs_more all (x ∷ xs) (y ∷ ys) one spec each =
 pairs_more all [] (y ∷ ys) one spec each = absurd each
 pairs_more all (x ∷ xs) [] one spec each = absurd each
 
-abbrev named_rest : List (Named ProcessLines) → Named TerminalLines → List (Named TerminalLines) → Option ℕ → Option Misnamed
+abbrev named_rest : List (Named ProcessLines) → Named TerminalLines → List (Named TerminalLines) → Option ℕ → Option NameFault
 named_rest processes terminal rest place = cond (is_some place) (targets_misnamed processes rest) (Some (record { line = terminal.1.line; own = false }))
 
 -- where the targets of the first terminals are there
@@ -46,7 +46,7 @@ past_front processes (x ∷ xs) rest [] each = absurd each
 past_front processes (x ∷ xs) rest (y ∷ ys) each = ap (named_rest processes x (xs ++ rest)) each.0.target ∙ past_front processes xs rest ys each.1
 
 -- and that of the next one is not
-pub target_found : (processes : List (Named ProcessLines)) (all rest later : List (Named TerminalLines)) (one : Named TerminalLines) (specs : List TerminalSpec) (misnamed : Misnamed)
+pub target_found : (processes : List (Named ProcessLines)) (all rest later : List (Named TerminalLines)) (one : Named TerminalLines) (specs : List TerminalSpec) (misnamed : NameFault)
     → IsDoneTo (IsTerminalOf processes) all rest specs → rest ≡ one ∷ later → IsMisnamedTarget processes one.1 misnamed → targets_misnamed processes all ≡ Some misnamed
 target_found processes all rest later one specs misnamed done e is =
     ap (targets_misnamed processes) (done.whole ∙ ap (λ xs. done.front ++ xs) e)
@@ -60,12 +60,12 @@ all_named processes (x ∷ xs) [] each = absurd each
 all_named processes (x ∷ xs) (y ∷ ys) each = ap (named_rest processes x xs) each.0.target ∙ all_named processes xs ys each.1
 
 -- no line is the later one
-pub nothing_later : (one : Option Misnamed) → earlier one None ≡ one
+pub nothing_later : (one : Option NameFault) → earlier one None ≡ one
 nothing_later None = refl
 nothing_later (Some one) = refl
 
 -- of all processes some are read, the first pair of them that names amiss is this, and the rest are left
-pub record AreReadTo (all rest : List (Named ProcessLines)) (specs : List ProcessSpec) (misnamed : Option Misnamed) : Type 0 where
+pub record AreReadTo (all rest : List (Named ProcessLines)) (specs : List ProcessSpec) (misnamed : Option NameFault) : Type 0 where
   pub done : IsDoneTo IsProcessOf all rest specs
   pub named : misnamed ≡ pairs_misnamed all done.front specs
 
@@ -73,7 +73,7 @@ pub none_read : (all rest : List (Named ProcessLines)) → rest ≡ all → AreR
 unfolding none_done
 none_read all rest e = record { done = none_done IsProcessOf all rest e; named = refl }
 
-pub one_read : (all rest later : List (Named ProcessLines)) (one : Named ProcessLines) (specs : List ProcessSpec) (spec : ProcessSpec) (before more now : Option Misnamed)
+pub one_read : (all rest later : List (Named ProcessLines)) (one : Named ProcessLines) (specs : List ProcessSpec) (spec : ProcessSpec) (before more now : Option NameFault)
     → AreReadTo all rest specs before → rest ≡ one ∷ later → IsProcessOf one spec → more ≡ process_misnamed all one.0 one.1.body spec.what → now ≡ first_of before more
     → AreReadTo all later (specs ++ spec ∷ []) now
 unfolding one_done
@@ -82,14 +82,14 @@ one_read all rest later one specs spec before more now read e is found next = re
   named = next ∙ ap₂ first_of read.named found ∙ sym (pairs_more all read.done.front specs one spec read.done.each);
 }
 
-pub all_read : (all rest : List (Named ProcessLines)) (specs : List ProcessSpec) (misnamed : Option Misnamed) → AreReadTo all rest specs misnamed → rest ≡ []
+pub all_read : (all rest : List (Named ProcessLines)) (specs : List ProcessSpec) (misnamed : Option NameFault) → AreReadTo all rest specs misnamed → rest ≡ []
     → misnamed ≡ pairs_misnamed all all specs
 all_read all rest specs misnamed read e =
     let whole : all ≡ read.done.front = read.done.whole ∙ ap (λ xs. read.done.front ++ xs) e ∙ append-nil read.done.front in
     read.named ∙ ap (λ xs. pairs_misnamed all xs specs) (sym whole)
 
 -- where every target is there, only pairs and event lines name amiss
-pub found_in : (outline : Outline) (specs : List ProcessSpec) (terminals : List TerminalSpec) (pair event found : Option Misnamed) → AreTerminalsOf outline.processes outline.terminals terminals
+pub found_in : (outline : Outline) (specs : List ProcessSpec) (terminals : List TerminalSpec) (pair event found : Option NameFault) → AreTerminalsOf outline.processes outline.terminals terminals
     → pair ≡ pairs_misnamed outline.processes outline.processes specs → event ≡ event_misnamed outline.events.unknown → found ≡ earlier pair event → misnamed_in outline specs ≡ found
 found_in outline specs terminals pair event found each p e f =
     let pairs = pairs_misnamed outline.processes outline.processes specs in
@@ -99,21 +99,21 @@ found_in outline specs terminals pair event found each p e f =
     ∙ sym f
 
 -- and where one isn't
-pub found_with : (outline : Outline) (specs : List ProcessSpec) (pair event : Option Misnamed) (target : Misnamed) → targets_misnamed outline.processes outline.terminals ≡ Some target
+pub found_with : (outline : Outline) (specs : List ProcessSpec) (pair event : Option NameFault) (target : NameFault) → targets_misnamed outline.processes outline.terminals ≡ Some target
     → pair ≡ pairs_misnamed outline.processes outline.processes specs → event ≡ event_misnamed outline.events.unknown → misnamed_in outline specs ≡ earlier (earlier pair (Some target)) event
 found_with outline specs pair event target t p e =
     ap (λ targets. earlier (earlier (pairs_misnamed outline.processes outline.processes specs) targets) (event_misnamed outline.events.unknown)) t
     ∙ sym (ap₂ (λ a b. earlier (earlier a (Some target)) b) p e)
 
 -- what is told of a name is neither a program's fault nor want of memory
-pub tells_name : (IsRight : DeckFault → Type 0) (misnamed : Misnamed) → IsRight (name_fault misnamed) → Tells IsRight (name_fault misnamed)
+pub tells_name : (IsRight : DeckFault → Type 0) (misnamed : NameFault) → IsRight (name_fault misnamed) → Tells IsRight (name_fault misnamed)
 tells_name IsRight misnamed right = by misnamed.own right
   where
     by : (b : Bool) → IsRight (cond b (fault.OpensItself misnamed.line) (fault.UnknownName misnamed.line)) → Tells IsRight (cond b (fault.OpensItself misnamed.line) (fault.UnknownName misnamed.line))
     by true right = right
     by false right = right
 
-pub tells_named : (IsRight : DeckFault → Type 0) (misnamed : Option Misnamed) (f : DeckFault) → option_map name_fault misnamed ≡ Some f → IsRight f → Tells IsRight f
+pub tells_named : (IsRight : DeckFault → Type 0) (misnamed : Option NameFault) (f : DeckFault) → option_map name_fault misnamed ≡ Some f → IsRight f → Tells IsRight f
 tells_named IsRight None f e right = absurd (cc)
 tells_named IsRight (Some misnamed) f e right =
     let same : name_fault misnamed ≡ f = cc in

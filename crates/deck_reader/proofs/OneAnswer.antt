@@ -12,8 +12,8 @@ use Rattle.tal_tree.specs.declared.site.TerminalSpec.{TerminalSpec}
 use Rattle.deck_reader.specs.Decks.{Decks, IsDeckOf, IsTerminalOf, AreTerminalsOf}
 use Rattle.deck_lines.specs.Lines.{lines_of}
 use Rattle.deck_reader.specs.Names.{misnamed_in}
-use Rattle.deck_reader.specs.Outlined.{told_by}
-use Rattle.deck_reader.specs.Refusals.{IsBreachFault, IsFaultOf, IsFirstRefused, IsOutlineFault, IsOwnFault, IsRefusalOf, IsRefusedAs, fault_at, name_fault}
+use Rattle.deck_reader.specs.Outlined.{outline_of}
+use Rattle.deck_reader.specs.Refusals.{IsBreachFault, IsFaultOf, IsFirstProgramFault, IsOutlineFault, IsOwnFault, IsRefusalOf, IsRefusedAs, fault_at, name_fault}
 use Rattle.deck_reader.specs.declared.deck.Deck.{Deck}
 use Rattle.deck_reader.specs.declared.outline.Body.{Body}
 use Rattle.deck_reader.specs.declared.outline.Body.TheVariants as body
@@ -27,7 +27,7 @@ use Rattle.deck_reader.specs.declared.told.Told.TheVariants as told
 use Rattle.deck_reader.proofs.RefusedLemmas.{same_processes, not_both, none_refused}
 
 -- the lines of bytes are one outline
-one_outline : (bytes : List ℕ) (a b : Outline) → told_by (lines_of bytes) ≡ told.Whole a → told_by (lines_of bytes) ≡ told.Whole b → b ≡ a
+one_outline : (bytes : List ℕ) (a b : Outline) → outline_of (lines_of bytes) ≡ told.Whole a → outline_of (lines_of bytes) ≡ told.Whole b → b ≡ a
 one_outline bytes a b e f = (let both : told.Whole b ≡ told.Whole a = sym f ∙ e in cc)
 
 abbrev terminal_with : List ℕ → ℕ → List (List ℤ) → TerminalSpec
@@ -69,7 +69,7 @@ one_program_fault (body.Pair lines) (fault.Program n a) (fault.Program m b) h k 
 one_program_fault (body.Pair lines) (fault.Program n a) _ h k = absurd k
 one_program_fault (body.Pair lines) _ g h k = absurd h
 
-one_refused : (lines : List (Named ProcessLines)) (f g : DeckFault) → IsFirstRefused lines f → IsFirstRefused lines g → f ≡ g
+one_refused : (lines : List (Named ProcessLines)) (f g : DeckFault) → IsFirstProgramFault lines f → IsFirstProgramFault lines g → f ≡ g
 one_refused [] f g h k = absurd h
 one_refused (one ∷ rest) f g (inl h) (inl k) = one_program_fault one.1.body f g h k
 one_refused (one ∷ rest) f g (inl h) (inr k) = absurd (not_both one.1.body k.0 f k.1 h)
@@ -103,7 +103,7 @@ one_fault_of (told.Whole outline) f g h k = one_of_outline outline f g h k
 one_fault_of (told.Broken breach) f g h k = one_of_breach breach f g h k
 
 -- bytes are refused for their length, or for what their lines say
-pub refused_for : (bytes : List ℕ) (f : DeckFault) → IsRefusalOf bytes f → ((f ≡ fault.TooLong) × (1048576 < length bytes)) ⊎ ((length bytes ≤ 1048576) × IsFaultOf (told_by (lines_of bytes)) f)
+pub refused_for : (bytes : List ℕ) (f : DeckFault) → IsRefusalOf bytes f → ((f ≡ fault.TooLong) × (1048576 < length bytes)) ⊎ ((length bytes ≤ 1048576) × IsFaultOf (outline_of (lines_of bytes)) f)
 refused_for bytes fault.TooLong h = inl (refl, h)
 refused_for bytes (fault.NoMemory _) h = absurd h
 refused_for bytes f h = inr h
@@ -111,12 +111,12 @@ refused_for bytes f h = inr h
 pub one_refusal : (bytes : List ℕ) (f g : DeckFault) → IsRefusalOf bytes f → IsRefusalOf bytes g → f ≡ g
 one_refusal bytes f g h k = by (refused_for bytes f h) (refused_for bytes g k)
   where
-    by : ((f ≡ fault.TooLong) × (1048576 < length bytes)) ⊎ ((length bytes ≤ 1048576) × IsFaultOf (told_by (lines_of bytes)) f)
-        → ((g ≡ fault.TooLong) × (1048576 < length bytes)) ⊎ ((length bytes ≤ 1048576) × IsFaultOf (told_by (lines_of bytes)) g) → f ≡ g
+    by : ((f ≡ fault.TooLong) × (1048576 < length bytes)) ⊎ ((length bytes ≤ 1048576) × IsFaultOf (outline_of (lines_of bytes)) f)
+        → ((g ≡ fault.TooLong) × (1048576 < length bytes)) ⊎ ((length bytes ≤ 1048576) × IsFaultOf (outline_of (lines_of bytes)) g) → f ≡ g
     by (inl h) (inl k) = h.0 ∙ sym k.0
     by (inl h) (inr k) = absurd (omega (arith, h.1, k.0))
     by (inr h) (inl k) = absurd (omega (arith, h.0, k.1))
-    by (inr h) (inr k) = one_fault_of (told_by (lines_of bytes)) f g h.1 k.1
+    by (inr h) (inr k) = one_fault_of (outline_of (lines_of bytes)) f g h.1 k.1
 
 -- where there is a deck of an outline, it has no fault
 fault_of_deck : (outline : Outline) (f : DeckFault) (deck : Deck) → IsOutlineFault outline f → IsDeckOf outline deck → ⊥
@@ -129,6 +129,6 @@ fault_of_deck outline f deck (inr h) is =
 pub no_deck : (bytes : List ℕ) (f : DeckFault) (deck : Deck) → IsRefusalOf bytes f → Decks bytes deck → ⊥
 no_deck bytes f deck h is = by (refused_for bytes f h)
   where
-    by : ((f ≡ fault.TooLong) × (1048576 < length bytes)) ⊎ ((length bytes ≤ 1048576) × IsFaultOf (told_by (lines_of bytes)) f) → ⊥
+    by : ((f ≡ fault.TooLong) × (1048576 < length bytes)) ⊎ ((length bytes ≤ 1048576) × IsFaultOf (outline_of (lines_of bytes)) f) → ⊥
     by (inl h) = omega (arith, h.1, is.short)
     by (inr h) = fault_of_deck is.outlined.0 f deck (subst (λ said. IsFaultOf said f) is.outlined.1 h.1) is.outlined.2

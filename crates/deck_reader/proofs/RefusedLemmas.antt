@@ -14,12 +14,12 @@ use Rattle.tal_tree.specs.declared.site.Kind.TheVariants as kind
 use Rattle.tal_tree.specs.declared.site.ProcessSpec.{ProcessSpec}
 use Rattle.deck_reader.specs.Decks.{IsKindOf, IsProcessOf, AreProcessesOf}
 use Rattle.deck_lines.specs.Lines.{lines_of}
-use Rattle.deck_reader.specs.Outlined.{told_by}
-use Rattle.deck_reader.specs.Refusals.{IsBreachFault, IsFaultOf, IsFirstRefused, IsOutlineFault, IsOwnFault, IsRefusedAs, IsRefusalOf, Tells, fault_at, name_fault}
+use Rattle.deck_reader.specs.Outlined.{outline_of}
+use Rattle.deck_reader.specs.Refusals.{IsBreachFault, IsFaultOf, IsFirstProgramFault, IsOutlineFault, IsOwnFault, IsRefusedAs, IsRefusalOf, Tells, fault_at, name_fault}
 use Rattle.deck_reader.specs.declared.deck.Deck.{Deck}
 use Rattle.deck_reader.specs.declared.line_fault.LineFault.{LineFault}
 use Rattle.deck_reader.specs.declared.line_fault.LineFault.TheVariants as line
-use Rattle.deck_reader.specs.declared.names.Misnamed.{Misnamed}
+use Rattle.deck_reader.specs.declared.names.NameFault.{NameFault}
 use Rattle.deck_reader.specs.declared.outline.Body.{Body}
 use Rattle.deck_reader.specs.declared.outline.Body.TheVariants as body
 use Rattle.deck_reader.specs.declared.outline.Outline.{Outline}
@@ -70,7 +70,7 @@ not_both (body.Pair lines) (kind.Pair p) (fault.Program number why) h refused = 
 not_both (body.Pair lines) (kind.Pair p) _ h refused = absurd refused
 
 -- where all programs read none is refused
-pub none_refused : (lines : List (Named ProcessLines)) (specs : List ProcessSpec) (f : DeckFault) → AreProcessesOf lines specs → IsFirstRefused lines f → ⊥
+pub none_refused : (lines : List (Named ProcessLines)) (specs : List ProcessSpec) (f : DeckFault) → AreProcessesOf lines specs → IsFirstProgramFault lines f → ⊥
 none_refused [] specs f each refused = refused
 none_refused (one ∷ rest) [] f each refused = absurd each
 none_refused (one ∷ rest) (x ∷ xs) f each (inl here) = not_both one.1.body x.what f each.0.what here
@@ -87,7 +87,7 @@ kind_at (one ∷ rest) (x ∷ xs) (suc k) d each there = kind_at rest xs k d eac
 
 -- the first that is refused, where those before it read
 first_after : (front later : List (Named ProcessLines)) (one : Named ProcessLines) (specs : List ProcessSpec) (f : DeckFault) → AreProcessesOf front specs → IsRefusedAs one.1.body f
-    → IsFirstRefused (front ++ one ∷ later) f
+    → IsFirstProgramFault (front ++ one ∷ later) f
 first_after [] later one specs f each refused = inl refused
 first_after (x ∷ xs) later one [] f each refused = absurd each
 first_after (x ∷ xs) later one (y ∷ ys) f each refused = inr (y.what, each.0.what, first_after xs later one ys f each.1 refused)
@@ -99,7 +99,7 @@ tells_too P Q gives (fault.Program number why) h = (h.0, gives (fault.Program nu
 tells_too P Q gives f h = gives f h
 
 -- the bytes of what lines say are refused for its fault
-pub refusal : (bytes : List ℕ) (f : DeckFault) → length bytes ≤ 1048576 → Tells (IsFaultOf (told_by (lines_of bytes))) f → f ≢ fault.TooLong → f ≢ fault.NoMemory no_memory → IsRefusalOf bytes f
+pub refusal : (bytes : List ℕ) (f : DeckFault) → length bytes ≤ 1048576 → Tells (IsFaultOf (outline_of (lines_of bytes))) f → f ≢ fault.TooLong → f ≢ fault.NoMemory no_memory → IsRefusalOf bytes f
 refusal bytes fault.TooLong short h long memory = absurd (long refl)
 refusal bytes (fault.NoMemory _) short h long memory = absurd (memory refl)
 refusal bytes (fault.Program number why) short h long memory = (short, h.1)
@@ -115,7 +115,7 @@ body_is_short : (lines : Body) → IsRefusedAs lines fault.TooLong → ⊥
 body_is_short (body.Disc sectors) h = h
 body_is_short (body.Pair program) h = h
 
-first_is_short : (lines : List (Named ProcessLines)) → IsFirstRefused lines fault.TooLong → ⊥
+first_is_short : (lines : List (Named ProcessLines)) → IsFirstProgramFault lines fault.TooLong → ⊥
 first_is_short [] h = h
 first_is_short (lines ∷ rest) (inl here) = body_is_short lines.1.body here
 first_is_short (lines ∷ rest) (inr later) = first_is_short rest later.2
@@ -133,7 +133,7 @@ own_is_short None number why h = line_is_short number why h
 own_is_short (Some program) number why (inl here) = here
 own_is_short (Some program) number why (inr later) = line_is_short number why later.2
 
-name_is_short : (misnamed : Option Misnamed) → option_map name_fault misnamed ≡ Some fault.TooLong → ⊥
+name_is_short : (misnamed : Option NameFault) → option_map name_fault misnamed ≡ Some fault.TooLong → ⊥
 name_is_short None e = cc
 name_is_short (Some misnamed) e = by misnamed.own (let same : name_fault misnamed ≡ fault.TooLong = cc in same)
   where
@@ -151,16 +151,16 @@ pub not_too_long : (said : Told) (f : DeckFault) → Tells (IsFaultOf said) f �
 not_too_long said f h same = fault_is_short said (subst (Tells (IsFaultOf said)) same h)
 
 -- where what lines say is told, the bytes are refused for it
-pub errs_refused : (bytes : List ℕ) (answer : Result Deck DeckFault) → length bytes ≤ 1048576 → IfErr answer (λ f. Tells (IsFaultOf (told_by (lines_of bytes))) f)
+pub errs_refused : (bytes : List ℕ) (answer : Result Deck DeckFault) → length bytes ≤ 1048576 → IfErr answer (λ f. Tells (IsFaultOf (outline_of (lines_of bytes))) f)
     → IfErr answer (λ f. f ≢ fault.NoMemory no_memory → IsRefusalOf bytes f)
 errs_refused bytes (Ok deck) short h = tt
-errs_refused bytes (Err f) short h = λ memory. refusal bytes f short h (not_too_long (told_by (lines_of bytes)) f h) memory
+errs_refused bytes (Err f) short h = λ memory. refusal bytes f short h (not_too_long (outline_of (lines_of bytes)) f h) memory
 
-pub errs_short : (bytes : List ℕ) (answer : Result Deck DeckFault) → length bytes ≤ 1048576 → IfErr answer (λ f. Tells (IsFaultOf (told_by (lines_of bytes))) f)
+pub errs_short : (bytes : List ℕ) (answer : Result Deck DeckFault) → length bytes ≤ 1048576 → IfErr answer (λ f. Tells (IsFaultOf (outline_of (lines_of bytes))) f)
     → (answer ≡ Err fault.TooLong → 1048576 < length bytes) × (1048576 < length bytes → answer ≡ Err fault.TooLong)
 errs_short bytes (Ok deck) short h = (λ e. absurd (cc), λ long. absurd (omega (arith, short, long)))
 errs_short bytes (Err f) short h =
-    (λ e. absurd (not_too_long (told_by (lines_of bytes)) f h (let same : f ≡ fault.TooLong = cc in same)), λ long. absurd (omega (arith, short, long)))
+    (λ e. absurd (not_too_long (outline_of (lines_of bytes)) f h (let same : f ≡ fault.TooLong = cc in same)), λ long. absurd (omega (arith, short, long)))
 
 pub of_whole : (outline : Outline) (answer : Result Deck DeckFault) (said : Told) → said ≡ told.Whole outline → IfErr answer (λ f. Tells (IsOutlineFault outline) f) → IfErr answer (λ f. Tells (IsFaultOf said) f)
 of_whole outline answer said e h = subst (λ all. IfErr answer (λ f. Tells (IsFaultOf all) f)) (sym e) (by answer h)
@@ -174,16 +174,16 @@ of_broken breach f said e h = subst (λ all. Tells (IsFaultOf all) f) (sym e) (t
 
 -- the first that is refused, where those before it read, is the fault of programs, of a line that can't stand, and of an outline
 pub programs_tell : (all rest later : List (Named ProcessLines)) (one : Named ProcessLines) (specs : List ProcessSpec) (f : DeckFault) → IsDoneTo IsProcessOf all rest specs → rest ≡ one ∷ later
-    → Tells (IsRefusedAs one.1.body) f → Tells (IsFirstRefused all) f
+    → Tells (IsRefusedAs one.1.body) f → Tells (IsFirstProgramFault all) f
 programs_tell all rest later one specs f done e h =
-    tells_too (IsRefusedAs one.1.body) (IsFirstRefused all)
-    (λ g refused. subst (λ lines. IsFirstRefused lines g) (sym (done.whole ∙ ap (λ xs. done.front ++ xs) e)) (first_after done.front later one specs g done.each refused)) f h
+    tells_too (IsRefusedAs one.1.body) (IsFirstProgramFault all)
+    (λ g refused. subst (λ lines. IsFirstProgramFault lines g) (sym (done.whole ∙ ap (λ xs. done.front ++ xs) e)) (first_after done.front later one specs g done.each refused)) f h
 
-pub outline_tells : (outline : Outline) (f : DeckFault) → Tells (IsFirstRefused outline.processes) f → Tells (IsOutlineFault outline) f
-outline_tells outline f h = tells_too (IsFirstRefused outline.processes) (IsOutlineFault outline) (λ g first. inl first) f h
+pub outline_tells : (outline : Outline) (f : DeckFault) → Tells (IsFirstProgramFault outline.processes) f → Tells (IsOutlineFault outline) f
+outline_tells outline f h = tells_too (IsFirstProgramFault outline.processes) (IsOutlineFault outline) (λ g first. inl first) f h
 
-pub breach_tells : (breach : Breach) (f : DeckFault) → Tells (IsFirstRefused breach.processes) f → Tells (IsBreachFault breach) f
-breach_tells breach f h = tells_too (IsFirstRefused breach.processes) (IsBreachFault breach) (λ g first. inl first) f h
+pub breach_tells : (breach : Breach) (f : DeckFault) → Tells (IsFirstProgramFault breach.processes) f → Tells (IsBreachFault breach) f
+breach_tells breach f h = tells_too (IsFirstProgramFault breach.processes) (IsBreachFault breach) (λ g first. inl first) f h
 
 pub own_tells : (breach : Breach) (specs : List ProcessSpec) (f : DeckFault) → AreProcessesOf breach.processes specs → Tells (IsOwnFault breach.own (fault_at breach.line breach.why)) f → Tells (IsBreachFault breach) f
 own_tells breach specs f each h = tells_too (IsOwnFault breach.own (fault_at breach.line breach.why)) (IsBreachFault breach) (λ g own. inr (specs, each, own)) f h

@@ -10,8 +10,8 @@ use Rattle.name_table.specs.Entries.{Named}
 use Rattle.deck_lines.specs.EventSayingOf.{event_said}
 use Rattle.deck_reader.specs.LineFaults.{asks, disc_of, is_new, outline_with, terminal_of}
 use Rattle.deck_lines.specs.Lines.{words_of, is_blank, is_printable, one_word, two_words, three_words, four_words}
-use Rattle.deck_lines.specs.Numbers.{number_of, word_of}
-use Rattle.deck_reader.specs.Outlined.{asked, at_end, broken, disc_told, ended, in_blocks, in_program, in_requests, in_schedule, led_on, next_stage, opening, program_ended, site_told, terminal_told, told_after, told_by, with_terminal}
+use Rattle.deck_lines.specs.Numbers.{written_number, word_of}
+use Rattle.deck_reader.specs.Outlined.{asked, at_end, broken, disc_told, ended, in_blocks, in_program, in_requests, in_schedule, led_on, next_stage, opening, program_ended, site_told, terminal_told, told_after, outline_of, with_terminal}
 use Rattle.deck_lines.specs.SayingOf.{are_words, is_remark, keyword_of, or_formless, or_long, parts_say, placing_of, request_of, request_words, said_by, saying_of, terminal_said}
 use Rattle.deck_lines.specs.declared.event_saying.EventSaying.{EventSaying}
 use Rattle.deck_reader.specs.declared.line_fault.LineFault.{LineFault}
@@ -28,8 +28,8 @@ use Rattle.deck_lines.specs.declared.saying.Saying.{Saying}
 use Rattle.deck_lines.specs.declared.saying.Saying.TheVariants as said
 use Rattle.deck_reader.specs.declared.step.Stage.{Stage}
 use Rattle.deck_reader.specs.declared.step.Stage.TheVariants as at
-use Rattle.deck_reader.specs.declared.step.Step.{Step}
-use Rattle.deck_reader.specs.declared.step.Step.TheVariants as step
+use Rattle.deck_reader.specs.declared.step.LineOutcome.{LineOutcome}
+use Rattle.deck_reader.specs.declared.step.LineOutcome.TheVariants as step
 use Rattle.deck_reader.specs.declared.told.Told.{Told}
 use Rattle.deck_reader.specs.declared.told.Told.TheVariants as told
 
@@ -100,9 +100,9 @@ terminal_short parts (Some words) e = by (name_of words.0) (name_of words.1) ref
     by (Some name) (Some target) p q = rw (e, p, q) tt
 
 parts_short : (parts : List (List ℕ)) (word : Keyword) → SaidShort (parts_say parts word)
-parts_short parts key.Processors = short_then _ (λ word. short_map said.Processors (λ count. tt) (number_of word)) (one_word parts)
+parts_short parts key.Processors = short_then _ (λ word. short_map said.Processors (λ count. tt) (written_number word)) (one_word parts)
 parts_short parts key.Disc =
-    short_then _ (λ words. short_then _ (λ placing. short_map (λ sectors. said.Disc placing sectors) (λ sectors. tt) (number_of words.3)) (placing_of words.0 words.1 words.2))
+    short_then _ (λ words. short_then _ (λ placing. short_map (λ sectors. said.Disc placing sectors) (λ sectors. tt) (written_number words.3)) (placing_of words.0 words.1 words.2))
     (four_words parts)
 parts_short parts key.Pair = short_then _ (λ words. short_map said.Pair (λ placing. tt) (placing_of words.0 words.1 words.2)) (three_words parts)
 parts_short parts key.Terminal = terminal_short parts (two_words parts) refl
@@ -139,7 +139,7 @@ StageShort (at.Requests outline name terminal) = HaveShort outline × HasShort (
 StageShort (at.Schedule outline) = HaveShort outline
 StageShort (at.Ended outline) = HaveShort outline
 
-abbrev StepShort : Step → Type 0
+abbrev StepShort : LineOutcome → Type 0
 StepShort (step.Next stage) = StageShort stage
 StepShort (step.Broken breach) = Unit {0}
 
@@ -254,11 +254,11 @@ lines_short stage count [] short = end_short stage count short
 lines_short stage count (line ∷ lines) short =
     by (λ next. lines_short next (count + 1) lines) (next_stage stage (count + 1) line) (next_short stage (count + 1) line short)
   where
-    by : ((next : Stage) → StageShort next → ToldShort (told_after next (count + 1) lines)) → (one : Step) → StepShort one
+    by : ((next : Stage) → StageShort next → ToldShort (told_after next (count + 1) lines)) → (one : LineOutcome) → StepShort one
         → ToldShort (led_on (λ next. told_after next (count + 1) lines) one)
     by later (step.Next next) h = later next h
     by later (step.Broken breach) h = tt
 
 -- the requests of an outline have at most 16 words each
-pub outline_short : (lines : List (List ℕ)) (outline : Outline) → told_by lines ≡ told.Whole outline → HaveShort outline
+pub outline_short : (lines : List (List ℕ)) (outline : Outline) → outline_of lines ≡ told.Whole outline → HaveShort outline
 outline_short lines outline e = subst ToldShort e (lines_short at.Opening 0 lines tt)

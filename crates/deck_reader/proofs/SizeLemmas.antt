@@ -7,7 +7,7 @@ use Rattle.tal_tree.specs.declared.site.ProcessSpec.{ProcessSpec}
 use Rattle.deck_reader.specs.Decks.{IsProcessOf}
 use Rattle.deck_reader.specs.LineFaults.{asks, disc_of, heading_of, outline_with, process_with, terminal_of, with_sectors}
 use Rattle.deck_lines.specs.Lines.{lines_of, before_first}
-use Rattle.deck_reader.specs.Outlined.{asked, at_end, disc_told, ended, in_blocks, in_program, in_requests, in_schedule, led_on, next_stage, opening, program_ended, site_told, terminal_told, told_after, told_by, with_terminal}
+use Rattle.deck_reader.specs.Outlined.{asked, at_end, disc_told, ended, in_blocks, in_program, in_requests, in_schedule, led_on, next_stage, opening, program_ended, site_told, terminal_told, told_after, outline_of, with_terminal}
 use Rattle.deck_lines.specs.SayingOf.{saying_of}
 use Rattle.deck_reader.specs.Sizes.{body_size, breach_size, text_size}
 use Rattle.deck_lines.specs.declared.event_saying.EventSaying.{EventSaying}
@@ -25,8 +25,8 @@ use Rattle.deck_lines.specs.declared.saying.Saying.{Saying}
 use Rattle.deck_lines.specs.declared.saying.Saying.TheVariants as said
 use Rattle.deck_reader.specs.declared.step.Stage.{Stage}
 use Rattle.deck_reader.specs.declared.step.Stage.TheVariants as at
-use Rattle.deck_reader.specs.declared.step.Step.{Step}
-use Rattle.deck_reader.specs.declared.step.Step.TheVariants as step
+use Rattle.deck_reader.specs.declared.step.LineOutcome.{LineOutcome}
+use Rattle.deck_reader.specs.declared.step.LineOutcome.TheVariants as step
 use Rattle.deck_reader.specs.declared.told.Told.{Told}
 use Rattle.deck_reader.specs.declared.told.Told.TheVariants as told
 use Rattle.deck_reader.proofs.EachLemmas.{IsDoneTo}
@@ -41,7 +41,7 @@ stage_size (at.Schedule outline) = text_size outline.processes
 stage_size (at.Ended outline) = text_size outline.processes
 
 -- at most so much was told
-abbrev IsWithin : ℕ → Step → Type 0
+abbrev IsWithin : ℕ → LineOutcome → Type 0
 IsWithin n (step.Next stage) = stage_size stage ≤ n
 IsWithin n (step.Broken breach) = breach_size breach ≤ n
 
@@ -132,7 +132,7 @@ program_within outline heading program line = by (bytes_eq line (codes "."))
     by true = at_point heading
     by false = omega (arith, length-append (program.text ++ line) (10 ∷ []), length-append program.text line)
 
-widened : (m n : ℕ) (one : Step) → m ≤ n → IsWithin m one → IsWithin n one
+widened : (m n : ℕ) (one : LineOutcome) → m ≤ n → IsWithin m one → IsWithin n one
 widened m n (step.Next stage) h k = omega (arith, h, k)
 widened m n (step.Broken breach) h k = omega (arith, h, k)
 
@@ -175,7 +175,7 @@ all_within : (stage : Stage) (count : ℕ) (lines : List (List ℕ)) → TellsWi
 all_within stage count [] = told_widened (stage_size stage) (stage_size stage + 0) (at_end stage count) (omega arith) (end_within stage count)
 all_within stage count (line ∷ lines) = by (λ next. all_within next (count + 1) lines) (next_stage stage (count + 1) line) (next_within stage (count + 1) line)
   where
-    by : ((next : Stage) → TellsWithin (stage_size next + total lines) (told_after next (count + 1) lines)) → (one : Step) → IsWithin (stage_size stage + (length line + 1)) one
+    by : ((next : Stage) → TellsWithin (stage_size next + total lines) (told_after next (count + 1) lines)) → (one : LineOutcome) → IsWithin (stage_size stage + (length line + 1)) one
         → TellsWithin (stage_size stage + (length line + 1 + total lines)) (led_on (λ next. told_after next (count + 1) lines) one)
     by later (step.Next next) h =
         told_widened (stage_size next + total lines) (stage_size stage + (length line + 1 + total lines)) (told_after next (count + 1) lines) (omega (arith, h)) (later next)
@@ -193,8 +193,8 @@ total_within (c ∷ cs) = by (total_within cs) (nat_eq c 10)
     by h true = omega arith
     by h false = omega (arith, longer c (length cs) (lines_of cs) h)
 
-pub texts_within : (bytes : List ℕ) → TellsWithin (length bytes + 1) (told_by (lines_of bytes))
-texts_within bytes = told_widened (0 + total (lines_of bytes)) (length bytes + 1) (told_by (lines_of bytes)) (omega (arith, total_within bytes)) (all_within at.Opening 0 (lines_of bytes))
+pub texts_within : (bytes : List ℕ) → TellsWithin (length bytes + 1) (outline_of (lines_of bytes))
+texts_within bytes = told_widened (0 + total (lines_of bytes)) (length bytes + 1) (outline_of (lines_of bytes)) (omega (arith, total_within bytes)) (all_within at.Opening 0 (lines_of bytes))
 
 -- the text of one program is no longer than all
 size_among : (front later : List (Named ProcessLines)) (one : Named ProcessLines) → body_size one.1.body ≤ text_size (front ++ one ∷ later)

@@ -11,7 +11,7 @@ use Rattle.deck_reader.specs.EventLineOf.{event_line}
 use Rattle.deck_reader.specs.Few.{AreFew, HasFew}
 use Rattle.deck_reader.specs.Fresh.{HasNew, IsNewHeading}
 use Rattle.deck_reader.specs.LineFaults.{is_new, asks, disc_of, heading_of, outline_with, process_with, terminal_of, with_sectors}
-use Rattle.deck_reader.specs.Outlined.{asked, at_end, disc_told, ended, in_blocks, in_program, in_requests, in_schedule, led_on, next_stage, opening, program_ended, site_told, terminal_told, told_after, told_by, with_event, with_process, with_terminal}
+use Rattle.deck_reader.specs.Outlined.{asked, at_end, disc_told, ended, in_blocks, in_program, in_requests, in_schedule, led_on, next_stage, opening, program_ended, site_told, terminal_told, told_after, outline_of, with_event, with_process, with_terminal}
 use Rattle.deck_lines.specs.SayingOf.{saying_of}
 use Rattle.deck_reader.specs.Schedules.{IsLineOf, singles_of, rounds_of}
 use Rattle.deck_lines.specs.declared.event_saying.EventSaying.{EventSaying}
@@ -31,8 +31,8 @@ use Rattle.deck_lines.specs.declared.saying.Saying.{Saying}
 use Rattle.deck_lines.specs.declared.saying.Saying.TheVariants as said
 use Rattle.deck_reader.specs.declared.step.Stage.{Stage}
 use Rattle.deck_reader.specs.declared.step.Stage.TheVariants as at
-use Rattle.deck_reader.specs.declared.step.Step.{Step}
-use Rattle.deck_reader.specs.declared.step.Step.TheVariants as step
+use Rattle.deck_reader.specs.declared.step.LineOutcome.{LineOutcome}
+use Rattle.deck_reader.specs.declared.step.LineOutcome.TheVariants as step
 use Rattle.deck_reader.specs.declared.told.Told.{Told}
 use Rattle.deck_reader.specs.declared.told.Told.TheVariants as told
 use Rattle.deck_reader.proofs.FreshLemmas.{heading_new, new_names}
@@ -114,7 +114,7 @@ fresh_kept (at.Schedule outline) keeps = tt
 fresh_kept (at.Ended outline) keeps = tt
 
 -- so does the next stage, if there is one
-abbrev Keeps : Step → Type 0
+abbrev Keeps : LineOutcome → Type 0
 Keeps (step.Next stage) = StageKeeps stage
 Keeps (step.Broken breach) = Unit {0}
 
@@ -325,10 +325,10 @@ lines_kept : (stage : Stage) (count : ℕ) (lines : List (List ℕ)) → StageKe
 lines_kept stage count [] keeps = end_kept stage count keeps
 lines_kept stage count (line ∷ lines) keeps = by (λ next. lines_kept next (count + 1) lines) (next_stage stage (count + 1) line) (next_kept stage (count + 1) line keeps)
   where
-    by : ((next : Stage) → StageKeeps next → TellsKept (told_after next (count + 1) lines)) → (one : Step) → Keeps one → TellsKept (led_on (λ next. told_after next (count + 1) lines) one)
+    by : ((next : Stage) → StageKeeps next → TellsKept (told_after next (count + 1) lines)) → (one : LineOutcome) → Keeps one → TellsKept (led_on (λ next. told_after next (count + 1) lines) one)
     by later (step.Next next) h = later next h
     by later (step.Broken breach) h = tt
 
 -- an outline keeps the limits
-pub outline_kept : (lines : List (List ℕ)) (outline : Outline) → told_by lines ≡ told.Whole outline → BlocksKeep outline × EventsFit outline
+pub outline_kept : (lines : List (List ℕ)) (outline : Outline) → outline_of lines ≡ told.Whole outline → BlocksKeep outline × EventsFit outline
 outline_kept lines outline e = subst TellsKept e (lines_kept at.Opening 0 lines tt)

@@ -8,7 +8,7 @@ use Rattle.tal_tree.specs.declared.site.ProcessSpec.{ProcessSpec}
 use Rattle.tal_tree.specs.declared.site.TerminalSpec.{TerminalSpec}
 use Rattle.deck_lines.specs.Lines.{lines_of}
 use Rattle.deck_reader.specs.Names.{misnamed_in}
-use Rattle.deck_reader.specs.Outlined.{told_by}
+use Rattle.deck_reader.specs.Outlined.{outline_of}
 use Rattle.deck_reader.specs.declared.deck.Deck.{Deck}
 use Rattle.deck_reader.specs.declared.outline.Body.{Body}
 use Rattle.deck_reader.specs.declared.outline.Body.TheVariants as body
@@ -60,4 +60,4 @@ pub record IsDeckOf (outline : Outline) (deck : Deck) : Type 0 where
 -- the bytes, at most 1,048,576, are the lines of the deck
 pub record Decks (bytes : List ℕ) (deck : Deck) : Type 0 where
   pub short : length bytes ≤ 1048576
-  pub outlined : (outline : Outline) × (told_by (lines_of bytes) ≡ told.Whole outline) × IsDeckOf outline deck
+  pub outlined : (outline : Outline) × (outline_of (lines_of bytes) ≡ told.Whole outline) × IsDeckOf outline deck

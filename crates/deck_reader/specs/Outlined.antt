@@ -22,8 +22,8 @@ use Rattle.deck_lines.specs.declared.saying.Saying.TheVariants as said
 use Rattle.deck_reader.specs.declared.step.Breach.{Breach}
 use Rattle.deck_reader.specs.declared.step.Stage.{Stage}
 use Rattle.deck_reader.specs.declared.step.Stage.TheVariants as at
-use Rattle.deck_reader.specs.declared.step.Step.{Step}
-use Rattle.deck_reader.specs.declared.step.Step.TheVariants as step
+use Rattle.deck_reader.specs.declared.step.LineOutcome.{LineOutcome}
+use Rattle.deck_reader.specs.declared.step.LineOutcome.TheVariants as step
 use Rattle.deck_reader.specs.declared.told.Told.{Told}
 use Rattle.deck_reader.specs.declared.told.Told.TheVariants as told
 
@@ -36,11 +36,11 @@ abbrev pub broken_at_start : ℕ → LineFault → Breach
 broken_at_start number why = record { processes = []; own = None; line = number; why = why }
 
 -- the line of the processors comes first
-abbrev pub site_told : ℕ → Result Outline LineFault → Step
+abbrev pub site_told : ℕ → Result Outline LineFault → LineOutcome
 site_told number (Err why) = step.Broken (broken_at_start number why)
 site_told number (Ok outline) = step.Next (at.Blocks outline)
 
-abbrev pub opening : ℕ → Saying → Step
+abbrev pub opening : ℕ → Saying → LineOutcome
 opening number said.Nothing = step.Next at.Opening
 opening number (said.Processors count) = site_told number (processors_of count)
 opening number _ = step.Broken (broken_at_start number fault.Form)
@@ -49,18 +49,18 @@ abbrev pub with_process : Outline → Named ProcessLines → Outline
 with_process outline process = record outline { processes = outline.processes ++ process ∷ [] }
 
 -- a disc
-abbrev pub disc_told : Outline → ℕ → Result (Named ProcessLines) LineFault → Step
+abbrev pub disc_told : Outline → ℕ → Result (Named ProcessLines) LineFault → LineOutcome
 disc_told outline number (Err why) = step.Broken (broken outline number why)
 disc_told outline number (Ok process) = step.Next (at.Blocks (with_process outline process))
 
 -- a terminal; its requests follow
-abbrev pub terminal_told : Outline → ℕ → List ℕ → Result TerminalLines LineFault → Step
+abbrev pub terminal_told : Outline → ℕ → List ℕ → Result TerminalLines LineFault → LineOutcome
 terminal_told outline number name (Err why) = step.Broken (broken outline number why)
 terminal_told outline number name (Ok terminal) = step.Next (at.Requests outline name terminal)
 
 -- where a process, a terminal or the schedule may begin. A fault of a pair's line waits for the end of its program, since a
 -- fault of the program goes before it
-abbrev pub in_blocks : Outline → ℕ → Saying → Step
+abbrev pub in_blocks : Outline → ℕ → Saying → LineOutcome
 in_blocks outline number said.Nothing = step.Next (at.Blocks outline)
 in_blocks outline number (said.Disc placing sectors) = disc_told outline number (disc_of outline placing sectors)
 in_blocks outline number (said.Pair placing) = step.Next (at.Program outline (heading_of outline placing) (record { line = number; text = [] }))
@@ -69,24 +69,24 @@ in_blocks outline number said.Schedule = step.Next (at.Schedule outline)
 in_blocks outline number _ = step.Broken (broken outline number fault.Form)
 
 -- the end of a program
-abbrev pub program_ended : Outline → Result Heading LineFault → ProgramLines → Step
+abbrev pub program_ended : Outline → Result Heading LineFault → ProgramLines → LineOutcome
 program_ended outline (Err why) program = step.Broken (record { processes = outline.processes; own = Some program; line = program.line; why = why })
 program_ended outline (Ok heading) program = step.Next (at.Blocks (with_process outline (process_with heading (body.Pair program))))
 
 -- a program ends before the first line that is a point alone
-abbrev pub in_program : Outline → Result Heading LineFault → ProgramLines → List ℕ → Step
+abbrev pub in_program : Outline → Result Heading LineFault → ProgramLines → List ℕ → LineOutcome
 in_program outline heading program line =
     if bytes_eq line (codes ".") then program_ended outline heading program
     else step.Next (at.Program outline heading (record program { text = program.text ++ line ++ 10 ∷ [] }))
 
 -- one more request: a terminal has at most 1,000
-abbrev pub request_told : Outline → List ℕ → TerminalLines → ℕ → List ℤ → Step
+abbrev pub request_told : Outline → List ℕ → TerminalLines → ℕ → List ℤ → LineOutcome
 request_told outline name terminal number words =
     if nat_le 1000 (length terminal.requests) then step.Broken (broken outline number (fault.Limit 3))
     else step.Next (at.Requests outline name (record terminal { requests = terminal.requests ++ words ∷ [] }))
 
 -- a request of more than 16 words
-abbrev pub long_request_told : Outline → TerminalLines → ℕ → Step
+abbrev pub long_request_told : Outline → TerminalLines → ℕ → LineOutcome
 long_request_told outline terminal number =
     if nat_le 1000 (length terminal.requests) then step.Broken (broken outline number (fault.Limit 3)) else step.Broken (broken outline number (fault.Limit 4))
 
@@ -95,7 +95,7 @@ abbrev pub with_terminal : Outline → List ℕ → TerminalLines → Outline
 with_terminal outline name terminal = record outline { terminals = outline.terminals ++ (name, terminal) ∷ [] }
 
 -- one more request of the terminal, or what begins after it
-abbrev pub in_requests : Outline → List ℕ → TerminalLines → ℕ → Saying → Step
+abbrev pub in_requests : Outline → List ℕ → TerminalLines → ℕ → Saying → LineOutcome
 in_requests outline name terminal number said.Nothing = step.Next (at.Requests outline name terminal)
 in_requests outline name terminal number (said.Send words) = request_told outline name terminal number words
 in_requests outline name terminal number said.LongSend = long_request_told outline terminal number
@@ -111,24 +111,24 @@ abbrev pub with_event : EventLines → ℕ → Sums → Option Line → EventLin
 with_event events number sums (Some line) = record { lines = events.lines ++ line ∷ []; sums = sums; unknown = events.unknown }
 with_event events number sums None = record { lines = events.lines; sums = sums; unknown = Some (first_noted events.unknown number) }
 
-abbrev pub asked : Outline → ℕ → EventSaying → Result Sums LineFault → Step
+abbrev pub asked : Outline → ℕ → EventSaying → Result Sums LineFault → LineOutcome
 asked outline number saying (Err why) = step.Broken (broken outline number why)
 asked outline number saying (Ok sums) = step.Next (at.Schedule (record outline { events = with_event outline.events number sums (event_line outline saying) }))
 
 -- one more event line, or END
-abbrev pub in_schedule : Outline → ℕ → Saying → Step
+abbrev pub in_schedule : Outline → ℕ → Saying → LineOutcome
 in_schedule outline number said.Nothing = step.Next (at.Schedule outline)
 in_schedule outline number said.End = step.Next (at.Ended outline)
 in_schedule outline number (said.Event saying) = asked outline number saying (asks outline.processors outline.events.sums saying)
 in_schedule outline number _ = step.Broken (broken outline number fault.Form)
 
 -- after END only lines that say nothing
-abbrev pub ended : Outline → ℕ → Saying → Step
+abbrev pub ended : Outline → ℕ → Saying → LineOutcome
 ended outline number said.Nothing = step.Next (at.Ended outline)
 ended outline number _ = step.Broken (broken outline number fault.Form)
 
 -- one more line, and its number
-abbrev pub next_stage : Stage → ℕ → List ℕ → Step
+abbrev pub next_stage : Stage → ℕ → List ℕ → LineOutcome
 next_stage at.Opening number line = opening number (saying_of line)
 next_stage (at.Blocks outline) number line = in_blocks outline number (saying_of line)
 next_stage (at.Program outline heading program) number line = in_program outline heading program line
@@ -151,7 +151,7 @@ at_end (at.Schedule outline) count = told.Broken (broken outline count fault.NoE
 at_end (at.Ended outline) count = told.Whole outline
 
 -- what follows one more line: it goes on from the next stage, or ends with the line that can't stand there
-abbrev pub led_on : (Stage → Told) → Step → Told
+abbrev pub led_on : (Stage → Told) → LineOutcome → Told
 led_on from (step.Next stage) = from stage
 led_on from (step.Broken breach) = told.Broken breach
 
@@ -161,5 +161,5 @@ told_after stage count [] = at_end stage count
 told_after stage count (line ∷ lines) = led_on (λ next. told_after next (count + 1) lines) (next_stage stage (count + 1) line)
 
 -- what all lines say
-abbrev pub told_by : List (List ℕ) → Told
-told_by lines = told_after at.Opening 0 lines
+abbrev pub outline_of : List (List ℕ) → Told
+outline_of lines = told_after at.Opening 0 lines

@@ -14,10 +14,10 @@ use Rattle.tal_tree.specs.declared.site.ProcessSpec.{ProcessSpec}
 use Rattle.deck_reader.specs.Decks.{IsKindOf, AreProcessesOf}
 use Rattle.deck_lines.specs.Lines.{lines_of}
 use Rattle.deck_reader.specs.Names.{misnamed_in}
-use Rattle.deck_reader.specs.Outlined.{told_by}
+use Rattle.deck_reader.specs.Outlined.{outline_of}
 use Rattle.deck_reader.specs.declared.line_fault.LineFault.{LineFault}
 use Rattle.deck_reader.specs.declared.line_fault.LineFault.TheVariants as line
-use Rattle.deck_reader.specs.declared.names.Misnamed.{Misnamed}
+use Rattle.deck_reader.specs.declared.names.NameFault.{NameFault}
 use Rattle.deck_reader.specs.declared.outline.Body.{Body}
 use Rattle.deck_reader.specs.declared.outline.Body.TheVariants as body
 use Rattle.deck_reader.specs.declared.outline.Outline.{Outline}
@@ -33,9 +33,9 @@ IsRefusedAs (body.Pair lines) (fault.Program number why) = (number ≡ lines.lin
 IsRefusedAs _ _ = ⊥
 
 -- the first of these programs that is refused: those before it all read
-abbrev pub IsFirstRefused : List (Named ProcessLines) → DeckFault → Type 0
-IsFirstRefused [] why = ⊥
-IsFirstRefused (lines ∷ rest) why = IsRefusedAs lines.1.body why ⊎ ((what : Kind) × IsKindOf lines.1.body what × IsFirstRefused rest why)
+abbrev pub IsFirstProgramFault : List (Named ProcessLines) → DeckFault → Type 0
+IsFirstProgramFault [] why = ⊥
+IsFirstProgramFault (lines ∷ rest) why = IsRefusedAs lines.1.body why ⊎ ((what : Kind) × IsKindOf lines.1.body what × IsFirstProgramFault rest why)
 
 -- the fault of a line that can't stand
 abbrev pub fault_at : ℕ → LineFault → DeckFault
@@ -54,17 +54,17 @@ IsOwnFault (Some lines) own why = IsRefusedAs (body.Pair lines) why ⊎ ((progra
 -- where a line can't stand: the first program before it that is refused, or else its own fault
 abbrev pub IsBreachFault : Breach → DeckFault → Type 0
 IsBreachFault breach why =
-    IsFirstRefused breach.processes why
+    IsFirstProgramFault breach.processes why
     ⊎ ((processes : List ProcessSpec) × AreProcessesOf breach.processes processes × IsOwnFault breach.own (fault_at breach.line breach.why) why)
 
 -- the fault of a name
-abbrev pub name_fault : Misnamed → DeckFault
+abbrev pub name_fault : NameFault → DeckFault
 name_fault misnamed = if misnamed.own then fault.OpensItself misnamed.line else fault.UnknownName misnamed.line
 
 -- where all lines stand: the first program that is refused, or else the first name that is amiss
 abbrev pub IsOutlineFault : Outline → DeckFault → Type 0
 IsOutlineFault outline why =
-    IsFirstRefused outline.processes why
+    IsFirstProgramFault outline.processes why
     ⊎ ((processes : List ProcessSpec) × AreProcessesOf outline.processes processes × (option_map name_fault (misnamed_in outline processes) ≡ Some why))
 
 -- the fault of what lines say
@@ -76,7 +76,7 @@ IsFaultOf (told.Broken breach) why = IsBreachFault breach why
 abbrev pub IsRefusalOf : List ℕ → DeckFault → Type 0
 IsRefusalOf bytes fault.TooLong = 1048576 < length bytes
 IsRefusalOf bytes (fault.NoMemory _) = ⊥
-IsRefusalOf bytes why = (length bytes ≤ 1048576) × IsFaultOf (told_by (lines_of bytes)) why
+IsRefusalOf bytes why = (length bytes ≤ 1048576) × IsFaultOf (outline_of (lines_of bytes)) why
 
 -- what is told is right, unless memory ran out, which is told as no fault of a program
 abbrev pub Tells : (DeckFault → Type 0) → DeckFault → Type 0

@@ -30,9 +30,9 @@ rounds_of [] = 0
 rounds_of (one ∷ lines) = rounds_in one + rounds_of lines
 
 -- a step of one of so many processes
-abbrev pub IsRunOf : ℕ → Event → Type 0
-IsRunOf processes (event.Run place) = place < processes
-IsRunOf processes _ = ⊥
+abbrev pub IsRunBelow : ℕ → Event → Type 0
+IsRunBelow processes (event.Run place) = place < processes
+IsRunBelow processes _ = ⊥
 
 -- a processor of so many, or node 16, which is that of the terminals
 abbrev pub IsNodeOf : ℕ → ℕ → Type 0
@@ -52,7 +52,7 @@ IsEventOf processors processes terminals (event.Fail node) = node < processors
 -- one such event, one or more steps of a process, or rounds; those that lose alive packets lose those of a processor
 abbrev pub IsLineOf : ℕ → ℕ → ℕ → Line → Type 0
 IsLineOf processors processes terminals (line.One one) = IsEventOf processors processes terminals one
-IsLineOf processors processes terminals (line.Many one times) = IsRunOf processes one × (1 ≤ times)
+IsLineOf processors processes terminals (line.Many one times) = IsRunBelow processes one × (1 ≤ times)
 IsLineOf processors processes terminals (line.Drain rounds) = Unit {0}
 IsLineOf processors processes terminals (line.Mix start rounds) = Unit {0}
 IsLineOf processors processes terminals (line.Mute node rounds) = node < processors

@@ -7,10 +7,10 @@ ghost use Rattle.deck_reader.specs.Sizes.{text_size};
 ghost use Rattle.tal_tree.specs.declared.fault.DeckFault.{DeckFault};
 ghost use Rattle.deck_reader.specs.declared.deck.Deck.{Deck};
 
-use crate::names::{Misnamed, earlier, earlier_than, event_misnamed, name_fault};
+use crate::names::{NameFault, earlier, earlier_than, event_misnamed, name_fault};
 use crate::outline::{Outline, ProcessLines, TerminalLines, place_of};
 use crate::programs::{ReadProcesses, breach_fault, processes_of};
-use crate::told::{Told, told_by};
+use crate::told::{Told, outline_of};
 use gd_words::{List, Name, NoMemory};
 use name_table::NameTable;
 use schedule::Line;
@@ -37,7 +37,7 @@ pub fn read_deck(alloc: Global, bytes: &[u8]) -> Result<Deck, DeckFault>
     if bytes.len() > MOST_BYTES {
         return Err(DeckFault::TooLong);
     }
-    match told_by(alloc, bytes) {
+    match outline_of(alloc, bytes) {
         Err(memory) => Err(DeckFault::NoMemory(memory)),
         Ok(Told::Broken(breach)) => Err(breach_fault(alloc, &breach)),
         Ok(Told::Whole(outline)) => deck_of(alloc, outline),
@@ -77,7 +77,7 @@ fn deck_of(alloc: Global, outline: Outline) -> Result<Deck, DeckFault>
 }
 
 /// The fault of a deck in which a terminal's target isn't there.
-fn target_fault(pair: Option<Misnamed>, target: Misnamed, event: Option<Misnamed>) -> DeckFault
+fn target_fault(pair: Option<NameFault>, target: NameFault, event: Option<NameFault>) -> DeckFault
     ensures { option_map name_fault (earlier (earlier pair (Some target)) event) ≡ Some result }
 {
     match pair {
@@ -91,7 +91,7 @@ fn terminals_of(
     alloc: Global,
     processes: &NameTable<ProcessLines>,
     terminals: NameTable<TerminalLines>,
-) -> Result<Result<List<TerminalSpec>, Misnamed>, NoMemory>
+) -> Result<Result<List<TerminalSpec>, NameFault>, NoMemory>
     requires few { length processes.now ≤ 16 }
     ensures { IfOk result (λ specs. MatchResult specs (λ specs. AreTerminalsOf processes.now terminals specs) (λ target. targets_misnamed processes.now terminals ≡ Some target)) }
 {
@@ -110,7 +110,7 @@ fn terminal_of(
     processes: &NameTable<ProcessLines>,
     name: Name,
     lines: TerminalLines,
-) -> Result<TerminalSpec, Misnamed>
+) -> Result<TerminalSpec, NameFault>
     requires few { length processes.now ≤ 16 }
     ensures { MatchResult result (λ terminal. IsTerminalOf processes.now (name, lines) terminal) (λ target. IsMisnamedTarget processes.now lines target) }
 {
@@ -120,7 +120,7 @@ fn terminal_of(
         requests,
     } = lines;
     match place_of(processes, &target) {
-        None => Err(Misnamed { line, own: false }),
+        None => Err(NameFault { line, own: false }),
         Some(target) => Ok(TerminalSpec {
             name,
             target,

@@ -10,7 +10,7 @@ use tal_tree::{DeckFault, FileUse, Kind, Target};
 
 /// A line that names what isn't there or, where `own` is set, whose program opens its own pair.
 #[derive(Clone, Copy, Drop)]
-pub struct Misnamed {
+pub struct NameFault {
     pub line: u32,
     pub own: bool,
 }
@@ -21,7 +21,7 @@ pub fn process_misnamed(
     own: &Name,
     body: &Body,
     what: &Kind,
-) -> Option<Misnamed>
+) -> Option<NameFault>
     ensures { result ≡ process_misnamed processes.now own.now body.now what.now }
 {
     match body {
@@ -35,7 +35,7 @@ fn pair_misnamed(
     own: &Name,
     line: u32,
     what: &Kind,
-) -> Option<Misnamed>
+) -> Option<NameFault>
     ensures { result ≡ kind_misnamed processes.now own.now line what.now }
 {
     match what {
@@ -49,14 +49,14 @@ fn files_misnamed(
     line: u32,
     own: &Name,
     files: &[FileUse],
-) -> Option<Misnamed>
+) -> Option<NameFault>
     ensures { result ≡ files_misnamed processes.now line own.now files.now }
 {
     if !are_known(processes, files) {
-        return Some(Misnamed { line, own: false });
+        return Some(NameFault { line, own: false });
     }
     if !are_others(own, files) {
-        return Some(Misnamed { line, own: true });
+        return Some(NameFault { line, own: true });
     }
     None
 }
@@ -94,7 +94,7 @@ fn is_other(own: &Name, target: &Target) -> bool
 }
 
 /// The first of two, where it is there.
-pub fn first_of(first: Option<Misnamed>, later: Option<Misnamed>) -> Option<Misnamed>
+pub fn first_of(first: Option<NameFault>, later: Option<NameFault>) -> Option<NameFault>
     ensures { result ≡ first_of first later }
 {
     match first {
@@ -104,15 +104,15 @@ pub fn first_of(first: Option<Misnamed>, later: Option<Misnamed>) -> Option<Misn
 }
 
 /// The event line of this number, if there is one.
-pub fn event_misnamed(unknown: Option<u32>) -> Option<Misnamed>
+pub fn event_misnamed(unknown: Option<u32>) -> Option<NameFault>
     ensures { result ≡ event_misnamed unknown }
 {
     let line = unknown?;
-    Some(Misnamed { line, own: false })
+    Some(NameFault { line, own: false })
 }
 
 /// The one on the earlier line.
-pub fn earlier_than(one: Misnamed, other: Option<Misnamed>) -> Misnamed
+pub fn earlier_than(one: NameFault, other: Option<NameFault>) -> NameFault
     ensures { result ≡ earlier_than one other }
 {
     match other {
@@ -122,7 +122,7 @@ pub fn earlier_than(one: Misnamed, other: Option<Misnamed>) -> Misnamed
 }
 
 /// The one on the earlier line, if there is one.
-pub fn earlier(one: Option<Misnamed>, other: Option<Misnamed>) -> Option<Misnamed>
+pub fn earlier(one: Option<NameFault>, other: Option<NameFault>) -> Option<NameFault>
     ensures { result ≡ earlier one other }
 {
     match one {
@@ -132,7 +132,7 @@ pub fn earlier(one: Option<Misnamed>, other: Option<Misnamed>) -> Option<Misname
 }
 
 /// The fault of a deck for a line that names amiss.
-pub fn name_fault(misnamed: Misnamed) -> DeckFault
+pub fn name_fault(misnamed: NameFault) -> DeckFault
     ensures { result ≡ name_fault misnamed }
 {
     if misnamed.own {

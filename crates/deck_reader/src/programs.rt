@@ -1,11 +1,11 @@
 ghost use Rattle.std.specs.Prelude.{◌≡◌, ◌<◌, ◌≤◌, length, IfOk, IfErr};
 ghost use Rattle.deck_reader.specs.Decks.{AreProcessesOf, IsKindOf, IsProcessOf};
 ghost use Rattle.deck_reader.specs.Names.{pairs_misnamed};
-ghost use Rattle.deck_reader.specs.Refusals.{IsBreachFault, IsFirstRefused, IsOwnFault, IsRefusedAs, Tells, fault_at};
+ghost use Rattle.deck_reader.specs.Refusals.{IsBreachFault, IsFirstProgramFault, IsOwnFault, IsRefusedAs, Tells, fault_at};
 ghost use Rattle.deck_reader.specs.Sizes.{body_size, breach_size, text_size};
 
 use crate::line_fault::LineFault;
-use crate::names::{Misnamed, first_of, process_misnamed};
+use crate::names::{NameFault, first_of, process_misnamed};
 use crate::outline::{Body, ProcessLines};
 use crate::step::Breach;
 use gd_words::{List, Name};
@@ -18,7 +18,7 @@ use tal_tree::{DeckFault, Kind, ProcessSpec, TalFault};
 #[derive(Drop)]
 pub struct ReadProcesses {
     pub specs: List<ProcessSpec>,
-    pub misnamed: Option<Misnamed>,
+    pub misnamed: Option<NameFault>,
 }
 
 /// The processes of their lines.
@@ -29,7 +29,7 @@ pub fn processes_of(
     requires short { text_size lines.now < 4294967295 }
     ensures ok { IfOk result (λ read. AreProcessesOf lines.now read.specs) }
     ensures named { IfOk result (λ read. read.misnamed ≡ pairs_misnamed lines.now lines.now read.specs) }
-    ensures err { IfErr result (λ fault. Tells (IsFirstRefused lines.now) fault) }
+    ensures err { IfErr result (λ fault. Tells (IsFirstProgramFault lines.now) fault) }
 {
     let mut specs = List::new(alloc);
     let mut misnamed = None;

@@ -1,7 +1,7 @@
 ghost use Rattle.std.specs.Prelude.{◌≡◌, false, [], Some, IfOk};
 ghost use Rattle.name_table.specs.Entries.{has_name};
 ghost use Rattle.deck_reader.specs.declared.step.Stage.TheVariants as at;
-ghost use Rattle.deck_reader.specs.declared.step.Step.TheVariants as step;
+ghost use Rattle.deck_reader.specs.declared.step.LineOutcome.TheVariants as step;
 ghost use Rattle.deck_reader.specs.LineFaults.{processors_of, disc_of, heading_of, terminal_of};
 ghost use Rattle.deck_reader.specs.Few.{AreFew, HasFew};
 ghost use Rattle.deck_reader.specs.Fresh.{HasNew, IsNewHeading};
@@ -49,7 +49,7 @@ pub struct Breach {
 
 /// What comes of one more line.
 #[derive(Drop)]
-pub enum Step {
+pub enum LineOutcome {
     Next(Stage),
     Broken(Breach),
 }
@@ -85,7 +85,7 @@ pub fn broken_at_start(alloc: Global, line: u32, why: LineFault) -> Breach
 }
 
 /// What comes of one more line, which has this number.
-pub fn next_stage(alloc: Global, stage: Stage, number: u32, line: &[u8]) -> Result<Step, NoMemory>
+pub fn next_stage(alloc: Global, stage: Stage, number: u32, line: &[u8]) -> Result<LineOutcome, NoMemory>
     requires few { HasFew stage }
     requires new { HasNew stage }
     ensures { IfOk result (λ next. next ≡ next_stage stage number line.now) }
@@ -102,16 +102,16 @@ pub fn next_stage(alloc: Global, stage: Stage, number: u32, line: &[u8]) -> Resu
     }
 }
 
-fn opening(alloc: Global, number: u32, saying: Saying) -> Step
+fn opening(alloc: Global, number: u32, saying: Saying) -> LineOutcome
     ensures { result ≡ opening number saying }
 {
     match saying {
-        Saying::Nothing => Step::Next(Stage::Opening),
+        Saying::Nothing => LineOutcome::Next(Stage::Opening),
         Saying::Processors(count) => match processors_of(alloc, count) {
-            Err(why) => Step::Broken(broken_at_start(alloc, number, why)),
-            Ok(outline) => Step::Next(Stage::Blocks(outline)),
+            Err(why) => LineOutcome::Broken(broken_at_start(alloc, number, why)),
+            Ok(outline) => LineOutcome::Next(Stage::Blocks(outline)),
         },
-        _ => Step::Broken(broken_at_start(alloc, number, LineFault::Form)),
+        _ => LineOutcome::Broken(broken_at_start(alloc, number, LineFault::Form)),
     }
 }
 
@@ -127,18 +127,18 @@ fn processors_of(alloc: Global, count: u32) -> Result<Outline, LineFault>
     Ok(Outline::new(alloc, count as u8))
 }
 
-fn in_blocks(alloc: Global, outline: Outline, number: u32, saying: Saying) -> Result<Step, NoMemory>
+fn in_blocks(alloc: Global, outline: Outline, number: u32, saying: Saying) -> Result<LineOutcome, NoMemory>
     ensures { IfOk result (λ next. next ≡ in_blocks outline number saying) }
 {
     match saying {
-        Saying::Nothing => Ok(Step::Next(Stage::Blocks(outline))),
+        Saying::Nothing => Ok(LineOutcome::Next(Stage::Blocks(outline))),
         Saying::Disc(placing, sectors) => disc_told(outline, number, placing, sectors),
         Saying::Pair(placing) => Ok(pair_told(alloc, outline, number, placing)),
         Saying::Terminal { name, target } => {
             Ok(terminal_told(alloc, outline, number, name, target))
         }
-        Saying::Schedule => Ok(Step::Next(Stage::Schedule(outline))),
-        _ => Ok(Step::Broken(broken(outline, number, LineFault::Form))),
+        Saying::Schedule => Ok(LineOutcome::Next(Stage::Schedule(outline))),
+        _ => Ok(LineOutcome::Broken(broken(outline, number, LineFault::Form))),
     }
 }
 
@@ -147,14 +147,14 @@ fn disc_told(
     number: u32,
     placing: Placing,
     sectors: u32,
-) -> Result<Step, NoMemory>
+) -> Result<LineOutcome, NoMemory>
     ensures { IfOk result (λ next. next ≡ disc_told outline number (disc_of outline placing sectors)) }
 {
     match disc_of(&outline, placing, sectors) {
-        Err(why) => Ok(Step::Broken(broken(outline, number, why))),
+        Err(why) => Ok(LineOutcome::Broken(broken(outline, number, why))),
         Ok(process) => {
             let outline = with_process(outline, process)?;
-            Ok(Step::Next(Stage::Blocks(outline)))
+            Ok(LineOutcome::Next(Stage::Blocks(outline)))
         }
     }
 }
@@ -170,7 +170,7 @@ fn with_process(outline: Outline, process: (Name, ProcessLines)) -> Result<Outli
     Ok(outline)
 }
 
-fn pair_told(alloc: Global, outline: Outline, number: u32, placing: Placing) -> Step
+fn pair_told(alloc: Global, outline: Outline, number: u32, placing: Placing) -> LineOutcome
     ensures { result ≡ step.Next (at.Program outline (heading_of outline placing) (record { line = number; text = [] })) }
 {
     let heading = heading_of(&outline, placing);
@@ -178,15 +178,15 @@ fn pair_told(alloc: Global, outline: Outline, number: u32, placing: Placing) -> 
         line: number,
         text: List::new(alloc),
     };
-    Step::Next(Stage::Program(outline, heading, program))
+    LineOutcome::Next(Stage::Program(outline, heading, program))
 }
 
-fn terminal_told(alloc: Global, outline: Outline, number: u32, name: Name, target: Name) -> Step
+fn terminal_told(alloc: Global, outline: Outline, number: u32, name: Name, target: Name) -> LineOutcome
     ensures { result ≡ terminal_told outline number name (terminal_of outline number name target) }
 {
     match terminal_of(alloc, &outline, number, &name, target) {
-        Err(why) => Step::Broken(broken(outline, number, why)),
-        Ok(terminal) => Step::Next(Stage::Requests(outline, name, terminal)),
+        Err(why) => LineOutcome::Broken(broken(outline, number, why)),
+        Ok(terminal) => LineOutcome::Next(Stage::Requests(outline, name, terminal)),
     }
 }
 
@@ -195,7 +195,7 @@ fn in_program(
     heading: Result<Heading, LineFault>,
     program: ProgramLines,
     line: &[u8],
-) -> Result<Step, NoMemory>
+) -> Result<LineOutcome, NoMemory>
     requires new { IsNewHeading outline heading }
     ensures { IfOk result (λ next. next ≡ in_program outline heading program line.now) }
 {
@@ -205,7 +205,7 @@ fn in_program(
         let mut program = program;
         program.text.extend_from_slice(line)?;
         program.text.push(b'\n')?;
-        Ok(Step::Next(Stage::Program(outline, heading, program)))
+        Ok(LineOutcome::Next(Stage::Program(outline, heading, program)))
     }
 }
 
@@ -214,16 +214,16 @@ fn program_ended(
     outline: Outline,
     heading: Result<Heading, LineFault>,
     program: ProgramLines,
-) -> Result<Step, NoMemory>
+) -> Result<LineOutcome, NoMemory>
     requires new { IsNewHeading outline heading }
     ensures { IfOk result (λ next. next ≡ program_ended outline heading program) }
 {
     match heading {
-        Err(why) => Ok(Step::Broken(broken_pair(outline, program, why))),
+        Err(why) => Ok(LineOutcome::Broken(broken_pair(outline, program, why))),
         Ok(heading) => {
             let process = process_with(heading, Body::Pair(program));
             let outline = with_process(outline, process)?;
-            Ok(Step::Next(Stage::Blocks(outline)))
+            Ok(LineOutcome::Next(Stage::Blocks(outline)))
         }
     }
 }
@@ -254,12 +254,12 @@ fn in_requests(
     terminal: TerminalLines,
     number: u32,
     saying: Saying,
-) -> Result<Step, NoMemory>
+) -> Result<LineOutcome, NoMemory>
     requires new { has_name outline.terminals name ≡ false }
     ensures { IfOk result (λ next. next ≡ in_requests outline name terminal number saying) }
 {
     match saying {
-        Saying::Nothing => Ok(Step::Next(Stage::Requests(outline, name, terminal))),
+        Saying::Nothing => Ok(LineOutcome::Next(Stage::Requests(outline, name, terminal))),
         Saying::Send(words) => request_told(outline, name, terminal, number, words),
         Saying::LongSend => Ok(long_request_told(outline, &terminal, number)),
         saying => {
@@ -286,49 +286,49 @@ fn request_told(
     terminal: TerminalLines,
     number: u32,
     words: Words,
-) -> Result<Step, NoMemory>
+) -> Result<LineOutcome, NoMemory>
     ensures { IfOk result (λ next. next ≡ request_told outline name terminal number words) }
 {
     if 1_000 <= terminal.requests.len() {
-        return Ok(Step::Broken(broken(outline, number, LineFault::Limit(3))));
+        return Ok(LineOutcome::Broken(broken(outline, number, LineFault::Limit(3))));
     }
     let mut terminal = terminal;
     terminal.requests.push(words)?;
-    Ok(Step::Next(Stage::Requests(outline, name, terminal)))
+    Ok(LineOutcome::Next(Stage::Requests(outline, name, terminal)))
 }
 
 /// A request of more than 16 words.
-fn long_request_told(outline: Outline, terminal: &TerminalLines, number: u32) -> Step
+fn long_request_told(outline: Outline, terminal: &TerminalLines, number: u32) -> LineOutcome
     ensures { result ≡ long_request_told outline terminal.now number }
 {
     if 1_000 <= terminal.requests.len() {
-        Step::Broken(broken(outline, number, LineFault::Limit(3)))
+        LineOutcome::Broken(broken(outline, number, LineFault::Limit(3)))
     } else {
-        Step::Broken(broken(outline, number, LineFault::Limit(4)))
+        LineOutcome::Broken(broken(outline, number, LineFault::Limit(4)))
     }
 }
 
 /// What comes of a line inside the schedule: the next stage, or where the deck breaks off.
-fn in_schedule(outline: Outline, number: u32, saying: Saying) -> Result<Step, NoMemory>
+fn in_schedule(outline: Outline, number: u32, saying: Saying) -> Result<LineOutcome, NoMemory>
     requires few { AreFew outline }
     ensures { IfOk result (λ next. next ≡ in_schedule outline number saying) }
 {
     match saying {
-        Saying::Nothing => Ok(Step::Next(Stage::Schedule(outline))),
-        Saying::End => Ok(Step::Next(Stage::Ended(outline))),
+        Saying::Nothing => Ok(LineOutcome::Next(Stage::Schedule(outline))),
+        Saying::End => Ok(LineOutcome::Next(Stage::Ended(outline))),
         Saying::Event(saying) => match asks(outline.processors, outline.events.sums, &saying) {
-            Err(why) => Ok(Step::Broken(broken(outline, number, why))),
+            Err(why) => Ok(LineOutcome::Broken(broken(outline, number, why))),
             Ok(sums) => {
                 let line = event_line(&outline, saying);
                 asked(outline, number, sums, line)
             }
         },
-        _ => Ok(Step::Broken(broken(outline, number, LineFault::Form))),
+        _ => Ok(LineOutcome::Broken(broken(outline, number, LineFault::Form))),
     }
 }
 
 /// The next stage after an event line, with what all lines ask for together.
-fn asked(outline: Outline, number: u32, sums: Sums, line: Option<Line>) -> Result<Step, NoMemory>
+fn asked(outline: Outline, number: u32, sums: Sums, line: Option<Line>) -> Result<LineOutcome, NoMemory>
     ensures { IfOk result (λ next. next ≡ step.Next (at.Schedule (record outline { events = with_event outline.events number sums line }))) }
 {
     let Outline {
@@ -338,7 +338,7 @@ fn asked(outline: Outline, number: u32, sums: Sums, line: Option<Line>) -> Resul
         events,
     } = outline;
     let events = with_event(events, number, sums, line)?;
-    Ok(Step::Next(Stage::Schedule(Outline {
+    Ok(LineOutcome::Next(Stage::Schedule(Outline {
         processors,
         processes,
         terminals,
@@ -389,11 +389,11 @@ fn first_noted(noted: Option<u32>, number: u32) -> u32
 }
 
 /// After END only empty lines and remarks.
-fn ended(outline: Outline, number: u32, saying: Saying) -> Step
+fn ended(outline: Outline, number: u32, saying: Saying) -> LineOutcome
     ensures { result ≡ ended outline number saying }
 {
     match saying {
-        Saying::Nothing => Step::Next(Stage::Ended(outline)),
-        _ => Step::Broken(broken(outline, number, LineFault::Form)),
+        Saying::Nothing => LineOutcome::Next(Stage::Ended(outline)),
+        _ => LineOutcome::Broken(broken(outline, number, LineFault::Form)),
     }
 }

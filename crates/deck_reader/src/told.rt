@@ -1,10 +1,10 @@
 ghost use Rattle.std.specs.Prelude.{◌≡◌, ◌≤◌, length, IfOk};
 ghost use Rattle.deck_lines.specs.Lines.{lines_of};
-ghost use Rattle.deck_reader.specs.Outlined.{unended, at_end, told_by};
+ghost use Rattle.deck_reader.specs.Outlined.{unended, at_end, outline_of};
 
 use crate::line_fault::LineFault;
 use crate::outline::{Heading, Outline};
-use crate::step::{Breach, Stage, Step, broken, broken_at_start, next_stage};
+use crate::step::{Breach, Stage, LineOutcome, broken, broken_at_start, next_stage};
 use deck_lines::next_line;
 use gd_words::NoMemory;
 use std::alloc::Global;
@@ -17,9 +17,9 @@ pub enum Told {
 }
 
 /// What the lines of a text say together.
-pub fn told_by(alloc: Global, bytes: &[u8]) -> Result<Told, NoMemory>
+pub fn outline_of(alloc: Global, bytes: &[u8]) -> Result<Told, NoMemory>
     requires short { length bytes.now ≤ 1048576 }
-    ensures { IfOk result (λ told. told ≡ told_by (lines_of bytes.now)) }
+    ensures { IfOk result (λ told. told ≡ outline_of (lines_of bytes.now)) }
 {
     let mut stage = Stage::Opening;
     let mut text = bytes;
@@ -27,8 +27,8 @@ pub fn told_by(alloc: Global, bytes: &[u8]) -> Result<Told, NoMemory>
     while let Some((line, rest)) = next_line(text) {
         number += 1;
         match next_stage(alloc, stage, number, line)? {
-            Step::Broken(breach) => return Ok(Told::Broken(breach)),
-            Step::Next(next) => stage = next,
+            LineOutcome::Broken(breach) => return Ok(Told::Broken(breach)),
+            LineOutcome::Next(next) => stage = next,
         }
         text = rest;
     }

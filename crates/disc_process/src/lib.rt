@@ -1,4 +1,4 @@
-//! The process of a disc: it takes a request, marks, acts on its device and answers, in turn.
+//! The process of a disc: it takes a request, checkpoints, acts on its device and answers, in turn.
 //!
 //! Below stand `process_semantics` with the states and steps of discs, as definitions, and `checkpoint_image` with `Behaviour`,
 //! which `DiscProcess` meets. A disc that runs is a `Phase`, which has the words that it still needs and no others, and the number

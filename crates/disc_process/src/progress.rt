@@ -1,8 +1,8 @@
 ghost use Rattle.std.specs.Option.{option_copied};
 ghost use Rattle.std.specs.Prelude.{◌≡◌, ◌≢◌, ◌<◌, ◌+◌, ◌^◌};
 ghost use Rattle.gd_words.specs.Ranges.{HasNext};
-ghost use Rattle.process_semantics.specs.Disc.{disc_start, disc_took, disc_marked, disc_call, disc_done, disc_answer, disc_answered};
-ghost use Rattle.process_semantics.specs.declared.point.Point.TheVariants.{Inner, Take, Ask, Await, Answer, Mark, Device};
+ghost use Rattle.process_semantics.specs.Disc.{disc_start, disc_took, disc_checkpointed, disc_call, disc_done, disc_answer, disc_answered};
+ghost use Rattle.process_semantics.specs.declared.point.Point.TheVariants.{Inner, Take, Ask, Await, Answer, AtCheckpoint, Device};
 
 use crate::calls::{call_of, last_write_after, reply_of};
 use crate::phase::Phase;
@@ -44,7 +44,7 @@ impl Progress {
     {
         match &self.phase {
             Phase::Idle => Point::Take,
-            Phase::Marking(_) => Point::Mark,
+            Phase::Marking(_) => Point::AtCheckpoint,
             Phase::Acting(_) => Point::Device,
             Phase::Answering { .. } => Point::Answer,
         }
@@ -100,10 +100,10 @@ impl Progress {
         }
     }
 
-    /// The step at Mark.
+    /// The step at a checkpoint.
     pub fn marked(&mut self)
-        requires { self.old.label ≡ Mark }
-        ensures { self.new ≡ disc_marked self.old }
+        requires { self.old.label ≡ AtCheckpoint }
+        ensures { self.new ≡ disc_checkpointed self.old }
     {
         match mem::replace(&mut self.phase, Phase::Idle) {
             Phase::Marking(request) => self.phase = Phase::Acting(request),

@@ -7,7 +7,7 @@ use Rattle.std.proofs.lemmas.Option.{slice_get_within}
 use Rattle.tal_tree.specs.Ordered.{IsOrdered}
 use Rattle.tal_tree.specs.declared.program.FileUse.{FileUse}
 use Rattle.tal_tree.specs.declared.program.Program.{Program}
-use Rattle.process_semantics.specs.Rests.{number_of}
+use Rattle.process_semantics.specs.Rests.{entry_number}
 use Rattle.process_semantics.specs.SeenEntries.{entry_of}
 use Rattle.path_semantics.specs.declared.reason.Reason.{Reason}
 use Rattle.path_semantics.specs.declared.reason.Reason.TheVariants.{Data, SyncBlock, Input, Depth}
@@ -66,7 +66,7 @@ module _ (program : Program) (reason : Reason) (positions : List Position) (due 
   pub no-top : None ≡ slice_get positions 0 → BreaksNext program reason positions due false
   no-top none stand own at numbered = absurd (by_place positions stand.place at.tells none numbered)
     where
-      by_place : (ps : List Position) (place : Place) → Tells program ps place → None ≡ slice_get ps 0 → option_map number_of (next_in place) ≡ Some own → ⊥
+      by_place : (ps : List Position) (place : Place) → Tells program ps place → None ≡ slice_get ps 0 → option_map entry_number (next_in place) ≡ Some own → ⊥
       by_place (first ∷ below) place tells empty has = cc
       by_place [] [] tells empty has = cc
       by_place [] (frame ∷ callers) tells empty has = tells
@@ -76,7 +76,7 @@ module _ (program : Program) (reason : Reason) (positions : List Position) (due 
         → (found : Found) × (result ≡ Some found) × (next_in stand.place ≡ Some (entry_of found.entry))
     next-entry result next stand own at numbered = by_place positions stand.place at.tells top numbered
       where
-        by_place : (ps : List Position) (place : Place) → Tells program ps place → Some position ≡ slice_get ps 0 → option_map number_of (next_in place) ≡ Some own
+        by_place : (ps : List Position) (place : Place) → Tells program ps place → Some position ≡ slice_get ps 0 → option_map entry_number (next_in place) ≡ Some own
             → (found : Found) × (result ≡ Some found) × (next_in place ≡ Some (entry_of found.entry))
         by_place [] place tells top_is has = absurd (cc)
         by_place (first ∷ below) [] tells top_is has = absurd tells

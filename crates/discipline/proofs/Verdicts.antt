@@ -5,14 +5,14 @@ use Rattle.gd_words.specs.Memory.{no_memory}
 use Rattle.tal_tree.specs.declared.program.Program.{Program}
 use Rattle.path_semantics.specs.declared.reason.Reason.{Reason}
 use Rattle.path_semantics.specs.declared.reason.Reason.TheVariants.{Data, SyncBlock, Input, Depth}
-use Rattle.path_semantics.specs.declared.reason.Refusal.{Refusal}
-use Rattle.path_semantics.specs.declared.reason.Refusal.TheVariants.{TooDeep, TooLarge, Broken, NoMemory}
+use Rattle.path_semantics.specs.declared.reason.RefusalFault.{RefusalFault}
+use Rattle.path_semantics.specs.declared.reason.RefusalFault.TheVariants.{TooDeep, TooLarge, Broken, NoMemory}
 use Rattle.path_semantics.specs.Accepted.{IsAccepted}
 use Rattle.path_semantics.specs.Break.{Breaks}
 use Rattle.discipline.specs.Verdict.{IsEarlier, IsFirst, IsVerdict, Agree}
 
 -- an accepted program is refused only for want of memory
-pub accepted-ok : (program : Program) (result : Result ⊤ Refusal) → IsVerdict program result → IsAccepted program → (result ≡ Ok tt) ⊎ (result ≡ Err (NoMemory no_memory))
+pub accepted-ok : (program : Program) (result : Result ⊤ RefusalFault) → IsVerdict program result → IsAccepted program → (result ≡ Ok tt) ⊎ (result ≡ Err (NoMemory no_memory))
 accepted-ok program (Ok _) verdict accepted = inl refl
 accepted-ok program (Err TooDeep) verdict accepted = absurd (let bound = accepted.bounds.depth in omega arith)
 accepted-ok program (Err (TooLarge n)) verdict accepted = absurd (let bound = accepted.bounds.size in let large = verdict.1 in omega arith)
@@ -55,7 +55,7 @@ both-first program one other path other_path first second (inr (inl same)) =
     let at_least : length other_path ≤ length path = second.shortest.least path (subst (Breaks program path) same first.shortest.breaks) in
     (same, omega arith)
 
-pub verdicts-agree : (program : Program) (one other : Result ⊤ Refusal) → IsVerdict program one → IsVerdict program other → Agree one other
+pub verdicts-agree : (program : Program) (one other : Result ⊤ RefusalFault) → IsVerdict program one → IsVerdict program other → Agree one other
 verdicts-agree program (Err (NoMemory _)) other first second = tt
 verdicts-agree program (Ok _) (Err (NoMemory _)) first second = tt
 verdicts-agree program (Err TooDeep) (Err (NoMemory _)) first second = tt

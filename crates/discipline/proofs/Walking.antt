@@ -13,7 +13,7 @@ use Rattle.tal_tree.specs.declared.program.Procedure.{Procedure}
 use Rattle.tal_tree.specs.declared.program.Program.{Program}
 use Rattle.tal_tree.specs.declared.statement.Statement.{Statement}
 use Rattle.process_semantics.specs.Remains.{Remains, leads_to}
-use Rattle.process_semantics.specs.Rests.{number_of, next_number, rests, rest_among, rest_from}
+use Rattle.process_semantics.specs.Rests.{entry_number, next_number, rests, rest_among, rest_from}
 use Rattle.process_semantics.specs.SeenEntries.{entry_of}
 use Rattle.process_semantics.specs.State.{Entry, Run, Test, Last, runs_of, called_by}
 use Rattle.process_semantics.proofs.Leading.{body-remains, leads-remains}
@@ -292,14 +292,14 @@ zero-none program position frame is none =
     let there : Some [] ≡ Some frame = ap (rest_from (statements_in (slice_get program.procedures position.procedure))) (sym none) ∙ is in (let same : [] ≡ frame = cc in sym same)
 
 next-at : (program : Program) (positions : List Position) (position : Position) (place : Place) → Tells program positions place → Some position ≡ slice_get positions 0
-    → (position.number ≡ 0 → option_map number_of (next_in place) ≡ None) × ((position.number ≡ 0 → ⊥) → option_map number_of (next_in place) ≡ Some position.number)
+    → (position.number ≡ 0 → option_map entry_number (next_in place) ≡ None) × ((position.number ≡ 0 → ⊥) → option_map entry_number (next_in place) ≡ Some position.number)
 next-at program [] position place tells top = absurd (cc)
 next-at program (first ∷ below) position [] tells top = absurd tells
 next-at program (first ∷ below) position ([] ∷ callers) (called, is, room, below_tells) top =
     ((λ none. refl), (λ some. absurd (some (ap (λ (p : Position). p.number) (let same : position ≡ first = cc in same) ∙ sym (number-is program first [] is)))))
 next-at program (first ∷ below) position ((entry ∷ rest) ∷ callers) (called, is, room, below_tells) top =
     let same : first ≡ position = cc in
-    let number : number_of entry ≡ position.number = number-is program first (entry ∷ rest) is ∙ ap (λ (p : Position). p.number) same in
+    let number : entry_number entry ≡ position.number = number-is program first (entry ∷ rest) is ∙ ap (λ (p : Position). p.number) same in
     ((λ none. absurd (let empty : entry ∷ rest ≡ [] = zero-none program first (entry ∷ rest) is (ap (λ (p : Position). p.number) same ∙ none) in cc)), (λ some. ap Some number))
 
 pub tells-some : (positions : List Position) (position : Position) (number : ℕ) (result : Bool) → Some position ≡ slice_get positions 0 → (number ≡ 0 → ⊥) → result ≡ (position.number == number)
@@ -351,7 +351,7 @@ pub tells-empty : (positions : List Position) (number : ℕ) → None ≡ slice_
 tells-empty (first ∷ below) number top program stand tells = absurd (cc)
 tells-empty [] number top program stand tells = ((λ holds. absurd (cc)), (λ next. absurd (by_place stand.place tells next)))
   where
-    by_place : (place : Place) → Tells program [] place → option_map number_of (next_in place) ≡ Some number → ⊥
+    by_place : (place : Place) → Tells program [] place → option_map entry_number (next_in place) ≡ Some number → ⊥
     by_place [] tells next = cc
     by_place (frame ∷ callers) tells next = tells
 

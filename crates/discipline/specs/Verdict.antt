@@ -3,8 +3,8 @@ use Rattle.std.specs.Prelude.{◌≡◌, ◌≤◌, ◌<◌, ℕ, List, length, 
 use Rattle.tal_tree.specs.declared.program.Program.{Program}
 use Rattle.path_semantics.specs.declared.reason.Reason.{Reason}
 use Rattle.path_semantics.specs.declared.reason.Reason.TheVariants.{Data, SyncBlock, Input, Depth}
-use Rattle.path_semantics.specs.declared.reason.Refusal.{Refusal}
-use Rattle.path_semantics.specs.declared.reason.Refusal.TheVariants.{TooDeep, TooLarge, Broken, NoMemory}
+use Rattle.path_semantics.specs.declared.reason.RefusalFault.{RefusalFault}
+use Rattle.path_semantics.specs.declared.reason.RefusalFault.TheVariants.{TooDeep, TooLarge, Broken, NoMemory}
 use Rattle.path_semantics.specs.Accepted.{IsAccepted}
 use Rattle.path_semantics.specs.Bounds.{IsWithinBounds, HasTooDeepCalls, IsTooLarge}
 use Rattle.path_semantics.specs.Break.{Breaks}
@@ -45,7 +45,7 @@ pub record IsFirst (program : Program) (reason : Reason) (path : List ℕ) : Typ
 
 -- the verdict: accepted, or calls too deep, or else too many statements with the calls written out, or else the first reason with a shortest path that breaks
 -- for it. Want of memory is free
-abbrev pub IsVerdict : Program → Result ⊤ Refusal → Type 0
+abbrev pub IsVerdict : Program → Result ⊤ RefusalFault → Type 0
 IsVerdict program (Ok _) = IsAccepted program
 IsVerdict program (Err TooDeep) = HasTooDeepCalls program
 IsVerdict program (Err (TooLarge size)) = IsTooLarge program size
@@ -53,7 +53,7 @@ IsVerdict program (Err (Broken reason path)) = IsFirst program reason path
 IsVerdict program (Err (NoMemory _)) = Unit {0}
 
 -- two verdicts agree but for the path, where memory sufficed for both: for one reason its paths are as long
-abbrev pub Agree : Result ⊤ Refusal → Result ⊤ Refusal → Type 0
+abbrev pub Agree : Result ⊤ RefusalFault → Result ⊤ RefusalFault → Type 0
 Agree (Err (NoMemory _)) _ = Unit {0}
 Agree _ (Err (NoMemory _)) = Unit {0}
 Agree (Ok _) (Ok _) = Unit {0}
@@ -63,11 +63,11 @@ Agree (Err (Broken reason path)) (Err (Broken other_reason other)) = (reason ≡
 Agree _ _ = ⊥
 
 -- what comes of trying a reason: no path breaks for it, or the program is refused
-abbrev pub IsTried : Program → Reason → Result ⊤ Refusal → Type 0
+abbrev pub IsTried : Program → Reason → Result ⊤ RefusalFault → Type 0
 IsTried program reason (Ok _) = (path : List ℕ) → Breaks program path reason → ⊥
 IsTried program reason (Err refusal) = IsVerdict program (Err refusal)
 
 -- what comes of trying all reasons before this one: no path breaks for any of them, or the program is refused
-abbrev pub AreTriedBefore : Program → Reason → Result ⊤ Refusal → Type 0
+abbrev pub AreTriedBefore : Program → Reason → Result ⊤ RefusalFault → Type 0
 AreTriedBefore program reason (Ok _) = NoneBefore program reason
 AreTriedBefore program reason (Err refusal) = IsVerdict program (Err refusal)

@@ -14,7 +14,7 @@ use crate::suspects::suspects;
 use due_search::{Aim, Search};
 use flow_paths::{Flow, FlowFault};
 use gd_words::NoMemory;
-use path_semantics::{Reason, Refusal};
+use path_semantics::{Reason, RefusalFault};
 use reason_dues::{Reasons, most_of};
 use std::alloc::Global;
 use tal_tree::Program;
@@ -22,7 +22,7 @@ use tal_tree::Program;
 /// The verdict on a program: whether it keeps the checkpoint discipline, or the first cause for which it doesn't. Among causes
 /// too deep calls come first, then too many statements, then globals as they are declared, files as they are opened, input, and
 /// the files' depths.
-pub fn check(alloc: Global, program: &Program) -> Result<(), Refusal>
+pub fn check(alloc: Global, program: &Program) -> Result<(), RefusalFault>
     requires ordered { IsOrdered program.now }
     requires limits { IsWithinLimits program.now }
     requires regular { IsRegular program.now }
@@ -30,14 +30,14 @@ pub fn check(alloc: Global, program: &Program) -> Result<(), Refusal>
 {
     match Flow::of(alloc, program) {
         Ok(flow) => check_reasons(alloc, program, &flow),
-        Err(FlowFault::TooDeep) => Err(Refusal::TooDeep),
-        Err(FlowFault::TooLarge(size)) => Err(Refusal::TooLarge(size)),
-        Err(FlowFault::NoMemory(memory)) => Err(Refusal::NoMemory(memory)),
+        Err(FlowFault::TooDeep) => Err(RefusalFault::TooDeep),
+        Err(FlowFault::TooLarge(size)) => Err(RefusalFault::TooLarge(size)),
+        Err(FlowFault::NoMemory(memory)) => Err(RefusalFault::NoMemory(memory)),
     }
 }
 
 /// Whether the program of a graph keeps the discipline.
-fn check_reasons(alloc: Global, program: &Program, flow: &Flow<'_>) -> Result<(), Refusal>
+fn check_reasons(alloc: Global, program: &Program, flow: &Flow<'_>) -> Result<(), RefusalFault>
     requires ordered { IsOrdered program.now }
     requires limits { IsWithinLimits program.now }
     requires regular { IsRegular program.now }
@@ -47,11 +47,11 @@ fn check_reasons(alloc: Global, program: &Program, flow: &Flow<'_>) -> Result<()
 {
     let mut search = match Search::new(alloc, flow.len()) {
         Ok(search) => search,
-        Err(memory) => return Err(Refusal::NoMemory(memory)),
+        Err(memory) => return Err(RefusalFault::NoMemory(memory)),
     };
     let suspects = match suspects(alloc, flow) {
         Ok(suspects) => suspects,
-        Err(memory) => return Err(Refusal::NoMemory(memory)),
+        Err(memory) => return Err(RefusalFault::NoMemory(memory)),
     };
     try_items(alloc, program, flow, suspects, &mut search)?;
     try_files(alloc, program, flow, suspects, &mut search)?;
@@ -66,7 +66,7 @@ fn try_items(
     flow: &Flow<'_>,
     suspects: Reasons,
     search: &mut Search,
-) -> Result<(), Refusal>
+) -> Result<(), RefusalFault>
     requires ordered { IsOrdered program.now }
     requires limits { IsWithinLimits program.now }
     requires regular { IsRegular program.now }
@@ -93,7 +93,7 @@ fn try_files(
     flow: &Flow<'_>,
     suspects: Reasons,
     search: &mut Search,
-) -> Result<(), Refusal>
+) -> Result<(), RefusalFault>
     requires ordered { IsOrdered program.now }
     requires limits { IsWithinLimits program.now }
     requires regular { IsRegular program.now }
@@ -128,7 +128,7 @@ fn try_depths(
     flow: &Flow<'_>,
     suspects: Reasons,
     search: &mut Search,
-) -> Result<(), Refusal>
+) -> Result<(), RefusalFault>
     requires ordered { IsOrdered program.now }
     requires limits { IsWithinLimits program.now }
     requires bounds { IsWithinBounds program.now }
@@ -154,7 +154,7 @@ fn try_reason(
     suspects: Reasons,
     search: &mut Search,
     reason: Reason,
-) -> Result<(), Refusal>
+) -> Result<(), RefusalFault>
     requires ordered { IsOrdered program.now }
     requires limits { IsWithinLimits program.now }
     requires bounds { IsWithinBounds program.now }
@@ -181,7 +181,7 @@ fn try_reason(
     };
     match search.run(alloc, flow, aim) {
         Ok(None) => Ok(()),
-        Ok(Some(path)) => Err(Refusal::Broken { reason, path }),
-        Err(memory) => Err(Refusal::NoMemory(memory)),
+        Ok(Some(path)) => Err(RefusalFault::Broken { reason, path }),
+        Err(memory) => Err(RefusalFault::NoMemory(memory)),
     }
 }

@@ -1,5 +1,5 @@
 use discipline::{breaks, check, is_path};
-use path_semantics::{Reason, Refusal};
+use path_semantics::{Reason, RefusalFault};
 use std::alloc::Global;
 use std::test::Fail;
 use worked_programs::program_of;
@@ -67,7 +67,7 @@ fn banks_are_judged(rt: HostRuntime) -> Result<(), Fail> {
         let program = program_of(alloc, text.as_slice())?;
         match check(alloc, &program) {
             Ok(()) => assert!(rt; sample.broken.is_none(), "accepted"),
-            Err(Refusal::Broken { reason, path }) => match sample.broken {
+            Err(RefusalFault::Broken { reason, path }) => match sample.broken {
                 Some((due, expected)) => {
                     assert!(rt; reason == due);
                     assert_eq!(rt; path.as_slice(), expected);
@@ -122,7 +122,7 @@ fn calls_are_walked(rt: HostRuntime) -> Result<(), Fail> {
     assert!(rt; breaks(&program, &[3, 4, 5, 1, 2, 6, 7, 8, 9], Reason::SyncBlock(0)));
     assert!(rt; !breaks(&program, &[3, 4, 5, 1, 2, 6, 7, 8, 9], Reason::Data(0)));
     match check(alloc, &program) {
-        Err(Refusal::Broken { reason, path }) => {
+        Err(RefusalFault::Broken { reason, path }) => {
             assert!(rt; reason == Reason::Data(0));
             assert_eq!(rt; path.as_slice(), [3, 4, 5, 1, 2, 6].as_slice());
         }

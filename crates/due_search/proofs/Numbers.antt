@@ -7,7 +7,7 @@ use Rattle.tal_tree.specs.Ordered.{IsOrdered}
 use Rattle.tal_tree.specs.Statements.{numbers_of}
 use Rattle.tal_tree.specs.declared.program.Procedure.{Procedure}
 use Rattle.tal_tree.specs.declared.program.Program.{Program}
-use Rattle.process_semantics.specs.Rests.{number_of}
+use Rattle.process_semantics.specs.Rests.{entry_number}
 use Rattle.process_semantics.specs.State.{Entry}
 use Rattle.path_semantics.specs.Path.{Leads}
 use Rattle.path_semantics.specs.Place.{Place, Stand, next_in, next_entry}
@@ -23,19 +23,19 @@ use Rattle.due_search.specs.Search.{Stems, IsQueue, IsTrail}
 use Rattle.due_search.proofs.Paths.{at-stand}
 use Rattle.due_search.proofs.Ways.{way}
 
-at-place : (program : Program) (place : Place) (entry : Entry) → IsWithinLimits program → AreLevels program 0 place → next_in place ≡ Some entry → number_of entry ≤ 2000
+at-place : (program : Program) (place : Place) (entry : Entry) → IsWithinLimits program → AreLevels program 0 place → next_in place ≡ Some entry → entry_number entry ≤ 2000
 at-place program [] entry limits levels next = absurd (cc)
 at-place program ([] ∷ callers) entry limits levels next = absurd (cc)
 at-place program ((first ∷ rest) ∷ callers) entry limits levels next =
     let k = levels.0 in
     let here = levels.2.belong first (inl refl) in
-    let among = given-all (λ (procedure : Procedure). numbers_of procedure.body) program.procedures k (number_of first) (here.numbers (number_of first) (number-own first)) in
-    let low : number_of first ≤ 2000 = (limits.numbers (number_of first) among).1 in
-    subst (λ (e : Entry). number_of e ≤ 2000) (let same : first ≡ entry = cc in same) low
+    let among = given-all (λ (procedure : Procedure). numbers_of procedure.body) program.procedures k (entry_number first) (here.numbers (entry_number first) (number-own first)) in
+    let low : entry_number first ≤ 2000 = (limits.numbers (entry_number first) among).1 in
+    subst (λ (e : Entry). entry_number e ≤ 2000) (let same : first ≡ entry = cc in same) low
 
 -- an entry that comes next where a path leads has a number of the text
 number-low : (program : Program) → IsOrdered program → IsWithinLimits program → (path : List ℕ) (stand : Stand) (entry : Entry) → Leads program path stand → next_entry stand ≡ Some entry
-    → number_of entry ≤ 2000
+    → entry_number entry ≤ 2000
 number-low program ordered limits path stand entry leads next =
     at-place program stand.place entry limits (kept-led program (AreLevels program 0) (levels-kept program ordered) path stand leads) next
 

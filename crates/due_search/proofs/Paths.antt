@@ -5,7 +5,7 @@ use Rattle.std.specs.Option.{option_map}
 use Rattle.std.proofs.lemmas.List.{length-reverse}
 use Rattle.std.proofs.lemmas.Option.{slice_get_within}
 use Rattle.tal_tree.specs.declared.program.Program.{Program}
-use Rattle.process_semantics.specs.Rests.{number_of}
+use Rattle.process_semantics.specs.Rests.{entry_number}
 use Rattle.process_semantics.specs.State.{Entry}
 use Rattle.path_semantics.specs.declared.dues.Dues.{Dues}
 use Rattle.path_semantics.specs.Dues.{no_dues}
@@ -98,11 +98,11 @@ module _ (program : Program) (nodes : List Node) (flow : IsFlow program nodes) w
           let at = at-stand to.front visit.node to.led.dues here to.led.goes found in
           record {
             front = to.front;
-            number = number_of here.entry;
+            number = entry_number here.entry;
             stand = at.stand;
             split = to.is ∙ ap (λ (n : ℕ). to.front ++ n ∷ []) (ap (λ (v : Option Visit). number_in (slice_get nodes (node_in v))) got ∙ ap number_in found);
             leads = at.leads;
-            next = ap (option_map number_of) at.next;
+            next = ap (option_map entry_number) at.next;
             ends = ap (ends_next aim at.stand.dues) at.next ∙ ends-cut aim here.entry at.stand.dues
                 ∙ ap (ends_with aim here.entry) (ap (counted aim) at.due ∙ to.led.due) ∙ ends;
           }

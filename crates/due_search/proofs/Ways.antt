@@ -2,7 +2,7 @@
 use Rattle.std.proofs.Common.{◌≡◌, ◌≤◌, ◌<◌, inl, inr, ℕ, zero, suc, ◌+◌, arith, List, [], ◌∷◌, ◌++◌, length, Option, Some, slice_get, reverse, refl, ap, subst, sym, ◌∙◌}
 use Rattle.std.proofs.lemmas.Grind.{reverse_onto}
 use Rattle.std.proofs.lemmas.Option.{slice_get_within}
-use Rattle.process_semantics.specs.Rests.{number_of}
+use Rattle.process_semantics.specs.Rests.{entry_number}
 use Rattle.path_semantics.specs.declared.dues.Dues.{Dues}
 use Rattle.path_semantics.specs.Dues.{no_dues, with_changed, after_entry}
 use Rattle.flow_paths.specs.Graph.{Node}
@@ -42,14 +42,14 @@ module _ (nodes : List Node) (aim : Aim) (queue : List Visit) (head : ℕ) (sear
       (j, later, subst (λ (d : Dues). StepsTo nodes k d number j later) (sym goes.1) (subst (λ (n : ℕ). StepsTo nodes n between number j later) (sym goes.0) step), (refl, refl))
   goes-more (first ∷ front) k mid j number dues between later (next, due, one, goes) step = (next, due, one, goes-more front next mid j number due between later goes step)
 
-  goes-on : (front : List ℕ) (one other : Visit) → IsLed front one → (follows : Follows nodes aim one other) → IsLed (front ++ number_of follows.node.entry ∷ []) other
+  goes-on : (front : List ℕ) (one other : Visit) → IsLed front one → (follows : Follows nodes aim one other) → IsLed (front ++ entry_number follows.node.entry ∷ []) other
   goes-on front one other led follows = record {
     dues = with_changed follows.edge.targets (after_entry led.dues follows.node.entry);
-    goes = goes-more front 0 one.node other.node (number_of follows.node.entry) no_dues led.dues (with_changed follows.edge.targets (after_entry led.dues follows.node.entry)) led.goes
+    goes = goes-more front 0 one.node other.node (entry_number follows.node.entry) no_dues led.dues (with_changed follows.edge.targets (after_entry led.dues follows.node.entry)) led.goes
         (record { node = follows.node; got = follows.got; is = refl; edge = follows.edge; among = follows.among; goal = follows.goal; due = refl });
     due = along-edge aim.most aim.reason led.dues follows.node.entry follows.edge.targets
         ∙ ap (cut_after aim.most aim.reason follows.node.entry follows.edge.targets) led.due ∙ sym follows.due;
-    steps = longer-by-one front (number_of follows.node.entry) ∙ (let before = led.steps in let after = follows.steps in omega arith);
+    steps = longer-by-one front (entry_number follows.node.entry) ∙ (let before = led.steps in let after = follows.steps in omega arith);
   }
 
   -- the way back from a visit is a walk to it, and then its number
@@ -70,10 +70,10 @@ module _ (nodes : List Node) (aim : Aim) (queue : List Visit) (head : ℕ) (sear
       by_stems (inr (one, earlier, found, follows)) before =
           let to = before one found (let more = follows.steps in omega arith) in
           let from : from_in (slice_get queue place) ≡ visit.from = ap from_in got in
-          let number : number_at nodes queue visit.from ≡ number_of follows.node.entry =
+          let number : number_at nodes queue visit.from ≡ entry_number follows.node.entry =
           ap (λ (v : Option Visit). number_in (slice_get nodes (node_in v))) found ∙ ap number_in follows.got in
           record {
-            front = to.front ++ number_of follows.node.entry ∷ [];
+            front = to.front ++ entry_number follows.node.entry ∷ [];
             is = ap (λ (k : ℕ). reverse (number_at nodes queue place ∷ back nodes queue (suc steps) k)) from
                 ∙ reverse_onto (back nodes queue (suc steps) visit.from) (number_at nodes queue place) []
                 ∙ ap (λ (numbers : List ℕ). numbers ++ number_at nodes queue place ∷ []) (to.is ∙ ap (λ (n : ℕ). to.front ++ n ∷ []) number);

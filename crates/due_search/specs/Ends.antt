@@ -1,7 +1,7 @@
 -- What a search finds: the nodes to which walks lead, and a shortest path that ends it.
 use Rattle.std.specs.Prelude.{◌≡◌, ◌≤◌, ◌<◌, ℕ, Bool, false, min, IsTrue, List, [], ◌∷◌, ◌++◌, length, slice_get, Option, Some, None}
 use Rattle.tal_tree.specs.declared.program.Program.{Program}
-use Rattle.process_semantics.specs.Rests.{number_of}
+use Rattle.process_semantics.specs.Rests.{entry_number}
 use Rattle.process_semantics.specs.State.{Entry}
 use Rattle.path_semantics.specs.declared.dues.Dues.{Dues}
 use Rattle.path_semantics.specs.Dues.{no_dues}
@@ -41,7 +41,7 @@ pub record IsFirstEnd (program : Program) (aim : Aim) (path : List ℕ) : Type 0
 
 -- the entries to which walks lead have numbers of a text
 abbrev pub AreNumbered : List Node → Type 0
-AreNumbered nodes = (path : List ℕ) (k : ℕ) (dues : Dues) (node : Node) → Goes nodes 0 no_dues path k dues → slice_get nodes k ≡ Some node → number_of node.entry ≤ 2000
+AreNumbered nodes = (path : List ℕ) (k : ℕ) (dues : Dues) (node : Node) → Goes nodes 0 no_dues path k dues → slice_get nodes k ≡ Some node → entry_number node.entry ≤ 2000
 
 module _ (nodes : List Node) (aim : Aim) where
   -- a walk from the first node leads to the node of a visit, with as much due

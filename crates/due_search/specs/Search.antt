@@ -1,7 +1,7 @@
 -- A search by levels through a program's graph: a queue of visits, each to a node with how much is due there.
 use Rattle.std.specs.Prelude.{◌≡◌, ◌≤◌, ◌<◌, ◌⊎◌, ℕ, zero, suc, ◌+◌, ◌*◌, Bool, true, false, ◌&&◌, nat_le, List, [], ◌∷◌, ◌++◌, length, min, count_by, slice_get, Option, Some, None}
 use Rattle.gd_words.specs.Members.{IsAmong}
-use Rattle.process_semantics.specs.Rests.{number_of}
+use Rattle.process_semantics.specs.Rests.{entry_number}
 use Rattle.process_semantics.specs.State.{Entry}
 use Rattle.path_semantics.specs.declared.reason.Reason.{Reason}
 use Rattle.flow_paths.specs.declared.graph.Edge.{Edge}
@@ -19,7 +19,7 @@ first_visit = record { node = 0; due = 0; from = 0; steps = 0 }
 -- the number at a node
 abbrev pub number_in : Option Node → ℕ
 number_in None = 0
-number_in (Some node) = number_of node.entry
+number_in (Some node) = entry_number node.entry
 
 abbrev pub node_in : Option Visit → ℕ
 node_in None = 0
@@ -99,7 +99,7 @@ pub record IsTrail (nodes : List Node) (queue : List Visit) : Type 0 where
   pub there : (place : ℕ) (visit : Visit) → slice_get queue place ≡ Some visit → visit.node < length nodes
   pub earlier : (place : ℕ) (visit : Visit) → slice_get queue place ≡ Some visit → visit.from < length queue
   pub steps : (place : ℕ) (visit : Visit) → slice_get queue place ≡ Some visit → visit.steps ≤ place
-  pub numbers : (place : ℕ) (visit : Visit) (node : Node) → slice_get queue place ≡ Some visit → slice_get nodes visit.node ≡ Some node → number_of node.entry ≤ 2000
+  pub numbers : (place : ℕ) (visit : Visit) (node : Node) → slice_get queue place ≡ Some visit → slice_get nodes visit.node ≡ Some node → entry_number node.entry ≤ 2000
 
 -- nothing is marked
 abbrev pub IsClear : List Bool → Type 0

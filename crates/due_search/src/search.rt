@@ -1,5 +1,5 @@
 ghost use Rattle.std.specs.Prelude.{◌≡◌, ◌≤◌, ◌<◌, ◌+◌, ◌*◌, ℕ, length, reverse, slice_get, Some, IfOk, OnOk};
-ghost use Rattle.process_semantics.specs.Rests.{number_of};
+ghost use Rattle.process_semantics.specs.Rests.{entry_number};
 ghost use Rattle.process_semantics.specs.SeenEntries.{entry_of};
 ghost use Rattle.due_search.specs.declared.queue.Visit.{Visit};
 ghost use Rattle.due_search.specs.Ends.{AreNumbered, HasFound, HasStopped};
@@ -228,8 +228,8 @@ impl Search {
 
 /// The number of an entry.
 fn number(entry: Entry<'_>) -> u16
-    requires { number_of (entry_of entry) ≤ 2000 }
-    ensures { result ≡ number_of (entry_of entry.entry) }
+    requires { entry_number (entry_of entry) ≤ 2000 }
+    ensures { result ≡ entry_number (entry_of entry.entry) }
 {
     entry_number(entry) as u16
 }

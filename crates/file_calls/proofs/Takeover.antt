@@ -4,8 +4,8 @@ use Rattle.gd_words.specs.declared.message.Reply.{Reply}
 use Rattle.gd_words.specs.declared.message.Request.{Request}
 use Rattle.checkpoint_image.specs.Receive.{all_repeated, is_waiting, repeated, repeated_by, reply_to, standing, still_waiting}
 use Rattle.checkpoint_image.specs.declared.receive.ReceiveBlock.{ReceiveBlock}
-use Rattle.checkpoint_image.specs.declared.receive.Standing.{Standing}
-use Rattle.checkpoint_image.specs.declared.receive.Standing.TheVariants.{Next, InHand, Kept, Old, Ahead}
+use Rattle.checkpoint_image.specs.declared.receive.RequestStanding.{RequestStanding}
+use Rattle.checkpoint_image.specs.declared.receive.RequestStanding.TheVariants.{Next, InHand, Kept, Old, Ahead}
 use Rattle.file_calls.specs.Takeover.{Settled, Settles, no_more, one_more, settled, settled_after, settled_by}
 
 -- It comes to an end
@@ -34,19 +34,19 @@ goes table request rest end replies so (no_more none) = no_more-by table (reques
 goes table request rest end replies so (one_more {reply = reply} {replies = others} some later) =
     one_more-by table (request ∷ rest) end reply others (settled table rest) so some later
 
-comes-by : (table : ReceiveBlock) (request : Request) (rest end : List Request) (replies : List Reply) (s : Standing) → standing table request ≡ s
+comes-by : (table : ReceiveBlock) (request : Request) (rest end : List Request) (replies : List Reply) (s : RequestStanding) → standing table request ≡ s
     → Settles table rest replies end → Settles table (request ∷ rest) (repeated_by request s ++ replies) (cond (is_waiting s) (request ∷ end) end)
 comes-by table request rest end replies Next is settles =
-    waits-on table request (λ others. ap (λ (s : Standing). settled_by s request others (settled table others)) is) rest end replies settles
+    waits-on table request (λ others. ap (λ (s : RequestStanding). settled_by s request others (settled table others)) is) rest end replies settles
 comes-by table request rest end replies Ahead is settles =
-    waits-on table request (λ others. ap (λ (s : Standing). settled_by s request others (settled table others)) is) rest end replies settles
+    waits-on table request (λ others. ap (λ (s : RequestStanding). settled_by s request others (settled table others)) is) rest end replies settles
 comes-by table request rest end replies InHand is settles =
-    goes table request rest end replies (ap (λ (s : Standing). settled_by s request rest (settled table rest)) is) settles
+    goes table request rest end replies (ap (λ (s : RequestStanding). settled_by s request rest (settled table rest)) is) settles
 comes-by table request rest end replies Old is settles =
-    goes table request rest end replies (ap (λ (s : Standing). settled_by s request rest (settled table rest)) is) settles
+    goes table request rest end replies (ap (λ (s : RequestStanding). settled_by s request rest (settled table rest)) is) settles
 comes-by table request rest end replies (Kept words) is settles =
     one_more-by table (request ∷ rest) end (reply_to request words) replies (record { reply = Some (reply_to request words); rest = rest })
-    (ap (λ (s : Standing). settled_by s request rest (settled table rest)) is) refl settles
+    (ap (λ (s : RequestStanding). settled_by s request rest (settled table rest)) is) refl settles
 
 pub comes : (table : ReceiveBlock) (waiting : List Request) → Settles table waiting (all_repeated table waiting) (still_waiting table waiting)
 comes table [] = no_more refl
@@ -82,7 +82,7 @@ step-without table request rest s silent goes step = record {
   end_rest = step.end_rest;
 }
 
-step-by : (table : ReceiveBlock) (request : Request) (rest : List Request) (later : Settled) (s : Standing) → standing table request ≡ s → IsStep table rest later
+step-by : (table : ReceiveBlock) (request : Request) (rest : List Request) (later : Settled) (s : RequestStanding) → standing table request ≡ s → IsStep table rest later
     → IsStep table (request ∷ rest) (settled_by s request rest later)
 step-by table request rest later Next is step = step-on table request rest later (ap (repeated_by request) is) (ap is_waiting is) step
 step-by table request rest later Ahead is step = step-on table request rest later (ap (repeated_by request) is) (ap is_waiting is) step

@@ -5,8 +5,8 @@ use Rattle.std.proofs.lemmas.List.{append-nil, drop_all, drop_more, take_all, ta
 use Rattle.gd_words.specs.declared.message.Request.{Request}
 use Rattle.checkpoint_image.specs.Receive.{Chosen, chosen, chosen_after, chosen_by, is_next, is_waiting, reply_to, standing}
 use Rattle.checkpoint_image.specs.declared.receive.ReceiveBlock.{ReceiveBlock}
-use Rattle.checkpoint_image.specs.declared.receive.Standing.{Standing}
-use Rattle.checkpoint_image.specs.declared.receive.Standing.TheVariants.{Next, InHand, Kept, Old, Ahead}
+use Rattle.checkpoint_image.specs.declared.receive.RequestStanding.{RequestStanding}
+use Rattle.checkpoint_image.specs.declared.receive.RequestStanding.TheVariants.{Next, InHand, Kept, Old, Ahead}
 use Rattle.file_calls.specs.Takeover.{Settled, settled, settled_after, settled_by}
 
 -- the rest of requests from a place on, where this request stands at it
@@ -71,20 +71,20 @@ settled_behind before s = record s { rest = before ++ s.rest }
 abbrev pub settled_from : ReceiveBlock → List Request → ℕ → Settled
 settled_from table requests k = settled_behind (take k requests) (settled table (drop k requests))
 
-settled-rest : (table : ReceiveBlock) (requests : List Request) (k : ℕ) (request : Request) (s : Standing) → k < length requests → request ≡ get_or requests k request
+settled-rest : (table : ReceiveBlock) (requests : List Request) (k : ℕ) (request : Request) (s : RequestStanding) → k < length requests → request ≡ get_or requests k request
     → standing table request ≡ s → settled table (drop k requests) ≡ settled_by s request (drop (suc k) requests) (settled table (drop (suc k) requests))
 settled-rest table requests k request s within is stands =
     ap (settled table) (rest-at requests k request within is)
-    ∙ ap (λ (t : Standing). settled_by t request (drop (suc k) requests) (settled table (drop (suc k) requests))) stands
+    ∙ ap (λ (t : RequestStanding). settled_by t request (drop (suc k) requests) (settled table (drop (suc k) requests))) stands
 
-settled-waits : (s : Standing) (request : Request) (rest : List Request) (later : Settled) → is_waiting s ≡ true → settled_by s request rest later ≡ settled_after request later
+settled-waits : (s : RequestStanding) (request : Request) (rest : List Request) (later : Settled) → is_waiting s ≡ true → settled_by s request rest later ≡ settled_after request later
 settled-waits Next request rest later waits = refl
 settled-waits Ahead request rest later waits = refl
 settled-waits InHand request rest later waits = absurd (cc)
 settled-waits Old request rest later waits = absurd (cc)
 settled-waits (Kept words) request rest later waits = absurd (cc)
 
-pub settled-later : (table : ReceiveBlock) (requests : List Request) (k : ℕ) (request : Request) (s : Standing) → k < length requests → request ≡ get_or requests k request
+pub settled-later : (table : ReceiveBlock) (requests : List Request) (k : ℕ) (request : Request) (s : RequestStanding) → k < length requests → request ≡ get_or requests k request
     → standing table request ≡ s → is_waiting s ≡ true → settled_from table requests k ≡ settled_from table requests (k + 1)
 settled-later table requests k request s within is stands waits =
     let later = settled table (drop (suc k) requests) in
@@ -107,8 +107,8 @@ drop-removed (request ∷ requests) (suc k) = drop-removed requests k
 
 settled-goes : (table : ReceiveBlock) (request : Request) (rest : List Request) (later : Settled) → (standing table request ≡ InHand) ⊎ (standing table request ≡ Old)
     → settled_by (standing table request) request rest later ≡ later
-settled-goes table request rest later (inl stands) = ap (λ (s : Standing). settled_by s request rest later) stands
-settled-goes table request rest later (inr stands) = ap (λ (s : Standing). settled_by s request rest later) stands
+settled-goes table request rest later (inl stands) = ap (λ (s : RequestStanding). settled_by s request rest later) stands
+settled-goes table request rest later (inr stands) = ap (λ (s : RequestStanding). settled_by s request rest later) stands
 
 -- a request that goes without a reply
 pub settled-without : (table : ReceiveBlock) (requests : List Request) (k : ℕ) (request : Request) → k < length requests → request ≡ get_or requests k request

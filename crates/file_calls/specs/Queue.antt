@@ -5,8 +5,8 @@ use Rattle.gd_words.specs.declared.message.Request.{Request}
 use Rattle.gd_words.specs.Members.{AreDistinct}
 use Rattle.checkpoint_image.specs.Receive.{Chosen, is_outdone, reply_to, standing}
 use Rattle.checkpoint_image.specs.declared.receive.ReceiveBlock.{ReceiveBlock}
-use Rattle.checkpoint_image.specs.declared.receive.Standing.{Standing}
-use Rattle.checkpoint_image.specs.declared.receive.Standing.TheVariants.{Next, InHand, Kept, Old, Ahead}
+use Rattle.checkpoint_image.specs.declared.receive.RequestStanding.{RequestStanding}
+use Rattle.checkpoint_image.specs.declared.receive.RequestStanding.TheVariants.{Next, InHand, Kept, Old, Ahead}
 use Rattle.file_calls.specs.declared.waiting.Arrival.{Arrival}
 use Rattle.file_calls.specs.declared.waiting.Arrival.TheVariants.{Waits, Dropped, Again}
 
@@ -35,7 +35,7 @@ abbrev pub watched_arrival : List Request → Request → Arrival
 watched_arrival waiting request = if is_outdone request waiting then Dropped else Waits
 
 -- what becomes of a request that stands so
-abbrev pub arrival_by : Standing → List Request → Request → Arrival
+abbrev pub arrival_by : RequestStanding → List Request → Request → Arrival
 arrival_by Next waiting request = watched_arrival waiting request
 arrival_by Ahead waiting request = watched_arrival waiting request
 arrival_by InHand waiting request = Dropped

@@ -4,8 +4,8 @@ use Rattle.gd_words.specs.declared.message.Reply.{Reply}
 use Rattle.gd_words.specs.declared.message.Request.{Request}
 use Rattle.checkpoint_image.specs.Receive.{reply_to, standing}
 use Rattle.checkpoint_image.specs.declared.receive.ReceiveBlock.{ReceiveBlock}
-use Rattle.checkpoint_image.specs.declared.receive.Standing.{Standing}
-use Rattle.checkpoint_image.specs.declared.receive.Standing.TheVariants.{Next, InHand, Kept, Old, Ahead}
+use Rattle.checkpoint_image.specs.declared.receive.RequestStanding.{RequestStanding}
+use Rattle.checkpoint_image.specs.declared.receive.RequestStanding.TheVariants.{Next, InHand, Kept, Old, Ahead}
 
 -- the next reply that is sent again, where there is one, and the requests that wait then
 pub record Settled : Type 0 where
@@ -17,7 +17,7 @@ abbrev pub settled_after : Request → Settled → Settled
 settled_after request later = record later { rest = request ∷ later.rest }
 
 -- what is settled of a request that stands so and of the later ones
-abbrev pub settled_by : Standing → Request → List Request → Settled → Settled
+abbrev pub settled_by : RequestStanding → Request → List Request → Settled → Settled
 settled_by Next request rest later = settled_after request later
 settled_by Ahead request rest later = settled_after request later
 settled_by InHand request rest later = later

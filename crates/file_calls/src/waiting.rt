@@ -4,7 +4,7 @@ ghost use Rattle.checkpoint_image.specs.Receive.{came, chosen, is_next, is_outdo
 ghost use Rattle.file_calls.specs.Queue.{IsOnePerOpener, arrival_of, left_by, queue_of, sent_again, watched_arrival};
 ghost use Rattle.file_calls.specs.Takeover.{settled};
 
-use checkpoint_image::Standing;
+use checkpoint_image::RequestStanding;
 use gd_words::{NoMemory, Reply, Request, Words};
 use std::alloc::Global;
 use std::marker::Model;
@@ -74,9 +74,9 @@ impl Waiting {
         ensures openers { self.new.openers ≡ self.old.openers }
     {
         match receive.standing(request.opener, request.number) {
-            Standing::Next | Standing::Ahead => self.arrive_watching(request),
-            Standing::InHand | Standing::Old => Arrival::Dropped,
-            Standing::Kept(words) => Arrival::Again(reply_to(&request, words)),
+            RequestStanding::Next | RequestStanding::Ahead => self.arrive_watching(request),
+            RequestStanding::InHand | RequestStanding::Old => Arrival::Dropped,
+            RequestStanding::Kept(words) => Arrival::Again(reply_to(&request, words)),
         }
     }
 
@@ -134,11 +134,11 @@ impl Waiting {
         let mut place = 0;
         while place < self.requests.len() {
             match standing(&self.requests[place], receive) {
-                Standing::Next | Standing::Ahead => place += 1,
-                Standing::InHand | Standing::Old => {
+                RequestStanding::Next | RequestStanding::Ahead => place += 1,
+                RequestStanding::InHand | RequestStanding::Old => {
                     let _dropped = self.requests.remove(place);
                 }
-                Standing::Kept(words) => {
+                RequestStanding::Kept(words) => {
                     let request = self.requests.remove(place);
                     return Some(reply_to(&request, words));
                 }
@@ -149,7 +149,7 @@ impl Waiting {
 }
 
 /// How a request stands to a receive table.
-fn standing(request: &Request, receive: &Receive) -> Standing
+fn standing(request: &Request, receive: &Receive) -> RequestStanding
     requires { request.now.opener < length receive.now.depths }
     ensures { result ≡ standing receive.now.table request.now }
 {
@@ -162,7 +162,7 @@ fn is_next(request: &Request, receive: &Receive) -> bool
     ensures { result ≡ is_next (standing receive.now.table request.now) }
 {
     match standing(request, receive) {
-        Standing::Next => true,
+        RequestStanding::Next => true,
         _ => false,
     }
 }

@@ -4,7 +4,7 @@ use Rattle.std.specs.Option.{option_map}
 use Rattle.std.proofs.lemmas.Option.{slice_get_within}
 use Rattle.gd_words.specs.Members.{IsAmong}
 use Rattle.tal_tree.specs.declared.program.Program.{Program}
-use Rattle.process_semantics.specs.Rests.{number_of}
+use Rattle.process_semantics.specs.Rests.{entry_number}
 use Rattle.path_semantics.specs.declared.dues.Dues.{Dues}
 use Rattle.path_semantics.specs.Dues.{no_dues, with_changed, after_entry}
 use Rattle.path_semantics.specs.Place.{Place, Stand, next_in, successors, first_stand}
@@ -23,7 +23,7 @@ there (x ∷ xs) (suc k) below = there xs k (omega arith)
 
 no-next : (stand : Stand) (number : ℕ) → stand.place ≡ [] → number_at stand ≡ Some number → ⊥
 no-next stand number ended next =
-    let none : None ≡ Some number = ap (λ (p : Place). option_map number_of (next_in p)) (sym ended) ∙ next in cc
+    let none : None ≡ Some number = ap (λ (p : Place). option_map entry_number (next_in p)) (sym ended) ∙ next in cc
 
 module _ (count : ℕ) (place : ℕ → Place) where
   -- an edge for each stand
@@ -65,10 +65,10 @@ module _ (program : Program) (nodes : List Node) (flow : IsFlow program nodes) w
       (subst (λ (p : Place). IsAmong stand (successors program (record { place = p; dues = here.dues }))) is among)
 
   -- the entry that comes next is the node's
-  named : (k : ℕ) (node : Node) (here : Stand) (number : ℕ) → slice_get nodes k ≡ Some node → here.place ≡ flow.place k → number_at here ≡ Some number → number_of node.entry ≡ number
+  named : (k : ℕ) (node : Node) (here : Stand) (number : ℕ) → slice_get nodes k ≡ Some node → here.place ≡ flow.place k → number_at here ≡ Some number → entry_number node.entry ≡ number
   named k node here number got is next =
-      let both : Some (number_of node.entry) ≡ Some number =
-      sym (ap (λ (p : Place). option_map number_of (next_in p)) is ∙ ap (option_map number_of) (flow.right k node got).next) ∙ next in cc
+      let both : Some (entry_number node.entry) ≡ Some number =
+      sym (ap (λ (p : Place). option_map entry_number (next_in p)) is ∙ ap (option_map entry_number) (flow.right k node got).next) ∙ next in cc
 
   -- Paths are walks
 
@@ -84,7 +84,7 @@ module _ (program : Program) (nodes : List Node) (flow : IsFlow program nodes) w
   first-step k j number dues later path stand steps (inl ended) = inl ended
   first-step k j number dues later path stand steps (inr (last, goes, stands)) = inr (last, (j, later, steps, goes), stands)
 
-  by-way : (path : List ℕ) (k number : ℕ) (here next stand : Stand) (node : Node) (edge : Edge) (goal : Goal) → slice_get nodes k ≡ Some node → number_of node.entry ≡ number
+  by-way : (path : List ℕ) (k number : ℕ) (here next stand : Stand) (node : Node) (edge : Edge) (goal : Goal) → slice_get nodes k ≡ Some node → entry_number node.entry ≡ number
       → IsAmong edge (edges_of node) → edge.goal ≡ goal → IsStand (length nodes) flow.place goal (after edge node here.dues) next → Walks program next path stand
       → ((j : ℕ) → j < length nodes → next.place ≡ flow.place j → IsWalked j next.dues path stand) → IsWalked k here.dues (number ∷ path) stand
   by-way path k number here next stand node edge (At j) got is among goes arrives walk on =
@@ -151,7 +151,7 @@ module _ (program : Program) (nodes : List Node) (flow : IsFlow program nodes) w
       let stand : found.0 ≡ standing j later =
       stands-there (after goes.edge goes.node dues) goes.edge.goal j found.0 goes.goal found.2 ∙ ap (standing j) (sym goes.due) in
       record {
-        next = ap (option_map number_of) is.next ∙ ap Some goes.is;
+        next = ap (option_map entry_number) is.next ∙ ap Some goes.is;
         leads = subst (λ (s : Stand). IsAmong s (successors program (standing k dues))) stand found.1;
       }
 

@@ -1,7 +1,7 @@
 -- Walks along the edges of a graph, with what is due.
 use Rattle.std.specs.Prelude.{◌≡◌, ◌⊎◌, ◌<◌, ℕ, ◌+◌, List, [], ◌∷◌, length, slice_get, Some}
 use Rattle.gd_words.specs.Members.{IsAmong}
-use Rattle.process_semantics.specs.Rests.{number_of}
+use Rattle.process_semantics.specs.Rests.{entry_number}
 use Rattle.path_semantics.specs.declared.dues.Dues.{Dues}
 use Rattle.path_semantics.specs.Dues.{no_dues, with_changed, after_entry}
 use Rattle.path_semantics.specs.Place.{Stand, next_entry}
@@ -14,7 +14,7 @@ module _ (nodes : List Node) where
   pub record StepsTo (k : ℕ) (dues : Dues) (number j : ℕ) (later : Dues) : Type 0 where
     pub node : Node
     pub got : slice_get nodes k ≡ Some node
-    pub is : number_of node.entry ≡ number
+    pub is : entry_number node.entry ≡ number
     pub edge : Edge
     pub among : IsAmong edge (edges_of node)
     pub goal : edge.goal ≡ At j

@@ -6,7 +6,7 @@ use Rattle.std.specs.Io.KnownBytes.{Appends, Consumes, Keeps}
 use Rattle.gd_words.specs.Memory.{no_memory}
 use Rattle.gd_io.specs.Joining.{Appends-more}
 use Rattle.gd_io.specs.Reads.{ReadsFrom}
-use Rattle.gd_io.specs.declared.reading.ReadRefusal.TheVariants.{Failed, TooLong, NoMemory}
+use Rattle.gd_io.specs.declared.reading.SourceFault.TheVariants.{Failed, TooLong, NoMemory}
 
 pub Consumes-keeps : (old mid new : Option (List ℕ)) (bs : List ℕ) → Consumes old mid bs → Keeps mid new → Consumes old new bs
 Consumes-keeps None mid new bs h k = tt

@@ -16,7 +16,7 @@ pub mod writing;
 
 pub use memory_sink::MemorySink;
 pub use memory_source::MemorySource;
-pub use reading::{ReadRefusal, read_all};
+pub use reading::{SourceFault, read_all};
 pub use sink::{Gave, Sink};
 pub use source::{Source, Took};
 pub use standard::{StdSink, StdSource};

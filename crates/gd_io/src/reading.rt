@@ -10,7 +10,7 @@ use thiserror::Error;
 
 /// Why not all bytes of a source are had.
 #[derive(Clone, Copy, Debug, PartialEq, Eq, Error)]
-pub enum ReadRefusal {
+pub enum SourceFault {
     #[error("a read failed")]
     Failed,
     #[error("there are too many bytes")]
@@ -27,13 +27,13 @@ pub fn read_all<S: Source>(
     alloc: Global,
     source: &mut S,
     most: usize,
-) -> Result<List<u8>, ReadRefusal>
+) -> Result<List<u8>, SourceFault>
     ensures bytes { ReadsFrom most (S.left source.old) (S.left source.new) result }
     ensures end { OnOk result (IsAtEnd (S.left source.new)) }
     ensures later { S.faults source.old ≤ S.faults source.new }
-    ensures cause { result ≡ Err ReadRefusal.Failed → HasRisen (S.faults source.old) (S.faults source.new) }
+    ensures cause { result ≡ Err SourceFault.Failed → HasRisen (S.faults source.old) (S.faults source.new) }
     ensures still { S.sure source.old → S.sure source.new × (S.faults source.new ≡ S.faults source.old) }
-    ensures never { S.sure source.old → result ≢ Err ReadRefusal.Failed }
+    ensures never { S.sure source.old → result ≢ Err SourceFault.Failed }
 {
     let mut bytes = Vec::new(alloc);
     let mut room = [0; CHUNK];
@@ -45,12 +45,12 @@ pub fn read_all<S: Source>(
             Took::Got(n) => {
                 let (piece, _) = start.split_at(n);
                 if let Err(error) = bytes.extend_from_slice(piece) {
-                    return Err(ReadRefusal::NoMemory(NoMemory::from(error)));
+                    return Err(SourceFault::NoMemory(NoMemory::from(error)));
                 }
             }
             Took::End => return Ok(List::from_vec(bytes)),
-            Took::Failed => return Err(ReadRefusal::Failed),
+            Took::Failed => return Err(SourceFault::Failed),
         }
     }
-    Err(ReadRefusal::TooLong)
+    Err(SourceFault::TooLong)
 }

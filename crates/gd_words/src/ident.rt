@@ -5,7 +5,7 @@ ghost use Rattle.std.specs.List.{list_all};
 ghost use Rattle.gd_words.specs.IdentOrder.{front, ident_cmp, ident_total, ident_ties};
 ghost use Rattle.gd_words.specs.Spelling.{is_ident, is_ident_sign, ident_of};
 
-use crate::spelling::kept;
+use crate::spelling::upper_padded;
 use std::cmp::Ordering;
 use std::marker::Model;
 
@@ -40,7 +40,7 @@ impl Ident {
     {
         if is_ident(text) {
             Some(Ident {
-                bytes: kept(text),
+                bytes: upper_padded(text),
                 len: text.len(),
             })
         } else {

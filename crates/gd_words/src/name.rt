@@ -1,7 +1,7 @@
 ghost use Rattle.std.specs.Prelude.{◌≡◌, ◌≤◌, length};
 ghost use Rattle.gd_words.specs.Spelling.{is_name_tail, is_name, name_of};
 
-use crate::spelling::{are_all_alphanumeric, kept};
+use crate::spelling::{are_all_alphanumeric, upper_padded};
 use std::marker::Model;
 
 /// The name of a process or a terminal: `$` and one to five letters or digits, of which the first is a letter.
@@ -36,7 +36,7 @@ impl Name {
     {
         if is_name(text) {
             Some(Name {
-                bytes: kept(text),
+                bytes: upper_padded(text),
                 len: text.len(),
             })
         } else {

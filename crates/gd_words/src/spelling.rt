@@ -4,7 +4,7 @@ ghost use Rattle.std.specs.Char.{is_ascii_alphanumeric};
 ghost use Rattle.gd_words.specs.Spelling.{padded, upper};
 
 /// A text's bytes in upper case in N places, zeros after them.
-pub fn kept<const N: usize>(text: &[u8]) -> [u8; N]
+pub fn upper_padded<const N: usize>(text: &[u8]) -> [u8; N]
     requires { length text.now ≤ N }
     ensures { result ≡ padded N (upper text.now) }
 {

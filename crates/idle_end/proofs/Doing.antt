@@ -15,7 +15,7 @@ use Rattle.world_semantics.specs.Kept.{own_acts}
 use Rattle.world_semantics.specs.Own.{by_inner, by_ask, by_answer, by_device, by_write, is_new_write}
 use Rattle.world_semantics.specs.Passes.{by_send, by_pass, by_pass_again}
 use Rattle.world_semantics.specs.Rules.{by_own, by_checkpoint}
-use Rattle.world_semantics.specs.World.{Pair, has_marked, may_pass, copy_of, other_of}
+use Rattle.world_semantics.specs.World.{Pair, has_noted, may_pass, copy_of, other_of}
 use Rattle.world_semantics.proofs.Running.{enters-as}
 use Rattle.letters.specs.Posts.{Post}
 use Rattle.idle_end.proofs.Ends.{IsEnd}
@@ -28,14 +28,14 @@ TakesIn _ = ⊥
 
 module _ {site : Site} {events : ℕ} {post : Post} (end : IsEnd site events post) where
   marks-none : (number : ℕ) (pair : Pair) (k : Which) → slice_get post.world.processes number ≡ Some pair → (copy_of k pair).role ≡ Acting
-      → process.point (copy_of k pair).core.state ≡ point.Mark → ⊥
-  marks-none number pair k there role at = by (has_marked post.world.marks (copy_of k pair).processor (copy_of (other_of k) pair).processor) refl
+      → process.point (copy_of k pair).core.state ≡ point.AtCheckpoint → ⊥
+  marks-none number pair k there role at = by (has_noted post.world.marks (copy_of k pair).processor (copy_of (other_of k) pair).processor) refl
     where
       or-else : (one : Bool) {other : Bool} → other ≡ true → (one || other) ≡ true
       or-else true is = refl
       or-else false is = is
 
-      by : (marked : Bool) → has_marked post.world.marks (copy_of k pair).processor (copy_of (other_of k) pair).processor ≡ marked → ⊥
+      by : (marked : Bool) → has_noted post.world.marks (copy_of k pair).processor (copy_of (other_of k) pair).processor ≡ marked → ⊥
       by false is = end.idle.runs number _ _ (by_checkpoint number pair there (by_send k role at (end.idle.waits number pair k there role) is))
       by true is =
           let may : may_pass post.world.marks k pair ≡ true = or-else (copy_of k pair).acknowledged is in

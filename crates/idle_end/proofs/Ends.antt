@@ -7,7 +7,7 @@ use Rattle.world_semantics.specs.declared.role.Role.{Role}
 use Rattle.world_semantics.specs.declared.role.Role.TheVariants.{Acting, Watching, Gone}
 use Rattle.world_semantics.specs.declared.which.Which.{Which}
 use Rattle.world_semantics.specs.declared.which.Which.TheVariants.{First, Second}
-use Rattle.world_semantics.specs.World.{Pair, terminal_node, is_running, has_marked, copy_of}
+use Rattle.world_semantics.specs.World.{Pair, terminal_node, is_running, has_noted, copy_of}
 use Rattle.world_semantics.proofs.Reached.{gone-is, one-acts}
 use Rattle.letters.specs.Idle.{IsIdle, OneStops}
 use Rattle.letters.specs.Posts.{Post}
@@ -15,9 +15,9 @@ use Rattle.letters.specs.Routes.{route_of, home_of}
 use Rattle.awaited_requests.specs.Awaited.{IsAwaited, by_copy, by_terminal}
 use Rattle.awaited_requests.specs.Seats.{IsLaidOut, AreSeated}
 use Rattle.awaited_requests.specs.Served.{AreServed}
-use Rattle.headline.specs.Fit.{IsFit}
-use Rattle.headline.proofs.Checkpoints.{marked-down}
-use Rattle.headline.proofs.Kept.{IsGood}
+use Rattle.takeover_laws.specs.Fit.{IsFit}
+use Rattle.takeover_laws.proofs.Checkpoints.{marked-down}
+use Rattle.takeover_laws.proofs.Kept.{IsGood}
 
 -- all that is known of an idle end
 pub record IsEnd (site : Site) (events : ℕ) (post : Post) : Type 0 where
@@ -98,9 +98,9 @@ module _ {site : Site} {events : ℕ} {post : Post} (end : IsEnd site events pos
   -- the route of a node that runs leads to the copy that acts
   pub route-acts : (node number : ℕ) (pair : Pair) (k : Which) → is_running post.world.stopped node ≡ true → slice_get post.world.processes number ≡ Some pair
       → (copy_of k pair).role ≡ Acting → route_of post.world.marks node pair ≡ (copy_of k pair).processor
-  route-acts node number pair First runs there acts = by (has_marked post.world.marks node pair.first.processor) refl
+  route-acts node number pair First runs there acts = by (has_noted post.world.marks node pair.first.processor) refl
     where
-      by : (marked : Bool) → has_marked post.world.marks node pair.first.processor ≡ marked
+      by : (marked : Bool) → has_noted post.world.marks node pair.first.processor ≡ marked
           → (if marked then pair.second.processor else pair.first.processor) ≡ pair.first.processor
       by false is = refl
       by true is =

@@ -17,7 +17,7 @@ use Rattle.process_histories.proofs.Counts.{done-stands, take-free}
 use Rattle.process_histories.proofs.Deeds.{done-one}
 use Rattle.plain_histories.specs.Booking.{AreHeld, none_held, take_held, step_held}
 use Rattle.plain_histories.specs.Ledgers.{Ledger}
-use Rattle.headline.proofs.Own.{quiet-held}
+use Rattle.takeover_laws.proofs.Own.{quiet-held}
 use Rattle.letters.specs.Posts.{Post}
 use Rattle.idle_end.proofs.Closed.{IsClosed, is-closed}
 use Rattle.idle_end.proofs.Closing.{CanClose}
@@ -71,7 +71,7 @@ module _ {site : Site} {events : ℕ} {post : Post} (end : IsEnd site events pos
         by point.Inner at = none point.Inner at one found same _ refl
         by point.Ask at = none point.Ask at one found same _ refl
         by point.Answer at = none point.Answer at one found same _ refl
-        by point.Mark at = none point.Mark at one found same _ refl
+        by point.AtCheckpoint at = none point.AtCheckpoint at one found same _ refl
         by point.Device at = none point.Device at one found same _ refl
 
   -- where it holds acts it is at READUPDATE no more than it awaits a reply
@@ -96,7 +96,7 @@ module _ {site : Site} {events : ℕ} {post : Post} (end : IsEnd site events pos
       by point.Inner at rest = absurd rest
       by point.Ask at rest = absurd rest
       by point.Answer at rest = absurd rest
-      by point.Mark at rest = absurd rest
+      by point.AtCheckpoint at rest = absurd rest
       by point.Device at rest = absurd rest
 
   -- a copy that holds acts has ended: one that doesn't act holds none

@@ -13,7 +13,7 @@ use Rattle.plain_semantics.specs.declared.slot.Opener.{Opener}
 use Rattle.plain_semantics.specs.declared.slot.Slot.{Slot}
 use Rattle.plain_semantics.specs.Openers.{opener_of}
 use Rattle.checkpoint_image.specs.declared.receive.ReceiveBlock.{ReceiveBlock}
-use Rattle.checkpoint_image.specs.declared.receive.Standing.TheVariants.{Next, InHand}
+use Rattle.checkpoint_image.specs.declared.receive.RequestStanding.TheVariants.{Next, InHand}
 use Rattle.checkpoint_image.specs.Receive.{is_place, standing_by, standing_at, standing}
 use Rattle.world_semantics.specs.Core.{takes}
 use Rattle.world_semantics.specs.Own.{by_take}
@@ -31,8 +31,8 @@ use Rattle.plain_histories.proofs.Openers.{opener-is, opener-opened, opener-term
 use Rattle.letters.specs.Posts.{Post}
 use Rattle.awaited_requests.specs.Awaited.{IsAwaited, by_copy, by_terminal}
 use Rattle.awaited_requests.specs.Served.{WaitsFor}
-use Rattle.headline.proofs.Backed.{next-is}
-use Rattle.headline.proofs.Waiting.{chosen-is}
+use Rattle.takeover_laws.proofs.Backed.{next-is}
+use Rattle.takeover_laws.proofs.Waiting.{chosen-is}
 use Rattle.idle_end.proofs.Closed.{IsClosed}
 use Rattle.idle_end.proofs.Ends.{IsEnd, who_acts, acting}
 use Rattle.idle_end.proofs.Awaited.{unanswered, at-server}
@@ -68,7 +68,7 @@ await-is point.Inner is = absurd (cc)
 await-is point.Take is = absurd (cc)
 await-is point.Ask is = absurd (cc)
 await-is point.Answer is = absurd (cc)
-await-is point.Mark is = absurd (cc)
+await-is point.AtCheckpoint is = absurd (cc)
 await-is point.Device is = absurd (cc)
 await-is point.Ended is = absurd (cc)
 

@@ -88,7 +88,7 @@ module _ (site : Site) where
   step-owned : (number : ℕ) (one : PlainProcess) (plain : Plain) (at : Point) → slice_get plain.processes number ≡ Some one → AreOwned site plain
       → StayOwned (step_at site number one plain at)
   step-owned number one plain point.Inner there all = rest-owned number one _ plain there refl refl all
-  step-owned number one plain point.Mark there all = rest-owned number one _ plain there refl refl all
+  step-owned number one plain point.AtCheckpoint there all = rest-owned number one _ plain there refl refl all
   step-owned number one plain point.Device there all = rest-owned number one _ plain there refl refl all
   step-owned number one plain point.Take there all = tt
   step-owned number one plain point.Ended there all = tt
@@ -111,7 +111,7 @@ module _ (site : Site) where
   take-owned number place one plain point.Ask there all = tt
   take-owned number place one plain point.Await there all = tt
   take-owned number place one plain point.Answer there all = tt
-  take-owned number place one plain point.Mark there all = tt
+  take-owned number place one plain point.AtCheckpoint there all = tt
   take-owned number place one plain point.Device there all = tt
   take-owned number place one plain point.Ended there all = tt
   take-owned number place one plain point.Take there all = by (slice_get one.slots place) refl

@@ -11,7 +11,7 @@ use Rattle.world_semantics.specs.Own.{Around, Causes, by_inner, by_take, by_ask,
 use Rattle.world_semantics.specs.Passes.{Passes, by_send, by_pass_again, by_pass, by_apply, by_acknowledge}
 use Rattle.world_semantics.specs.Rules.{Change, by_own, by_checkpoint, by_request, by_early_request, by_enter, by_print, by_stop, by_mark}
 use Rattle.world_semantics.specs.Running.{run_done}
-use Rattle.world_semantics.specs.World.{Pair, Terminal, Mark, World, pair_at_boot, copy_of}
+use Rattle.world_semantics.specs.World.{Pair, Terminal, Down, World, pair_at_boot, copy_of}
 use Rattle.world_semantics.proofs.Lists.{some-same}
 use Rattle.world_semantics.proofs.Ran.{run-idle}
 use Rattle.letters.specs.Idle.{IsIdle}
@@ -31,7 +31,7 @@ not-own (by_device old) same = cc
 not-own (by_write new) same = cc
 not-own (by_reply among opens last said) same = cc
 
-not-passes : {number terminal : ℕ} {marks : List Mark} {kept after : List Act} {pair next : Pair} {cause : Cause} {sendings : List Sending}
+not-passes : {number terminal : ℕ} {marks : List Down} {kept after : List Act} {pair next : Pair} {cause : Cause} {sendings : List Sending}
     → Passes number marks kept pair cause sendings next after → cause ≢ Entering terminal
 not-passes (by_send k role at unsent unmarked) same = cc
 not-passes (by_pass_again k role at may less) same = cc

@@ -9,7 +9,7 @@ use Rattle.plain_semantics.specs.declared.slot.Opener.{Opener}
 use Rattle.plain_semantics.specs.Openers.{openers_of, opener_of}
 use Rattle.world_semantics.specs.declared.role.Role.TheVariants.{Acting}
 use Rattle.world_semantics.specs.declared.which.Which.{Which}
-use Rattle.world_semantics.specs.Core.{Core, Deed, Went, Marked, Took, Asked, Got, Answered, Acted, Advances}
+use Rattle.world_semantics.specs.Core.{Core, Deed, Went, Checkpointed, Took, Asked, Got, Answered, Acted, Advances}
 use Rattle.world_semantics.specs.Laws.{HasGrown}
 use Rattle.world_semantics.specs.World.{Copy, Pair, World, copy_of}
 use Rattle.world_semantics.proofs.Lists.{some-same, grown-none}
@@ -22,8 +22,8 @@ use Rattle.plain_histories.proofs.Possible.{booked-ran}
 use Rattle.letters.specs.Posts.{Post}
 use Rattle.awaited_requests.specs.Awaited.{by_copy}
 use Rattle.awaited_requests.proofs.Leads.{count-join, acting-leads}
-use Rattle.headline.specs.Invariant.{IsRepeatable, Stage, IsLead, is_level, is_applied, is_behind, IsSound}
-use Rattle.headline.proofs.Backed.{next-is}
+use Rattle.takeover_laws.specs.Invariant.{IsRepeatable, Stage, IsLead, is_level, is_applied, is_behind, IsSound}
+use Rattle.takeover_laws.proofs.Backed.{next-is}
 use Rattle.idle_end.proofs.CaughtUp.{HasPast, AwaitsMore, IsStuck, caught, grown-same}
 use Rattle.idle_end.proofs.Closing.{CanClose}
 use Rattle.idle_end.proofs.Ends.{IsEnd, who_acts, acting, only-acts}
@@ -34,7 +34,7 @@ got-again : (deed : Deed) → TakesIn deed → IsRepeatable deed → point_of de
 got-again (Got file words) takes_in again = refl
 got-again (Took place words) takes_in again = absurd again
 got-again Went takes_in again = absurd takes_in
-got-again Marked takes_in again = absurd takes_in
+got-again Checkpointed takes_in again = absurd takes_in
 got-again (Asked file words) takes_in again = absurd takes_in
 got-again (Answered place words) takes_in again = absurd takes_in
 got-again (Acted call found) takes_in again = absurd takes_in

@@ -106,7 +106,7 @@ module _ {site : Site} {events : ℕ} {post : Post} (end : IsEnd site events pos
       at one there point.Ask makes = cc
       at one there point.Await makes = cc
       at one there point.Answer makes = cc
-      at one there point.Mark makes = cc
+      at one there point.AtCheckpoint makes = cc
       at one there point.Device makes = cc
       at one there point.Ended makes = cc
 

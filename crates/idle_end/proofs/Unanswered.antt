@@ -5,8 +5,8 @@ use Rattle.tal_tree.specs.declared.site.Site.{Site}
 use Rattle.tal_tree.specs.declared.site.ProcessSpec.{ProcessSpec}
 use Rattle.plain_semantics.specs.declared.slot.Opener.{Opener}
 use Rattle.checkpoint_image.specs.declared.receive.OpenerBlock.{OpenerBlock}
-use Rattle.checkpoint_image.specs.declared.receive.Standing.{Standing}
-use Rattle.checkpoint_image.specs.declared.receive.Standing.TheVariants.{Next, Ahead, InHand}
+use Rattle.checkpoint_image.specs.declared.receive.RequestStanding.{RequestStanding}
+use Rattle.checkpoint_image.specs.declared.receive.RequestStanding.TheVariants.{Next, Ahead, InHand}
 use Rattle.checkpoint_image.specs.Receive.{holds, answered as last_answered, reply_kept, kept_or_old, standing_in, standing_by, standing_at, standing, Chosen, chosen, chosen_by, chosen_after, is_next}
 use Rattle.world_semantics.specs.Core.{Core, Deed}
 use Rattle.process_histories.specs.Histories.{HasDone}
@@ -17,7 +17,7 @@ use Rattle.gd_words.specs.declared.message.Request.{Request}
 use Rattle.checkpoint_image.specs.declared.receive.ReceiveBlock.{ReceiveBlock}
 
 -- what stands next or in hand wasn't answered
-not-answered-in : (held : Bool) (block : OpenerBlock) (n : ℕ) (s : Standing) → standing_in held block n ≡ s → (s ≡ Next) ⊎ (s ≡ InHand)
+not-answered-in : (held : Bool) (block : OpenerBlock) (n : ℕ) (s : RequestStanding) → standing_in held block n ≡ s → (s ≡ Next) ⊎ (s ≡ InHand)
     → (n ≡ block.taken + 1) ⊎ ((held ≡ true) × (n ≡ block.taken))
 not-answered-in held block n s is = by (n == block.taken + 1) refl (nat_lt (block.taken + 1) n) held (n == block.taken) refl (reply_kept (last_answered held block) block.kept n) is
   where

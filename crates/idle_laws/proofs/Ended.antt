@@ -6,8 +6,8 @@ use Rattle.letters.specs.Idle.{IsIdle, OneStops}
 use Rattle.letters.specs.Posts.{Post, HasPlayed}
 use Rattle.letters.proofs.Worlds.{played-run}
 use Rattle.awaited_requests.specs.Seats.{IsLaidOut}
-use Rattle.headline_laws.proofs.Accepted.{accepted-fit}
-use Rattle.headline_laws.specs.Premises.{IsAcceptedSite}
+use Rattle.accepted_sites.proofs.Accepted.{accepted-fit}
+use Rattle.accepted_sites.specs.Premises.{IsAcceptedSite}
 use Rattle.idle_end.specs.Ends.{IsIdleEnd}
 use Rattle.idle_laws.proofs.Sound.{played-sound}
 

@@ -6,7 +6,7 @@ ghost use Rattle.letters.specs.Idle.{IsIdle, OneStops};
 ghost use Rattle.letters.specs.Posts.{Post, HasPlayed};
 ghost use Rattle.awaited_requests.specs.Examples.{site_with};
 ghost use Rattle.awaited_requests.specs.Seats.{IsLaidOut};
-ghost use Rattle.headline_laws.specs.Premises.{IsAcceptedSite};
+ghost use Rattle.accepted_sites.specs.Premises.{IsAcceptedSite};
 
 /// The site of a disc is accepted, and laid out where both of its processors are there. Where both stop, the request that its terminal entered stays with
 /// nobody: nothing is left to do, but its take is left on the machine of single processes. So it is where one stops and the other one isn't there.

@@ -13,7 +13,7 @@ ghost use Rattle.letters.specs.Idle.{IsIdle, OneStops};
 ghost use Rattle.letters.specs.Posts.{Post, HasPlayed};
 ghost use Rattle.awaited_requests.specs.Seats.{IsLaidOut};
 ghost use Rattle.awaited_requests.specs.Served.{AreServed};
-ghost use Rattle.headline_laws.specs.Premises.{IsAcceptedSite};
+ghost use Rattle.accepted_sites.specs.Premises.{IsAcceptedSite};
 ghost use Rattle.idle_end.specs.Ends.{IsAsCopy};
 
 /// Where each pair of a site runs a program that was read and is accepted, and its processes are laid out over its processors, then whatever the events are,

@@ -2,40 +2,40 @@ ghost use Rattle.std.specs.Prelude.{◌≡◌, ◌<◌, ◌≤◌, ℕ, ◌+◌,
 ghost use Rattle.tal_tree.specs.declared.act.Act.{Act};
 ghost use Rattle.tal_tree.specs.declared.act.Act.TheVariants.{Enter, Step, Take};
 ghost use Rattle.world_semantics.specs.Kept.{own_acts};
-ghost use Rattle.world_semantics.specs.Shares.{Share, covered, covering, entering, passing, share_from};
+ghost use Rattle.world_semantics.specs.Shares.{Share, covered_count, share_after_cover, share_after_act, share_after_pass, share_from};
 
 /// What a copy does anew that holds nothing adds nothing, whatever act it is: the copy only comes one further.
 pub fn what_is_done_anew_adds_nothing()
     ensures { (number position : ℕ) (act : Act) (kept : List Act) → position < own_acts number kept
-        → entering number act kept (share_from position) ≡ record { share = share_from (position + 1); kept = kept } }
+        → share_after_act number act kept (share_from position) ≡ record { share = share_from (position + 1); kept = kept } }
 {}
 
 /// At the end of the kept acts a step is kept, and a take is held, with all that is done behind it.
 pub fn a_take_is_held_until_the_next_checkpoint()
     ensures step { (number process position : ℕ) (kept : List Act) → own_acts number kept ≤ position
-        → entering number (Step process) kept (share_from position) ≡ record { share = share_from (position + 1); kept = Step process ∷ kept } }
+        → share_after_act number (Step process) kept (share_from position) ≡ record { share = share_from (position + 1); kept = Step process ∷ kept } }
     ensures take { (number process opener position : ℕ) (kept : List Act) → own_acts number kept ≤ position
-        → entering number (Take process opener) kept (share_from position)
+        → share_after_act number (Take process opener) kept (share_from position)
         ≡ record { share = record { position = position; held = Take process opener ∷ [] }; kept = kept } }
     ensures behind { (number position : ℕ) (act first : Act) (rest kept : List Act)
-        → entering number act kept (record { position = position; held = first ∷ rest })
+        → share_after_act number act kept (record { position = position; held = first ∷ rest })
         ≡ record { share = record { position = position; held = act ∷ first ∷ rest }; kept = kept } }
 {}
 
-/// A mark that is passed first is kept behind what was held, and one that is passed anew is not kept again.
+/// A checkpoint that is passed first is kept behind what was held, and one that is passed anew is not kept again.
 pub fn a_mark_is_kept_once()
-    ensures first { passing 1 (Step 1 ∷ Enter 0 ∷ []) (record { position = 1; held = Step 1 ∷ Take 1 0 ∷ [] })
+    ensures first { share_after_pass 1 (Step 1 ∷ Enter 0 ∷ []) (record { position = 1; held = Step 1 ∷ Take 1 0 ∷ [] })
         ≡ record { share = share_from 4; kept = Step 1 ∷ Step 1 ∷ Take 1 0 ∷ Step 1 ∷ Enter 0 ∷ [] } }
-    ensures anew { passing 1 (Step 1 ∷ Step 1 ∷ Enter 0 ∷ []) (share_from 1)
+    ensures anew { share_after_pass 1 (Step 1 ∷ Step 1 ∷ Enter 0 ∷ []) (share_from 1)
         ≡ record { share = share_from 2; kept = Step 1 ∷ Step 1 ∷ Enter 0 ∷ [] } }
 {}
 
-/// After a checkpoint was applied its mark and all before it are kept. The copy that sent it does the mark anew when it passes it.
+/// After a checkpoint was applied, it and all before it are kept. The copy that sent it does the checkpoint anew when it passes it.
 pub fn a_checkpoint_keeps_its_mark()
-    ensures held { covering 1 (Step 1 ∷ Step 2 ∷ []) (record { position = 1; held = Take 1 0 ∷ [] })
+    ensures held { share_after_cover 1 (Step 1 ∷ Step 2 ∷ []) (record { position = 1; held = Take 1 0 ∷ [] })
         ≡ record { share = share_from 2; kept = Step 1 ∷ Take 1 0 ∷ Step 1 ∷ Step 2 ∷ [] } }
-    ensures base { covered 1 (Step 1 ∷ Step 2 ∷ []) (record { position = 1; held = Take 1 0 ∷ [] }) ≡ 3 }
+    ensures base { covered_count 1 (Step 1 ∷ Step 2 ∷ []) (record { position = 1; held = Take 1 0 ∷ [] }) ≡ 3 }
     ensures passed { (number : ℕ) (kept : List Act) (share : Share)
-        → passing number (covering number kept share).kept (covering number kept share).share
-        ≡ record { share = share_from (covered number kept share); kept = (covering number kept share).kept } }
+        → share_after_pass number (share_after_cover number kept share).kept (share_after_cover number kept share).share
+        ≡ record { share = share_from (covered_count number kept share); kept = (share_after_cover number kept share).kept } }
 {}

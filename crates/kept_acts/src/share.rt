@@ -1,6 +1,6 @@
 ghost use Rattle.std.specs.Prelude.{◌≡◌, ◌<◌, ◌+◌, ◌^◌, reverse, IfOk, OnOk, OnErr};
 ghost use Rattle.gd_words.specs.Ranges.{HasNextLong};
-ghost use Rattle.world_semantics.specs.Shares.{closing, covered, covering, entering, letting_go, passing, share_from};
+ghost use Rattle.world_semantics.specs.Shares.{share_at_close, covered_count, share_after_cover, share_after_act, share_without_held, share_after_pass, share_from};
 
 use crate::kept::KeptActs;
 use gd_words::NoMemory;
@@ -56,8 +56,8 @@ impl CopyShare {
     /// An act of a copy of the process enters the kept acts, or is held, or was kept already. The copy's position has a number after it.
     pub fn enter(&mut self, process: u8, done: Act, kept: &mut KeptActs) -> Result<(), NoMemory>
         requires { HasNextLong self.old.position }
-        ensures share { OnOk result (self.new ≡ (entering process done kept.old self.old).share) }
-        ensures kept { OnOk result (kept.new ≡ (entering process done kept.old self.old).kept) }
+        ensures share { OnOk result (self.new ≡ (share_after_act process done kept.old self.old).share) }
+        ensures kept { OnOk result (kept.new ≡ (share_after_act process done kept.old self.old).kept) }
         ensures err { OnErr result ((self.new ≡ self.old) × (kept.new ≡ kept.old)) }
     {
         if !self.held.is_empty() {
@@ -84,10 +84,10 @@ impl CopyShare {
         }
     }
 
-    /// A copy of the process passes its mark: which it did already, or which is kept now, with its held acts before it.
+    /// A copy of the process passes its checkpoint: which it did already, or which is kept now, with its held acts before it.
     pub fn pass(&mut self, process: u8, kept: &mut KeptActs) -> Result<(), NoMemory>
-        ensures share { OnOk result (self.new ≡ (passing process kept.old self.old).share) }
-        ensures kept { OnOk result (kept.new ≡ (passing process kept.old self.old).kept) }
+        ensures share { OnOk result (self.new ≡ (share_after_pass process kept.old self.old).share) }
+        ensures kept { OnOk result (kept.new ≡ (share_after_pass process kept.old self.old).kept) }
         ensures err { OnErr result ((self.new ≡ self.old) × (kept.new ≡ kept.old)) }
     {
         if self.position < kept.length_of(process) {
@@ -100,12 +100,12 @@ impl CopyShare {
         Ok(())
     }
 
-    /// The other copy of the process applied the checkpoint of this copy's mark. Answers the base: how many kept acts of the process the
+    /// The other copy of the process applied this copy's checkpoint. Answers the base: how many kept acts of the process the
     /// checkpoint covers.
     pub fn cover(&mut self, process: u8, kept: &mut KeptActs) -> Result<u64, NoMemory>
-        ensures base { IfOk result (λ base. base ≡ covered process kept.old self.old) }
-        ensures share { OnOk result (self.new ≡ (covering process kept.old self.old).share) }
-        ensures kept { OnOk result (kept.new ≡ (covering process kept.old self.old).kept) }
+        ensures base { IfOk result (λ base. base ≡ covered_count process kept.old self.old) }
+        ensures share { OnOk result (self.new ≡ (share_after_cover process kept.old self.old).share) }
+        ensures kept { OnOk result (kept.new ≡ (share_after_cover process kept.old self.old).kept) }
         ensures err { OnErr result ((self.new ≡ self.old) × (kept.new ≡ kept.old)) }
     {
         kept.keep_with_mark(process, &self.held)?;
@@ -125,15 +125,15 @@ impl CopyShare {
 
     /// The copy was lost, and the other one took over: what it held is dropped.
     pub fn let_go(&mut self)
-        ensures { self.new ≡ letting_go self.old }
+        ensures { self.new ≡ share_without_held self.old }
     {
         self.held.clear();
     }
 
     /// The run is closed: what the copy still holds is kept.
     pub fn close(&mut self, kept: &mut KeptActs) -> Result<(), NoMemory>
-        ensures share { OnOk result (self.new ≡ (closing kept.old self.old).share) }
-        ensures kept { OnOk result (kept.new ≡ (closing kept.old self.old).kept) }
+        ensures share { OnOk result (self.new ≡ (share_at_close kept.old self.old).share) }
+        ensures kept { OnOk result (kept.new ≡ (share_at_close kept.old self.old).kept) }
         ensures err { OnErr result ((self.new ≡ self.old) × (kept.new ≡ kept.old)) }
     {
         kept.keep_all(&self.held)?;

@@ -3,11 +3,11 @@ ghost use Rattle.std.specs.Option.{option_map};
 ghost use Rattle.process_semantics.specs.Process.{point};
 ghost use Rattle.process_semantics.specs.declared.point.Point.TheVariants.{Await};
 ghost use Rattle.computed_changes.specs.Fitting.{depths_of};
-ghost use Rattle.computed_changes.specs.Stopped.{marked_done};
+ghost use Rattle.computed_changes.specs.Stopped.{down_done};
 ghost use Rattle.world_semantics.specs.Messages.{sent_at};
 ghost use Rattle.world_semantics.specs.World.{pair_at_boot, terminal_node};
 ghost use Rattle.letters.specs.Again.{kept_for, of_copies, sent_again};
-ghost use Rattle.letters.specs.Posts.{after_marking, without_those_between};
+ghost use Rattle.letters.specs.Posts.{post_after_down, without_those_between};
 ghost use Rattle.gd_words.specs.declared.message.Reply.{Reply};
 ghost use Rattle.letter_guards.specs.Worlds.{asked_by, bank, deeper_site, site, user, awaiting, world_at, world, keeping_two, two_kept, taking_over, before_takeover, marked_by, bank_asks, terminal_asks, user_is_told, user_is_told_of, terminal_is_told, disc_tells, letter, post};
 
@@ -32,9 +32,9 @@ pub fn nothing_is_sent_again_where_no_route_changes()
 /// Of what was owed only that between the node and the processor goes, in both directions; and what is sent again is owed by the new routes.
 pub fn what_is_lost_at_a_mark_is_owed_anew()
     ensures left { without_those_between 0 2 post.owed ≡ letter terminal_node 2 terminal_asks ∷ letter 0 terminal_node terminal_is_told ∷ letter 0 1 user_is_told ∷ [] }
-    ensures owed { (after_marking site 0 2 [] (marked_by 0 world) post).owed
+    ensures owed { (post_after_down site 0 2 [] (marked_by 0 world) post).owed
         ≡ letter terminal_node 2 terminal_asks ∷ letter 0 terminal_node terminal_is_told ∷ letter 0 1 user_is_told ∷ letter 0 3 bank_asks ∷ letter 0 3 user_is_told ∷ [] }
-    ensures sent { (after_marking site 0 2 [] (marked_by 0 world) post).sent ≡ letter 0 3 bank_asks ∷ letter 0 3 user_is_told ∷ [] }
+    ensures sent { (post_after_down site 0 2 [] (marked_by 0 world) post).sent ≡ letter 0 3 bank_asks ∷ letter 0 3 user_is_told ∷ [] }
 {}
 
 /// The replies that are kept for one opener are sent again the oldest first, each with its number: the last one is that to the request that was answered last,
@@ -49,9 +49,9 @@ pub fn kept_replies_are_sent_the_oldest_first()
 
 /// What a copy that takes over tells those whose requests waited goes before what its node asks and tells again.
 pub fn a_takeover_tells_first()
-    ensures sent { option_map (λ done. (after_marking site 3 2 done.sendings done.world before_takeover).sent) (marked_done 3 2 taking_over)
+    ensures sent { option_map (λ done. (post_after_down site 3 2 done.sendings done.world before_takeover).sent) (down_done 3 2 taking_over)
         ≡ Some (letter 3 16 disc_tells ∷ letter 3 3 bank_asks ∷ letter 3 3 user_is_told ∷ []) }
-    ensures owed { option_map (λ done. (after_marking site 3 2 done.sendings done.world before_takeover).owed) (marked_done 3 2 taking_over)
+    ensures owed { option_map (λ done. (post_after_down site 3 2 done.sendings done.world before_takeover).owed) (down_done 3 2 taking_over)
         ≡ Some (letter 3 16 disc_tells ∷ letter 3 3 bank_asks ∷ letter 3 3 user_is_told ∷ []) }
 {}
 

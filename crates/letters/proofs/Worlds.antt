@@ -2,21 +2,21 @@
 use Rattle.std.proofs.Common.{List, [], ◌∷◌, ◌++◌}
 use Rattle.tal_tree.specs.declared.site.Site.{Site}
 use Rattle.schedule.specs.declared.event.Event.{Event}
-use Rattle.world_semantics.specs.Follows.{Follows, Marks, marks_none, marks_one, Leads, stays, goes_on, IsRun}
+use Rattle.world_semantics.specs.Follows.{Follows, NotesDowns, marks_none, marks_one, Leads, stays, goes_on, IsRun}
 use Rattle.world_semantics.specs.Follows as follows
 use Rattle.world_semantics.specs.Messages.{Sending}
 use Rattle.world_semantics.specs.World.{World}
-use Rattle.letters.specs.Posts.{Post, MakesMarks, no_mark, one_mark, Plays, plays_run, plays_no_run, plays_enter, plays_no_enter, plays_nothing, plays_hand, plays_drop, plays_again, plays_mark, plays_loss, plays_repeat, plays_no_tick, plays_tick, plays_tick_stop, plays_fail, plays_no_fail, HasPlayed, played_none, played_more}
+use Rattle.letters.specs.Posts.{Post, NotesLetters, no_mark, one_mark, PlaysEvent, plays_run, plays_no_run, plays_enter, plays_no_enter, plays_nothing, plays_hand, plays_drop, plays_again, plays_mark, plays_loss, plays_repeat, plays_no_tick, plays_tick, plays_tick_stop, plays_fail, plays_no_fail, HasPlayed, played_none, played_more}
 
 -- what an event permits in a world leads to another one
 abbrev pub Permits : Site → World → Event → World → Type 0
 Permits site w event next = (sendings : List Sending) × Follows site w event sendings next
 
-marks-made : {site : Site} {node : _} {post next : Post} → MakesMarks site node post next → (sendings : List Sending) × Marks site node post.world sendings next.world
+marks-made : {site : Site} {node : _} {post next : Post} → NotesLetters site node post next → (sendings : List Sending) × NotesDowns site node post.world sendings next.world
 marks-made no_mark = ([], marks_none)
 marks-made (one_mark {sendings = sendings} processor change more) = let rest = marks-made more in (sendings ++ rest.0, marks_one processor change rest.1)
 
-pub plays-permits : {site : Site} {post next : Post} {event : Event} → Plays site post event next → Permits site post.world event next.world
+pub plays-permits : {site : Site} {post next : Post} {event : Event} → PlaysEvent site post event next → Permits site post.world event next.world
 plays-permits (plays_run change) = (_, follows.runs change)
 plays-permits (plays_no_run idle) = ([], follows.cannot_run idle)
 plays-permits (plays_enter change) = (_, follows.enters change)

@@ -6,7 +6,7 @@ use Rattle.tal_tree.specs.declared.site.Site.{Site}
 use Rattle.schedule.specs.declared.event.Event.{Event}
 use Rattle.schedule.specs.declared.event.Event.TheVariants.{Run, Enter, Deliver, Lose, Repeat, Tick, Fail}
 use Rattle.world_semantics.specs.World.{World, boot, is_running}
-use Rattle.world_semantics.specs.Messages.{Sending, Running, Entering, Handing, Stopping, Marking}
+use Rattle.world_semantics.specs.Messages.{Sending, Running, Entering, Handing, Stopping, NotingDown}
 use Rattle.world_semantics.specs.Rules.{Change}
 use Rattle.world_semantics.specs.Follows.{IsIdleFor}
 use Rattle.letters.specs.Routes.{Letter, is_between, letters_of}
@@ -34,8 +34,8 @@ abbrev pub without_those_between : ℕ → ℕ → List Letter → List Letter
 without_those_between one other letters = filter (λ letter. not (is_between one other letter)) letters
 
 -- the post after a node marked a processor: what was owed between both is so no more, and what the mark sends and sends again is owed
-abbrev pub after_marking : Site → ℕ → ℕ → List Sending → World → Post → Post
-after_marking site node processor sendings next post =
+abbrev pub post_after_down : Site → ℕ → ℕ → List Sending → World → Post → Post
+post_after_down site node processor sendings next post =
     with_letters (letters_of site next (sendings ++ sent_again site post.world next node processor))
     (record post { world = next; owed = without_those_between node processor post.owed })
 
@@ -45,47 +45,47 @@ pub data IsTaken (letter : Letter) : List Letter → List Letter → Type 0 wher
   takes_later : {other : Letter} {letters rest : List Letter} → IsTaken letter letters rest → IsTaken letter (other ∷ letters) (other ∷ rest)
 
 -- any number of marks that a node makes, one after the other
-pub data MakesMarks (site : Site) (node : ℕ) : Post → Post → Type 0 where
-  no_mark : {post : Post} → MakesMarks site node post post
-  one_mark : {post end : Post} {sendings : List Sending} {next : World} → (processor : ℕ) → Change site post.world (Marking node processor) sendings next
-      → MakesMarks site node (after_marking site node processor sendings next post) end → MakesMarks site node post end
+pub data NotesLetters (site : Site) (node : ℕ) : Post → Post → Type 0 where
+  no_mark : {post : Post} → NotesLetters site node post post
+  one_mark : {post end : Post} {sendings : List Sending} {next : World} → (processor : ℕ) → Change site post.world (NotingDown node processor) sendings next
+      → NotesLetters site node (post_after_down site node processor sendings next post) end → NotesLetters site node post end
 
 -- what an event does to a post. A process runs or a terminal enters where it can. A delivery does nothing; or hands over a letter that is owed at its
 -- receiver, or drops it there where it changes nothing; or hands over once more one that was ever sent; or makes one mark. A loss or a repeat does nothing:
 -- what is lost stays owed. The tick of a node that runs stops at most one other processor and then makes marks. And a processor stops, where it can
-pub data Plays (site : Site) (post : Post) : Event → Post → Type 0 where
+pub data PlaysEvent (site : Site) (post : Post) : Event → Post → Type 0 where
   plays_run : {number : ℕ} {sendings : List Sending} {next : World} → Change site post.world (Running number) sendings next
-      → Plays site post (Run number) (after_change site sendings next post)
-  plays_no_run : {number : ℕ} → IsIdleFor site post.world (Running number) → Plays site post (Run number) post
+      → PlaysEvent site post (Run number) (after_change site sendings next post)
+  plays_no_run : {number : ℕ} → IsIdleFor site post.world (Running number) → PlaysEvent site post (Run number) post
   plays_enter : {number : ℕ} {sendings : List Sending} {next : World} → Change site post.world (Entering number) sendings next
-      → Plays site post (Enter number) (after_change site sendings next post)
-  plays_no_enter : {number : ℕ} → IsIdleFor site post.world (Entering number) → Plays site post (Enter number) post
-  plays_nothing : {y : Bool} {k : ℕ} → Plays site post (Deliver y k) post
+      → PlaysEvent site post (Enter number) (after_change site sendings next post)
+  plays_no_enter : {number : ℕ} → IsIdleFor site post.world (Entering number) → PlaysEvent site post (Enter number) post
+  plays_nothing : {y : Bool} {k : ℕ} → PlaysEvent site post (Deliver y k) post
   plays_hand : {y : Bool} {k : ℕ} {sendings : List Sending} {next : World} {rest : List Letter} → (letter : Letter) → IsTaken letter post.owed rest
       → Change site post.world (Handing letter.receiver letter.message) sendings next
-      → Plays site post (Deliver y k) (after_change site sendings next (record post { owed = rest }))
+      → PlaysEvent site post (Deliver y k) (after_change site sendings next (record post { owed = rest }))
   plays_drop : {y : Bool} {k : ℕ} {rest : List Letter} → (letter : Letter) → IsTaken letter post.owed rest
       → is_running post.world.stopped letter.receiver ≡ true → IsIdleFor site post.world (Handing letter.receiver letter.message)
-      → Plays site post (Deliver y k) (record post { owed = rest })
+      → PlaysEvent site post (Deliver y k) (record post { owed = rest })
   plays_again : {y : Bool} {k : ℕ} {sendings : List Sending} {next : World} → (letter : Letter) → IsAmong letter post.sent
       → Change site post.world (Handing letter.receiver letter.message) sendings next
-      → Plays site post (Deliver y k) (after_change site sendings next post)
+      → PlaysEvent site post (Deliver y k) (after_change site sendings next post)
   plays_mark : {y : Bool} {k : ℕ} {sendings : List Sending} {next : World} → (node processor : ℕ)
-      → Change site post.world (Marking node processor) sendings next
-      → Plays site post (Deliver y k) (after_marking site node processor sendings next post)
-  plays_loss : {y : Bool} {k : ℕ} → Plays site post (Lose y k) post
-  plays_repeat : {y : Bool} {k : ℕ} → Plays site post (Repeat y k) post
-  plays_no_tick : {node : ℕ} → Plays site post (Tick node) post
-  plays_tick : {node : ℕ} {next : Post} → is_running post.world.stopped node ≡ true → MakesMarks site node post next → Plays site post (Tick node) next
+      → Change site post.world (NotingDown node processor) sendings next
+      → PlaysEvent site post (Deliver y k) (post_after_down site node processor sendings next post)
+  plays_loss : {y : Bool} {k : ℕ} → PlaysEvent site post (Lose y k) post
+  plays_repeat : {y : Bool} {k : ℕ} → PlaysEvent site post (Repeat y k) post
+  plays_no_tick : {node : ℕ} → PlaysEvent site post (Tick node) post
+  plays_tick : {node : ℕ} {next : Post} → is_running post.world.stopped node ≡ true → NotesLetters site node post next → PlaysEvent site post (Tick node) next
   plays_tick_stop : {node : ℕ} {between : World} {next : Post} → (processor : ℕ) → is_running post.world.stopped node ≡ true → processor ≢ node
-      → Change site post.world (Stopping processor) [] between → MakesMarks site node (record post { world = between }) next
-      → Plays site post (Tick node) next
+      → Change site post.world (Stopping processor) [] between → NotesLetters site node (record post { world = between }) next
+      → PlaysEvent site post (Tick node) next
   plays_fail : {processor : ℕ} {next : World} → Change site post.world (Stopping processor) [] next
-      → Plays site post (Fail processor) (record post { world = next })
-  plays_no_fail : {processor : ℕ} → IsIdleFor site post.world (Stopping processor) → Plays site post (Fail processor) post
+      → PlaysEvent site post (Fail processor) (record post { world = next })
+  plays_no_fail : {processor : ℕ} → IsIdleFor site post.world (Stopping processor) → PlaysEvent site post (Fail processor) post
 
 -- events, one after the other, lead from the beginning to a post
 pub data HasPlayed (site : Site) : List Event → Post → Type 0 where
   played_none : HasPlayed site [] (post_at_boot site)
-  played_more : {event : Event} {events : List Event} {post next : Post} → HasPlayed site events post → Plays site post event next
+  played_more : {event : Event} {events : List Event} {post next : Post} → HasPlayed site events post → PlaysEvent site post event next
       → HasPlayed site (events ++ event ∷ []) next

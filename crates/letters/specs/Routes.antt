@@ -7,12 +7,12 @@ use Rattle.tal_tree.specs.declared.site.OpenerSpec.{OpenerSpec}
 use Rattle.tal_tree.specs.declared.site.Who.{Who}
 use Rattle.tal_tree.specs.declared.site.Who.TheVariants as who
 use Rattle.plain_semantics.specs.Openers.{openers_of}
-use Rattle.world_semantics.specs.World.{Pair, Mark, World, terminal_node, has_marked}
+use Rattle.world_semantics.specs.World.{Pair, Down, World, terminal_node, has_noted}
 use Rattle.world_semantics.specs.Messages.{Message, Asking, Replying, Checkpointing, Taking, Sending}
 
 -- the processor to which a node sends what is for a process: its first-named one, or the other one once the node has marked that
-abbrev pub route_of : List Mark → ℕ → Pair → ℕ
-route_of marks node pair = if has_marked marks node pair.first.processor then pair.second.processor else pair.first.processor
+abbrev pub route_of : List Down → ℕ → Pair → ℕ
+route_of marks node pair = if has_noted marks node pair.first.processor then pair.second.processor else pair.first.processor
 
 -- the route of a node to the process of a number, if it is there
 abbrev pub route_to : World → ℕ → ℕ → Option ℕ

@@ -40,8 +40,8 @@ use Rattle.world_semantics.proofs.Lists.{some-same, mapped}
 use Rattle.process_histories.specs.Histories.{nothing_done, one_more}
 use Rattle.letters_layout.proofs.Replies.{done-answers}
 use Rattle.computed_changes.specs.Laws.{IsSent}
-use Rattle.headline.specs.Fit.{IsFit}
-use Rattle.headline.proofs.Kept.{run-keeps}
+use Rattle.takeover_laws.specs.Fit.{IsFit}
+use Rattle.takeover_laws.proofs.Kept.{run-keeps}
 use Rattle.message_layout.specs.Messages.{Carrying}
 use Rattle.letters_layout.specs.Fitting.{IsSmall}
 use Rattle.message_layout.specs.Layout.{Fits}
@@ -80,7 +80,7 @@ map-count : (next : ℕ → ℕ) (files : List ℕ) → length {A = FileNumber} 
 map-count next [] = refl
 map-count next (file ∷ files) = ap suc (map-count next files)
 
--- a process lists at its mark only what it may
+-- a process lists at its checkpoint only what it may
 listed-may : (s : ProcessState) → IsWholeProcess s → MayList s (listed_items s) (listed_files s)
 listed-may (Runs program s) is = frames-listed program is.0 s.frames is.1.frames
 listed-may (Serves sectors s) is = (refl, refl)

@@ -6,11 +6,11 @@ use Rattle.schedule.specs.declared.event.Event.{Event}
 use Rattle.awaited_requests.specs.Seats.{IsLaidOut}
 use Rattle.world_semantics.specs.Messages.{Message, Asking, Replying, Checkpointing, Taking}
 use Rattle.computed_changes.specs.Laws.{IsSent}
-use Rattle.headline.specs.Fit.{IsFit}
+use Rattle.takeover_laws.specs.Fit.{IsFit}
 use Rattle.letters.specs.Posts.{Post, HasPlayed}
 use Rattle.letters.specs.Routes.{Letter}
 use Rattle.letters.proofs.Worlds.{played-run}
-use Rattle.sent_letters.proofs.Honest.{played-honest}
+use Rattle.letter_laws.proofs.Honest.{played-honest}
 use Rattle.message_layout.specs.Messages.{Carrying}
 use Rattle.letters_layout.specs.Fitting.{IsSmall}
 use Rattle.message_layout.specs.Layout.{Fits}

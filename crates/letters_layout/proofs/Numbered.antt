@@ -17,12 +17,12 @@ use Rattle.world_semantics.specs.declared.role.Role.TheVariants.{Acting, Watchin
 use Rattle.world_semantics.specs.declared.which.Which.{Which}
 use Rattle.world_semantics.specs.declared.which.Which.TheVariants.{First, Second}
 use Rattle.world_semantics.specs.Core.{Core, Deed, carried}
-use Rattle.world_semantics.specs.World.{Copy, Pair, Mark, World, copy_of, with_copy, boot}
+use Rattle.world_semantics.specs.World.{Copy, Pair, Down, World, copy_of, with_copy, boot}
 use Rattle.world_semantics.specs.Kept.{Enters, holds_on, repeats, begins, keeps}
 use Rattle.world_semantics.specs.Messages.{Sending, Cause}
 use Rattle.world_semantics.specs.Passes.{Passes, by_send, by_pass_again, by_pass, by_apply, by_acknowledge, checkpoint_of}
-use Rattle.world_semantics.specs.Rules.{Change, by_own, by_checkpoint, by_request, by_early_request, by_enter, by_print, by_stop, by_mark, stopped_pair, stopped_copy, taker, after_marking, marked_pair}
-use Rattle.world_semantics.specs.Follows.{Follows, runs, cannot_run, enters, cannot_enter, delivers_none, delivers, delivers_mark, loses, doubles, ticks_none, ticks, ticks_stop, fails, cannot_fail, Marks, marks_none, marks_one, Leads, stays, goes_on, IsRun}
+use Rattle.world_semantics.specs.Rules.{Change, by_own, by_checkpoint, by_request, by_early_request, by_enter, by_print, by_stop, by_mark, stopped_pair, stopped_copy, taker, pair_after_down, pair_at_down}
+use Rattle.world_semantics.specs.Follows.{Follows, runs, cannot_run, enters, cannot_enter, delivers_none, delivers, delivers_mark, loses, doubles, ticks_none, ticks, ticks_stop, fails, cannot_fail, NotesDowns, marks_none, marks_one, Leads, stays, goes_on, IsRun}
 use Rattle.world_semantics.proofs.Beginning.{all-begin}
 use Rattle.world_semantics.proofs.Lists.{set-all, map-all}
 use Rattle.world_semantics.proofs.Roles.{roles-begin, taker-is}
@@ -30,12 +30,12 @@ use Rattle.process_histories.specs.Bounds.{AreShort}
 use Rattle.process_histories.specs.Histories.{HasDone}
 use Rattle.plain_histories.specs.Ledgers.{Ledger}
 use Rattle.plain_histories.proofs.Counted.{IsShortLedger, booked-short}
-use Rattle.headline.specs.Fit.{IsFit}
-use Rattle.headline.specs.Invariant.{Invariant, Stage, IsLead, is_level, is_applied, is_behind, IsOther, is_lost, is_due, is_even, has_applied, FirstLeads, with_other, alone, IsLed, by_first, by_second}
-use Rattle.headline.proofs.Beginning.{beginning-keeps}
-use Rattle.headline.proofs.Changing.{acts_by, passes-one}
-use Rattle.headline.proofs.Kept.{IsGood, change-good}
-use Rattle.headline.proofs.Repeating.{short-join, held-short, held-length}
+use Rattle.takeover_laws.specs.Fit.{IsFit}
+use Rattle.takeover_laws.specs.Invariant.{Invariant, Stage, IsLead, is_level, is_applied, is_behind, IsOther, is_lost, is_due, is_even, has_applied, FirstLeads, with_other, alone, IsLed, by_first, by_second}
+use Rattle.takeover_laws.proofs.Beginning.{beginning-keeps}
+use Rattle.takeover_laws.proofs.Changing.{acts_by, passes-one}
+use Rattle.takeover_laws.proofs.Kept.{IsGood, change-good}
+use Rattle.takeover_laws.proofs.Repeating.{short-join, held-short, held-length}
 
 -- What a run tells of a process
 
@@ -61,7 +61,7 @@ pub record IsKnownCheckpoint (site : Site) (n number : ℕ) (message : ImageMess
   pub before : ℕ
   pub made : WasMade site before number core
   pub less : before < n
-  pub at : process.point core.state ≡ point.Mark
+  pub at : process.point core.state ≡ point.AtCheckpoint
   pub same : message.image ≡ carried core
 
 pub record IsKnownPair (site : Site) (n number : ℕ) (pair : Pair) : Type 0 where
@@ -131,7 +131,7 @@ module _ {site : Site} {number : ℕ} {spec : ProcessSpec} (there : slice_get si
           later [] before s = s
           later (d ∷ since) before s = later since before s.1
 
-  first-made : {marks : List Mark} (pair : Pair) (k : Which) → length pair.first.held + length pair.second.held + length (ledger.deeds number) ≤ n
+  first-made : {marks : List Down} (pair : Pair) (k : Which) → length pair.first.held + length pair.second.held + length (ledger.deeds number) ≤ n
       → FirstLeads site marks ledger number spec (ledger.deeds number) pair → (copy_of k pair).role ≡ Acting → WasMade site n number (copy_of k pair).core
   first-made pair First few (with_other leads lead stage other) acts = lead-made pair.first (omega (arith, few)) lead
   first-made pair First few (alone leads lead stage unsent gone marked) acts = lead-made pair.first (omega (arith, few)) lead
@@ -144,7 +144,7 @@ module _ {site : Site} {number : ℕ} {spec : ProcessSpec} (there : slice_get si
       by (is_even w even unsent told) = absurd (let e = sym acts ∙ w.role in cc)
       by (has_applied w even) = absurd (let e = sym acts ∙ w.role in cc)
 
-  led-made : {marks : List Mark} (pair : Pair) (k : Which) → length pair.first.held + length pair.second.held + length (ledger.deeds number) ≤ n
+  led-made : {marks : List Down} (pair : Pair) (k : Which) → length pair.first.held + length pair.second.held + length (ledger.deeds number) ≤ n
       → IsLed site marks ledger number spec (ledger.deeds number) pair → (copy_of k pair).role ≡ Acting → WasMade site n number (copy_of k pair).core
   led-made pair k few (by_first leads) acts = first-made pair k few leads acts
   led-made pair First few (by_second leads) acts = first-made (record pair { first = pair.second; second = pair.first }) Second (omega (arith, few)) leads acts
@@ -158,7 +158,7 @@ acting-made site fit n w invariant number pair k there role =
 
 -- Checkpoints that are sent and applied
 
-sent-known : {site : Site} {n number : ℕ} (copy : Copy) (old : List ImageMessage) → IsEarlyCopy n copy → WasMade site n number copy.core → process.point copy.core.state ≡ point.Mark
+sent-known : {site : Site} {n number : ℕ} (copy : Copy) (old : List ImageMessage) → IsEarlyCopy n copy → WasMade site n number copy.core → process.point copy.core.state ≡ point.AtCheckpoint
     → ((message : ImageMessage) → IsAmong message old → IsKnownCheckpoint site (n + 1) number message)
     → (message : ImageMessage) → IsAmong message (checkpoint_of number copy ∷ old) → IsKnownCheckpoint site (n + 1) number message
 sent-known {site = site} {n = n} {number = number} copy old is made at all message (inl same) =
@@ -194,7 +194,7 @@ taken-known message old new e c era count all taken (inl same) =
 taken-known message old new e c era count all taken (inr among) = all taken among
 
 module _ (site : Site) (n number : ℕ) where
-  passes-known : {marks : List Mark} {kept after : List Act} {pair next : Pair} {cause : Cause} {sendings : List Sending}
+  passes-known : {marks : List Down} {kept after : List Act} {pair next : Pair} {cause : Cause} {sendings : List Sending}
       → ((k : Which) → (copy_of k pair).role ≡ Acting → WasMade site n number (copy_of k pair).core) → Passes number marks kept pair cause sendings next after
       → IsKnownPair site n number pair → IsKnownPair site (n + 1) number next
   passes-known {pair = pair} made (by_send First role at unsent unmarked) is =
@@ -269,7 +269,7 @@ module _ (site : Site) (n number : ℕ) where
   taking base copy next e r c watching is =
       let was = is.watching watching in record { era = omega (arith, e, was); watching = λ w. absurd (let same = sym r ∙ w in cc); number = omega (arith, c) }
 
-  marking-known : (node processor : ℕ) (pair : Pair) (k : Option Which) → taker node processor pair ≡ k → IsKnownPair site n number pair → IsKnownPair site n number (after_marking k pair)
+  marking-known : (node processor : ℕ) (pair : Pair) (k : Option Which) → taker node processor pair ≡ k → IsKnownPair site n number pair → IsKnownPair site n number (pair_after_down k pair)
   marking-known node processor pair None e is = is
   marking-known node processor pair (Some First) e is = record {
     copies = two _ (taking pair.base pair.first _ refl refl refl (taker-is node processor pair First e).watching (is.copies First))
@@ -346,7 +346,7 @@ module _ (site : Site) (fit : IsFit site) where
       (map-all (IsKnownPair site n) (stopped_pair x) w.processes (λ number pair there. stop-known site n number x pair (all number pair there)))
   change-all n w next cause sendings inv all (by_mark node x s q m) =
       more-all (n + acts_by cause) next (omega arith)
-      (map-all (IsKnownPair site n) (marked_pair node x) w.processes
+      (map-all (IsKnownPair site n) (pair_at_down node x) w.processes
       (λ number pair there. marking-known site n number node x pair (taker node x pair) refl (all number pair there)))
 
   change-fine : (n : ℕ) (w next : World) (cause : Cause) (sendings : List Sending) → n < 4294967295 → IsFine n w → Change site w cause sendings next → IsFine (n + acts_by cause) next
@@ -355,7 +355,7 @@ module _ (site : Site) (fit : IsFit site) where
     known = change-all n w next cause sendings is.good.invariant is.known change;
   }
 
-  marks-fine : (n : ℕ) {node : ℕ} {w end : World} {sendings : List Sending} → n < 4294967295 → IsFine n w → Marks site node w sendings end → IsFine n end
+  marks-fine : (n : ℕ) {node : ℕ} {w end : World} {sendings : List Sending} → n < 4294967295 → IsFine n w → NotesDowns site node w sendings end → IsFine n end
   marks-fine n few is marks_none = is
   marks-fine n few is (marks_one {w = w} {next = next} processor change more) =
       marks-fine n few (more-fine n (omega arith) (change-fine n w next _ _ few is change)) more

@@ -37,9 +37,9 @@ use Rattle.whole_states.specs.Processes.{IsRegularKind}
 use Rattle.plain_histories.specs.Booking.{AreBooked, none_booked, deed_booked, entry_booked, reply_booked}
 use Rattle.plain_histories.specs.Ledgers.{Ledger}
 use Rattle.plain_histories.proofs.Counted.{booked-short}
-use Rattle.headline.specs.Fit.{IsFit}
-use Rattle.headline.specs.Invariant.{Invariant}
-use Rattle.headline.proofs.Kept.{run-keeps}
+use Rattle.takeover_laws.specs.Fit.{IsFit}
+use Rattle.takeover_laws.specs.Invariant.{Invariant}
+use Rattle.takeover_laws.proofs.Kept.{run-keeps}
 use Rattle.message_layout.specs.Messages.{Carrying}
 use Rattle.letters_layout.specs.Fitting.{IsSmall}
 use Rattle.message_layout.specs.Layout.{Fits}

@@ -24,9 +24,9 @@ use Rattle.process_histories.specs.Words.{ask_on}
 use Rattle.plain_histories.specs.Booking.{AreBooked, none_booked, deed_booked, entry_booked, reply_booked}
 use Rattle.plain_histories.proofs.Changed.{changed-same, changed-other}
 use Rattle.computed_changes.proofs.Placed.{who_at, opener-placed}
-use Rattle.headline.specs.Fit.{IsFit}
-use Rattle.headline.specs.Invariant.{Invariant, IsAsked}
-use Rattle.headline.proofs.Kept.{run-keeps}
+use Rattle.takeover_laws.specs.Fit.{IsFit}
+use Rattle.takeover_laws.specs.Invariant.{Invariant, IsAsked}
+use Rattle.takeover_laws.proofs.Kept.{run-keeps}
 use Rattle.letters.proofs.Worlds.{played-run}
 use Rattle.letters.specs.Posts.{Post, HasPlayed}
 use Rattle.plain_histories.specs.Ledgers.{Ledger, with_entered, requests_of}

@@ -1,6 +1,6 @@
 //! The law of letters and the layout.
 ghost use Rattle.tal_tree.specs.declared.site.Site.{Site};
-ghost use Rattle.headline.specs.Fit.{IsFit};
+ghost use Rattle.takeover_laws.specs.Fit.{IsFit};
 ghost use Rattle.awaited_requests.specs.Seats.{IsLaidOut};
 ghost use Rattle.letters_layout.specs.Fitting.{HasFittingLetters, IsSmall};
 

@@ -3,15 +3,15 @@
 use Rattle.std.specs.Prelude.{◌≡◌, ℕ, ◌+◌, ◌*◌, ◌<◌, ◌==◌, ◌&&◌, not, nat_lt, nat_le, ℤ, Bool, true, false, List, [], ◌∷◌, ◌++◌, length, Option, Some, None, if◌then◌else◌}
 use Rattle.std.specs.Option.{option_map}
 use Rattle.gd_words.specs.Ranges.{HasNext}
-use Rattle.wire.specs.declared.bus_name.BusName.{BusName}
-use Rattle.wire.specs.declared.bus_name.BusName.TheVariants as bus
-use Rattle.wire.specs.declared.piece.Piece.{Piece}
-use Rattle.wire.specs.declared.packet.Packet.{Packet}
-use Rattle.wire.specs.declared.packet.Incarnation.{Incarnation}
-use Rattle.wire.specs.declared.packet.PacketKind.{PacketKind}
-use Rattle.wire.specs.declared.packet.PacketKind.TheVariants as kind
-use Rattle.wire.specs.Buses.{other_bus}
-use Rattle.wire.specs.Pieces.{piece_at, joined, completed}
+use Rattle.packet_words.specs.declared.bus_name.BusName.{BusName}
+use Rattle.packet_words.specs.declared.bus_name.BusName.TheVariants as bus
+use Rattle.packet_words.specs.declared.piece.Piece.{Piece}
+use Rattle.packet_words.specs.declared.packet.Packet.{Packet}
+use Rattle.packet_words.specs.declared.packet.Incarnation.{Incarnation}
+use Rattle.packet_words.specs.declared.packet.PacketKind.{PacketKind}
+use Rattle.packet_words.specs.declared.packet.PacketKind.TheVariants as kind
+use Rattle.packet_words.specs.Buses.{other_bus}
+use Rattle.packet_words.specs.Pieces.{piece_at, joined, completed}
 use Rattle.link_control.specs.declared.channel.Resent.{Resent}
 
 -- the sender's end of one direction: the messages that aren't acknowledged whole, the oldest first; which piece of the first of them is outstanding,
@@ -76,8 +76,8 @@ abbrev pub is_idle : Sending → Bool
 is_idle s = is_none s.queue
 
 -- a message is pushed: it goes at once where nothing is outstanding, and else waits behind the others
-abbrev pub pushed : List ℤ → Sending → Sending
-pushed message s = if is_idle s then begun (message ∷ []) s.numbered else record s { queue = s.queue ++ message ∷ [] }
+abbrev pub after_push_of : List ℤ → Sending → Sending
+after_push_of message s = if is_idle s then begun (message ∷ []) s.numbered else record s { queue = s.queue ++ message ∷ [] }
 
 -- the next piece becomes outstanding: of the first message, or of the one behind it where no words are left
 abbrev pub moved_on : List (List ℤ) → Sending → Sending
@@ -90,16 +90,16 @@ abbrev pub is_ended_by : ℕ → Sending → Bool
 is_ended_by number s = not (is_idle s) && (number == s.numbered)
 
 -- an acknowledgement came
-abbrev pub acknowledged : ℕ → Sending → Sending
-acknowledged number s = if is_ended_by number s then moved_on s.queue s else s
+abbrev pub after_acknowledgement : ℕ → Sending → Sending
+after_acknowledgement number s = if is_ended_by number s then moved_on s.queue s else s
 
 -- whether a tick sends the outstanding piece again
 abbrev pub is_sent_again : Sending → Bool
 is_sent_again s = not (is_idle s) && s.waited
 
 -- a tick: what was outstanding at the last one goes over its bus, and next over the other
-abbrev pub ticked : Sending → Sending
-ticked s = if is_idle s then s else if s.waited then record s { resend_bus = other_bus s.resend_bus } else record s { waited = true }
+abbrev pub after_tick_of : Sending → Sending
+after_tick_of s = if is_idle s then s else if s.waited then record s { resend_bus = other_bus s.resend_bus } else record s { waited = true }
 
 -- the outstanding piece
 abbrev pub piece_of : List (List ℤ) → ℕ → Option Piece
@@ -117,8 +117,8 @@ abbrev pub kept : ℕ → Piece → Receiving → Receiving
 kept number piece r = if is_next number r then record { kept = r.kept + 1; part = joined piece r.part } else r
 
 -- the message that is handed over as a piece comes: it is whole where the piece is kept and the last
-abbrev pub handed : ℕ → Piece → Receiving → Option (List ℤ)
-handed number piece r = if is_next number r then completed piece r.part else None
+abbrev pub message_of_piece : ℕ → Piece → Receiving → Option (List ℤ)
+message_of_piece number piece r = if is_next number r then completed piece r.part else None
 
 -- whether the piece of this number is kept, now or before
 abbrev pub is_kept : ℕ → Receiving → Bool
@@ -131,21 +131,21 @@ abbrev pub packet_of : End → PacketKind → Packet
 packet_of e kind = record { sender = e.here; receiver = e.there; incarnation = e.incarnation; kind = kind }
 
 -- the packet of the outstanding piece
-abbrev pub outstanding : End → Option Packet
-outstanding e = option_map (λ piece. packet_of e (kind.Piece e.sending.numbered piece)) (piece_of e.sending.queue e.sending.place)
+abbrev pub packet_outstanding : End → Option Packet
+packet_outstanding e = option_map (λ piece. packet_of e (kind.Piece e.sending.numbered piece)) (piece_of e.sending.queue e.sending.place)
 
 -- a message is pushed; to a node that is marked down it is thrown away
 abbrev pub after_push : List ℤ → End → End
-after_push message e = if e.down then e else record e { sending = pushed message e.sending }
+after_push message e = if e.down then e else record e { sending = after_push_of message e.sending }
 
 -- what a push sends: the first piece, where nothing was outstanding
 abbrev pub sent_by_push : List ℤ → End → Option Packet
-sent_by_push message e = if e.down then None else if is_idle e.sending then outstanding (after_push message e) else None
+sent_by_push message e = if e.down then None else if is_idle e.sending then packet_outstanding (after_push message e) else None
 
 abbrev pub after_kind : PacketKind → End → End
 after_kind kind.Alive e = e
 after_kind (kind.Piece number piece) e = record e { receiving = kept number piece e.receiving }
-after_kind (kind.Acknowledgement number) e = record e { sending = acknowledged number e.sending }
+after_kind (kind.Acknowledgement number) e = record e { sending = after_acknowledgement number e.sending }
 
 -- a packet comes: a piece concerns the receiver's end, an acknowledgement the sender's; of a node that is marked down it is dropped
 abbrev pub after_packet : Packet → End → End
@@ -154,7 +154,7 @@ after_packet packet e = if e.down then e else after_kind packet.kind e
 abbrev pub sent_by_kind : PacketKind → End → Option Packet
 sent_by_kind kind.Alive e = None
 sent_by_kind (kind.Piece number piece) e = if is_kept number (kept number piece e.receiving) then Some (packet_of e (kind.Acknowledgement number)) else None
-sent_by_kind (kind.Acknowledgement number) e = if is_ended_by number e.sending then outstanding (after_kind (kind.Acknowledgement number) e) else None
+sent_by_kind (kind.Acknowledgement number) e = if is_ended_by number e.sending then packet_outstanding (after_kind (kind.Acknowledgement number) e) else None
 
 -- what a packet makes this end send: a piece that is kept its acknowledgement, an acknowledgement the next piece
 abbrev pub sent_by_packet : Packet → End → Option Packet
@@ -162,7 +162,7 @@ sent_by_packet packet e = if e.down then None else sent_by_kind packet.kind e
 
 abbrev pub handed_by_kind : PacketKind → End → Option (List ℤ)
 handed_by_kind kind.Alive e = None
-handed_by_kind (kind.Piece number piece) e = handed number piece e.receiving
+handed_by_kind (kind.Piece number piece) e = message_of_piece number piece e.receiving
 handed_by_kind (kind.Acknowledgement number) e = None
 
 -- the message that is handed over as a packet comes
@@ -171,13 +171,13 @@ handed_by_packet packet e = if e.down then None else handed_by_kind packet.kind 
 
 -- a tick of the node
 abbrev pub after_tick : End → End
-after_tick e = if e.down then e else record e { sending = ticked e.sending }
+after_tick e = if e.down then e else record e { sending = after_tick_of e.sending }
 
 -- what a tick sends again, and over which bus
 abbrev pub sent_by_tick : End → Option Resent
 sent_by_tick e =
     if e.down then None
-    else if is_sent_again e.sending then option_map (λ packet. record { bus = e.sending.resend_bus; packet = packet }) (outstanding e) else None
+    else if is_sent_again e.sending then option_map (λ packet. record { bus = e.sending.resend_bus; packet = packet }) (packet_outstanding e) else None
 
 -- the other node is marked down: what is queued, outstanding or kept in part is thrown away
 abbrev pub after_down : End → End

@@ -1,13 +1,13 @@
 ghost use Rattle.std.specs.Prelude.{◌≡◌, ◌<◌, ◌↔◌, IsTrue, List as Items, length, IfOk, OnOk, OnErr, Some, None, if◌then◌else◌};
 ghost use Rattle.gd_words.specs.Ranges.{HasNext};
-ghost use Rattle.wire.specs.declared.packet.PacketKind.TheVariants as kind;
-ghost use Rattle.link_control.specs.Ends.{End, new_end, after_push, sent_by_push, after_packet, sent_by_packet, handed_by_packet, after_tick, sent_by_tick, after_down, alive_of, is_empty, HasNumberForPush, HasNumbersLeft, outstanding, packet_of, is_kept, kept, handed};
+ghost use Rattle.packet_words.specs.declared.packet.PacketKind.TheVariants as kind;
+ghost use Rattle.link_control.specs.Ends.{End, new_end, after_push, sent_by_push, after_packet, sent_by_packet, handed_by_packet, after_tick, sent_by_tick, after_down, alive_of, is_empty, HasNumberForPush, HasNumbersLeft, packet_outstanding, packet_of, is_kept, kept, message_of_piece};
 
 use crate::sender::Sender;
 use gd_words::{List, NoMemory};
 use std::alloc::Global;
 use std::marker::Model;
-use wire::{BusName, Incarnation, Joiner, Packet, PacketKind, Piece};
+use packet_words::{BusName, Incarnation, Joiner, Packet, PacketKind, Piece};
 
 /// What a packet that came makes a channel send and hand over.
 #[derive(Drop)]
@@ -185,7 +185,7 @@ impl Channel {
     }
 
     fn outstanding(&self) -> Option<Packet>
-        ensures { result ≡ outstanding self.now }
+        ensures { result ≡ packet_outstanding self.now }
     {
         let piece = self.sender.piece()?;
         let number = self.sender.numbered();
@@ -204,7 +204,7 @@ impl Channel {
 
     fn keep(&mut self, number: u32, piece: &Piece) -> Result<Option<List<i16>>, NoMemory>
         requires { HasNext self.old.receiving.kept }
-        ensures delivered { IfOk result (λ message. message ≡ handed number piece.now self.old.receiving) }
+        ensures delivered { IfOk result (λ message. message ≡ message_of_piece number piece.now self.old.receiving) }
         ensures after { OnOk result (self.new ≡ record self.old { receiving = kept number piece.now self.old.receiving }) }
         ensures err { OnErr result (self.new ≡ self.old) }
     {

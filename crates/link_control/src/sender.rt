@@ -1,12 +1,12 @@
 ghost use Rattle.std.specs.Prelude.{◌≡◌, ◌<◌, ◌≤◌, ◌+◌, true, OnOk, OnErr};
 ghost use Rattle.gd_words.specs.Ranges.{HasNext};
-ghost use Rattle.link_control.specs.Ends.{Sending, idle_after, begun, is_idle, pushed, is_ended_by, acknowledged, is_sent_again, ticked, piece_of, moved_on};
+ghost use Rattle.link_control.specs.Ends.{Sending, idle_after, begun, is_idle, after_push_of, is_ended_by, after_acknowledgement, is_sent_again, after_tick_of, piece_of, moved_on};
 
 use gd_words::{List, NoMemory};
 use std::alloc::Global;
 use std::collections::VecDeque;
 use std::marker::Model;
-use wire::{BusName, Piece, cut};
+use packet_words::{BusName, Piece, cut};
 
 /// The sender's end of one direction: the messages that aren't acknowledged whole, and which piece of the first is outstanding.
 /// Each piece is cut anew when its packet goes out.
@@ -76,7 +76,7 @@ impl Sender {
     /// Takes a message. Without memory nothing changes.
     pub fn push(&mut self, message: List<i16>) -> Result<(), NoMemory>
         requires { is_idle self.old ≡ true → HasNext self.old.numbered }
-        ensures after { OnOk result (self.new ≡ pushed message self.old) }
+        ensures after { OnOk result (self.new ≡ after_push_of message self.old) }
         ensures err { OnErr result (self.new ≡ self.old) }
     {
         let was_idle = self.is_idle();
@@ -91,7 +91,7 @@ impl Sender {
     pub fn acknowledge(&mut self, number: u32) -> bool
         requires { HasNext self.old.numbered }
         ensures ended { result ≡ is_ended_by number self.old }
-        ensures after { self.new ≡ acknowledged number self.old }
+        ensures after { self.new ≡ after_acknowledgement number self.old }
     {
         if !self.queue.is_empty() && number == self.numbered {
             self.move_on();
@@ -104,7 +104,7 @@ impl Sender {
     /// Takes a tick; whether it sends the outstanding piece again.
     pub fn tick(&mut self) -> bool
         ensures again { result ≡ is_sent_again self.old }
-        ensures after { self.new ≡ ticked self.old }
+        ensures after { self.new ≡ after_tick_of self.old }
     {
         if self.queue.is_empty() {
             false

@@ -2,7 +2,7 @@
 use Rattle.std.proofs.Common.{ℕ, ◌+◌, pos, [], ◌∷◌, length, codes}
 use Rattle.std.specs.Fmt.{decimal}
 use Rattle.tal_syntax.specs.Grammar as g
-use Rattle.headline_laws.proofs.Syntaxes.{Line, line, alone, digit, item, array, a_name, a_digit, process, call, reads_request, adds, puts, total, replies, opens_receive}
+use Rattle.accepted_sites.proofs.Syntaxes.{Line, line, alone, digit, item, array, a_name, a_digit, process, call, reads_request, adds, puts, total, replies, opens_receive}
 use Rattle.load_laws.specs.LoadDeck.{name_with}
 
 -- what stands on a line behind so many spaces

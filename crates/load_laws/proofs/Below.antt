@@ -3,7 +3,7 @@ use Rattle.std.proofs.Common.{◌≡◌, ◌<◌, ◌≤◌, ⊎_elim, ℕ, zero
 use Rattle.std.proofs.lemmas.Bool.{cases_lt}
 use Rattle.deck_reader.specs.Decks.{EachWith}
 use Rattle.deck_reader.proofs.EachLemmas.{each_more}
-use Rattle.headline_laws.proofs.Listed.{both}
+use Rattle.accepted_sites.proofs.Listed.{both}
 use Rattle.load_laws.specs.LoadDeck.{each_below}
 
 -- one after another, from 0 on

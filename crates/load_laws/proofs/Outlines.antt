@@ -5,7 +5,7 @@ use Rattle.load_deck.specs.LoadText.{heading, bank_text, banks, requests, termin
 use Rattle.std.proofs.lemmas.List.{append_assoc}
 use Rattle.name_table.specs.Entries.{Named}
 use Rattle.deck_lines.specs.Lines.{lines_of}
-use Rattle.deck_reader.specs.Outlined.{told_by, told_after}
+use Rattle.deck_reader.specs.Outlined.{outline_of, told_after}
 use Rattle.deck_reader.specs.declared.outline.Body.TheVariants as body
 use Rattle.deck_reader.specs.declared.outline.Outline.{Outline}
 use Rattle.deck_reader.specs.declared.outline.ProcessLines.{ProcessLines}
@@ -13,7 +13,7 @@ use Rattle.deck_reader.specs.declared.outline.TerminalLines.{TerminalLines}
 use Rattle.deck_reader.specs.declared.step.Stage.{Stage}
 use Rattle.deck_reader.specs.declared.step.Stage.TheVariants as at
 use Rattle.deck_reader.specs.declared.told.Told.TheVariants as told
-use Rattle.load_laws.specs.LoadDeck.{each_below, load_lines, name_with, request}
+use Rattle.load_laws.specs.LoadDeck.{each_below, load_schedule, name_with, request}
 use Rattle.load_laws.proofs.Below.{AllBelow}
 use Rattle.load_laws.proofs.Readings.{program_text}
 use Rattle.load_laws.proofs.Sends.{asked_so_far, sent}
@@ -41,7 +41,7 @@ site_outline banks = record {
   events = record { lines = []; sums = record { singles = 0; rounds = 0 }; unknown = None };
 }
 
-heading-told : (rest : List ℕ) → told_by (lines_of (heading ++ rest)) ≡ told_after (at.Blocks (site_outline 0)) 3 (lines_of rest)
+heading-told : (rest : List ℕ) → outline_of (lines_of (heading ++ rest)) ≡ told_after (at.Blocks (site_outline 0)) 3 (lines_of rest)
 unfolding digits
 heading-told rest = refl
 
@@ -113,13 +113,13 @@ terminals-told count (suc number) few all rest =
 -- what all lines say
 abbrev pub load_outline : ℕ → Outline
 load_outline count =
-    record (with_terminals count 16) { events = record { lines = load_lines; sums = record { singles = 1; rounds = 90500 }; unknown = None } }
+    record (with_terminals count 16) { events = record { lines = load_schedule; sums = record { singles = 1; rounds = 90500 }; unknown = None } }
 
 schedule-told : (count line : ℕ) → told_after (stage_before count 16) line (lines_of schedule) ≡ told.Whole (load_outline count)
 unfolding digits
 schedule-told count line = refl
 
-pub load-told : (count : ℕ) → count ≤ 1000 → told_by (lines_of (load_text count)) ≡ told.Whole (load_outline count)
+pub load-told : (count : ℕ) → count ≤ 1000 → outline_of (lines_of (load_text count)) ≡ told.Whole (load_outline count)
 unfolding digits
 load-told count few =
     heading-told (banks 12 ++ terminals count 16 ++ schedule)

@@ -10,7 +10,7 @@ use Rattle.path_semantics.specs.Accepted.{IsAccepted}
 use Rattle.path_semantics.specs.Bounds.{IsWithinBounds}
 use Rattle.path_semantics.specs.Dues.{no_dues}
 use Rattle.path_semantics.specs.Place.{Stand, body_of}
-use Rattle.headline_laws.proofs.Listed.{AreLed, along, behind, ended, is_safe_at, last_in, listed-accepted}
+use Rattle.accepted_sites.proofs.Listed.{AreLed, along, behind, ended, is_safe_at, last_in, listed-accepted}
 use Rattle.load_laws.specs.LoadDeck.{bank_program, serving}
 
 -- what is due behind a round

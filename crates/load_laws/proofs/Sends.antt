@@ -14,10 +14,10 @@ use Rattle.deck_lines.specs.declared.saying.Saying.{Saying}
 use Rattle.deck_lines.specs.declared.saying.Saying.TheVariants as said
 use Rattle.deck_reader.specs.declared.step.Stage.{Stage}
 use Rattle.deck_reader.specs.declared.step.Stage.TheVariants as at
-use Rattle.deck_reader.specs.declared.step.Step.TheVariants as step
+use Rattle.deck_reader.specs.declared.step.LineOutcome.TheVariants as step
 use Rattle.deck_reader.specs.declared.line_fault.LineFault.TheVariants as fault
 use Rattle.deck_reader.specs.declared.told.Told.{Told}
-use Rattle.headline_laws.proofs.Listed.{both}
+use Rattle.accepted_sites.proofs.Listed.{both}
 use Rattle.load_laws.specs.LoadDeck.{each_below, request}
 use Rattle.load_laws.proofs.Below.{all_below, passes-below}
 

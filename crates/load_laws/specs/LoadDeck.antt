@@ -115,9 +115,9 @@ abbrev pub load_site : ℕ → Site
 load_site count = record { processors = 16; processes = each_below disc 2 ++ each_below bank 12; terminals = each_below (terminal count) 16 }
 
 -- 500 mixed rounds, the stop of processor 4, and rounds until all is done
-abbrev pub load_lines : List Line
-load_lines = line.Mix 7 500 ∷ line.One (event.Fail 4) ∷ line.Drain 90000 ∷ []
+abbrev pub load_schedule : List Line
+load_schedule = line.Mix 7 500 ∷ line.One (event.Fail 4) ∷ line.Drain 90000 ∷ []
 
 -- the load deck in which each terminal has so many requests
 abbrev pub load_deck : ℕ → Deck
-load_deck count = record { site = load_site count; lines = load_lines }
+load_deck count = record { site = load_site count; lines = load_schedule }

@@ -5,14 +5,14 @@ use Rattle.tal_tree.specs.declared.site.Site.{Site}
 use Rattle.world_semantics.specs.declared.role.Role.{Role}
 use Rattle.world_semantics.specs.Messages.{Message}
 use Rattle.world_semantics.specs.World.{Pair, World}
-use Rattle.message_wires.specs.Play.{Whole, whole_at_boot}
+use Rattle.message_wires.specs.Play.{MachineState, machine_at_boot}
 use Rattle.message_wires.specs.Wires.{Sent, Wires}
 
 -- a state with these packets on its bus, and with these letters owed
-abbrev pub with_bus : List Sent → Whole → Whole
+abbrev pub with_bus : List Sent → MachineState → MachineState
 with_bus bus s = record s { wires = record s.wires { bus = bus } }
 
-abbrev pub with_owed : List Sent → Whole → Whole
+abbrev pub with_owed : List Sent → MachineState → MachineState
 with_owed owed s = record s { wires = record s.wires { owed = owed } }
 
 -- a message from the node of the terminals to a processor, by the number of its sending
@@ -31,15 +31,15 @@ discs = record {
       ∷ [];
 }
 
-abbrev pub discs_at_boot : Whole
-discs_at_boot = whole_at_boot discs
+abbrev pub discs_at_boot : MachineState
+discs_at_boot = machine_at_boot discs
 
 -- a letter that is owed by a node to a node
 abbrev pub between : ℕ → ℕ → Message → Sent
 between sender receiver message = record { number = 0; letter = record { sender = sender; receiver = receiver; message = message } }
 
 -- a state in which nothing is owed
-abbrev pub nothing_owed : Whole → Whole
+abbrev pub nothing_owed : MachineState → MachineState
 nothing_owed s = with_owed [] s
 
 -- a process whose copies have these roles, and have or haven't sent a checkpoint
@@ -53,7 +53,7 @@ standing first sent second other_sent pair = record pair {
 abbrev pub having_sent : Pair → Pair
 having_sent pair = record pair { first = record pair.first { sent = true } }
 
-abbrev pub waiting_at_mark : Whole → Whole
+abbrev pub waiting_at_mark : MachineState → MachineState
 waiting_at_mark s = record s { world = record s.world { processes = map having_sent s.world.processes } }
 
 -- a world in which these processors have stopped, and these nodes have marked processor 1

@@ -4,7 +4,7 @@ ghost use Rattle.world_semantics.specs.declared.role.Role.TheVariants.{Acting, G
 ghost use Rattle.world_semantics.specs.Messages.{Message};
 ghost use Rattle.world_semantics.specs.World.{Pair, World};
 ghost use Rattle.message_wires.specs.Examples.{end_of};
-ghost use Rattle.message_wires.specs.Idle.{all_marked, has_marked_all, is_idle, none_enters, none_owed, none_runs, none_waits};
+ghost use Rattle.message_wires.specs.Idle.{all_noted, has_marked_all, is_idle, none_enters, none_owed, none_runs, none_waits};
 ghost use Rattle.machine_guards.specs.States.{between, discs_at_boot, marking, nothing_owed, standing, waiting_at_mark};
 
 /// A terminal can enter that has a request left and awaits no reply, whichever it is; and a process can run to which a request came.
@@ -18,7 +18,7 @@ pub fn who_can_go_on_is_told()
     ensures second_runs { none_runs discs_at_boot.site (end_of discs_at_boot (Enter 0 ∷ Enter 1 ∷ Deliver false 1 ∷ [])).world ≡ false }
 {}
 
-/// A copy waits at a mark that acts and has sent its checkpoint, whichever of the two and of whichever process it is.
+/// A copy waits at a checkpoint that acts and has sent its checkpoint, whichever of the two and of whichever process it is.
 pub fn who_waits_at_a_mark_is_told()
     ensures first { (pair other : Pair) → none_waits (standing Acting true Watching false pair ∷ other ∷ []) ≡ false }
     ensures second { (pair other : Pair) → none_waits (standing Gone true Acting true pair ∷ other ∷ []) ≡ false }
@@ -40,13 +40,13 @@ pub fn who_has_not_marked_is_told()
     ensures lowest { (w : World) → has_marked_all (marking (true ∷ false ∷ false ∷ []) [] w) 1 ≡ false }
     ensures marked { (w : World) → has_marked_all (marking (false ∷ true ∷ false ∷ []) (0 ∷ []) w) 0 ≡ true }
     ensures stopped { (w : World) → has_marked_all (marking (false ∷ true ∷ false ∷ []) [] w) 1 ≡ true }
-    ensures all { (w : World) → all_marked (marking (false ∷ true ∷ false ∷ []) (0 ∷ 2 ∷ 16 ∷ []) w) ≡ true }
-    ensures not_the_first { (w : World) → all_marked (marking (false ∷ true ∷ false ∷ []) (2 ∷ 16 ∷ []) w) ≡ false }
-    ensures not_the_last { (w : World) → all_marked (marking (false ∷ true ∷ false ∷ []) (0 ∷ 16 ∷ []) w) ≡ false }
-    ensures not_the_terminals { (w : World) → all_marked (marking (false ∷ true ∷ false ∷ []) (0 ∷ 2 ∷ []) w) ≡ false }
+    ensures all { (w : World) → all_noted (marking (false ∷ true ∷ false ∷ []) (0 ∷ 2 ∷ 16 ∷ []) w) ≡ true }
+    ensures not_the_first { (w : World) → all_noted (marking (false ∷ true ∷ false ∷ []) (2 ∷ 16 ∷ []) w) ≡ false }
+    ensures not_the_last { (w : World) → all_noted (marking (false ∷ true ∷ false ∷ []) (0 ∷ 16 ∷ []) w) ≡ false }
+    ensures not_the_terminals { (w : World) → all_noted (marking (false ∷ true ∷ false ∷ []) (0 ∷ 2 ∷ []) w) ≡ false }
 {}
 
-/// A state is idle where none of the five is left: an entry, a run, a wait at a mark, a letter that is owed, and a mark.
+/// A state is idle where none of the five is left: an entry, a run, a wait at a checkpoint, a letter that is owed, and a mark.
 pub fn a_state_is_idle_where_nothing_is_left()
     ensures idle { is_idle (nothing_owed (end_of discs_at_boot (Enter 0 ∷ Enter 1 ∷ []))) ≡ true }
     ensures entry { is_idle discs_at_boot ≡ false }

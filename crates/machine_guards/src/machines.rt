@@ -3,9 +3,9 @@ ghost use Rattle.machine_states.specs.declared.effect.Effect.{Effect};
 ghost use Rattle.machine_states.specs.declared.effect.Effect.TheVariants.{Done, Skipped, WouldStopSecond};
 ghost use Rattle.machine_states.specs.States.{Makes, Settles, Skips, WouldStop};
 ghost use Rattle.schedule.specs.declared.event.Event.TheVariants.{Fail, Lose};
-ghost use Rattle.computed_changes.specs.Stopped.{marked_done, stopped_world};
-ghost use Rattle.message_wires.specs.Play.{Whole, has_stopped, play};
-ghost use Rattle.message_wires.specs.Wires.{Wires, all_posted, has_room};
+ghost use Rattle.computed_changes.specs.Stopped.{down_done, stopped_world};
+ghost use Rattle.message_wires.specs.Play.{MachineState, has_stopped, play};
+ghost use Rattle.message_wires.specs.Wires.{Wires, wires_after_posts, has_room};
 ghost use Rattle.letters.specs.Routes.{Letter};
 ghost use Rattle.world_semantics.specs.declared.role.Role.TheVariants.{Acting, Gone};
 ghost use Rattle.world_semantics.specs.Rules.{stopped_copy, stopped_pair, taken_over};
@@ -13,15 +13,15 @@ ghost use Rattle.world_semantics.specs.World.{Copy, Pair, World};
 
 /// A machine that did what an event makes says so, and stands there; else it stays, and says which of the two causes it was.
 pub fn an_answer_is_that_of_what_is_played()
-    ensures made { (next before after : Whole) (answer : Effect) → Settles (Makes next) before answer after → (answer ≡ Done) × (after ≡ next) }
-    ensures skipped { (before after : Whole) (answer : Effect) → Settles {Wires = Wires} Skips before answer after → (answer ≡ Skipped) × (after ≡ before) }
-    ensures second { (processor : ℕ) (before after : Whole) (answer : Effect) → Settles {Wires = Wires} (WouldStop processor) before answer after
+    ensures made { (next before after : MachineState) (answer : Effect) → Settles (Makes next) before answer after → (answer ≡ Done) × (after ≡ next) }
+    ensures skipped { (before after : MachineState) (answer : Effect) → Settles {Wires = Wires} Skips before answer after → (answer ≡ Skipped) × (after ≡ before) }
+    ensures second { (processor : ℕ) (before after : MachineState) (answer : Effect) → Settles {Wires = Wires} (WouldStop processor) before answer after
         → (answer ≡ WouldStopSecond processor) × (after ≡ before) }
 {}
 
 /// The first stop is done, each process of the site is told of it, and the copies in that processor are gone, and no others.
 pub fn a_stop_leaves_no_process_out()
-    ensures stop { (s : Whole) (processor : ℕ) → slice_get s.world.stopped processor ≡ Some false → has_stopped s.world.stopped ≡ false
+    ensures stop { (s : MachineState) (processor : ℕ) → slice_get s.world.stopped processor ≡ Some false → has_stopped s.world.stopped ≡ false
         → play s (Fail processor) ≡ Makes (record s { world = stopped_world processor s.world }) }
     ensures each { (w : World) (processor number : ℕ) (pair : Pair) → slice_get w.processes number ≡ Some pair
         → slice_get (stopped_world processor w).processes number ≡ Some (stopped_pair processor pair) }
@@ -31,23 +31,23 @@ pub fn a_stop_leaves_no_process_out()
 
 /// A processor that runs is marked by nobody, so nothing takes over before a stop.
 pub fn nothing_is_marked_before_it_stops()
-    ensures { (node processor : ℕ) (w : World) → slice_get w.stopped processor ≡ Some false → marked_done node processor w ≡ None }
+    ensures { (node processor : ℕ) (w : World) → slice_get w.stopped processor ≡ Some false → down_done node processor w ≡ None }
 {}
 
 /// Where none has stopped no second processor would.
 pub fn a_second_stop_needs_a_first()
-    ensures { (s : Whole) (processor other : ℕ) → has_stopped s.world.stopped ≡ false → play s (Fail processor) ≢ WouldStop other }
+    ensures { (s : MachineState) (processor other : ℕ) → has_stopped s.world.stopped ≡ false → play s (Fail processor) ≢ WouldStop other }
 {}
 
 /// What is sent is owed and goes to the end of the bus, and what is lost is taken off the bus and stays owed.
 pub fn what_is_lost_stays_owed()
     ensures sent { (letter : Letter) (wires : Wires) → has_room wires.bus ≡ true
-        → all_posted (letter ∷ []) wires ≡ record {
+        → wires_after_posts (letter ∷ []) wires ≡ record {
           count = wires.count + 1;
           bus = wires.bus ++ record { number = wires.count; letter = letter } ∷ [];
           owed = wires.owed ++ record { number = wires.count; letter = letter } ∷ [];
         } }
-    ensures lost { (s next : Whole) (k : ℕ) → play s (Lose false k) ≡ Makes next → (next.wires.owed ≡ s.wires.owed) × (next.world ≡ s.world) }
+    ensures lost { (s next : MachineState) (k : ℕ) → play s (Lose false k) ≡ Makes next → (next.wires.owed ≡ s.wires.owed) × (next.world ≡ s.world) }
 {}
 
 /// A copy that takes over acts with the core that its last checkpoint left, from the base on, in the next era, and holds nothing.

@@ -6,14 +6,14 @@ ghost use Rattle.letters.specs.Routes.{Letter};
 ghost use Rattle.world_semantics.specs.Examples.{adder_for};
 ghost use Rattle.world_semantics.specs.Messages.{Asking, Message};
 ghost use Rattle.message_wires.specs.Examples.{end_of};
-ghost use Rattle.message_wires.specs.Play.{play, whole_at_boot};
-ghost use Rattle.message_wires.specs.Wires.{all_posted, paid, paid_between};
+ghost use Rattle.message_wires.specs.Play.{play, machine_at_boot};
+ghost use Rattle.message_wires.specs.Wires.{wires_after_posts, paid, paid_between};
 ghost use Rattle.machine_guards.specs.States.{between, discs_at_boot, owing, sent_to};
 
 /// At the beginning nothing was sent. What is sent is numbered from 0 in its order, on the bus and among what is owed.
 pub fn what_is_sent_is_numbered()
-    ensures boot { (site : Site) → (whole_at_boot site).wires ≡ record { count = 0; bus = []; owed = [] } }
-    ensures posted { (one other : Letter) → all_posted (one ∷ other ∷ []) (record { count = 0; bus = []; owed = [] }) ≡ record {
+    ensures boot { (site : Site) → (machine_at_boot site).wires ≡ record { count = 0; bus = []; owed = [] } }
+    ensures posted { (one other : Letter) → wires_after_posts (one ∷ other ∷ []) (record { count = 0; bus = []; owed = [] }) ≡ record {
       count = 2;
       bus = record { number = 0; letter = one } ∷ record { number = 1; letter = other } ∷ [];
       owed = record { number = 0; letter = one } ∷ record { number = 1; letter = other } ∷ [];
@@ -51,7 +51,7 @@ pub fn what_can_not_be_is_skipped()
 
 /// Where both terminals await a process whose processor stopped, the node of the terminals asks its other copy for both, in the order of the deck.
 pub fn a_mark_asks_in_deck_order()
-    ensures { (end_of (whole_at_boot (adder_for (pos 5 ∷ pos 7 ∷ []))) (Enter 0 ∷ Enter 1 ∷ Lose false 0 ∷ Lose false 0 ∷ Fail 0 ∷ Tick 16 ∷ [])).wires.bus
+    ensures { (end_of (machine_at_boot (adder_for (pos 5 ∷ pos 7 ∷ []))) (Enter 0 ∷ Enter 1 ∷ Lose false 0 ∷ Lose false 0 ∷ Fail 0 ∷ Tick 16 ∷ [])).wires.bus
         ≡ record { number = 2; letter = record { sender = 16; receiver = 1; message = Asking (record { process = 0; opener = 0; number = 1; words = pos 5 ∷ [] }) } }
         ∷ record { number = 3; letter = record { sender = 16; receiver = 1; message = Asking (record { process = 0; opener = 1; number = 1; words = pos 7 ∷ [] }) } }
         ∷ [] }

@@ -10,14 +10,14 @@ use Rattle.world_semantics.specs.Core.{Core}
 use Rattle.world_semantics.specs.Examples.{adder, adder_for}
 use Rattle.world_semantics.specs.World as world
 use Rattle.world_semantics.specs.World.{Pair, pair_at_boot}
-use Rattle.machine_views.specs.declared.views.Mark.{Mark}
+use Rattle.machine_views.specs.declared.views.DownView.{DownView}
 use Rattle.machine_views.specs.declared.views.SectorView.{SectorView}
 
 -- the mark of a processor by a node, as it stands and as it is told
-abbrev pub standing : ℕ → ℕ → world.Mark
+abbrev pub standing : ℕ → ℕ → world.Down
 standing node processor = record { node = node; down = processor }
 
-abbrev pub told : ℕ → ℕ → Mark
+abbrev pub told : ℕ → ℕ → DownView
 told node processor = record { node = node; down = processor }
 
 -- the adder with its first copy in the processor 1 and its second in 0, at its beginning

@@ -10,10 +10,10 @@ use Rattle.process_semantics.specs.Image.{image_of}
 use Rattle.process_semantics.specs.Process.{ProcessState, asked_file, point}
 use Rattle.world_semantics.specs.Core.{Core, next_on}
 use Rattle.world_semantics.specs.World as world
-use Rattle.world_semantics.specs.World.{Copy, Pair, World, has_marked, terminal_node}
+use Rattle.world_semantics.specs.World.{Copy, Pair, World, has_noted, terminal_node}
 use Rattle.machine_views.specs.declared.views.Awaited.{Awaited}
 use Rattle.machine_views.specs.declared.views.CopyView.{CopyView}
-use Rattle.machine_views.specs.declared.views.Mark.{Mark}
+use Rattle.machine_views.specs.declared.views.DownView.{DownView}
 use Rattle.machine_views.specs.declared.views.SectorView.{SectorView}
 use Rattle.machine_views.specs.declared.views.TerminalView.{TerminalView}
 use Rattle.machine_views.specs.declared.views.View.{View}
@@ -41,15 +41,15 @@ abbrev pub stopped_in : List Bool → List ℕ
 stopped_in stopped = each_at if_stopped 0 stopped
 
 -- the mark of a processor by a node, if it stands
-abbrev pub mark_of : List world.Mark → ℕ → ℕ → List Mark
-mark_of marks node processor = if has_marked marks node processor then record { node = node; down = processor } ∷ [] else []
+abbrev pub mark_of : List world.Down → ℕ → ℕ → List DownView
+mark_of marks node processor = if has_noted marks node processor then record { node = node; down = processor } ∷ [] else []
 
 -- the marks by a node: a processor's number is below that of the node of the terminals
-abbrev pub marks_by : List world.Mark → ℕ → List Mark
+abbrev pub marks_by : List world.Down → ℕ → List DownView
 marks_by marks node = each_number (mark_of marks node) 0 terminal_node
 
 -- the marks by all nodes, the processors and the node of the terminals
-abbrev pub marks_in : List world.Mark → List Mark
+abbrev pub marks_in : List world.Down → List DownView
 marks_in marks = each_number (marks_by marks) 0 (terminal_node + 1)
 
 -- Copies

@@ -13,6 +13,6 @@ pub fn stopped_processors_are_told()
 
 /// The marks that are told are those that stand, of a processor below 16 by one or by the node of the terminals.
 pub fn marks_are_told()
-    ensures { (marks : List world.Mark) (node processor : ℕ) → (IsAmong (record { node = node; down = processor }) (marks_in marks)
-        ↔ (node ≤ 16) × (processor < 16) × (world.has_marked marks node processor ≡ true)) }
+    ensures { (marks : List world.Down) (node processor : ℕ) → (IsAmong (record { node = node; down = processor }) (marks_in marks)
+        ↔ (node ≤ 16) × (processor < 16) × (world.has_noted marks node processor ≡ true)) }
 {}

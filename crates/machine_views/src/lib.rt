@@ -16,4 +16,4 @@ pub mod views;
 
 pub use laws::{marks_are_told, stopped_processors_are_told};
 pub use telling::view;
-pub use views::{Awaited, CopyView, Mark, SectorView, TerminalView, View};
+pub use views::{Awaited, CopyView, DownView, SectorView, TerminalView, View};

@@ -1,10 +1,10 @@
 ghost use Rattle.std.specs.Prelude.{◌≡◌, ◌++◌, map, IfOk, OnOk};
 ghost use Rattle.machine_views.specs.Views.{mark_of, marks_by, marks_in, stopped_in, terminal_view};
 
-use crate::views::{Mark, TerminalView};
+use crate::views::{DownView, TerminalView};
 use gd_words::{List, NoMemory};
-use node_copies::Marks;
-use pair_machine::Pairs;
+use node_copies::Downs;
+use pair_machine::PairMachine;
 use std::alloc::Global;
 use world_copies::Terminal;
 
@@ -14,7 +14,7 @@ const PROCESSORS: u8 = 16;
 const NODES: u8 = 17;
 
 /// The processors that have stopped.
-pub(crate) fn stopped(alloc: Global, machine: &Pairs) -> Result<List<u8>, NoMemory>
+pub(crate) fn stopped(alloc: Global, machine: &PairMachine) -> Result<List<u8>, NoMemory>
     ensures { IfOk result (λ processors. processors ≡ stopped_in machine.now.state.world.stopped) }
 {
     let stopped = machine.stopped();
@@ -28,7 +28,7 @@ pub(crate) fn stopped(alloc: Global, machine: &Pairs) -> Result<List<u8>, NoMemo
 }
 
 /// The marks that stand.
-pub(crate) fn down(alloc: Global, marks: &Marks) -> Result<List<Mark>, NoMemory>
+pub(crate) fn down(alloc: Global, marks: &Downs) -> Result<List<DownView>, NoMemory>
     ensures { IfOk result (λ down. down ≡ marks_in marks.now) }
 {
     let mut down = List::new(alloc);
@@ -39,7 +39,7 @@ pub(crate) fn down(alloc: Global, marks: &Marks) -> Result<List<Mark>, NoMemory>
 }
 
 /// The marks by a node are added to `down`.
-fn add_marks(marks: &Marks, node: u8, down: &mut List<Mark>) -> Result<(), NoMemory>
+fn add_marks(marks: &Downs, node: u8, down: &mut List<DownView>) -> Result<(), NoMemory>
     ensures { OnOk result (down.new ≡ down.old ++ marks_by marks.now node) }
 {
     for processor in 0..PROCESSORS {
@@ -49,11 +49,11 @@ fn add_marks(marks: &Marks, node: u8, down: &mut List<Mark>) -> Result<(), NoMem
 }
 
 /// The mark of a processor by a node is added to `down`, if it stands.
-fn add_mark(marks: &Marks, node: u8, processor: u8, down: &mut List<Mark>) -> Result<(), NoMemory>
+fn add_mark(marks: &Downs, node: u8, processor: u8, down: &mut List<DownView>) -> Result<(), NoMemory>
     ensures { OnOk result (down.new ≡ down.old ++ mark_of marks.now node processor) }
 {
     if marks.has(node, processor) {
-        down.push(Mark {
+        down.push(DownView {
             node,
             down: processor,
         })?;

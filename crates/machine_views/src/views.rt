@@ -8,7 +8,7 @@ use world_semantics::Role;
 #[derive(Drop)]
 pub struct View {
     pub stopped: List<u8>,
-    pub down: List<Mark>,
+    pub down: List<DownView>,
     pub copies: List<CopyView>,
     pub terminals: List<TerminalView>,
     pub sectors: List<SectorView>,
@@ -16,14 +16,14 @@ pub struct View {
 
 /// A node has marked a processor down.
 #[derive(Clone, Copy, PartialEq, Eq)]
-pub struct Mark {
+pub struct DownView {
     pub node: u8,
     pub down: u8,
 }
 
 /// A copy of a process in its processor. `number` is that of the last checkpoint sent or applied in its era, and `sent` says whether
-/// that of the mark at which it stands was sent. `awaited` is the request whose reply it awaits. `state` is the image of its process
-/// with everything that may be listed: at a mark that of the state after it. `files` has the number of the next request on each file.
+/// that of the CHECKPOINT at which it stands was sent. `awaited` is the request whose reply it awaits. `state` is the image of its process
+/// with everything that may be listed: at a checkpoint that of the state after it. `files` has the number of the next request on each file.
 #[derive(Drop)]
 pub struct CopyView {
     pub process: u8,

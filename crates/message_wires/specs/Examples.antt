@@ -6,7 +6,7 @@ use Rattle.world_semantics.specs.Examples.{adder_for, delivery, run}
 use Rattle.world_semantics.specs.Messages.{Message, Asking, Replying, Checkpointing, Taking}
 use Rattle.machine_states.specs.States.{Played, Makes, Skips, WouldStop}
 use Rattle.message_wires.specs.Wires.{Sent, Wires}
-use Rattle.message_wires.specs.Play.{Whole, whole_at_boot, play}
+use Rattle.message_wires.specs.Play.{MachineState, machine_at_boot, play}
 
 -- of what sort a message is
 pub data Sort : Type 0 where
@@ -30,23 +30,23 @@ pub record Sight : Type 0 where
 abbrev pub sight : Sent → Sight
 sight one = record { sender = one.letter.sender; receiver = one.letter.receiver; sort = sort_of one.letter.message }
 
-abbrev pub state_after : Played Wires → Whole → Whole
+abbrev pub state_after : Played Wires → MachineState → MachineState
 state_after (Makes next) s = next
 state_after Skips s = s
 state_after (WouldStop processor) s = s
 
-abbrev pub end_of : Whole → List Event → Whole
+abbrev pub end_of : MachineState → List Event → MachineState
 end_of s [] = s
 end_of s (event ∷ events) = end_of (state_after (play s event) s) events
 
 -- what is on the bus after each event
-abbrev pub buses_from : Whole → List Event → List (List Sight)
+abbrev pub buses_from : MachineState → List Event → List (List Sight)
 buses_from s [] = []
 buses_from s (event ∷ events) = map sight (state_after (play s event) s).wires.bus ∷ buses_from (state_after (play s event) s) events
 
 -- the adder of world_semantics in the processors 0 and 1, and a terminal that sends it 5
-abbrev pub adder_at_boot : Whole
-adder_at_boot = whole_at_boot (adder_for (pos 5 ∷ []))
+abbrev pub adder_at_boot : MachineState
+adder_at_boot = machine_at_boot (adder_for (pos 5 ∷ []))
 
 abbrev pub asks : ℕ → Sight
 asks processor = record { sender = 16; receiver = processor; sort = Request }
@@ -68,7 +68,7 @@ abbrev pub buses_to_checkpoint : List (List Sight)
 buses_to_checkpoint =
     (asks 0 ∷ []) ∷ (asks 0 ∷ []) ∷ (asks 0 ∷ []) ∷ (asks 0 ∷ []) ∷ [] ∷ [] ∷ [] ∷ [] ∷ (checkpoint ∷ []) ∷ []
 
--- The takeover: the checkpoint is taken, the first copy passes its mark and answers, and its processor stops. Both nodes that run mark it: the second copy takes
+-- The takeover: the checkpoint is taken, the first copy passes its checkpoint and answers, and its processor stops. Both nodes that run mark it: the second copy takes
 -- over, and the node of the terminals sends the request to it, and drops the reply of the node that it marked. The second copy answers anew; the request comes,
 -- whose kept reply is sent again; one reply is printed, and the other one isn't awaited
 abbrev pub until_dropped : List Event

@@ -4,11 +4,11 @@ use Rattle.std.specs.List.{list_all}
 use Rattle.tal_tree.specs.declared.site.Site.{Site}
 use Rattle.world_semantics.specs.declared.role.Role.{Role}
 use Rattle.world_semantics.specs.declared.role.Role.TheVariants.{Acting, Watching, Gone}
-use Rattle.world_semantics.specs.World.{Copy, Pair, World, terminal_node, is_running, has_marked}
+use Rattle.world_semantics.specs.World.{Copy, Pair, World, terminal_node, is_running, has_noted}
 use Rattle.world_semantics.specs.Running.{run_done}
 use Rattle.computed_changes.specs.Entered.{enter_done}
 use Rattle.message_wires.specs.Wires.{Sent}
-use Rattle.message_wires.specs.Play.{Whole}
+use Rattle.message_wires.specs.Play.{MachineState}
 
 -- each of so many numbers, from a number on, passes a test
 abbrev pub all_from : (ℕ → Bool) → ℕ → ℕ → Bool
@@ -23,7 +23,7 @@ none_enters site w = all_from (λ terminal. is_none (enter_done site terminal w)
 abbrev pub none_runs : Site → World → Bool
 none_runs site w = all_from (λ number. is_none (run_done site number w)) 0 (length w.processes)
 
--- whether a copy of this role acts and waits at a mark, its checkpoint sent
+-- whether a copy of this role acts and waits at a checkpoint, its checkpoint sent
 abbrev pub waits_as : Role → Bool → Bool
 waits_as Acting sent = sent
 waits_as Watching sent = false
@@ -32,7 +32,7 @@ waits_as Gone sent = false
 abbrev pub waits_at_mark : Copy → Bool
 waits_at_mark copy = waits_as copy.role copy.sent
 
--- no copy that acts waits at a mark
+-- no copy that acts waits at a checkpoint
 abbrev pub none_waits : List Pair → Bool
 none_waits processes = list_all (λ pair. not (waits_at_mark pair.first) && not (waits_at_mark pair.second)) processes
 
@@ -42,7 +42,7 @@ none_owed stopped owed = list_all (λ one. not (is_running stopped one.letter.se
 
 -- whether a node has marked a processor, if that has stopped
 abbrev pub has_marked_if : World → ℕ → ℕ → Option Bool → Bool
-has_marked_if w node processor (Some true) = has_marked w.marks node processor
+has_marked_if w node processor (Some true) = has_noted w.marks node processor
 has_marked_if w node processor (Some false) = true
 has_marked_if w node processor None = true
 
@@ -53,11 +53,11 @@ has_marked_all w node =
     || all_from (λ processor. has_marked_if w node processor (slice_get w.stopped processor)) 0 (length w.stopped)
 
 -- each node has, the processors and the node of the terminals
-abbrev pub all_marked : World → Bool
-all_marked w = all_from (λ node. has_marked_all w node) 0 (length w.stopped) && has_marked_all w terminal_node
+abbrev pub all_noted : World → Bool
+all_noted w = all_from (λ node. has_marked_all w node) 0 (length w.stopped) && has_marked_all w terminal_node
 
 -- nothing is left to do
-abbrev pub is_idle : Whole → Bool
+abbrev pub is_idle : MachineState → Bool
 is_idle s =
     none_enters s.site s.world
-    && (none_runs s.site s.world && (none_waits s.world.processes && (none_owed s.world.stopped s.wires.owed && all_marked s.world)))
+    && (none_runs s.site s.world && (none_waits s.world.processes && (none_owed s.world.stopped s.wires.owed && all_noted s.world)))

@@ -4,62 +4,62 @@ use Rattle.std.specs.List.{list_any}
 use Rattle.tal_tree.specs.declared.site.Site.{Site}
 use Rattle.schedule.specs.declared.event.Event.{Event}
 use Rattle.schedule.specs.declared.event.Event.TheVariants.{Run, Enter, Deliver, Lose, Repeat, Tick, Fail}
-use Rattle.world_semantics.specs.World.{boot, is_running, has_marked}
+use Rattle.world_semantics.specs.World.{boot, is_running, has_noted}
 use Rattle.world_semantics.specs.Running.{Done, run_done}
 use Rattle.computed_changes.specs.Entered.{enter_done}
 use Rattle.computed_changes.specs.Handed.{handed_done}
-use Rattle.computed_changes.specs.Stopped.{stop_done, marked_done}
+use Rattle.computed_changes.specs.Stopped.{stop_done, down_done}
 use Rattle.letters.specs.Routes.{Letter, letters_of}
 use Rattle.letters.specs.Again.{sent_again}
 use Rattle.machine_states.specs.States.{State, Played, Makes, Skips, WouldStop}
-use Rattle.message_wires.specs.Wires.{Sent, Wires, wires_at_boot, all_posted, paid, paid_between, without_packet, repeated_packet, wires_again}
+use Rattle.message_wires.specs.Wires.{Sent, Wires, wires_at_boot, wires_after_posts, paid, paid_between, without_packet, repeated_packet, wires_again}
 
 -- a state of the machine over whole messages
-abbrev pub Whole : Type 0
-Whole = State Wires
+abbrev pub MachineState : Type 0
+MachineState = State Wires
 
-abbrev pub whole_at_boot : Site → Whole
-whole_at_boot site = record { site = site; world = boot site; wires = wires_at_boot }
+abbrev pub machine_at_boot : Site → MachineState
+machine_at_boot site = record { site = site; world = boot site; wires = wires_at_boot }
 
 -- Changes of the world
 
 -- the state after a change of its world: what was sent is posted, by the routes of the world after the change
-abbrev pub after_done : Whole → Done → Whole
-after_done s done = record s { world = done.world; wires = all_posted (letters_of s.site done.world done.sendings) s.wires }
+abbrev pub after_done : MachineState → Done → MachineState
+after_done s done = record s { world = done.world; wires = wires_after_posts (letters_of s.site done.world done.sendings) s.wires }
 
-abbrev pub made_by : Whole → Option Done → Played Wires
+abbrev pub made_by : MachineState → Option Done → Played Wires
 made_by s None = Skips
 made_by s (Some done) = Makes (after_done s done)
 
 -- the state after a change, if one is made
-abbrev pub after_any : Whole → Option Done → Whole
+abbrev pub after_any : MachineState → Option Done → MachineState
 after_any s None = s
 after_any s (Some done) = after_done s done
 
 -- Packets
 
 -- the letter of a packet is handed over at its receiver, and owed no more
-abbrev pub handed : Sent → Whole → Whole
-handed packet s =
+abbrev pub state_after_handing : Sent → MachineState → MachineState
+state_after_handing packet s =
     after_any (record s { wires = paid packet.number s.wires }) (handed_done s.site packet.letter.receiver packet.letter.message s.world)
 
 -- whether a letter comes in at its receiver: that runs, and hasn't marked the sender
-abbrev pub comes_in : Whole → Letter → Bool
-comes_in s letter = is_running s.world.stopped letter.receiver && not (has_marked s.world.marks letter.receiver letter.sender)
+abbrev pub comes_in : MachineState → Letter → Bool
+comes_in s letter = is_running s.world.stopped letter.receiver && not (has_noted s.world.marks letter.receiver letter.sender)
 
-abbrev pub received : Sent → Whole → Whole
-received packet s = if comes_in s packet.letter then handed packet s else s
+abbrev pub state_after_receiving : Sent → MachineState → MachineState
+state_after_receiving packet s = if comes_in s packet.letter then state_after_handing packet s else s
 
 -- a packet is taken off the bus, and what it carries comes in or is dropped
-abbrev pub deliver_played : ℕ → Whole → Option Sent → Played Wires
+abbrev pub deliver_played : ℕ → MachineState → Option Sent → Played Wires
 deliver_played k s None = Skips
-deliver_played k s (Some packet) = Makes (received packet (record s { wires = without_packet k s.wires }))
+deliver_played k s (Some packet) = Makes (state_after_receiving packet (record s { wires = without_packet k s.wires }))
 
-abbrev pub lose_played : ℕ → Whole → Option Sent → Played Wires
+abbrev pub lose_played : ℕ → MachineState → Option Sent → Played Wires
 lose_played k s None = Skips
 lose_played k s (Some packet) = Makes (record s { wires = without_packet k s.wires })
 
-abbrev pub repeat_played : Whole → Option Sent → Played Wires
+abbrev pub repeat_played : MachineState → Option Sent → Played Wires
 repeat_played s None = Skips
 repeat_played s (Some packet) = Makes (record s { wires = repeated_packet packet s.wires })
 
@@ -69,46 +69,46 @@ abbrev pub has_stopped : List Bool → Bool
 has_stopped stopped = list_any (λ one. one) stopped
 
 -- a second processor doesn't stop
-abbrev pub fail_played : ℕ → Whole → Option Done → Played Wires
+abbrev pub fail_played : ℕ → MachineState → Option Done → Played Wires
 fail_played processor s None = Skips
 fail_played processor s (Some done) = if has_stopped s.world.stopped then WouldStop processor else Makes (after_done s done)
 
 -- the state after a node marked a processor: what was owed between both is so no more, and what the mark sends and sends again is posted
-abbrev pub after_marked : ℕ → ℕ → Whole → Done → Whole
-after_marked node processor s done = record s {
+abbrev pub after_noted : ℕ → ℕ → MachineState → Done → MachineState
+after_noted node processor s done = record s {
   world = done.world;
   wires =
-      all_posted (letters_of s.site done.world (done.sendings ++ sent_again s.site s.world done.world node processor))
+      wires_after_posts (letters_of s.site done.world (done.sendings ++ sent_again s.site s.world done.world node processor))
       (paid_between node processor s.wires);
 }
 
-abbrev pub marked_by : ℕ → ℕ → Whole → Option Done → Whole
-marked_by node processor s None = s
-marked_by node processor s (Some done) = after_marked node processor s done
+abbrev pub noted_by : ℕ → ℕ → MachineState → Option Done → MachineState
+noted_by node processor s None = s
+noted_by node processor s (Some done) = after_noted node processor s done
 
 -- a node marks each of so many processors, from one on, that has stopped and isn't marked yet
-abbrev pub marks_from : ℕ → ℕ → ℕ → Whole → Whole
-marks_from node processor zero s = s
-marks_from node processor (suc more) s =
-    marks_from node (processor + 1) more (marked_by node processor s (marked_done node processor s.world))
+abbrev pub notes_from : ℕ → ℕ → ℕ → MachineState → MachineState
+notes_from node processor zero s = s
+notes_from node processor (suc more) s =
+    notes_from node (processor + 1) more (noted_by node processor s (down_done node processor s.world))
 
 -- a tick of a node: it marks, and then puts on the bus again what it sent, that is owed and not on the bus
-abbrev pub ticked : ℕ → Whole → Whole
-ticked node s = record s { wires = wires_again s.world.stopped node s.wires }
+abbrev pub state_after_tick : ℕ → MachineState → MachineState
+state_after_tick node s = record s { wires = wires_again s.world.stopped node s.wires }
 
-abbrev pub tick_played : ℕ → Whole → Played Wires
+abbrev pub tick_played : ℕ → MachineState → Played Wires
 tick_played node s =
-    if is_running s.world.stopped node then Makes (ticked node (marks_from node 0 (length s.world.stopped) s)) else Skips
+    if is_running s.world.stopped node then Makes (state_after_tick node (notes_from node 0 (length s.world.stopped) s)) else Skips
 
 -- Events
 
 -- the packet at a position of a bus: all are on bus X
-abbrev pub packet_at : Whole → Bool → ℕ → Option Sent
+abbrev pub packet_at : MachineState → Bool → ℕ → Option Sent
 packet_at s true k = None
 packet_at s false k = slice_get s.wires.bus k
 
 -- what an event makes of a state
-abbrev pub play : Whole → Event → Played Wires
+abbrev pub play : MachineState → Event → Played Wires
 play s (Run number) = made_by s (run_done s.site number s.world)
 play s (Enter terminal) = made_by s (enter_done s.site terminal s.world)
 play s (Deliver y k) = deliver_played k s (packet_at s y k)

@@ -17,7 +17,7 @@ use Rattle.schedule.specs.declared.event.Event.TheVariants as event
 use Rattle.process_semantics.specs.Process as process
 use Rattle.world_semantics.specs.Examples.{adder, delivery, line}
 use Rattle.message_wires.specs.Examples.{end_of}
-use Rattle.message_wires.specs.Play.{Whole, whole_at_boot}
+use Rattle.message_wires.specs.Play.{MachineState, machine_at_boot}
 
 -- takes a request, checkpoints, asks the adder the same, and answers what it answers
 abbrev pub fronting : List Statement
@@ -66,25 +66,25 @@ abbrev pub acted : List Event
 acted = event.Enter 0 ∷ event.Run 0 ∷ event.Run 1 ∷ []
 
 -- a round: the terminal enters, each process runs once, as many packets are delivered as are on the bus then, and each node ticks
-abbrev pub round : Whole → List Event
+abbrev pub round : MachineState → List Event
 round s =
     acted ++ replicate (length (end_of s acted).wires.bus) delivery ++ event.Tick 0 ∷ event.Tick 1 ∷ event.Tick 16 ∷ []
 
 -- so many rounds
-abbrev pub rounds : ℕ → Whole → List Event
+abbrev pub rounds : ℕ → MachineState → List Event
 rounds zero s = []
 rounds (suc more) s = round s ++ rounds more (end_of s (round s))
 
-abbrev pub after_rounds : ℕ → Whole → Whole
+abbrev pub after_rounds : ℕ → MachineState → MachineState
 after_rounds many s = end_of s (rounds many s)
 
 -- the state in which processor 0 is to stop, and the one after it stopped
-abbrev pub before_stop : ℕ → Whole
-before_stop many = after_rounds many (whole_at_boot tiers)
+abbrev pub before_stop : ℕ → MachineState
+before_stop many = after_rounds many (machine_at_boot tiers)
 
-abbrev pub stopped_after : ℕ → Whole
+abbrev pub stopped_after : ℕ → MachineState
 stopped_after many = end_of (before_stop many) (event.Fail 0 ∷ [])
 
 -- whether each process has a request in hand at its first copy
-abbrev pub in_hand : Whole → List Bool
+abbrev pub in_hand : MachineState → List Bool
 in_hand s = map (λ pair. process.in_hand pair.first.core.state) s.world.processes

@@ -29,16 +29,16 @@ abbrev pub put_on : Sent → List Sent → List Sent
 put_on packet bus = if has_room bus then bus ++ packet ∷ [] else bus
 
 -- a letter is sent: it is owed, and a packet of it goes to the bus
-abbrev pub posted : Letter → Wires → Wires
-posted letter wires = record {
+abbrev pub wires_after_post : Letter → Wires → Wires
+wires_after_post letter wires = record {
   count = wires.count + 1;
   bus = put_on (record { number = wires.count; letter = letter }) wires.bus;
   owed = wires.owed ++ record { number = wires.count; letter = letter } ∷ [];
 }
 
-abbrev pub all_posted : List Letter → Wires → Wires
-all_posted [] wires = wires
-all_posted (letter ∷ letters) wires = all_posted letters (posted letter wires)
+abbrev pub wires_after_posts : List Letter → Wires → Wires
+wires_after_posts [] wires = wires
+wires_after_posts (letter ∷ letters) wires = wires_after_posts letters (wires_after_post letter wires)
 
 -- whether a letter is of this sending
 abbrev pub is_of : ℕ → Sent → Bool

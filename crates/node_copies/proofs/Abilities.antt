@@ -8,7 +8,7 @@ use Rattle.tal_tree.specs.declared.site.Site.{Site}
 use Rattle.plain_semantics.specs.Openers.{openers_of}
 use Rattle.checkpoint_image.specs.declared.receive.OpenerBlock.{OpenerBlock}
 use Rattle.checkpoint_image.specs.declared.receive.ReceiveBlock.{ReceiveBlock}
-use Rattle.checkpoint_image.specs.declared.receive.Standing.TheVariants.{Next}
+use Rattle.checkpoint_image.specs.declared.receive.RequestStanding.TheVariants.{Next}
 use Rattle.checkpoint_image.specs.Receive.{Chosen, chosen, holds, standing_by}
 use Rattle.computed_changes.specs.Fitting.{depths_of}
 use Rattle.sync_ids.specs.Tables.{IsSound, Remembered, are_of_depths, can_hold, is_unanswered}

@@ -3,12 +3,12 @@ use Rattle.std.proofs.Common.{◌≡◌, Bool, true, false, List, [], ◌∷◌,
 use Rattle.std.specs.Option.{option_map}
 use Rattle.gd_words.specs.declared.message.Request.{Request}
 use Rattle.checkpoint_image.specs.declared.receive.ReceiveBlock.{ReceiveBlock}
-use Rattle.checkpoint_image.specs.declared.receive.Standing.{Standing}
-use Rattle.checkpoint_image.specs.declared.receive.Standing.TheVariants.{Next, InHand, Kept, Old, Ahead}
+use Rattle.checkpoint_image.specs.declared.receive.RequestStanding.{RequestStanding}
+use Rattle.checkpoint_image.specs.declared.receive.RequestStanding.TheVariants.{Next, InHand, Kept, Old, Ahead}
 use Rattle.checkpoint_image.specs.Receive.{Chosen, chosen, chosen_by, is_next, standing}
 use Rattle.world_semantics.proofs.Lists.{some-same}
 
-is-next : (s : Standing) → is_next s ≡ true → s ≡ Next
+is-next : (s : RequestStanding) → is_next s ≡ true → s ≡ Next
 is-next Next e = refl
 is-next Ahead e = absurd (cc)
 is-next InHand e = absurd (cc)

@@ -5,8 +5,8 @@ use Rattle.gd_words.specs.declared.message.Reply.{Reply}
 use Rattle.gd_words.specs.declared.message.Request.{Request}
 use Rattle.checkpoint_image.specs.Receive.{standing}
 use Rattle.checkpoint_image.specs.declared.receive.ReceiveBlock.{ReceiveBlock}
-use Rattle.checkpoint_image.specs.declared.receive.Standing.{Standing}
-use Rattle.checkpoint_image.specs.declared.receive.Standing.TheVariants.{Next, InHand, Kept, Old, Ahead}
+use Rattle.checkpoint_image.specs.declared.receive.RequestStanding.{RequestStanding}
+use Rattle.checkpoint_image.specs.declared.receive.RequestStanding.TheVariants.{Next, InHand, Kept, Old, Ahead}
 use Rattle.file_calls.specs.Queue.{Queue}
 use Rattle.file_calls.specs.Takeover.{Settled, Settles, no_more, one_more, settled, settled_by}
 use Rattle.world_semantics.specs.Messages.{Replying, Sending, sent_at}
@@ -66,7 +66,7 @@ record Fewer (waiting : List Request) (s : Settled) : Type 0 where
   most : length s.rest ≤ length waiting
   less : is_some s.reply ≡ true → length s.rest < length waiting
 
-fewer-by : (request : Request) (rest : List Request) (later : Settled) (s : Standing) → Fewer rest later
+fewer-by : (request : Request) (rest : List Request) (later : Settled) (s : RequestStanding) → Fewer rest later
     → Fewer (request ∷ rest) (settled_by s request rest later)
 fewer-by request rest later Next few = record { most = omega (arith, few.most); less = λ some. let less = few.less some in omega (arith, less) }
 fewer-by request rest later Ahead few = record { most = omega (arith, few.most); less = λ some. let less = few.less some in omega (arith, less) }

@@ -11,8 +11,8 @@ use Rattle.world_semantics.specs.Messages.{sent_at}
 use Rattle.world_semantics.specs.Own.{Around, around_with}
 use Rattle.world_semantics.specs.Running.{Own, copy_acted, own_at, records_acted}
 use Rattle.world_semantics.specs.Records.{Records}
-use Rattle.node_copies.specs.Seen.{CopyAndDepths, told_by}
-use Rattle.node_copies.specs.declared.step.Step.{Step}
+use Rattle.node_copies.specs.Seen.{CopyAndDepths, step_sendings}
+use Rattle.node_copies.specs.declared.step.StepOutcome.{StepOutcome}
 
 -- a copy with the sectors of its process's device and the records of what happened
 pub record Scene : Type 0 where
@@ -29,10 +29,10 @@ abbrev pub own_in : Site → ℕ → Scene → Point → Option Own
 own_in site number scene stands = own_at site number scene.one.copy.core (around_in scene) stands
 
 -- the step that is told is this act of the copy, or none: what it sends, and the copy, the sectors and the records after it
-abbrev pub HasActed : ℕ → Option Own → Step → Scene → Scene → Type 0
-HasActed number None step before after = (told_by step ≡ None) × (after ≡ before)
+abbrev pub HasActed : ℕ → Option Own → StepOutcome → Scene → Scene → Type 0
+HasActed number None step before after = (step_sendings step ≡ None) × (after ≡ before)
 HasActed number (Some own) step before after =
-    (told_by step ≡ Some (sent_at before.one.copy.processor own.messages))
+    (step_sendings step ≡ Some (sent_at before.one.copy.processor own.messages))
     × ((after.one ≡ record before.one { copy = copy_acted number before.records.kept own before.one.copy })
     × ((after.sectors ≡ own.after.sectors) × (after.records ≡ records_acted number before.records.kept own before.one.copy)))
 

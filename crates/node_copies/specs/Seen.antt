@@ -12,8 +12,8 @@ use Rattle.process_control.specs.Copies.{CopyState}
 use Rattle.world_semantics.specs.Shares.{Share}
 use Rattle.world_semantics.specs.World.{Copy}
 use Rattle.world_semantics.specs.Messages.{Sending}
-use Rattle.node_copies.specs.declared.step.Step.{Step}
-use Rattle.node_copies.specs.declared.step.Step.TheVariants.{Impossible, Quiet, Sends}
+use Rattle.node_copies.specs.declared.step.StepOutcome.{StepOutcome}
+use Rattle.node_copies.specs.declared.step.StepOutcome.TheVariants.{Impossible, Quiet, Sends}
 
 -- a copy, and how many replies are kept at most of each opener of its process
 pub record CopyAndDepths : Type 0 where
@@ -66,7 +66,7 @@ abbrev pub openers_on : Site → ℕ → List (Option Opener)
 openers_on site process = files_by site process (slice_get site.processes process)
 
 -- what a step that is told sends; none where it is told that none was made
-abbrev pub told_by : Step → Option (List Sending)
-told_by Impossible = None
-told_by Quiet = Some []
-told_by (Sends sending) = Some (sending ∷ [])
+abbrev pub step_sendings : StepOutcome → Option (List Sending)
+step_sendings Impossible = None
+step_sendings Quiet = Some []
+step_sendings (Sends sending) = Some (sending ∷ [])

@@ -17,7 +17,7 @@ use crate::device::found_on;
 use crate::one::NodeCopy;
 use crate::records::Records;
 use crate::sending::{address_in, reply_of, request_to};
-use crate::step::Step;
+use crate::step::StepOutcome;
 use checkpoint_image::ImageMessage;
 use disc_device::Disc;
 use gd_words::NoMemory;
@@ -27,7 +27,7 @@ use tal_tree::Act;
 
 impl NodeCopy {
     /// A step inside.
-    fn inner(&mut self, number: u8, records: &mut Records) -> Result<Step, NoMemory>
+    fn inner(&mut self, number: u8, records: &mut Records) -> Result<StepOutcome, NoMemory>
         requires point { point self.old.copy.core.state ≡ Point.Inner }
         requires position { HasNextLong self.old.copy.position }
         ensures acted { (site : Site) (sectors : List Stored) → IfOk result (λ step. HasActed number
@@ -37,12 +37,12 @@ impl NodeCopy {
     {
         self.control.inner();
         self.share
-            .enter(number, Act::Step(number), &mut records.kept)?;
-        Ok(Step::Quiet)
+            .enter(number, Act::StepOutcome(number), &mut records.kept)?;
+        Ok(StepOutcome::Quiet)
     }
 
     /// Takes the first request that stands Next, if there is one.
-    fn take(&mut self, number: u8, records: &mut Records) -> Result<Step, NoMemory>
+    fn take(&mut self, number: u8, records: &mut Records) -> Result<StepOutcome, NoMemory>
         requires point { point self.old.copy.core.state ≡ Point.Take }
         requires position { HasNextLong self.old.copy.position }
         ensures acted { (site : Site) (sectors : List Stored) → IfOk result (λ step. HasActed number
@@ -51,7 +51,7 @@ impl NodeCopy {
         ensures depths { self.new.depths ≡ self.old.depths }
     {
         match self.waiting.choose(self.control.receive()) {
-            None => Ok(Step::Impossible),
+            None => Ok(StepOutcome::Impossible),
             Some(request) => {
                 let opener = request.opener;
                 self.control.take(&request);
@@ -60,7 +60,7 @@ impl NodeCopy {
                     opener,
                 };
                 self.share.enter(number, done, &mut records.kept)?;
-                Ok(Step::Quiet)
+                Ok(StepOutcome::Quiet)
             }
         }
     }
@@ -71,7 +71,7 @@ impl NodeCopy {
         number: u8,
         files: &[Option<Address>],
         records: &mut Records,
-    ) -> Result<Step, NoMemory>
+    ) -> Result<StepOutcome, NoMemory>
         requires point { point self.old.copy.core.state ≡ Point.Ask }
         requires number { HasNext (next_on self.old.copy.core (asked_file self.old.copy.core.state)) }
         requires position { HasNextLong self.old.copy.position }
@@ -82,14 +82,14 @@ impl NodeCopy {
     {
         let asking = self.control.ask();
         self.share
-            .enter(number, Act::Step(number), &mut records.kept)?;
+            .enter(number, Act::StepOutcome(number), &mut records.kept)?;
         let address = address_in(files, asking.file);
         let step = records.ask(self.processor, request_to(address, asking))?;
         Ok(step)
     }
 
     /// Answers the request in hand: the reply is sent.
-    fn answer(&mut self, number: u8, records: &mut Records) -> Result<Step, NoMemory>
+    fn answer(&mut self, number: u8, records: &mut Records) -> Result<StepOutcome, NoMemory>
         requires point { point self.old.copy.core.state ≡ Point.Answer }
         requires position { HasNextLong self.old.copy.position }
         ensures acted { (site : Site) (sectors : List Stored) → self.old.depths ≡ depths_of site number → IfOk result (λ step. HasActed number
@@ -99,7 +99,7 @@ impl NodeCopy {
     {
         let answering = self.control.answer();
         self.share
-            .enter(number, Act::Step(number), &mut records.kept)?;
+            .enter(number, Act::StepOutcome(number), &mut records.kept)?;
         let step = records.answer(self.processor, reply_of(number, answering))?;
         Ok(step)
     }
@@ -110,7 +110,7 @@ impl NodeCopy {
         number: u8,
         device: &mut Option<Disc>,
         records: &mut Records,
-    ) -> Result<Step, NoMemory>
+    ) -> Result<StepOutcome, NoMemory>
         requires point { point self.old.copy.core.state ≡ Point.Device }
         requires write { HasNext (last_write_of self.old.copy.core.state) }
         requires position { HasNextLong self.old.copy.position }
@@ -124,9 +124,9 @@ impl NodeCopy {
         let found = found_on(device, &call);
         self.control.device_done(&found);
         self.share
-            .enter(number, Act::Step(number), &mut records.kept)?;
+            .enter(number, Act::StepOutcome(number), &mut records.kept)?;
         records.call(number, device, &call)?;
-        Ok(Step::Quiet)
+        Ok(StepOutcome::Quiet)
     }
 
     /// An act of its own at the point where it stands, if it can do one there.
@@ -137,7 +137,7 @@ impl NodeCopy {
         device: &mut Option<Disc>,
         records: &mut Records,
         stands: Point,
-    ) -> Result<Step, NoMemory>
+    ) -> Result<StepOutcome, NoMemory>
         requires point { point self.old.copy.core.state ≡ stands }
         requires room { CopyHasRoom self.old.copy }
         requires shown { HasNext (length records.old.shown) }
@@ -167,11 +167,11 @@ impl NodeCopy {
                 let step = self.device(number, device, records)?;
                 Ok(step)
             }
-            Point::Await | Point::Mark | Point::Ended => Ok(Step::Impossible),
+            Point::Await | Point::AtCheckpoint | Point::Ended => Ok(StepOutcome::Impossible),
         }
     }
 
-    /// The checkpoint of the mark at which it stands.
+    /// The checkpoint at which it stands.
     pub fn send(&mut self, alloc: Global, number: u8) -> Result<ImageMessage, NoMemory>
         requires point { point self.old.copy.core.state ≡ Point.Mark }
         requires room { CopyHasRoom self.old.copy }
@@ -183,7 +183,7 @@ impl NodeCopy {
         Ok(message)
     }
 
-    /// It passes its mark.
+    /// It passes its checkpoint.
     pub fn pass(&mut self, number: u8, records: &mut Records) -> Result<(), NoMemory>
         requires { point self.old.copy.core.state ≡ Point.Mark }
         ensures copy { OnOk result (self.new ≡ record self.old { copy = copy_passed number records.old self.old.copy }) }

@@ -23,7 +23,7 @@ pub mod step;
 mod telling;
 
 pub use address::Address;
-pub use marks::Marks;
+pub use marks::Downs;
 pub use one::NodeCopy;
 pub use records::Records;
-pub use step::Step;
+pub use step::StepOutcome;

@@ -1,5 +1,5 @@
 ghost use Rattle.std.specs.Prelude.{◌≡◌, ◌==◌, ◌&&◌, [], ◌∷◌, OnOk};
-ghost use Rattle.world_semantics.specs.World.{has_marked};
+ghost use Rattle.world_semantics.specs.World.{has_noted};
 
 use gd_words::NoMemory;
 use std::alloc::Global;
@@ -7,22 +7,22 @@ use std::marker::Model;
 
 /// A node has marked a processor as stopped.
 #[derive(Clone, Copy, PartialEq, Eq)]
-pub struct Mark {
+pub struct NotedDown {
     node: u8,
     down: u8,
 }
 
-impl Model for Mark {
+impl Model for NotedDown {
     ghost use Rattle.world_semantics.specs.World as world;
 
-    ghost Value = { world.Mark };
+    ghost Value = { world.Down };
 
     ghost view = { λ mark. record { node = mark.node; down = mark.down } };
 
     ghost inverse = { λ mark. record { node = mark.node; down = mark.down } };
 }
 
-impl Mark {
+impl NotedDown {
     fn is(&self, node: usize, down: usize) -> bool
         ensures { result ≡ ((self.now.node == node) && (self.now.down == down)) }
     {
@@ -32,39 +32,39 @@ impl Mark {
 
 /// The marks of all nodes, the newest first: of one processor, at most as many as nodes.
 #[derive(Drop)]
-pub struct Marks {
-    items: Vec<Mark>,
+pub struct Downs {
+    items: Vec<NotedDown>,
 }
 
-impl Model for Marks {
+impl Model for Downs {
     ghost use Rattle.std.specs.Prelude.{List};
     ghost use Rattle.world_semantics.specs.World as world;
 
-    ghost Value = { List world.Mark };
+    ghost Value = { List world.Down };
 
     ghost view = { λ marks. marks.items.items };
 }
 
-impl Marks {
+impl Downs {
     /// No node has marked any processor.
-    pub fn new(alloc: Global) -> Marks
+    pub fn new(alloc: Global) -> Downs
         ensures { result ≡ [] }
     {
-        Marks {
+        Downs {
             items: Vec::new(alloc),
         }
     }
 
     /// Whether a node has marked a processor.
     pub fn has(&self, node: u8, down: u8) -> bool
-        ensures { result ≡ has_marked self.now node down }
+        ensures { result ≡ has_noted self.now node down }
     {
         self.has_at(usize::from(node), usize::from(down))
     }
 
     /// Whether the node at a place has marked the processor at a place.
     pub fn has_at(&self, node: usize, down: usize) -> bool
-        ensures { result ≡ has_marked self.now node down }
+        ensures { result ≡ has_noted self.now node down }
     {
         has_marked(self.items.as_slice(), node, down)
     }
@@ -73,13 +73,13 @@ impl Marks {
     pub fn add(&mut self, node: u8, down: u8) -> Result<(), NoMemory>
         ensures { OnOk result (self.new ≡ record { node = node; down = down } ∷ self.old) }
     {
-        self.items.insert(0, Mark { node, down })?;
+        self.items.insert(0, NotedDown { node, down })?;
         Ok(())
     }
 }
 
-fn has_marked(marks: &[Mark], node: usize, down: usize) -> bool
-    ensures { result ≡ has_marked marks.now node down }
+fn has_marked(marks: &[NotedDown], node: usize, down: usize) -> bool
+    ensures { result ≡ has_noted marks.now node down }
 {
     marks.iter().any(|mark| mark.is(node, down))
 }

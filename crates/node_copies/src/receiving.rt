@@ -12,7 +12,7 @@ ghost use Rattle.computed_changes.specs.Replies.{copy_got, kept_got};
 ghost use Rattle.computed_changes.specs.Requests.{after_early_request, after_request};
 ghost use Rattle.number_ranges.specs.HasRoom.{CopyHasRoom};
 ghost use Rattle.node_copies.specs.Receiving.{copy_applying, with_changed};
-ghost use Rattle.world_semantics.specs.Shares.{closing, covered, covering, share_of, with_share, without_held};
+ghost use Rattle.world_semantics.specs.Shares.{share_at_close, covered_count, share_after_cover, share_of, with_share, without_held};
 
 use crate::one::NodeCopy;
 use crate::records::Records;
@@ -70,12 +70,12 @@ impl NodeCopy {
         self.control.checkpoint_in(message)
     }
 
-    /// The other copy applied the checkpoint of this copy's mark. Answers the base.
+    /// The other copy applied this copy's checkpoint. Answers the base.
     pub fn cover(&mut self, process: u8, records: &mut Records) -> Result<u64, NoMemory>
-        ensures base { IfOk result (λ base. base ≡ covered process records.old.kept (share_of self.old.copy)) }
+        ensures base { IfOk result (λ base. base ≡ covered_count process records.old.kept (share_of self.old.copy)) }
         ensures copy { OnOk result (self.new
-            ≡ with_changed self.old (with_share (covering process records.old.kept (share_of self.old.copy)).share self.old.copy)) }
-        ensures records { OnOk result (records.new ≡ record records.old { kept = (covering process records.old.kept (share_of self.old.copy)).kept }) }
+            ≡ with_changed self.old (with_share (share_after_cover process records.old.kept (share_of self.old.copy)).share self.old.copy)) }
+        ensures records { OnOk result (records.new ≡ record records.old { kept = (share_after_cover process records.old.kept (share_of self.old.copy)).kept }) }
         ensures depths { self.new.depths ≡ self.old.depths }
     {
         let base = self.share.cover(process, &mut records.kept)?;
@@ -121,7 +121,7 @@ impl NodeCopy {
     /// The run is closed: what the copy still holds is kept.
     pub fn close(&mut self, records: &mut Records) -> Result<(), NoMemory>
         ensures copy { OnOk result (self.new ≡ with_changed self.old (without_held self.old.copy)) }
-        ensures records { OnOk result (records.new ≡ record records.old { kept = (closing records.old.kept (share_of self.old.copy)).kept }) }
+        ensures records { OnOk result (records.new ≡ record records.old { kept = (share_at_close records.old.kept (share_of self.old.copy)).kept }) }
         ensures depths { self.new.depths ≡ self.old.depths }
     {
         self.share.close(&mut records.kept)?;

@@ -5,12 +5,12 @@ ghost use Rattle.world_semantics.specs.Messages.{Asking as AskingMessage, Replyi
 ghost use Rattle.world_semantics.specs.Own.{around_with, request_to};
 ghost use Rattle.world_semantics.specs.Running.{after_call};
 ghost use Rattle.node_copies.specs.Acting.{opener_among, requests_in};
-ghost use Rattle.node_copies.specs.Seen.{sectors_on, told_by};
+ghost use Rattle.node_copies.specs.Seen.{sectors_on, step_sendings};
 
 use crate::address::Address;
 use crate::device::write_on;
 use crate::records::Records;
-use crate::step::Step;
+use crate::step::StepOutcome;
 use disc_device::Disc;
 use gd_words::{DeviceCall, NoMemory, Reply, Request, Sector};
 use process_control::{Answering, Asking};
@@ -19,26 +19,26 @@ use tal_tree::Shown;
 
 impl Records {
     /// A copy at a node asks, and sends the request, if there is one.
-    pub(crate) fn ask(&mut self, node: u8, request: Option<Request>) -> Result<Step, NoMemory>
-        ensures told { IfOk result (λ step. told_by step ≡ Some (sent_at node (map AskingMessage (requests_in request)))) }
+    pub(crate) fn ask(&mut self, node: u8, request: Option<Request>) -> Result<StepOutcome, NoMemory>
+        ensures told { IfOk result (λ step. step_sendings step ≡ Some (sent_at node (map AskingMessage (requests_in request)))) }
         ensures records { OnOk result (self.new ≡ record self.old { requests = requests_in request ++ self.old.requests }) }
     {
         match request {
-            None => Ok(Step::Quiet),
+            None => Ok(StepOutcome::Quiet),
             Some(request) => {
                 self.requests.add(copy_request(&request))?;
-                Ok(Step::Sends(Sending::new(node, Message::Asking(request))))
+                Ok(StepOutcome::Sends(Sending::new(node, Message::Asking(request))))
             }
         }
     }
 
     /// A copy at a node answers, and sends the reply.
-    pub(crate) fn answer(&mut self, node: u8, reply: Reply) -> Result<Step, NoMemory>
-        ensures told { IfOk result (λ step. told_by step ≡ Some (sent_at node (Replying reply ∷ []))) }
+    pub(crate) fn answer(&mut self, node: u8, reply: Reply) -> Result<StepOutcome, NoMemory>
+        ensures told { IfOk result (λ step. step_sendings step ≡ Some (sent_at node (Replying reply ∷ []))) }
         ensures records { OnOk result (self.new ≡ record self.old { replies = reply ∷ self.old.replies }) }
     {
         self.replies.add(copy_reply(&reply))?;
-        Ok(Step::Sends(Sending::new(node, Message::Replying(reply))))
+        Ok(StepOutcome::Sends(Sending::new(node, Message::Replying(reply))))
     }
 
     /// A process calls its device, if it has one: a new write is done and shown.

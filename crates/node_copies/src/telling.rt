@@ -18,7 +18,7 @@ impl NodeCopy {
             Point::Inner | Point::Ask | Point::Device => true,
             Point::Take => self.can_take(),
             Point::Answer => self.can_answer(),
-            Point::Await | Point::Mark | Point::Ended => false,
+            Point::Await | Point::AtCheckpoint | Point::Ended => false,
         }
     }
 

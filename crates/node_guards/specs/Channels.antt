@@ -1,7 +1,7 @@
 -- An end of a channel, from node 1 to node 2, and what comes to it.
 use Rattle.std.specs.Prelude.{ℕ, true, false}
-use Rattle.wire.specs.declared.packet.Packet.{Packet}
-use Rattle.wire.specs.declared.packet.PacketKind.TheVariants as kind
+use Rattle.packet_words.specs.declared.packet.Packet.{Packet}
+use Rattle.packet_words.specs.declared.packet.PacketKind.TheVariants as kind
 use Rattle.link_control.specs.Ends.{End, new_end, after_push}
 use Rattle.node_guards.specs.Packets.{packet_of, message_of}
 

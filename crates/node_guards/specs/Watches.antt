@@ -1,7 +1,7 @@
 -- Watches that the guards name.
 use Rattle.std.specs.Prelude.{ℕ, zero, suc, false, Bool, ◌∷◌, replicate}
 use Rattle.alive_regroup.specs.declared.set.ProcessorSet.{ProcessorSet}
-use Rattle.alive_regroup.specs.Watching.{Watching, begun, after_tick, changed_at, reported}
+use Rattle.alive_regroup.specs.Watching.{Watching, begun, after_tick, changed_at, neighbour_after_report}
 
 -- after so many ticks with nothing heard
 abbrev pub after_ticks : ℕ → Watching → Watching
@@ -13,5 +13,5 @@ abbrev pub only : Bool → Bool → Bool → ProcessorSet
 only first second third = record { members = first ∷ second ∷ third ∷ replicate 13 false }
 
 -- a node of three processors to which one of the others reported this set, after so many ticks with nothing heard
-abbrev pub told_by : ℕ → ProcessorSet → ℕ → ℕ → Watching
-told_by from set ticks me = changed_at from (reported set) (after_ticks ticks (begun me 3))
+abbrev pub watch_of_report : ℕ → ProcessorSet → ℕ → ℕ → Watching
+watch_of_report from set ticks me = changed_at from (neighbour_after_report set) (after_ticks ticks (begun me 3))

@@ -1,7 +1,7 @@
 ghost use Rattle.std.specs.Prelude.{◌≡◌, true, false, Some, None};
 ghost use Rattle.std.specs.Option.{option_map};
-ghost use Rattle.wire.specs.declared.bus_name.BusName.TheVariants.{X, Y};
-ghost use Rattle.wire.specs.declared.packet.PacketKind.TheVariants as kind;
+ghost use Rattle.packet_words.specs.declared.bus_name.BusName.TheVariants.{X, Y};
+ghost use Rattle.packet_words.specs.declared.packet.PacketKind.TheVariants as kind;
 ghost use Rattle.link_control.specs.Ends.{after_down, after_packet, after_push, after_tick, alive_of, handed_by_packet, is_empty, sent_by_packet, sent_by_push, sent_by_tick};
 ghost use Rattle.node_guards.specs.Channels.{acknowledgement, begun, fresh, full_piece, last_piece};
 ghost use Rattle.node_guards.specs.Packets.{message_of, packet_of};

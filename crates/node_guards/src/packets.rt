@@ -1,7 +1,7 @@
 ghost use Rattle.std.specs.Prelude.{◌≡◌, pos, negsuc, true, false, [], ◌∷◌, ◌++◌, replicate, Some, None};
-ghost use Rattle.wire.specs.declared.packet.PacketKind.TheVariants as kind;
-ghost use Rattle.wire.specs.Layout.{words_of, is_packet};
-ghost use Rattle.wire.specs.Pieces.{pieces, piece_at, joined, completed};
+ghost use Rattle.packet_words.specs.declared.packet.PacketKind.TheVariants as kind;
+ghost use Rattle.packet_words.specs.Layout.{words_of, is_packet};
+ghost use Rattle.packet_words.specs.Pieces.{pieces, piece_at, joined, completed};
 ghost use Rattle.bus_model.specs.Packets.{sent, has_room};
 ghost use Rattle.node_guards.specs.Packets.{alive, packet_of, request_piece, message_of};
 

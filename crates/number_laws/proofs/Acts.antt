@@ -23,7 +23,7 @@ use Rattle.world_semantics.specs.Kept.{is_own, is_take, own_acts}
 use Rattle.world_semantics.specs.Messages.{Asking}
 use Rattle.world_semantics.specs.Own.{Around, request_to, is_new_write}
 use Rattle.world_semantics.specs.Running.{Own, own_took, own_take, own_ask, own_answer_at, own_answer, around_write, own_at}
-use Rattle.world_semantics.specs.Shares.{Sharing, entering, entering_behind, entering_free, share_of}
+use Rattle.world_semantics.specs.Shares.{Sharing, share_after_act, entering_behind, entering_free, share_of}
 use Rattle.world_semantics.specs.World.{Copy}
 use Rattle.number_laws.proofs.Each.{Each, each-get, each-set}
 use Rattle.number_laws.proofs.Within.{StateWithin, AreNext, CoreWithin, MessageWithin, core-more, kept-set}
@@ -50,7 +50,7 @@ pub state-answered : (n : ℕ) (d : Bool) (s : ProcessState) → StateWithin n d
 state-answered n d (Runs code s) is = is
 state-answered n d (Serves sectors s) is = is
 
-pub state-marked : (n : ℕ) (d : Bool) (s : ProcessState) → StateWithin n d s → StateWithin n d (process.after_mark s)
+pub state-marked : (n : ℕ) (d : Bool) (s : ProcessState) → StateWithin n d s → StateWithin n d (process.after_checkpoint s)
 state-marked n d (Runs code s) is = is
 state-marked n d (Serves sectors s) is = is
 
@@ -76,7 +76,7 @@ pub record EnteredWithin (copy : Copy) (kept : List Act) (e : Sharing) : Type 0 
   pub position : e.share.position ≤ copy.position + 1
   pub acts : length e.kept + length e.share.held ≤ length kept + length copy.held + 1
 
-pub entered-within : (number : ℕ) (done : Act) (kept : List Act) (copy : Copy) → EnteredWithin copy kept (entering number done kept (share_of copy))
+pub entered-within : (number : ℕ) (done : Act) (kept : List Act) (copy : Copy) → EnteredWithin copy kept (share_after_act number done kept (share_of copy))
 entered-within number done kept copy = by copy.held refl
   where
     free : (behind taking : Bool) → EnteredWithin copy kept (entering_free done kept (share_of copy) behind taking)
@@ -235,5 +235,5 @@ module _ (n : ℕ) (kinds : ℕ → Bool) (d : Bool) (number : ℕ) (core : Core
     waiting = (device-few (is_new_write before.sectors (process.call_of core.state)) (process.call_of core.state)).1;
   }
   own-within site point.Await = tt
-  own-within site point.Mark = tt
+  own-within site point.AtCheckpoint = tt
   own-within site point.Ended = tt

@@ -28,7 +28,7 @@ use Rattle.world_semantics.specs.declared.which.Which.TheVariants.{First, Second
 use Rattle.world_semantics.specs.Core.{Core, core_getting, with_files, put_in}
 use Rattle.world_semantics.specs.Messages.{Message, Asking, Replying, Checkpointing, Taking, sent_at}
 use Rattle.world_semantics.specs.Own.{around}
-use Rattle.world_semantics.specs.Passes.{after_applying, kept_at_mark}
+use Rattle.world_semantics.specs.Passes.{after_applying, kept_at_checkpoint}
 use Rattle.world_semantics.specs.Records.{records_of}
 use Rattle.world_semantics.specs.World.{Copy, Pair, Terminal, World, copy_of, other_of, with_copy}
 use Rattle.world_semantics.proofs.Lifted.{lifted}
@@ -219,7 +219,7 @@ module _ (n : ℕ) (kinds : ℕ → Bool) (w : World) (within : WorldWithin n ki
       at-copy-within number node (Replying reply) (λ k pair there. got-within number k pair there reply (copy_of k pair).role)
   replied-within node reply (Some (who.Terminal number)) = printed-within number reply _
 
-  -- a checkpoint is applied: what the other copy held is kept with its mark
+  -- a checkpoint is applied: what the other copy held is kept with its checkpoint
   module _ (message : ImageMessage) (pair : Pair) (there : slice_get w.processes message.process ≡ Some pair)
       (fits_in : ImageWithin (n + 1) (kinds message.process) message.image) where
     abbrev number : ℕ
@@ -236,7 +236,7 @@ module _ (n : ℕ) (kinds : ℕ → Bool) (w : World) (within : WorldWithin n ki
     applied-pair First applied core-is few =
         let is = pair-there n kinds w within number pair there in
         let other = own-few number (pair.second.held ++ w.kept) in
-        let all = own-few number (kept_at_mark number pair.second w.kept) in
+        let all = own-few number (kept_at_checkpoint number pair.second w.kept) in
         let sum = sum-of pair.second in
         let acts = within.acts in (
           (core-is, few, is.0.2, is.0.3, is.0.4),
@@ -246,7 +246,7 @@ module _ (n : ℕ) (kinds : ℕ → Bool) (w : World) (within : WorldWithin n ki
     applied-pair Second applied core-is few =
         let is = pair-there n kinds w within number pair there in
         let other = own-few number (pair.first.held ++ w.kept) in
-        let all = own-few number (kept_at_mark number pair.first w.kept) in
+        let all = own-few number (kept_at_checkpoint number pair.first w.kept) in
         let sum = sum-of pair.first in
         let acts = within.acts in (
           (is.0.0, is.0.1, is.0.2, omega (arith, other, sum, acts, held-two), is.0.4),
@@ -255,7 +255,7 @@ module _ (n : ℕ) (kinds : ℕ → Bool) (w : World) (within : WorldWithin n ki
         )
 
     applied-acts : (k : Which) (applied : Core)
-        → length (kept_at_mark number (copy_of (other_of k) pair) w.kept) + held_in (slice_set w.processes number (after_applying number k message applied w.kept pair))
+        → length (kept_at_checkpoint number (copy_of (other_of k) pair) w.kept) + held_in (slice_set w.processes number (after_applying number k message applied w.kept pair))
         ≤ n + 1
     applied-acts First applied =
         let all = held-set w.processes number pair (after_applying number First message applied w.kept pair) there in

@@ -22,7 +22,7 @@ use Rattle.world_semantics.specs.declared.which.Which.TheVariants.{First, Second
 use Rattle.world_semantics.specs.Core.{Core}
 use Rattle.world_semantics.specs.Messages.{Message, Asking, Replying, Sending, sent_at}
 use Rattle.world_semantics.specs.Own.{request_to}
-use Rattle.world_semantics.specs.Rules.{taker, told_by, told_at_mark}
+use Rattle.world_semantics.specs.Rules.{taker, takeover_sendings, told_at_down}
 use Rattle.world_semantics.specs.World.{Copy, Pair, Terminal, World, terminal_node}
 use Rattle.letters.specs.Again.{is_rerouted, rerouted, awaited_at, awaited_by, entered_last, awaited_from, is_moved, numbered, kept_in as replies_in, kept_for, kept_from, if_acts_on, asks_again, tells_again, of_copies, of_terminals, terminals_ask, sent_again}
 use Rattle.letters.specs.Routes.{receiver_of, letters_of}
@@ -62,7 +62,7 @@ told-copy n copy few =
     let all = repeated-all copy.core.receive copy.waiting in
     omega (arith, sent, same, all, few)
 
-told-few : (n : ℕ) (d : Bool) (pair : Pair) (k : Option Which) → PairWithin n d pair → length (told_by k pair) ≤ n
+told-few : (n : ℕ) (d : Bool) (pair : Pair) (k : Option Which) → PairWithin n d pair → length (takeover_sendings k pair) ≤ n
 told-few n d pair None is = omega arith
 told-few n d pair (Some First) is = told-copy n pair.first is.0.4
 told-few n d pair (Some Second) is = told-copy n pair.second is.1.4
@@ -80,13 +80,13 @@ each-times most (pair ∷ pairs) = let rest = each-times most pairs in let one =
 each-few : (most : ℕ) (pairs : List Pair) → length pairs ≤ 16 → of_each most pairs ≤ 16 * most
 each-few most pairs few = let same = each-times most pairs in let times = mul-le-mul_right most few in omega (arith, same, times)
 
-flat-few : (most node processor : ℕ) (pairs : List Pair) → Each (λ pair. length (told_at_mark node processor pair) ≤ most) pairs
-    → length (flat_map (told_at_mark node processor) pairs) ≤ of_each most pairs
+flat-few : (most node processor : ℕ) (pairs : List Pair) → Each (λ pair. length (told_at_down node processor pair) ≤ most) pairs
+    → length (flat_map (told_at_down node processor) pairs) ≤ of_each most pairs
 flat-few most node processor [] each = omega arith
 flat-few most node processor (pair ∷ pairs) each =
     let one = each.0 in
     let rest = flat-few most node processor pairs each.1 in
-    let sum = length-append (told_at_mark node processor pair) (flat_map (told_at_mark node processor) pairs) in
+    let sum = length-append (told_at_down node processor pair) (flat_map (told_at_down node processor) pairs) in
     omega (arith, one, rest, sum)
 
 copies-few : (most : ℕ) (f : ℕ → Copy → List Message) (number : ℕ) (pairs : List Pair)
@@ -113,7 +113,7 @@ module _ (site : Site) (before : World) (node processor : ℕ) where
   awaited-one number core point.Take = omega arith
   awaited-one number core point.Ask = omega arith
   awaited-one number core point.Answer = omega arith
-  awaited-one number core point.Mark = omega arith
+  awaited-one number core point.AtCheckpoint = omega arith
   awaited-one number core point.Device = omega arith
   awaited-one number core point.Ended = omega arith
 
@@ -219,10 +219,10 @@ each-there P (pair ∷ pairs) all = (all zero pair refl, each-there P pairs (λ 
 -- what a mark sends and sends again
 pub mark-few : (n : ℕ) (kinds : ℕ → Bool) (site : Site) (before after : World) (node processor : ℕ) → n ≤ 4294967295 → PairsWithin n kinds before.processes
     → PairsWithin n kinds after.processes → length before.processes ≤ 16 → length after.processes ≤ 16 → length after.terminals ≤ 16
-    → length (flat_map (told_at_mark node processor) before.processes ++ sent_again site before after node processor) ≤ 206158430208
+    → length (flat_map (told_at_down node processor) before.processes ++ sent_again site before after node processor) ≤ 206158430208
 mark-few n kinds site before after node processor low was is few_before few_after few_terminals =
     let told = flat-few 4294967295 node processor before.processes
-    (each-there (λ pair. length (told_at_mark node processor pair) ≤ 4294967295) before.processes
+    (each-there (λ pair. length (told_at_down node processor pair) ≤ 4294967295) before.processes
     (λ number pair there. let less = told-few n (kinds number) pair (taker node processor pair) (was number pair there) in omega (arith, less, low))) in
     let all_told = each-few 4294967295 before.processes few_before in
     let asks = copies-few 2 (asks_again site before node processor) 0 after.processes
@@ -246,7 +246,7 @@ mark-few n kinds site before after node processor low was is few_before few_afte
     let kept_second = (is number pair there).1.0.kept in
     omega (arith, first, second, kept_first, kept_second, low))) in
     let all_tells = each-few 8589934590 after.processes few_after in
-    let sum = length-append (flat_map (told_at_mark node processor) before.processes) (sent_again site before after node processor) in
+    let sum = length-append (flat_map (told_at_down node processor) before.processes) (sent_again site before after node processor) in
     let sent = sent-same node (of_copies (asks_again site before node processor) 0 after.processes ++ terminals_ask site before node processor after.terminals
     ++ of_copies (tells_again site before node processor) 0 after.processes) in
     let outer = length-append (of_copies (asks_again site before node processor) 0 after.processes ++ terminals_ask site before node processor after.terminals)

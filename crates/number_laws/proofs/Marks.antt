@@ -10,10 +10,10 @@ use Rattle.world_semantics.specs.declared.role.Role.TheVariants.{Acting, Watchin
 use Rattle.world_semantics.specs.declared.which.Which.{Which}
 use Rattle.world_semantics.specs.declared.which.Which.TheVariants.{First, Second}
 use Rattle.world_semantics.specs.Messages.{Message, Asking, Replying}
-use Rattle.world_semantics.specs.Rules.{stopped_copy, stopped_pair, taker, after_marking, marked_pair, told_by, told_at_mark}
+use Rattle.world_semantics.specs.Rules.{stopped_copy, stopped_pair, taker, pair_after_down, pair_at_down, takeover_sendings, told_at_down}
 use Rattle.world_semantics.specs.World.{Copy, Pair, Terminal, World, terminal_node}
 use Rattle.world_semantics.proofs.Lists.{map-all}
-use Rattle.computed_changes.specs.Stopped.{stop_where, stop_done, marked_where, mark_where, marked_done}
+use Rattle.computed_changes.specs.Stopped.{stop_where, stop_done, marked_where, mark_where, down_done}
 use Rattle.letters.specs.Again.{rerouted, awaited_from, if_acts_on, asks_again, tells_again, of_copies, of_terminals, terminals_ask, sent_again}
 use Rattle.number_laws.proofs.Each.{Each, each-append, each-map, each-always}
 use Rattle.number_laws.proofs.Within.{CopyWithin, PairWithin, MessageWithin, AreSendings, WorldWithin, AnyWithin, held_of, held_in, held-mapped, filter-few}
@@ -57,25 +57,25 @@ module _ (n : ℕ) (kinds : ℕ → Bool) (w : World) (within : WorldWithin n ki
   still : (copy : Copy) → length copy.waiting ≤ n → length (still_waiting copy.core.receive copy.waiting) ≤ n
   still copy few = let less = filter-few (λ request. is_waiting (standing copy.core.receive request)) copy.waiting in omega (arith, less, few)
 
-  marked-one : (number : ℕ) (k : Option Which) (pair : Pair) → PairWithin n (kinds number) pair → PairWithin n (kinds number) (after_marking k pair)
+  marked-one : (number : ℕ) (k : Option Which) (pair : Pair) → PairWithin n (kinds number) pair → PairWithin n (kinds number) (pair_after_down k pair)
   marked-one number None pair is = is
   marked-one number (Some First) pair is = ((is.0.0, omega arith, (λ watches. absurd (cc)), is.2, still pair.first is.0.4), is.1, is.2)
   marked-one number (Some Second) pair is = (is.0, (is.1.0, omega arith, (λ watches. absurd (cc)), is.2, still pair.second is.1.4), is.2)
 
-  marked-falls : (k : Option Which) (pair : Pair) → held_of (after_marking k pair) ≤ held_of pair
+  marked-falls : (k : Option Which) (pair : Pair) → held_of (pair_after_down k pair) ≤ held_of pair
   marked-falls None pair = omega arith
   marked-falls (Some First) pair = omega arith
   marked-falls (Some Second) pair = omega arith
 
-  told : (node processor : ℕ) (pairs : List Pair) → AreSendings n kinds (flat_map (told_at_mark node processor) pairs)
+  told : (node processor : ℕ) (pairs : List Pair) → AreSendings n kinds (flat_map (told_at_down node processor) pairs)
   told node processor [] = tt
-  told node processor (pair ∷ pairs) = each-append _ (told_at_mark node processor pair) _ (by (taker node processor pair)) (told node processor pairs)
+  told node processor (pair ∷ pairs) = each-append _ (told_at_down node processor pair) _ (by (taker node processor pair)) (told node processor pairs)
     where
-      by : (k : Option Which) → AreSendings n kinds (told_by k pair)
+      by : (k : Option Which) → AreSendings n kinds (takeover_sendings k pair)
       by None = tt
       by (Some k) = replies-within n kinds _ _
 
-  pub mark-within : (node processor : ℕ) → AnyWithin n kinds (marked_done node processor w)
+  pub mark-within : (node processor : ℕ) → AnyWithin n kinds (down_done node processor w)
   mark-within node processor = by (slice_get w.stopped processor)
     where
       where_may : (test : Bool) → AnyWithin n kinds (marked_where node processor w test)
@@ -83,11 +83,11 @@ module _ (n : ℕ) (kinds : ℕ → Bool) (w : World) (within : WorldWithin n ki
       where_may true = record {
         world = record {
           pairs =
-              map-all (λ number. PairWithin n (kinds number)) (marked_pair node processor) w.processes
+              map-all (λ number. PairWithin n (kinds number)) (pair_at_down node processor) w.processes
               (λ number pair there. marked-one number (taker node processor pair) pair (within.pairs number pair there));
           acts =
               let acts = within.acts in
-              let falls = held-mapped (marked_pair node processor) (λ pair. marked-falls (taker node processor pair) pair) w.processes in
+              let falls = held-mapped (pair_at_down node processor) (λ pair. marked-falls (taker node processor pair) pair) w.processes in
               omega (arith, acts, falls);
           shown = within.shown;
           terminals = within.terminals;

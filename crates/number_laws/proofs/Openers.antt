@@ -25,7 +25,7 @@ use Rattle.world_semantics.specs.declared.which.Which.TheVariants.{First, Second
 use Rattle.world_semantics.specs.Core.{Core}
 use Rattle.world_semantics.specs.Messages.{Message, Asking, Replying, Checkpointing, Taking, Sending, sent_at}
 use Rattle.world_semantics.specs.Own.{Around, around, request_to}
-use Rattle.world_semantics.specs.Rules.{taker, told_by, told_at_mark}
+use Rattle.world_semantics.specs.Rules.{taker, takeover_sendings, told_at_down}
 use Rattle.world_semantics.specs.Records.{records_of}
 use Rattle.world_semantics.specs.Running.{Done, Own, Stepped, own_took, own_take, own_answer_at, own_answer, own_at, first_step, run_pair, run_done, step_of_copy}
 use Rattle.world_semantics.specs.World.{Copy, Pair, Terminal, World, copy_of, may_pass, terminal_node}
@@ -36,7 +36,7 @@ use Rattle.computed_changes.specs.Handed.{brought_to, copy_in, handed_done, repl
 use Rattle.computed_changes.specs.Replies.{awaits, awaits_at, printed_at, printed_done, printed_where}
 use Rattle.world_semantics.proofs.Lifted.{lifted, mark_done, own_made, run_as, run_at}
 use Rattle.computed_changes.proofs.Lifted.{acknowledged_where, applied_made, applied_where, asked_done, checkpoint_done, got_done, got_where, taken_done}
-use Rattle.computed_changes.specs.Stopped.{stop_where, stop_done, marked_where, mark_where, marked_done}
+use Rattle.computed_changes.specs.Stopped.{stop_where, stop_done, marked_where, mark_where, down_done}
 use Rattle.letters.specs.Again.{rerouted, awaited_at, awaited_from, entered_last, if_acts_on, asks_again, tells_again, of_copies, of_terminals, terminals_ask, sent_again}
 use Rattle.number_laws.proofs.Each.{Each, each-append, each-map, each-always, each-filter}
 
@@ -145,7 +145,7 @@ module _ (site : Site) (number : ℕ) (core : Core) (before : Around) where
   own-named point.Answer = answering-named core.receive.in_hand
   own-named point.Device = tt
   own-named point.Await = tt
-  own-named point.Mark = tt
+  own-named point.AtCheckpoint = tt
   own-named point.Ended = tt
 
 -- Changes
@@ -162,7 +162,7 @@ module _ (site : Site) (w : World) where
       (own-named site number (copy_of k pair).core (around (copy_of k pair) pair w) stands)
 
   run-point : (number : ℕ) (k : Which) (pair : Pair) (stands : Point) → AnyNames site (run_at site number k pair w stands)
-  run-point number k pair point.Mark = by (may_pass w.marks k pair) (copy_of k pair).sent
+  run-point number k pair point.AtCheckpoint = by (may_pass w.marks k pair) (copy_of k pair).sent
     where
       by : (passes sent : Bool) → AnyNames site (mark_done number k pair w passes sent)
       by true sent = tt
@@ -288,15 +288,15 @@ module _ (site : Site) (w : World) where
       by (Some true) = tt
       by (Some false) = tt
 
-  told : (node processor : ℕ) (pairs : List Pair) → AreNaming site (flat_map (told_at_mark node processor) pairs)
+  told : (node processor : ℕ) (pairs : List Pair) → AreNaming site (flat_map (told_at_down node processor) pairs)
   told node processor [] = tt
-  told node processor (pair ∷ pairs) = each-append _ (told_at_mark node processor pair) _ (by (taker node processor pair)) (told node processor pairs)
+  told node processor (pair ∷ pairs) = each-append _ (told_at_down node processor pair) _ (by (taker node processor pair)) (told node processor pairs)
     where
-      by : (k : Option Which) → AreNaming site (told_by k pair)
+      by : (k : Option Which) → AreNaming site (takeover_sendings k pair)
       by None = tt
       by (Some k) = sent-named site (copy_of k pair).processor _ (replyings site _)
 
-  pub mark-named : (node processor : ℕ) → AnyNames site (marked_done node processor w)
+  pub mark-named : (node processor : ℕ) → AnyNames site (down_done node processor w)
   mark-named node processor = by (slice_get w.stopped processor)
     where
       where_may : (test : Bool) → AnyNames site (marked_where node processor w test)
@@ -323,7 +323,7 @@ module _ (site : Site) (before : World) (node processor : ℕ) where
   awaited-named number core point.Take = tt
   awaited-named number core point.Ask = tt
   awaited-named number core point.Answer = tt
-  awaited-named number core point.Mark = tt
+  awaited-named number core point.AtCheckpoint = tt
   awaited-named number core point.Device = tt
   awaited-named number core point.Ended = tt
 

@@ -20,12 +20,12 @@ use Rattle.world_semantics.specs.Messages.{Sending}
 use Rattle.world_semantics.specs.Running.{Done}
 use Rattle.world_semantics.specs.World.{Copy, Pair, World, pairs_at_boot, copy_of, is_running}
 use Rattle.world_semantics.proofs.Beginning.{all-begin}
-use Rattle.computed_changes.specs.Stopped.{marked_done}
+use Rattle.computed_changes.specs.Stopped.{down_done}
 use Rattle.letters.specs.Routes.{Letter, receiver_of, letters_of}
 use Rattle.letters.specs.Again.{sent_again}
 use Rattle.machine_states.specs.States.{Played, Makes, Skips, WouldStop}
-use Rattle.message_wires.specs.Wires.{Sent, Wires, has_room, put_on, posted, all_posted, is_of, without_number, paid, without_packet, is_due, put_again}
-use Rattle.message_wires.specs.Play.{Whole, whole_at_boot, after_done, made_by, after_any, handed, comes_in, deliver_played, lose_played, repeat_played, has_stopped, fail_played, marked_by, marks_from, ticked, tick_played, packet_at, play}
+use Rattle.message_wires.specs.Wires.{Sent, Wires, has_room, put_on, wires_after_post, wires_after_posts, is_of, without_number, paid, without_packet, is_due, put_again}
+use Rattle.message_wires.specs.Play.{MachineState, machine_at_boot, after_done, made_by, after_any, state_after_handing, comes_in, deliver_played, lose_played, repeat_played, has_stopped, fail_played, noted_by, notes_from, state_after_tick, tick_played, packet_at, play}
 use Rattle.message_wires.specs.Runs.{IsPlayed, played_none, played_more, skipped}
 use Rattle.gd_words.specs.Ranges.{HasNext}
 use Rattle.number_ranges.specs.HasRoom.{CopyHasRoom, TerminalHasRoom, HasRoom}
@@ -58,10 +58,10 @@ module _ (n : ℕ) (kinds : ℕ → Bool) where
       by true = each-append _ bus (packet ∷ []) are (is, tt)
       by false = are
 
-  posted-within : (letters : List Letter) (wires : Wires) → AreLetters letters → WiresWithin n kinds wires → WiresWithin n kinds (all_posted letters wires)
+  posted-within : (letters : List Letter) (wires : Wires) → AreLetters letters → WiresWithin n kinds wires → WiresWithin n kinds (wires_after_posts letters wires)
   posted-within [] wires are is = is
   posted-within (letter ∷ letters) wires are is =
-      posted-within letters (posted letter wires) are.1
+      posted-within letters (wires_after_post letter wires) are.1
       (put-within _ wires.bus are.0 is.0, each-append _ wires.owed (record { number = wires.count; letter = letter } ∷ []) is.1 (are.0, tt))
 
   without-within : (number : ℕ) (all : List Sent) → AreSent n kinds all → AreSent n kinds (without_number number all)
@@ -83,7 +83,7 @@ module _ (n : ℕ) (kinds : ℕ → Bool) where
 -- States
 
 -- a state: its world and its wires
-abbrev pub WholeWithin : ℕ → (ℕ → Bool) → Whole → Type 0
+abbrev pub WholeWithin : ℕ → (ℕ → Bool) → MachineState → Type 0
 WholeWithin n kinds s = WorldWithin n kinds s.world × WiresWithin n kinds s.wires
 
 abbrev PlayedWithin : ℕ → (ℕ → Bool) → Played Wires → Type 0
@@ -92,19 +92,19 @@ PlayedWithin n kinds Skips = Unit {0}
 PlayedWithin n kinds (WouldStop processor) = Unit {0}
 
 module _ (n : ℕ) (kinds : ℕ → Bool) where
-  done-within : (s : Whole) (done : Done) → WiresWithin n kinds s.wires → DoneWithin n kinds done → WholeWithin n kinds (after_done s done)
+  done-within : (s : MachineState) (done : Done) → WiresWithin n kinds s.wires → DoneWithin n kinds done → WholeWithin n kinds (after_done s done)
   done-within s done wires is =
       (is.world, posted-within n kinds (letters_of s.site done.world done.sendings) s.wires (letters-within n kinds s.site done.world done.sendings is.sendings) wires)
 
-  made-within : (s : Whole) (done : Option Done) → WiresWithin n kinds s.wires → AnyWithin n kinds done → PlayedWithin n kinds (made_by s done)
+  made-within : (s : MachineState) (done : Option Done) → WiresWithin n kinds s.wires → AnyWithin n kinds done → PlayedWithin n kinds (made_by s done)
   made-within s None wires is = tt
   made-within s (Some done) wires is = done-within s done wires is
 
-  any-within : (s : Whole) (done : Option Done) → WholeWithin n kinds s → AnyWithin n kinds done → WholeWithin n kinds (after_any s done)
+  any-within : (s : MachineState) (done : Option Done) → WholeWithin n kinds s → AnyWithin n kinds done → WholeWithin n kinds (after_any s done)
   any-within s None within is = within
   any-within s (Some done) within is = done-within s done within.1 is
 
-  pub marked-within : (node processor : ℕ) (s : Whole) (done : Option Done) → WholeWithin n kinds s → AnyWithin n kinds done → WholeWithin n kinds (marked_by node processor s done)
+  pub marked-within : (node processor : ℕ) (s : MachineState) (done : Option Done) → WholeWithin n kinds s → AnyWithin n kinds done → WholeWithin n kinds (noted_by node processor s done)
   marked-within node processor s None within is = within
   marked-within node processor s (Some done) within is = (
     is.world,
@@ -114,23 +114,23 @@ module _ (n : ℕ) (kinds : ℕ → Bool) where
         (within.1.0, each-filter _ _ s.wires.owed within.1.1),
   )
 
-  marks-within : (node processor left : ℕ) (s : Whole) → WholeWithin n kinds s → WholeWithin n kinds (marks_from node processor left s)
+  marks-within : (node processor left : ℕ) (s : MachineState) → WholeWithin n kinds s → WholeWithin n kinds (notes_from node processor left s)
   marks-within node processor zero s within = within
   marks-within node processor (suc left) s within =
       marks-within node (processor + 1) left _
-      (marked-within node processor s (marked_done node processor s.world) within (mark-within n kinds s.world within.0 node processor))
+      (marked-within node processor s (down_done node processor s.world) within (mark-within n kinds s.world within.0 node processor))
 
-  tick-within : (node : ℕ) (s : Whole) → WholeWithin n kinds s → PlayedWithin n kinds (tick_played node s)
+  tick-within : (node : ℕ) (s : MachineState) → WholeWithin n kinds s → PlayedWithin n kinds (tick_played node s)
   tick-within node s within = by (is_running s.world.stopped node)
     where
-      by : (test : Bool) → PlayedWithin n kinds (if test then Makes (ticked node (marks_from node 0 (length s.world.stopped) s)) else Skips)
+      by : (test : Bool) → PlayedWithin n kinds (if test then Makes (state_after_tick node (notes_from node 0 (length s.world.stopped) s)) else Skips)
       by true =
           let marked = marks-within node 0 (length s.world.stopped) s within in
-          let after = marks_from node 0 (length s.world.stopped) s in
+          let after = notes_from node 0 (length s.world.stopped) s in
           (marked.0, (again-put n kinds after.world.stopped node after.wires.owed after.wires.bus marked.1.1 marked.1.0, marked.1.1))
       by false = tt
 
-  fail-within : (processor : ℕ) (s : Whole) (done : Option Done) → WiresWithin n kinds s.wires → AnyWithin n kinds done
+  fail-within : (processor : ℕ) (s : MachineState) (done : Option Done) → WiresWithin n kinds s.wires → AnyWithin n kinds done
       → PlayedWithin n kinds (fail_played processor s done)
   fail-within processor s None wires is = tt
   fail-within processor s (Some done) wires is = by (has_stopped s.world.stopped)
@@ -139,7 +139,7 @@ module _ (n : ℕ) (kinds : ℕ → Bool) where
       by true = tt
       by false = done-within s done wires is
 
-module _ (n : ℕ) (kinds : ℕ → Bool) (low : n < 4294967295) (s : Whole) (within : WholeWithin n kinds s) where
+module _ (n : ℕ) (kinds : ℕ → Bool) (low : n < 4294967295) (s : MachineState) (within : WholeWithin n kinds s) where
   pub later : WholeWithin (n + 1) kinds s
   later = (world-more (n + 1) n kinds s.world (omega arith) within.0, wires-more (n + 1) n kinds s.wires (omega arith) within.1)
 
@@ -156,7 +156,7 @@ module _ (n : ℕ) (kinds : ℕ → Bool) (low : n < 4294967295) (s : Whole) (wi
     where
       by : (test : Bool)
           → WholeWithin (n + 1) kinds
-          (if test then handed packet (record s { wires = without_packet k s.wires }) else record s { wires = without_packet k s.wires })
+          (if test then state_after_handing packet (record s { wires = without_packet k s.wires }) else record s { wires = without_packet k s.wires })
       by true =
           any-within (n + 1) kinds (record s { wires = paid packet.number (without_packet k s.wires) }) _
           (later.0, ((without k).0, without-within (n + 1) kinds packet.number s.wires.owed later.1.1))
@@ -219,7 +219,7 @@ boot-held : (site : Site) (from : ℕ) (specs : List ProcessSpec) → held_in (p
 boot-held site from [] = refl
 boot-held site from (spec ∷ specs) = let rest = boot-held site (from + 1) specs in omega (arith, rest)
 
-boot-within : (site : Site) → WholeWithin 0 (kinds_of site) (whole_at_boot site)
+boot-within : (site : Site) → WholeWithin 0 (kinds_of site) (machine_at_boot site)
 boot-within site = (
   record {
     pairs = λ number pair there. subst (λ (one : Option Pair). PairWithin 0 (serves_at one) pair) (sym there) (boot-pairs site number pair there);
@@ -232,7 +232,7 @@ boot-within site = (
 
 -- What is played
 
-pub played-within : (site : Site) (events : List Event) (s : Whole) → IsPlayed site events s → length events < 4294967295 → WholeWithin (length events) (kinds_of site) s
+pub played-within : (site : Site) (events : List Event) (s : MachineState) → IsPlayed site events s → length events < 4294967295 → WholeWithin (length events) (kinds_of site) s
 played-within site _ _ played_none few = boot-within site
 played-within site _ _ (played_more {events = events} {s = s} {next = next} event before makes) few =
     let count : length (events ++ event ∷ []) ≡ length events + 1 = length-append events (event ∷ []) in
@@ -265,7 +265,7 @@ copy-of n d pair First is = is.0
 copy-of n d pair Second is = is.1
 
 -- before the next event each number has a successor
-pub room-within : (site : Site) (events : List Event) (s : Whole) → IsPlayed site events s → length events < 4294967294 → HasRoom s
+pub room-within : (site : Site) (events : List Event) (s : MachineState) → IsPlayed site events s → length events < 4294967294 → HasRoom s
 room-within site events s played few = record {
   processes = λ number pair there k.
       copy-room (length events) (kinds_of site number) (copy_of k pair) few

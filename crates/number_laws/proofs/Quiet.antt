@@ -16,8 +16,8 @@ use Rattle.plain_semantics.specs.Machine.{next_request}
 use Rattle.checkpoint_image.specs.declared.message.ImageMessage.{ImageMessage}
 use Rattle.checkpoint_image.specs.declared.message.TakenMessage.{TakenMessage}
 use Rattle.checkpoint_image.specs.declared.receive.OpenerBlock.{OpenerBlock}
-use Rattle.checkpoint_image.specs.declared.receive.Standing.{Standing}
-use Rattle.checkpoint_image.specs.declared.receive.Standing.TheVariants.{Next, InHand, Kept, Old, Ahead}
+use Rattle.checkpoint_image.specs.declared.receive.RequestStanding.{RequestStanding}
+use Rattle.checkpoint_image.specs.declared.receive.RequestStanding.TheVariants.{Next, InHand, Kept, Old, Ahead}
 use Rattle.checkpoint_image.specs.Receive.{Chosen, chosen, repeated, repeated_by, standing}
 use Rattle.world_semantics.specs.declared.role.Role.{Role}
 use Rattle.world_semantics.specs.declared.role.Role.TheVariants.{Acting, Watching, Gone}
@@ -58,7 +58,7 @@ sent-few node messages few =
     let same : length (sent_at node messages) ≡ length messages = length-map messages (λ message. record { node = node; message = message }) in
     omega (arith, same, few)
 
-pub repeated-few : (request : Request) (stands : Standing) → length (repeated_by request stands) ≤ 1
+pub repeated-few : (request : Request) (stands : RequestStanding) → length (repeated_by request stands) ≤ 1
 repeated-few request Next = omega arith
 repeated-few request InHand = omega arith
 repeated-few request (Kept words) = omega arith
@@ -112,7 +112,7 @@ module _ (number : ℕ) (core : Core) (before : Around) where
   own-few site point.Answer = answering-few site core.receive.in_hand
   own-few site point.Device = omega arith
   own-few site point.Await = tt
-  own-few site point.Mark = tt
+  own-few site point.AtCheckpoint = tt
   own-few site point.Ended = tt
 
 module _ (site : Site) (w : World) where
@@ -138,7 +138,7 @@ module _ (site : Site) (w : World) where
       (own-few number (copy_of k pair).core (around (copy_of k pair) pair w) site stands)
 
   run-point : (number : ℕ) (k : Which) (pair : Pair) (stands : Point) → IsQuietAny w (run_at site number k pair w stands)
-  run-point number k pair point.Mark = by (may_pass w.marks k pair) (copy_of k pair).sent
+  run-point number k pair point.AtCheckpoint = by (may_pass w.marks k pair) (copy_of k pair).sent
     where
       passed : (again : Bool) → IsQuiet w (passed_done number k pair w again)
       passed true = record { size = record { stopped = refl; processes = one-set number _; terminals = refl }; marks = refl; few = omega arith }

@@ -10,12 +10,12 @@ use Rattle.plain_semantics.specs.Openers.{openers_of}
 use Rattle.world_semantics.specs.Messages.{Asking, Sending}
 use Rattle.world_semantics.specs.Running.{Done}
 use Rattle.world_semantics.specs.World.{World, is_running}
-use Rattle.computed_changes.specs.Stopped.{marked_done}
+use Rattle.computed_changes.specs.Stopped.{down_done}
 use Rattle.letters.specs.Routes.{Letter, receiver_of, letters_of}
 use Rattle.letters.specs.Again.{sent_again}
 use Rattle.machine_states.specs.States.{Played, Makes, Skips, WouldStop}
-use Rattle.message_wires.specs.Wires.{Sent, Wires, has_room, put_on, posted, all_posted, is_of, without_number, paid, without_packet, is_due, put_again}
-use Rattle.message_wires.specs.Play.{Whole, after_done, made_by, after_any, handed, comes_in, deliver_played, lose_played, repeat_played, has_stopped, fail_played, marked_by, marks_from, ticked, tick_played, packet_at, play}
+use Rattle.message_wires.specs.Wires.{Sent, Wires, has_room, put_on, wires_after_post, wires_after_posts, is_of, without_number, paid, without_packet, is_due, put_again}
+use Rattle.message_wires.specs.Play.{MachineState, after_done, made_by, after_any, state_after_handing, comes_in, deliver_played, lose_played, repeat_played, has_stopped, fail_played, noted_by, notes_from, state_after_tick, tick_played, packet_at, play}
 use Rattle.message_wires.specs.Runs.{IsPlayed, played_none, played_more, skipped}
 use Rattle.number_laws.proofs.Each.{Each, each-get, each-append, each-filter, each-remove}
 use Rattle.number_laws.proofs.Openers.{Names, AreNaming, AnyNames, run-named, enter-named, handed-named, stop-named, mark-named, again-named}
@@ -49,10 +49,10 @@ module _ (site : Site) where
       by true = each-append _ bus (packet ∷ []) are (is, tt)
       by false = are
 
-  posted-named : (letters : List Letter) (wires : Wires) → AreLetters letters → WiresName wires → WiresName (all_posted letters wires)
+  posted-named : (letters : List Letter) (wires : Wires) → AreLetters letters → WiresName wires → WiresName (wires_after_posts letters wires)
   posted-named [] wires are is = is
   posted-named (letter ∷ letters) wires are is =
-      posted-named letters (posted letter wires) are.1
+      posted-named letters (wires_after_post letter wires) are.1
       (put-named _ wires.bus are.0 is.0, each-append _ wires.owed (record { number = wires.count; letter = letter } ∷ []) is.1 (are.0, tt))
 
   without-named : (number : ℕ) (all : List Sent) → AreSent all → AreSent (without_number number all)
@@ -73,7 +73,7 @@ module _ (site : Site) where
 
 -- States
 
-abbrev WholeNames : Whole → Type 0
+abbrev WholeNames : MachineState → Type 0
 WholeNames s = WiresName s.site s.wires
 
 abbrev PlayedNames : Played Wires → Type 0
@@ -81,18 +81,18 @@ PlayedNames (Makes next) = WholeNames next
 PlayedNames Skips = Unit {0}
 PlayedNames (WouldStop processor) = Unit {0}
 
-done-named : (s : Whole) (done : Done) → WholeNames s → AreNaming s.site done.sendings → WholeNames (after_done s done)
+done-named : (s : MachineState) (done : Done) → WholeNames s → AreNaming s.site done.sendings → WholeNames (after_done s done)
 done-named s done names are = posted-named s.site (letters_of s.site done.world done.sendings) s.wires (letters-named s.site done.world done.sendings are) names
 
-made-named : (s : Whole) (done : Option Done) → WholeNames s → AnyNames s.site done → PlayedNames (made_by s done)
+made-named : (s : MachineState) (done : Option Done) → WholeNames s → AnyNames s.site done → PlayedNames (made_by s done)
 made-named s None names are = tt
 made-named s (Some done) names are = done-named s done names are
 
-any-named : (s : Whole) (done : Option Done) → WholeNames s → AnyNames s.site done → WholeNames (after_any s done)
+any-named : (s : MachineState) (done : Option Done) → WholeNames s → AnyNames s.site done → WholeNames (after_any s done)
 any-named s None names are = names
 any-named s (Some done) names are = done-named s done names are
 
-marked-named : (node processor : ℕ) (s : Whole) (done : Option Done) → WholeNames s → AnyNames s.site done → WholeNames (marked_by node processor s done)
+marked-named : (node processor : ℕ) (s : MachineState) (done : Option Done) → WholeNames s → AnyNames s.site done → WholeNames (noted_by node processor s done)
 marked-named node processor s None names are = names
 marked-named node processor s (Some done) names are =
     posted-named s.site _ _
@@ -100,23 +100,23 @@ marked-named node processor s (Some done) names are =
     (each-append _ done.sendings _ are (again-named s.site s.world node processor done.world)))
     (names.0, each-filter _ _ s.wires.owed names.1)
 
-marks-named : (node processor left : ℕ) (s : Whole) → WholeNames s → WholeNames (marks_from node processor left s)
+marks-named : (node processor left : ℕ) (s : MachineState) → WholeNames s → WholeNames (notes_from node processor left s)
 marks-named node processor zero s names = names
 marks-named node processor (suc left) s names =
     marks-named node (processor + 1) left _
-    (marked-named node processor s (marked_done node processor s.world) names (mark-named s.site s.world node processor))
+    (marked-named node processor s (down_done node processor s.world) names (mark-named s.site s.world node processor))
 
-tick-named : (node : ℕ) (s : Whole) → WholeNames s → PlayedNames (tick_played node s)
+tick-named : (node : ℕ) (s : MachineState) → WholeNames s → PlayedNames (tick_played node s)
 tick-named node s names = by (is_running s.world.stopped node)
   where
-    by : (test : Bool) → PlayedNames (if test then Makes (ticked node (marks_from node 0 (length s.world.stopped) s)) else Skips)
+    by : (test : Bool) → PlayedNames (if test then Makes (state_after_tick node (notes_from node 0 (length s.world.stopped) s)) else Skips)
     by true =
-        let after = marks_from node 0 (length s.world.stopped) s in
+        let after = notes_from node 0 (length s.world.stopped) s in
         let marked = marks-named node 0 (length s.world.stopped) s names in
         (again-put after.site after.world.stopped node after.wires.owed after.wires.bus marked.1 marked.0, marked.1)
     by false = tt
 
-fail-named : (processor : ℕ) (s : Whole) (done : Option Done) → WholeNames s → AnyNames s.site done → PlayedNames (fail_played processor s done)
+fail-named : (processor : ℕ) (s : MachineState) (done : Option Done) → WholeNames s → AnyNames s.site done → PlayedNames (fail_played processor s done)
 fail-named processor s None names are = tt
 fail-named processor s (Some done) names are = by (has_stopped s.world.stopped)
   where
@@ -124,7 +124,7 @@ fail-named processor s (Some done) names are = by (has_stopped s.world.stopped)
     by true = tt
     by false = done-named s done names are
 
-module _ (s : Whole) (names : WholeNames s) where
+module _ (s : MachineState) (names : WholeNames s) where
   without : (k : ℕ) → WiresName s.site (without_packet k s.wires)
   without k = (each-remove _ s.wires.bus k names.0, names.1)
 
@@ -137,7 +137,7 @@ module _ (s : Whole) (names : WholeNames s) where
   deliver-named k (Some packet) = by (comes_in (record s { wires = without_packet k s.wires }) packet.letter)
     where
       by : (test : Bool)
-          → WholeNames (if test then handed packet (record s { wires = without_packet k s.wires }) else record s { wires = without_packet k s.wires })
+          → WholeNames (if test then state_after_handing packet (record s { wires = without_packet k s.wires }) else record s { wires = without_packet k s.wires })
       by true =
           any-named (record s { wires = paid packet.number (without_packet k s.wires) }) _
           ((without k).0, without-named s.site packet.number s.wires.owed names.1)
@@ -163,7 +163,7 @@ module _ (s : Whole) (names : WholeNames s) where
 
 -- What is played
 
-played-named : (site : Site) (events : List Event) (s : Whole) → IsPlayed site events s → WholeNames s
+played-named : (site : Site) (events : List Event) (s : MachineState) → IsPlayed site events s → WholeNames s
 played-named site _ _ played_none = (tt, tt)
 played-named site _ _ (played_more {events = events} {s = s} event before makes) =
     subst PlayedNames makes (play-named s (played-named site events s before) event)
@@ -175,7 +175,7 @@ each-among P (y ∷ xs) x each (inl same) = subst P (sym same) each.0
 each-among P (y ∷ xs) x each (inr among) = each-among P xs x each.1 among
 
 -- each request on the bus names an opener that is there
-pub openers-there : (site : Site) (events : List Event) (s : Whole) → IsPlayed site events s → (packet : Sent) (request : Request)
+pub openers-there : (site : Site) (events : List Event) (s : MachineState) → IsPlayed site events s → (packet : Sent) (request : Request)
     → IsAmong packet s.wires.bus → packet.letter.message ≡ Asking request → request.opener < length (openers_of s.site request.process)
 openers-there site events s played packet request among asks =
     subst (Names s.site) asks

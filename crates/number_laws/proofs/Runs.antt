@@ -17,10 +17,10 @@ use Rattle.world_semantics.specs.Core.{Core, carried, next_on}
 use Rattle.world_semantics.specs.Kept.{own_acts}
 use Rattle.world_semantics.specs.Messages.{Message, sent_at}
 use Rattle.world_semantics.specs.Own.{around}
-use Rattle.world_semantics.specs.Passes.{after_sending, after_mark, checkpoint_of, kept_at_mark}
+use Rattle.world_semantics.specs.Passes.{after_sending, copy_at_checkpoint, checkpoint_of, kept_at_checkpoint}
 use Rattle.world_semantics.specs.Records.{records_of}
 use Rattle.world_semantics.specs.Running.{Own, Stepped, copy_acted, first_step, own_at, run_done, run_pair, step_of_copy}
-use Rattle.world_semantics.specs.Shares.{entering, share_of}
+use Rattle.world_semantics.specs.Shares.{share_after_act, share_of}
 use Rattle.world_semantics.specs.World.{Copy, Pair, World, copy_of, with_copy, may_pass}
 use Rattle.world_semantics.proofs.Lifted.{lifted, mark_done, own_done, own_made, passed_done, run_as, run_at, sent_done}
 use Rattle.world_semantics.proofs.Lists.{set-all}
@@ -40,7 +40,7 @@ image-number n items (Serves sectors s) d low is disc hand t restores = by s.lab
     known given = let number = restored-number hand s t (let few = is.1 in omega (arith, few, low)) given in let few = is.1 in omega (arith, number, few)
 
     by : (label : Point) → restored_disc hand (state_words items (imaged_at (Serves sectors s) label)) ≡ Some t → t.last_write ≤ n
-    by point.Mark given = known given
+    by point.AtCheckpoint given = known given
     by point.Inner given = known given
     by point.Take given = known given
     by point.Ask given = known given
@@ -115,7 +115,7 @@ module _ (n : ℕ) (kinds : ℕ → Bool) (w : World) (within : WorldWithin n ki
                 ));
             acts =
                 acts-set number k pair (record pair { sectors = o.after.sectors })
-                (copy_acted number w.kept o (copy_of k pair)) (entering number o.done w.kept (share_of (copy_of k pair))).kept there refl refl e.acts;
+                (copy_acted number w.kept o (copy_of k pair)) (share_after_act number o.done w.kept (share_of (copy_of k pair))).kept there refl refl e.acts;
             shown = o-is.shown;
             terminals = terminals-more (n + 1) n w.terminals (omega arith) within.terminals;
           };
@@ -126,8 +126,8 @@ module _ (n : ℕ) (kinds : ℕ → Bool) (w : World) (within : WorldWithin n ki
     any-own None o-is = tt
     any-own (Some o) o-is = own-done o o-is
 
-    -- its mark
-    marked-core : CoreWithin (n + 1) (kinds number) (after_mark (copy_of k pair)).core
+    -- its checkpoint
+    marked-core : CoreWithin (n + 1) (kinds number) (copy_at_checkpoint (copy_of k pair)).core
     marked-core =
         let core = core-more (n + 1) n (kinds number) (copy_of k pair).core (omega arith) own.0 in
         record { state = state-marked (n + 1) (kinds number) (copy_of k pair).core.state core.state; next = core.next; taken = core.taken; kept = core.kept }
@@ -138,7 +138,7 @@ module _ (n : ℕ) (kinds : ℕ → Bool) (w : World) (within : WorldWithin n ki
     number-low : (copy_of k pair).number ≤ n + 1
     number-low = let few = own.1 in omega (arith, few)
 
-    mark-few : length (kept_at_mark number (copy_of k pair) w.kept) ≤ length w.kept + length (copy_of k pair).held + 1
+    mark-few : length (kept_at_checkpoint number (copy_of k pair) w.kept) ≤ length w.kept + length (copy_of k pair).held + 1
     mark-few = let sum = length-append (copy_of k pair).held w.kept in omega (arith, sum)
 
     held-low : length (copy_of k pair).held ≤ held_in w.processes
@@ -149,7 +149,7 @@ module _ (n : ℕ) (kinds : ℕ → Bool) (w : World) (within : WorldWithin n ki
       world = record {
         pairs = pairs-set number _ (pair-with (n + 1) (kinds number) k _ pair whole (marked-core, number-low, own.2, (let few = own.3 in omega (arith, few)), waiting-low));
         acts =
-            acts-set number k pair pair (record (after_mark (copy_of k pair)) { position = (copy_of k pair).position + 1 }) w.kept there refl refl (omega arith);
+            acts-set number k pair pair (record (copy_at_checkpoint (copy_of k pair)) { position = (copy_of k pair).position + 1 }) w.kept there refl refl (omega arith);
         shown = let few = within.shown in omega (arith, few);
         terminals = terminals-more (n + 1) n w.terminals (omega arith) within.terminals;
       };
@@ -163,15 +163,15 @@ module _ (n : ℕ) (kinds : ℕ → Bool) (w : World) (within : WorldWithin n ki
               marked-core,
               number-low,
               own.2,
-              (let own_few = own-few number (kept_at_mark number (copy_of k pair) w.kept) in
+              (let own_few = own-few number (kept_at_checkpoint number (copy_of k pair) w.kept) in
                   let acts = within.acts in
                   omega (arith, own_few, mark-few, held-low, acts)),
               waiting-low,
             ));
         acts =
             acts-set number k pair pair
-            (record (after_mark (copy_of k pair)) { position = own_acts number (kept_at_mark number (copy_of k pair) w.kept); held = [] })
-            (kept_at_mark number (copy_of k pair) w.kept) there refl refl (omega (arith, mark-few));
+            (record (copy_at_checkpoint (copy_of k pair)) { position = own_acts number (kept_at_checkpoint number (copy_of k pair) w.kept); held = [] })
+            (kept_at_checkpoint number (copy_of k pair) w.kept) there refl refl (omega (arith, mark-few));
         shown = let few = within.shown in omega (arith, few);
         terminals = terminals-more (n + 1) n w.terminals (omega arith) within.terminals;
       };
@@ -223,7 +223,7 @@ module _ (n : ℕ) (kinds : ℕ → Bool) (w : World) (within : WorldWithin n ki
         (own-within n kinds (kinds number) number (copy_of k pair).core (around (copy_of k pair) pair w) own.0 within.shown own.4 site stands)
 
     run-point : (site : Site) (stands : Point) → AnyWithin (n + 1) kinds (run_at site number k pair w stands)
-    run-point site point.Mark = marks (may_pass w.marks k pair) (copy_of k pair).sent
+    run-point site point.AtCheckpoint = marks (may_pass w.marks k pair) (copy_of k pair).sent
     run-point site point.Inner = acts-at site point.Inner
     run-point site point.Take = acts-at site point.Take
     run-point site point.Ask = acts-at site point.Ask

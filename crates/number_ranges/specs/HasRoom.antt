@@ -10,7 +10,7 @@ use Rattle.world_semantics.specs.declared.role.Role.TheVariants.{Watching}
 use Rattle.world_semantics.specs.declared.which.Which.{Which}
 use Rattle.world_semantics.specs.World.{Copy, Pair, Terminal, World, copy_of}
 use Rattle.machine_states.specs.States.{Makes}
-use Rattle.message_wires.specs.Play.{Whole, play}
+use Rattle.message_wires.specs.Play.{MachineState, play}
 
 -- of a copy: the number of the next request on each file, the number last taken from each opener, that of a disc's last write, that of the last checkpoint,
 -- the era if it watches, since only then it may take over, and its position
@@ -38,9 +38,9 @@ pub record WorldHasRoom (w : World) : Type 0 where
   pub shown : HasNext (length w.shown)
 
 -- of a state: its world
-abbrev pub HasRoom : Whole → Type 0
+abbrev pub HasRoom : MachineState → Type 0
 HasRoom s = WorldHasRoom s.world
 
 -- whatever event comes next, the count of the letters that were sent has 64 bits after it
-abbrev pub HasRoomForLetters : Whole → Type 0
-HasRoomForLetters s = (event : Event) (next : Whole) → play s event ≡ Makes next → next.wires.count < 2 ^ 64
+abbrev pub HasRoomForLetters : MachineState → Type 0
+HasRoomForLetters s = (event : Event) (next : MachineState) → play s event ≡ Makes next → next.wires.count < 2 ^ 64

@@ -5,8 +5,8 @@ use denote.Hole.Carrier.{shown, out}
 use Rattle.tal_tree.specs.declared.statement.What.{out-What}
 use Rattle.tal_tree.specs.declared.statement.What.TheBlock.{shown-the_row-Statement-0}
 use Rattle.schedule.specs.declared.event.Event.TheVariants as event
-use Rattle.wire.specs.declared.bus_name.BusName.TheVariants.{X, Y}
-use Rattle.wire.specs.declared.packet.PacketKind.TheVariants as kind
+use Rattle.packet_words.specs.declared.bus_name.BusName.TheVariants.{X, Y}
+use Rattle.packet_words.specs.declared.packet.PacketKind.TheVariants as kind
 use Rattle.machine_states.specs.States.{Skips}
 use Rattle.packet_wires.specs.Play.{count_on, kind_at, play, sender_at}
 use Rattle.packet_wires.specs.Sights.{acknowledged, alive, end_of, last, piece, seen}

@@ -3,10 +3,10 @@ use Rattle.std.specs.Prelude.{ℕ, ℤ, true, false, List, [], ◌∷◌, map}
 use Rattle.std.specs.Option.{option_map, unwrap_or}
 use Rattle.schedule.specs.declared.event.Event.{Event}
 use Rattle.schedule.specs.declared.event.Event.TheVariants as event
-use Rattle.wire.specs.declared.bus_name.BusName.{BusName}
-use Rattle.wire.specs.declared.packet.Packet.{Packet}
-use Rattle.wire.specs.declared.packet.PacketKind.{PacketKind}
-use Rattle.wire.specs.declared.packet.PacketKind.TheVariants as kind
+use Rattle.packet_words.specs.declared.bus_name.BusName.{BusName}
+use Rattle.packet_words.specs.declared.packet.Packet.{Packet}
+use Rattle.packet_words.specs.declared.packet.PacketKind.{PacketKind}
+use Rattle.packet_words.specs.declared.packet.PacketKind.TheVariants as kind
 use Rattle.alive_regroup.specs.declared.neighbour.Missed.TheVariants as missed
 use Rattle.alive_regroup.specs.declared.neighbour.Neighbour.TheVariants.{Up}
 use Rattle.alive_regroup.specs.Sets.{nobody}
@@ -51,7 +51,7 @@ first_muted = rounds 0 4 three_at_boot
 -- to processor 0, processor 1 is down and processor 2 silent
 abbrev pub two_lost : Wires
 two_lost = record three_at_boot.wires {
-  nodes = (learns 0 (changed_at 2 (λ one. Up false missed.More nobody)) (learns 0 (changed_at 1 watching.marked) (nothing_sent three_at_boot.wires.nodes))).nodes;
+  nodes = (learns 0 (changed_at 2 (λ one. Up false missed.More nobody)) (learns 0 (changed_at 1 watching.neighbour_after_down) (nothing_sent three_at_boot.wires.nodes))).nodes;
 }
 
 -- so it is after processor 1 stopped, and while all run

@@ -1,10 +1,10 @@
 //! What is played, at telling points.
 ghost use Rattle.std.specs.Prelude.{◌≡◌, ◌≤◌, ◌+◌, ℕ, pos, true, false, List, [], ◌∷◌, ◌++◌, length, Some, None};
 ghost use Rattle.schedule.specs.declared.event.Event.TheVariants as event;
-ghost use Rattle.wire.specs.declared.bus_name.BusName.{BusName};
-ghost use Rattle.wire.specs.declared.bus_name.BusName.TheVariants.{X, Y};
-ghost use Rattle.wire.specs.declared.packet.Packet.{Packet};
-ghost use Rattle.wire.specs.declared.packet.PacketKind.TheVariants as kind;
+ghost use Rattle.packet_words.specs.declared.bus_name.BusName.{BusName};
+ghost use Rattle.packet_words.specs.declared.bus_name.BusName.TheVariants.{X, Y};
+ghost use Rattle.packet_words.specs.declared.packet.Packet.{Packet};
+ghost use Rattle.packet_words.specs.declared.packet.PacketKind.TheVariants as kind;
 ghost use Rattle.machine_states.specs.States.{Skips, WouldStop};
 ghost use Rattle.message_layout.specs.Messages.{Carrying, Declaring};
 ghost use Rattle.message_layout.specs.Layout.{words_of};
@@ -12,7 +12,7 @@ ghost use Rattle.message_layout.specs.Reading.{understood};
 ghost use Rattle.letter_guards.specs.Worlds.{bank_asks, disc_tells, user_is_told};
 ghost use Rattle.packet_wires.specs.Idle.{is_idle, holds_nothing};
 ghost use Rattle.packet_wires.specs.Nodes.{Node, end_at};
-ghost use Rattle.world_semantics.specs.World.{has_marked};
+ghost use Rattle.world_semantics.specs.World.{has_noted};
 ghost use Rattle.packet_wires.specs.Play.{Packeted, Underway, begun, count_on, handed, kind_at, play, sender_at, sent_by};
 ghost use Rattle.packet_wires.specs.Sights.{acknowledged, alive, end_of, last, piece, seen};
 ghost use Rattle.packet_wires.specs.Wires.{Midst, Wires, all_put, goes_over, nothing_sent, on_bus, packets_over, with_sent};
@@ -139,7 +139,7 @@ pub fn who_has_stopped_does_nothing()
 /// A node marks only what has stopped, and no processor twice.
 pub fn no_mark_on_suspicion()
     ensures runs { handed 1 (Declaring 0) (begun adder_at_boot) ≡ begun adder_at_boot }
-    ensures twice { (node processor : ℕ) (s : Underway) → has_marked s.world.marks node processor ≡ true → handed node (Declaring processor) s ≡ s }
+    ensures twice { (node processor : ℕ) (s : Underway) → has_noted s.world.marks node processor ≡ true → handed node (Declaring processor) s ≡ s }
 {}
 
 /// Words of no message are dropped, and messages that name what the site hasn't: here two processors, one process and one opener.

@@ -6,8 +6,8 @@ use Rattle.std.proofs.lemmas.List.{append-nil, append_assoc, append_cancel_left}
 use Rattle.gd_words.specs.Members.{IsAmong}
 use Rattle.gd_words.proofs.Among.{among-right}
 use Rattle.tal_tree.specs.declared.site.Site.{Site}
-use Rattle.wire.specs.declared.packet.PacketKind.{PacketKind}
-use Rattle.wire.specs.declared.packet.PacketKind.TheVariants as kind
+use Rattle.packet_words.specs.declared.packet.PacketKind.{PacketKind}
+use Rattle.packet_words.specs.declared.packet.PacketKind.TheVariants as kind
 use Rattle.channel_laws.specs.Net.{Net, IsWhole, ways_by}
 use Rattle.channel_laws.specs.Way.{Way, coming, telling}
 use Rattle.channel_laws.proofs.Nets.{put-all}

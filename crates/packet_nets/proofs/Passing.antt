@@ -3,14 +3,14 @@ use Rattle.std.proofs.Common.{◌≡◌, ◌≢◌, ◌≤◌, ◌<◌, ◌⊎�
 use Rattle.std.specs.Option.{option_to_list}
 use Rattle.gd_words.specs.Members.{IsAmong}
 use Rattle.gd_words.proofs.Among.{among-left, among-right, among-either, among-one}
-use Rattle.wire.specs.declared.bus_name.BusName.{BusName}
-use Rattle.wire.specs.declared.bus_name.BusName.TheVariants as bus
-use Rattle.wire.specs.declared.packet.Packet.{Packet}
-use Rattle.wire.specs.declared.packet.PacketKind.{PacketKind}
-use Rattle.wire.specs.declared.packet.PacketKind.TheVariants as kind
-use Rattle.wire.specs.declared.piece.Piece.{Piece}
+use Rattle.packet_words.specs.declared.bus_name.BusName.{BusName}
+use Rattle.packet_words.specs.declared.bus_name.BusName.TheVariants as bus
+use Rattle.packet_words.specs.declared.packet.Packet.{Packet}
+use Rattle.packet_words.specs.declared.packet.PacketKind.{PacketKind}
+use Rattle.packet_words.specs.declared.packet.PacketKind.TheVariants as kind
+use Rattle.packet_words.specs.declared.piece.Piece.{Piece}
 use Rattle.link_control.specs.declared.channel.Resent.{Resent}
-use Rattle.link_control.specs.Ends.{End, packet_of, piece_of, outstanding, is_idle, is_kept, kept, is_ended_by, is_sent_again, pushed, after_push, sent_by_push, after_kind, after_packet, sent_by_kind, sent_by_packet, after_tick, sent_by_tick}
+use Rattle.link_control.specs.Ends.{End, packet_of, piece_of, packet_outstanding, is_idle, is_kept, kept, is_ended_by, is_sent_again, after_push_of, after_push, sent_by_push, after_kind, after_packet, sent_by_kind, sent_by_packet, after_tick, sent_by_tick}
 use Rattle.alive_regroup.specs.declared.set.ProcessorSet.{ProcessorSet}
 use Rattle.alive_regroup.specs.Watching as watching
 use Rattle.alive_regroup.specs.Watching.{Watching, changed_at, told_by_tick}
@@ -44,7 +44,7 @@ of-either : (e : End) (test : Bool) (one other : Option Packet) → IsOf e one �
 of-either e true one other first second = first
 of-either e false one other first second = second
 
-of-outstanding : (e : End) → IsOf e (outstanding e)
+of-outstanding : (e : End) → IsOf e (packet_outstanding e)
 of-outstanding e = by (piece_of e.sending.queue e.sending.place)
   where
     by : (piece : Option Piece) → IsOf e (option_map (λ piece. packet_of e (kind.Piece e.sending.numbered piece)) piece)
@@ -52,13 +52,13 @@ of-outstanding e = by (piece_of e.sending.queue e.sending.place)
     by (Some piece) = of-own e (kind.Piece e.sending.numbered piece)
 
 of-push : (words : List ℤ) (e : End) → IsOf e (sent_by_push words e)
-of-push words e = of-either e e.down None (if is_idle e.sending then outstanding (after_push words e) else None) (of-none e) (of-either e (is_idle e.sending) (outstanding (after_push words e)) None first (of-none e))
+of-push words e = of-either e e.down None (if is_idle e.sending then packet_outstanding (after_push words e) else None) (of-none e) (of-either e (is_idle e.sending) (packet_outstanding (after_push words e)) None first (of-none e))
   where
-    same : (test : Bool) → (if test then e else record e { sending = pushed words e.sending }).here ≡ e.here
+    same : (test : Bool) → (if test then e else record e { sending = after_push_of words e.sending }).here ≡ e.here
     same true = refl
     same false = refl
 
-    first : IsOf e (outstanding (after_push words e))
+    first : IsOf e (packet_outstanding (after_push words e))
     first p among = of-outstanding (after_push words e) p among ∙ same e.down
 
 of-packet : (packet : Packet) (e : End) → IsOf e (sent_by_packet packet e)
@@ -68,7 +68,7 @@ of-packet packet e = of-either e e.down None (sent_by_kind packet.kind e) (of-no
     by kind.Alive = of-none e
     by (kind.Piece number piece) =
         of-either e (is_kept number (kept number piece e.receiving)) (Some (packet_of e (kind.Acknowledgement number))) None (of-own e (kind.Acknowledgement number)) (of-none e)
-    by (kind.Acknowledgement number) = of-either e (is_ended_by number e.sending) (outstanding (after_kind (kind.Acknowledgement number) e)) None (of-outstanding (after_kind (kind.Acknowledgement number) e)) (of-none e)
+    by (kind.Acknowledgement number) = of-either e (is_ended_by number e.sending) (packet_outstanding (after_kind (kind.Acknowledgement number) e)) None (of-outstanding (after_kind (kind.Acknowledgement number) e)) (of-none e)
 
 of-tick : (e : End) → IsOf e (option_map packet_in (sent_by_tick e))
 of-tick e = by e.down (is_sent_again e.sending)
@@ -77,9 +77,9 @@ of-tick e = by e.down (is_sent_again e.sending)
     again None own = of-none e
     again (Some packet) own = own
 
-    by : (down sent : Bool) → IsOf e (option_map packet_in (if down then None else if sent then option_map (λ packet. record { bus = e.sending.resend_bus; packet = packet }) (outstanding e) else None))
+    by : (down sent : Bool) → IsOf e (option_map packet_in (if down then None else if sent then option_map (λ packet. record { bus = e.sending.resend_bus; packet = packet }) (packet_outstanding e) else None))
     by true sent = of-none e
-    by false true = again (outstanding e) (of-outstanding e)
+    by false true = again (packet_outstanding e) (of-outstanding e)
     by false false = of-none e
 
 -- What goes out stays so, and what is sent goes out
@@ -320,7 +320,7 @@ module _ {a b : ℕ} {stopped : List Bool} {on : List Packet} {start : Net} wher
   pub cut-passes : {came : List Packet} (x y : ℕ) → is_running stopped x ≡ true → slice_get stopped y ≡ Some true → (midst : Midst) → IsPassing a b stopped on start came midst
       → IsPassing a b stopped on start came (cut_off x y midst)
   cut-passes x y runs gone midst P =
-      watched-passes x (changed_at y watching.marked) (at_end x y (down_at x y) midst)
+      watched-passes x (changed_at y watching.neighbour_after_down) (at_end x y (down_at x y) midst)
       (at-end-passes x y (down_at x y) midst P (λ node e at has. record {
         net = marked_net x y P.net;
         tied = down-tied P.tied x y node e at has runs gone;

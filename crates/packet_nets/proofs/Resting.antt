@@ -3,9 +3,9 @@ use Rattle.std.proofs.Common.{◌≡◌, ◌≤◌, ◌⊎◌, inl, inr, ℕ, �
 use Rattle.std.specs.List.{filter}
 use Rattle.gd_words.specs.Members.{IsAmong}
 use Rattle.gd_words.proofs.Among.{among-left, among-right, among-either}
-use Rattle.wire.specs.declared.bus_name.BusName.{BusName}
-use Rattle.wire.specs.declared.bus_name.BusName.TheVariants as bus
-use Rattle.wire.specs.declared.packet.Packet.{Packet}
+use Rattle.packet_words.specs.declared.bus_name.BusName.{BusName}
+use Rattle.packet_words.specs.declared.bus_name.BusName.TheVariants as bus
+use Rattle.packet_words.specs.declared.packet.Packet.{Packet}
 use Rattle.channel_laws.specs.Net.{Net, Goes, bus_changes}
 use Rattle.channel_laws.specs.Rounds.{Passes, nothing, by_bus}
 use Rattle.channel_laws.proofs.Nets.{whole-goes}

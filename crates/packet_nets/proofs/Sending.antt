@@ -5,13 +5,13 @@ use Rattle.std.proofs.lemmas.List.{append-nil, append_assoc}
 use Rattle.gd_words.specs.Members.{IsAmong}
 use Rattle.gd_words.proofs.Among.{among-left, among-right}
 use Rattle.tal_tree.specs.declared.site.Site.{Site}
-use Rattle.wire.specs.declared.bus_name.BusName.{BusName}
-use Rattle.wire.specs.declared.bus_name.BusName.TheVariants as bus
-use Rattle.wire.specs.declared.packet.Packet.{Packet}
-use Rattle.wire.specs.declared.packet.PacketKind.{PacketKind}
-use Rattle.wire.specs.declared.packet.PacketKind.TheVariants as kind
+use Rattle.packet_words.specs.declared.bus_name.BusName.{BusName}
+use Rattle.packet_words.specs.declared.bus_name.BusName.TheVariants as bus
+use Rattle.packet_words.specs.declared.packet.Packet.{Packet}
+use Rattle.packet_words.specs.declared.packet.PacketKind.{PacketKind}
+use Rattle.packet_words.specs.declared.packet.PacketKind.TheVariants as kind
 use Rattle.link_control.specs.declared.channel.Resent.{Resent}
-use Rattle.link_control.specs.Ends.{End, packet_of, after_push, sent_by_push, pushed, after_packet, after_kind, sent_by_packet, handed_by_packet, handed_by_kind, handed, after_tick, ticked, sent_by_tick, after_down}
+use Rattle.link_control.specs.Ends.{End, packet_of, after_push, sent_by_push, after_push_of, after_packet, after_kind, sent_by_packet, handed_by_packet, handed_by_kind, message_of_piece, after_tick, after_tick_of, sent_by_tick, after_down}
 use Rattle.channel_laws.specs.Net.{Net, IsWhole, Runs, put, packet_in, pushed_net, arrived_net, ticked_net, alive_net, marked_net, ways_by, pushes, ticks, lives}
 use Rattle.channel_laws.specs.Net as net
 use Rattle.channel_laws.specs.Way.{Way, ticking, coming, telling}
@@ -68,7 +68,7 @@ module _ {stopped : List Bool} {on : List Packet} {midst : Midst} {n : Net} (t :
   push-tied words some d =
       end-tied t x y node e (after_push words e) at has runs bus.X (sent_by_push words e) (pushed_net x y words n) (whole-goes (pushes x y words some (up d)) t.whole) refl
       (ap (λ d. put x y (after_push words d) n.ends) is-net) (ap (λ d. n.flight ++ option_to_list (sent_by_push words d)) is-net)
-      (ap (λ (d : End). d.down) (when-up e (record e { sending = pushed words e.sending }) d))
+      (ap (λ (d : End). d.down) (when-up e (record e { sending = after_push_of words e.sending }) d))
 
   pub tick-tied : (sent : Option Resent) → sent_by_tick e ≡ sent → e.down ≡ false → IsTied stopped on (goes_again sent (end_changed x y node (after_tick e) midst)) (ticked_net x y n)
   tick-tied sent is d = by sent is
@@ -78,7 +78,7 @@ module _ {stopped : List Bool} {on : List Packet} {midst : Midst} {n : Net} (t :
       with_packet name packet is =
           end-tied t x y node e (after_tick e) at has runs name packet (ticked_net x y n) (whole-goes (ticks x y (up d)) t.whole) refl
           (ap (λ d. put x y (after_tick d) n.ends) is-net) (ap (λ d. n.flight ++ option_to_list (option_map packet_in (sent_by_tick d))) is-net ∙ ap (λ o. n.flight ++ option_to_list o) is)
-          (ap (λ (d : End). d.down) (when-up e (record e { sending = ticked e.sending }) d))
+          (ap (λ (d : End). d.down) (when-up e (record e { sending = after_tick_of e.sending }) d))
 
       by : (sent : Option Resent) → sent_by_tick e ≡ sent → IsTied stopped on (goes_again sent (end_changed x y node (after_tick e) midst)) (ticked_net x y n)
       by None is = with_packet bus.X None (ap (option_map packet_in) is)
@@ -144,14 +144,14 @@ is-end midst x y node e at has = ap (option_and_then (λ (node : Node). slice_ge
 push-down : (words : List ℤ) (e : End) → (after_push words e).down ≡ e.down
 push-down words e = by e.down
   where
-    by : (test : Bool) → (if test then e else record e { sending = pushed words e.sending }).down ≡ e.down
+    by : (test : Bool) → (if test then e else record e { sending = after_push_of words e.sending }).down ≡ e.down
     by true = refl
     by false = refl
 
 tick-down : (e : End) → (after_tick e).down ≡ e.down
 tick-down e = by e.down
   where
-    by : (test : Bool) → (if test then e else record e { sending = ticked e.sending }).down ≡ e.down
+    by : (test : Bool) → (if test then e else record e { sending = after_tick_of e.sending }).down ≡ e.down
     by true = refl
     by false = refl
 
@@ -334,9 +334,9 @@ module _ {site : Site} {stopped : List Bool} {on : List Packet} {owed sent : Lis
       later : Ties site stopped on (at_end x y (down_at x y) midst) (without_those_between x y owed) sent → Ties site stopped on (cut_off x y midst) (without_those_between x y owed) sent
       later L = record {
         net = L.net;
-        tied = watched-tied x (changed_at y watching.marked) L.tied;
+        tied = watched-tied x (changed_at y watching.neighbour_after_down) L.tied;
         owes = L.owes;
-        watches = watched-watches (at_end x y (down_at x y) midst) x (changed_at y watching.marked) (λ watch is. changed-watch y watching.marked refl is) L.watches;
+        watches = watched-watches (at_end x y (down_at x y) midst) x (changed_at y watching.neighbour_after_down) (λ watch is. changed-watch y watching.neighbour_after_down refl is) L.watches;
         places = L.places;
       }
 
@@ -400,7 +400,7 @@ gained n a b p e w live is up = by p.kind ∙ ap (λ o. (n.ways a b).out ++ opti
     by : (k : PacketKind) → (ways_by b a k n.ways a b).out ≡ (n.ways a b).out ++ option_to_list (handed_by_kind k e)
     by kind.Alive = sym (append-nil (n.ways a b).out)
     by (kind.Piece number piece) =
-        ap (λ (w : Way). w.out) (put-same a b (coming number piece (n.ways a b)) n.ways) ∙ ap (λ r. (n.ways a b).out ++ option_to_list (handed number piece r)) receiving
+        ap (λ (w : Way). w.out) (put-same a b (coming number piece (n.ways a b)) n.ways) ∙ ap (λ r. (n.ways a b).out ++ option_to_list (message_of_piece number piece r)) receiving
     by (kind.Acknowledgement number) =
         put-all (λ c d (w : Way). w.out ≡ (n.ways c d).out) b a (telling number (n.ways b a)) n.ways refl (λ c d. refl) a b ∙ sym (append-nil (n.ways a b).out)
 
@@ -467,7 +467,7 @@ came {site = site} {stopped = stopped} {on = on} {owed = owed} {sent = sent} mid
     by_node (Some node) at = by_end node at (slice_get node.ends p.sender) refl
 
     note : (k : PacketKind) (watch : Watching) → IsWatch site.processors p.receiver watch → IsWatch site.processors p.receiver (heard_of p.sender k watch)
-    note kind.Alive watch is = changed-watch p.sender watching.heard refl is
+    note kind.Alive watch is = changed-watch p.sender watching.neighbour_after_alive refl is
     note (kind.Piece number piece) watch is = is
     note (kind.Acknowledgement number) watch is = is
 

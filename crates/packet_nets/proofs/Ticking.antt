@@ -8,14 +8,14 @@ use Rattle.std.proofs.lemmas.Bool.{leb-true, le-leb, eqb-true, eq-eqb}
 use Rattle.std.proofs.lemmas.List.{append-nil}
 use Rattle.std.proofs.lemmas.Option.{slice_get_within}
 use Rattle.tal_tree.specs.declared.site.Site.{Site}
-use Rattle.wire.specs.declared.packet.Packet.{Packet}
+use Rattle.packet_words.specs.declared.packet.Packet.{Packet}
 use Rattle.link_control.specs.Ends.{End, new_end}
 use Rattle.channel_laws.specs.Net.{Net, IsWhole, quiet_net}
 use Rattle.channel_laws.proofs.Nets.{whole-quiet}
 use Rattle.alive_regroup.specs.declared.neighbour.Neighbour.{Neighbour}
 use Rattle.alive_regroup.specs.declared.neighbour.Neighbour.TheVariants.{Absent}
 use Rattle.alive_regroup.specs.declared.set.ProcessorSet.{ProcessorSet}
-use Rattle.alive_regroup.specs.Watching.{Watching, checked, is_silent, silent_set, set_to_tell, told_by_tick, does_check, after_tick, is_held, at_first, begun}
+use Rattle.alive_regroup.specs.Watching.{Watching, neighbour_after_check, is_silent, silent_set, set_to_tell, told_by_tick, does_check, after_tick, is_held, at_first, begun}
 use Rattle.world_semantics.specs.World.{is_running, runs_by, terminal_node}
 use Rattle.world_semantics.proofs.Lists.{some-same}
 use Rattle.letters.specs.Routes.{Letter}
@@ -37,11 +37,11 @@ place-within site stopped x one places at = le-leb (suc x) site.processors (let 
 -- What is reported
 
 none-past : (processors : ℕ) (all : List Neighbour) → ((k : ℕ) (one : Neighbour) → slice_get all k ≡ Some one → processors ≤ k → one ≡ Absent)
-    → list_all not (drop processors (map is_silent (map checked all))) ≡ true
+    → list_all not (drop processors (map is_silent (map neighbour_after_check all))) ≡ true
 none-past zero [] past = refl
 none-past (suc processors) [] past = refl
 none-past zero (one ∷ all) past =
-    subst (λ (n : Neighbour). (not (is_silent (checked n)) && list_all not (map is_silent (map checked all))) ≡ true) (sym (past 0 one refl (omega arith)))
+    subst (λ (n : Neighbour). (not (is_silent (neighbour_after_check n)) && list_all not (map is_silent (map neighbour_after_check all))) ≡ true) (sym (past 0 one refl (omega arith)))
     (none-past zero all (λ k other there far. past (suc k) other there (omega arith)))
 none-past (suc processors) (one ∷ all) past = none-past processors all (λ k other there far. past (suc k) other there (omega (arith, far)))
 
@@ -57,14 +57,14 @@ report-fits : (site : Site) (stopped : List Bool) (x : ℕ) (watch : Watching) (
 report-fits site stopped x watch set places runs is told = by (does_check watch) refl told
   where
     now : ProcessorSet
-    now = silent_set (map checked watch.neighbours)
+    now = silent_set (map neighbour_after_check watch.neighbours)
 
-    known : does_check watch ≡ true → set ≡ silent_set (map checked watch.neighbours) → Fits site (Reporting x set)
+    known : does_check watch ≡ true → set ≡ silent_set (map neighbour_after_check watch.neighbours) → Fits site (Reporting x set)
     known does same =
         let low : watch.me < 16 = leb-true (suc watch.me) 16 (first does) in
         let here : x < 16 = subst (λ c. c < 16) is.me low in
         let at = running-place stopped x runs here in record {
-          within = (omega (arith, here), ap (λ (s : ProcessorSet). length s.members) same ∙ size-map is_silent (map checked watch.neighbours) ∙ size-map checked watch.neighbours ∙ is.size);
+          within = (omega (arith, here), ap (λ (s : ProcessorSet). length s.members) same ∙ size-map is_silent (map neighbour_after_check watch.neighbours) ∙ size-map neighbour_after_check watch.neighbours ∙ is.size);
           known = both (place-within site stopped x at.0 places at.1)
               (ap (λ (s : ProcessorSet). list_all not (drop site.processors s.members)) same ∙ none-past site.processors watch.neighbours is.past);
         }
@@ -79,11 +79,11 @@ report-fits site stopped x watch set places runs is told = by (does_check watch)
         both : {a b : Bool} → a ≡ true → b ≡ true → (a && b) ≡ true
         both {a = a} {b = b} e h = rw (e, h) refl
 
-    by : (test : Bool) → does_check watch ≡ test → (if test then set_to_tell watch.told (silent_set (map checked watch.neighbours)) else None) ≡ Some set → Fits site (Reporting x set)
+    by : (test : Bool) → does_check watch ≡ test → (if test then set_to_tell watch.told (silent_set (map neighbour_after_check watch.neighbours)) else None) ≡ Some set → Fits site (Reporting x set)
     by false e is = absurd cc
-    by true e is = changed (pointwise beq watch.told.members (silent_set (map checked watch.neighbours)).members) is
+    by true e is = changed (pointwise beq watch.told.members (silent_set (map neighbour_after_check watch.neighbours)).members) is
       where
-        changed : (test : Bool) → (if test then None else Some (silent_set (map checked watch.neighbours))) ≡ Some set → Fits site (Reporting x set)
+        changed : (test : Bool) → (if test then None else Some (silent_set (map neighbour_after_check watch.neighbours))) ≡ Some set → Fits site (Reporting x set)
         changed true is = absurd cc
         changed false is = known e (sym (some-same is))
 

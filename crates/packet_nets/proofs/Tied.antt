@@ -6,9 +6,9 @@ use Rattle.std.proofs.Common.{◌≡◌, ◌≤◌, ◌⊎◌, inl, inr, ℕ, Bo
 use Rattle.std.specs.Option.{option_to_list, unwrap_or}
 use Rattle.gd_words.specs.Members.{IsAmong}
 use Rattle.gd_words.proofs.Among.{among-left, among-right, among-either}
-use Rattle.wire.specs.declared.bus_name.BusName.{BusName}
-use Rattle.wire.specs.declared.bus_name.BusName.TheVariants as bus
-use Rattle.wire.specs.declared.packet.Packet.{Packet}
+use Rattle.packet_words.specs.declared.bus_name.BusName.{BusName}
+use Rattle.packet_words.specs.declared.bus_name.BusName.TheVariants as bus
+use Rattle.packet_words.specs.declared.packet.Packet.{Packet}
 use Rattle.link_control.specs.Ends.{End, after_down}
 use Rattle.alive_regroup.specs.Watching.{Watching}
 use Rattle.channel_laws.specs.Net.{Net, IsWhole, put, stopped_net, marked_net, stops, marks}

@@ -46,8 +46,8 @@ ticked-watch {processors = processors} {x = x} {watch = watch} is = by (does_che
     by false = record { me = is.me; size = is.size; past = is.past }
     by true = record {
       me = is.me;
-      size = size-map watching.checked watch.neighbours ∙ is.size;
-      past = λ k one there far. let was = mapped watching.checked watch.neighbours k one there in was.2 ∙ ap watching.checked (is.past k was.0 was.1 far);
+      size = size-map watching.neighbour_after_check watch.neighbours ∙ is.size;
+      past = λ k one there far. let was = mapped watching.neighbour_after_check watch.neighbours k one there in was.2 ∙ ap watching.neighbour_after_check (is.past k was.0 was.1 far);
     }
 
 -- watches don't change with an end

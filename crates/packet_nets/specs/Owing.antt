@@ -4,7 +4,7 @@ use Rattle.std.specs.List.{filter}
 use Rattle.std.specs.Option.{option_and_then}
 use Rattle.gd_words.specs.Members.{IsAmong}
 use Rattle.tal_tree.specs.declared.site.Site.{Site}
-use Rattle.wire.specs.declared.packet.Packet.{Packet}
+use Rattle.packet_words.specs.declared.packet.Packet.{Packet}
 use Rattle.channel_laws.specs.Net.{Net}
 use Rattle.world_semantics.specs.Messages.{Message}
 use Rattle.world_semantics.specs.World.{is_running}

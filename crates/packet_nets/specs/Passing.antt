@@ -1,7 +1,7 @@
 -- What goes on in the net of channels while an event is played.
 use Rattle.std.specs.Prelude.{◌≡◌, ◌≤◌, ◌⊎◌, ℕ, Bool, List, [], length}
 use Rattle.gd_words.specs.Members.{IsAmong}
-use Rattle.wire.specs.declared.packet.Packet.{Packet}
+use Rattle.packet_words.specs.declared.packet.Packet.{Packet}
 use Rattle.channel_laws.specs.Net.{Net, ticked_net}
 use Rattle.channel_laws.specs.Rounds.{Passes}
 use Rattle.packet_wires.specs.Wires.{Wires, Midst, Outgoing, nothing_sent}

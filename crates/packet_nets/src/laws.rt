@@ -2,7 +2,7 @@
 ghost use Rattle.std.specs.Prelude.{◌≡◌, ◌≤◌, ℕ, Bool, true, false, List, [], ◌++◌, replicate, slice_get, Some};
 ghost use Rattle.gd_words.specs.Members.{IsAmong};
 ghost use Rattle.tal_tree.specs.declared.site.Site.{Site};
-ghost use Rattle.wire.specs.declared.packet.Packet.{Packet};
+ghost use Rattle.packet_words.specs.declared.packet.Packet.{Packet};
 ghost use Rattle.world_semantics.specs.World.{is_running};
 ghost use Rattle.letters.specs.Posts.{without_those_between};
 ghost use Rattle.letters.specs.Routes.{Letter};

@@ -26,8 +26,8 @@ use Rattle.world_semantics.specs.Kept.{own_acts}
 use Rattle.world_semantics.specs.Messages.{Message, Asking, Replying, Checkpointing, Taking, Sending, sent_at}
 use Rattle.world_semantics.specs.Own.{around}
 use Rattle.checkpoint_image.specs.Receive.{waits, came, repeated, all_repeated}
-use Rattle.world_semantics.specs.Passes.{checkpoint_of, after_sending, taken_of, kept_at_mark}
-use Rattle.world_semantics.specs.Rules.{entered_request, taker, after_marking, marked_pair, told_at_mark, told_by}
+use Rattle.world_semantics.specs.Passes.{checkpoint_of, after_sending, taken_of, kept_at_checkpoint}
+use Rattle.world_semantics.specs.Rules.{entered_request, taker, pair_after_down, pair_at_down, told_at_down, takeover_sendings}
 use Rattle.world_semantics.specs.Records.{records_of}
 use Rattle.world_semantics.specs.Running.{Done, Own, Stepped, own_at, run_pair, first_step, run_done, step_of_copy}
 use Rattle.world_semantics.proofs.Lifted.{lifted, mark_done, own_done, own_made, passed_done, run_as, run_at, sent_done}
@@ -40,7 +40,7 @@ use Rattle.computed_changes.specs.Checkpoints.{is_next_for, is_of_last}
 use Rattle.computed_changes.specs.Handed.{brought_to, handed_done, replied_done, step_by}
 use Rattle.computed_changes.specs.Replies.{awaits, awaits_at, copy_got, printed_at, printed_done, printed_where}
 use Rattle.computed_changes.proofs.Lifted.{acknowledged_where, applied_done, applied_made, applied_where, asked_done, checkpoint_done, got_done, got_where, taken_done}
-use Rattle.computed_changes.specs.Stopped.{marked_world}
+use Rattle.computed_changes.specs.Stopped.{world_at_down}
 use Rattle.packet_places.specs.Places.{KeepsItsOwn}
 
 -- a change at a node: it sends from there, and each copy elsewhere keeps its own
@@ -130,7 +130,7 @@ module _ (w : World) (number : ℕ) (k : Which) (pair : Pair) (there : slice_get
       others Second all = keeps-same pair.first
 
   run-at-point : (site : Site) (stands : Point) → AnyAt (copy_of k pair).processor w (run_at site number k pair w stands)
-  run-at-point site point.Mark = mark-at (may_pass w.marks k pair) (copy_of k pair).sent
+  run-at-point site point.AtCheckpoint = mark-at (may_pass w.marks k pair) (copy_of k pair).sent
   run-at-point site point.Inner = own-any (own_at site number (copy_of k pair).core (around (copy_of k pair) pair w) point.Inner)
   run-at-point site point.Take = own-any (own_at site number (copy_of k pair).core (around (copy_of k pair) pair w) point.Take)
   run-at-point site point.Ask = own-any (own_at site number (copy_of k pair).core (around (copy_of k pair) pair w) point.Ask)
@@ -177,9 +177,9 @@ applied-core w message k pair there core =
     one-changed w message.process k pair there (record (copy_of k pair) { core = core; number = message.number })
     (with_copy (other_of k)
     (record (copy_of (other_of k) pair) { position = own_acts message.process ((copy_of (other_of k) pair).held ++ w.kept); held = [] })
-    (record pair { base = own_acts message.process (kept_at_mark message.process (copy_of (other_of k) pair) w.kept); takens = taken_of message ∷ pair.takens }))
+    (record pair { base = own_acts message.process (kept_at_checkpoint message.process (copy_of (other_of k) pair) w.kept); takens = taken_of message ∷ pair.takens }))
     (others-freed pair k (own_acts message.process ((copy_of (other_of k) pair).held ++ w.kept))
-    (own_acts message.process (kept_at_mark message.process (copy_of (other_of k) pair) w.kept)) (taken_of message ∷ pair.takens))
+    (own_acts message.process (kept_at_checkpoint message.process (copy_of (other_of k) pair) w.kept)) (taken_of message ∷ pair.takens))
     (applied_done message k pair w core) refl (sent-from (copy_of k pair).processor (Taking (taken_of message) ∷ []))
 
 applied-at : (site : Site) (w : World) (message : ImageMessage) (k : Which) (pair : Pair) → slice_get w.processes message.process ≡ Some pair → (role : Role)
@@ -313,31 +313,31 @@ module _ (node : ℕ) (w : World) where
 
 -- Marks
 
-pub marked-there : (node processor : ℕ) (w : World) → IsDoneAt node w (marked_world node processor w)
+pub marked-there : (node processor : ℕ) (w : World) → IsDoneAt node w (world_at_down node processor w)
 marked-there node processor w = record {
-  sendings = λ sending among. let one = among-flat_map (told_at_mark node processor) w.processes sending among in from sending one.item (taker node processor one.item) refl one.within;
-  copies = λ number k before after there now away. copies number k before after there away (mapped (marked_pair node processor) w.processes number after now);
+  sendings = λ sending among. let one = among-flat_map (told_at_down node processor) w.processes sending among in from sending one.item (taker node processor one.item) refl one.within;
+  copies = λ number k before after there now away. copies number k before after there away (mapped (pair_at_down node processor) w.processes number after now);
 }
   where
-    from : (sending : Sending) (pair : Pair) (who : Option Which) → taker node processor pair ≡ who → IsAmong sending (told_by who pair) → sending.node ≡ node
+    from : (sending : Sending) (pair : Pair) (who : Option Which) → taker node processor pair ≡ who → IsAmong sending (takeover_sendings who pair) → sending.node ≡ node
     from sending pair None is among = absurd among
     from sending pair (Some k) is among =
         sent-from (copy_of k pair).processor (map Replying (all_repeated (copy_of k pair).core.receive (copy_of k pair).waiting)) sending among ∙ (taker-is node processor pair k is).there
 
-    pick : (k j : Which) (pair : Pair) → (copy_of k pair).processor ≡ node → (copy_of j pair).processor ≢ node → KeepsItsOwn (copy_of j pair) (copy_of j (after_marking (Some k) pair))
+    pick : (k j : Which) (pair : Pair) → (copy_of k pair).processor ≡ node → (copy_of j pair).processor ≢ node → KeepsItsOwn (copy_of j pair) (copy_of j (pair_after_down (Some k) pair))
     pick First First pair here away = absurd (away here)
     pick First Second pair here away = record { processor = refl; role = refl; era = refl; number = refl; sent = refl; acknowledged = refl; core = refl; waiting = refl }
     pick Second First pair here away = record { processor = refl; role = refl; era = refl; number = refl; sent = refl; acknowledged = refl; core = refl; waiting = refl }
     pick Second Second pair here away = absurd (away here)
 
     kept : (k : Which) (pair : Pair) → (copy_of k pair).processor ≢ node → (who : Option Which) → taker node processor pair ≡ who
-        → KeepsItsOwn (copy_of k pair) (copy_of k (after_marking who pair))
+        → KeepsItsOwn (copy_of k pair) (copy_of k (pair_after_down who pair))
     kept k pair away None is = keeps-same (copy_of k pair)
     kept k pair away (Some j) is = pick j k pair (taker-is node processor pair j is).there away
 
     copies : (number : ℕ) (k : Which) (before after : Pair) → slice_get w.processes number ≡ Some before → (copy_of k before).processor ≢ node
-        → (pair : Pair) × (slice_get w.processes number ≡ Some pair) × (after ≡ marked_pair node processor pair) → KeepsItsOwn (copy_of k before) (copy_of k after)
+        → (pair : Pair) × (slice_get w.processes number ≡ Some pair) × (after ≡ pair_at_down node processor pair) → KeepsItsOwn (copy_of k before) (copy_of k after)
     copies number k before after there away (pair, at, is) =
         let same : pair ≡ before = some-same (sym at ∙ there) in
         subst (λ (p : Pair). KeepsItsOwn (copy_of k before) (copy_of k p)) (sym is)
-        (subst (λ (p : Pair). KeepsItsOwn (copy_of k before) (copy_of k (marked_pair node processor p))) (sym same) (kept k before away (taker node processor before) refl))
+        (subst (λ (p : Pair). KeepsItsOwn (copy_of k before) (copy_of k (pair_at_down node processor p))) (sym same) (kept k before away (taker node processor before) refl))

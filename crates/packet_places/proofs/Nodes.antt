@@ -1,10 +1,10 @@
 -- What nodes send, take in and do at ticks changes one node alone.
 use Rattle.std.proofs.Common.{◌≡◌, ◌≢◌, ℕ, Bool, true, false, if◌then◌else◌, ◌==◌, List, [], ◌∷◌, ◌++◌, Option, Some, None, slice_get, slice_set, refl, sym, ap, ◌∙◌, inl, inr}
 use Rattle.gd_words.specs.Members.{IsAmong}
-use Rattle.wire.specs.declared.bus_name.BusName.{BusName}
-use Rattle.wire.specs.declared.bus_name.BusName.TheVariants as bus
-use Rattle.wire.specs.declared.packet.Packet.{Packet}
-use Rattle.wire.specs.declared.packet.PacketKind.TheVariants as kind
+use Rattle.packet_words.specs.declared.bus_name.BusName.{BusName}
+use Rattle.packet_words.specs.declared.bus_name.BusName.TheVariants as bus
+use Rattle.packet_words.specs.declared.packet.Packet.{Packet}
+use Rattle.packet_words.specs.declared.packet.PacketKind.TheVariants as kind
 use Rattle.link_control.specs.declared.channel.Resent.{Resent}
 use Rattle.link_control.specs.Ends.{End, packet_of, after_push, sent_by_push, after_packet, sent_by_packet, after_tick, sent_by_tick, after_down}
 use Rattle.alive_regroup.specs.declared.set.ProcessorSet.{ProcessorSet}
@@ -125,7 +125,7 @@ ticked-only processors x midst a n =
 pub cut-only : (x y : ℕ) (midst : Midst) → OnlyAt x midst (cut_off x y midst)
 cut-only x y midst =
     follows x midst (at_end x y (down_at x y) midst) (cut_off x y midst) (at-end-only x y (down_at x y) midst (λ node e. end-only x y node (after_down e) midst))
-    (learns-only x (changed_at y watching.marked) (at_end x y (down_at x y) midst))
+    (learns-only x (changed_at y watching.neighbour_after_down) (at_end x y (down_at x y) midst))
 
 pub declares-only : (processors x processor : ℕ) (midst : Midst) → OnlyAt x midst (declares processors x processor midst)
 declares-only processors x processor midst = sends-all-only x (Declaring processor) (others processors x ++ terminal_node ∷ []) midst

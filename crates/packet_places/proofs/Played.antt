@@ -4,8 +4,8 @@ use Rattle.gd_words.specs.Members.{IsAmong}
 use Rattle.gd_words.proofs.Among.{among-either}
 use Rattle.tal_tree.specs.declared.site.Site.{Site}
 use Rattle.schedule.specs.declared.event.Event.TheVariants.{Run, Enter, Deliver, Lose, Repeat, Tick, Fail}
-use Rattle.wire.specs.declared.bus_name.BusName.{BusName}
-use Rattle.wire.specs.declared.packet.Packet.{Packet}
+use Rattle.packet_words.specs.declared.bus_name.BusName.{BusName}
+use Rattle.packet_words.specs.declared.packet.Packet.{Packet}
 use Rattle.alive_regroup.specs.Watching as watching
 use Rattle.alive_regroup.specs.Watching.{changed_at}
 use Rattle.world_semantics.specs.declared.which.Which.{Which}
@@ -20,10 +20,10 @@ use Rattle.world_semantics.proofs.Lists.{set-there, some-same}
 use Rattle.world_semantics.proofs.Members.{among-map}
 use Rattle.computed_changes.specs.Entered.{enter_done}
 use Rattle.computed_changes.specs.Handed.{handed_done}
-use Rattle.computed_changes.specs.Stopped.{stop_done, stop_where, stopped_world, marked_where, mark_where, may_mark, marked_world}
+use Rattle.computed_changes.specs.Stopped.{stop_done, stop_where, stopped_world, marked_where, mark_where, may_note, world_at_down}
 use Rattle.letters.specs.Routes.{Letter, letters_of}
 use Rattle.letters.specs.Again.{sent_again}
-use Rattle.sent_letters.proofs.Given.{letter-from}
+use Rattle.letter_laws.proofs.Given.{letter-from}
 use Rattle.machine_states.specs.States.{Played, Makes, Skips, WouldStop}
 use Rattle.message_wires.specs.Play.{has_stopped}
 use Rattle.message_layout.specs.Messages.{NodeMessage, Carrying, Reporting, Declaring}
@@ -69,7 +69,7 @@ same-stays s = wires-stay s s.wires (λ x n. refl)
 
 -- Marks
 
-marked-stays : (node processor : ℕ) (s : Underway) → Keeps node s (after_marked node processor s (marked_world node processor s.world))
+marked-stays : (node processor : ℕ) (s : Underway) → Keeps node s (after_marked node processor s (world_at_down node processor s.world))
 marked-stays node processor s = record {
   nodes = λ x n.
       posted-only node s.world.stopped
@@ -81,14 +81,14 @@ marked-stays node processor s = record {
 }
   where
     done : Done
-    done = marked_world node processor s.world
+    done = world_at_down node processor s.world
 
-    at : IsDoneAt node s.world (marked_world node processor s.world)
+    at : IsDoneAt node s.world (world_at_down node processor s.world)
     at = marked-there node processor s.world
 
-    from : (sending : Sending) → IsAmong sending ((marked_world node processor s.world).sendings ++ sent_again s.site s.world (marked_world node processor s.world).world node processor) → sending.node ≡ node
+    from : (sending : Sending) → IsAmong sending ((world_at_down node processor s.world).sendings ++ sent_again s.site s.world (world_at_down node processor s.world).world node processor) → sending.node ≡ node
     from sending among =
-        elim (among-either sending (marked_world node processor s.world).sendings (sent_again s.site s.world (marked_world node processor s.world).world node processor) among) [
+        elim (among-either sending (world_at_down node processor s.world).sendings (sent_again s.site s.world (world_at_down node processor s.world).world node processor) among) [
           | inl told ↦ at.sendings sending told
           | inr again ↦ ap (λ (one : Sending). one.node) (among-map (λ message. record { node = node; message = message }) _ sending again).same
         ]
@@ -110,7 +110,7 @@ marks-stay node processor s = by (slice_get s.world.stopped processor)
     by : (found : Option Bool) → Marks node processor s (marked_by node processor s (mark_where node processor s.world found))
     by None = none
     by (Some false) = none
-    by (Some true) = may (may_mark node processor s.world)
+    by (Some true) = may (may_note node processor s.world)
 
 told-stay : (node processor : ℕ) (s : Underway) → Marks node processor s (marks_and_declares node processor s)
 told-stay node processor s =
@@ -131,7 +131,7 @@ any-stays s (Some done) at = done-stays s done at
 handed-stays : (node : ℕ) (message : NodeMessage) (s : Underway) → Keeps node s (handed node message s)
 handed-stays node (Carrying message) s = any-stays s (handed_done s.site node message s.world) (handed-there node s.world s.site message)
 handed-stays node (Reporting from silent) s =
-    wires-stay s (learns node (changed_at from (watching.reported silent)) s.wires) (learns-only node (changed_at from (watching.reported silent)) s.wires)
+    wires-stay s (learns node (changed_at from (watching.neighbour_after_report silent)) s.wires) (learns-only node (changed_at from (watching.neighbour_after_report silent)) s.wires)
 handed-stays node (Declaring processor) s = (marks-stay node processor s).stays
 
 words-stay : (node : ℕ) (words : Option (List ℤ)) (s : Underway) → Keeps node s (handed_words node words s)

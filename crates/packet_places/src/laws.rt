@@ -1,7 +1,7 @@
 //! Laws of places.
 ghost use Rattle.std.specs.Prelude.{◌≡◌, ℕ, Bool, Some};
 ghost use Rattle.schedule.specs.declared.event.Event.TheVariants.{Run, Enter, Deliver, Lose, Repeat, Tick, Fail};
-ghost use Rattle.wire.specs.declared.packet.Packet.{Packet};
+ghost use Rattle.packet_words.specs.declared.packet.Packet.{Packet};
 ghost use Rattle.world_semantics.specs.World.{terminal_node};
 ghost use Rattle.machine_states.specs.States.{Makes};
 ghost use Rattle.packet_wires.specs.Play.{Packeted, packet_at, play};

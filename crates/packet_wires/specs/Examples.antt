@@ -2,7 +2,7 @@
 use Rattle.std.specs.Prelude.{ℕ, zero, suc, ◌==◌, pos, Bool, true, false, if◌then◌else◌, List, [], ◌∷◌, ◌++◌, Option, Some, None}
 use Rattle.schedule.specs.declared.event.Event.{Event}
 use Rattle.schedule.specs.declared.event.Event.TheVariants as event
-use Rattle.wire.specs.declared.packet.Packet.{Packet}
+use Rattle.packet_words.specs.declared.packet.Packet.{Packet}
 use Rattle.world_semantics.specs.Examples.{adder_for, run}
 use Rattle.packet_wires.specs.Play.{Packeted, packeted_at_boot, play}
 use Rattle.packet_wires.specs.Sights.{Sight, Buses, alive, piece, last, acknowledged, only_x, none, state_after, end_of}

@@ -3,7 +3,7 @@ use Rattle.std.specs.Prelude.{ℕ, ◌&&◌, ◌||◌, Bool, true, not, List, Op
 use Rattle.std.specs.List.{list_all}
 use Rattle.link_control.specs.Ends.{End, is_empty}
 use Rattle.world_semantics.specs.World.{is_running}
-use Rattle.message_wires.specs.Idle.{none_enters, none_runs, none_waits, all_marked}
+use Rattle.message_wires.specs.Idle.{none_enters, none_runs, none_waits, all_noted}
 use Rattle.packet_wires.specs.Nodes.{Node, all_nodes, end_at}
 use Rattle.packet_wires.specs.Play.{Packeted}
 
@@ -20,8 +20,8 @@ is_quiet stopped nodes x y = not (is_running stopped x && is_running stopped y) 
 abbrev pub all_quiet : List Bool → List Node → Bool
 all_quiet stopped nodes = list_all (λ x. list_all (is_quiet stopped nodes x) all_nodes) all_nodes
 
--- nothing is left to do: no terminal can enter, no process can run or waits at a mark, channels hold nothing, and what has stopped is marked
+-- nothing is left to do: no terminal can enter, no process can run or waits at a checkpoint, channels hold nothing, and what has stopped is marked
 abbrev pub is_idle : Packeted → Bool
 is_idle s =
     none_enters s.site s.world
-    && (none_runs s.site s.world && (none_waits s.world.processes && (all_quiet s.world.stopped s.wires.nodes && all_marked s.world)))
+    && (none_runs s.site s.world && (none_waits s.world.processes && (all_quiet s.world.stopped s.wires.nodes && all_noted s.world)))

@@ -3,7 +3,7 @@
 use Rattle.std.specs.Prelude.{ℕ, zero, suc, ◌+◌, ◌==◌, not, List, [], ◌∷◌, map, slice_get, slice_set, Option}
 use Rattle.std.specs.List.{filter}
 use Rattle.std.specs.Option.{option_and_then}
-use Rattle.wire.specs.declared.packet.Incarnation.{Incarnation}
+use Rattle.packet_words.specs.declared.packet.Incarnation.{Incarnation}
 use Rattle.link_control.specs.Ends.{End, new_end}
 use Rattle.alive_regroup.specs.Watching.{Watching, begun}
 

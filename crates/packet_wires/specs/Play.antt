@@ -5,9 +5,9 @@ use Rattle.std.specs.Option.{option_and_then, option_map}
 use Rattle.tal_tree.specs.declared.site.Site.{Site}
 use Rattle.schedule.specs.declared.event.Event.{Event}
 use Rattle.schedule.specs.declared.event.Event.TheVariants.{Run, Enter, Deliver, Lose, Repeat, Tick, Fail}
-use Rattle.wire.specs.declared.packet.Packet.{Packet}
-use Rattle.wire.specs.declared.packet.PacketKind.{PacketKind}
-use Rattle.wire.specs.declared.bus_name.BusName.{BusName}
+use Rattle.packet_words.specs.declared.packet.Packet.{Packet}
+use Rattle.packet_words.specs.declared.packet.PacketKind.{PacketKind}
+use Rattle.packet_words.specs.declared.bus_name.BusName.{BusName}
 use Rattle.link_control.specs.Ends.{End, handed_by_packet}
 use Rattle.alive_regroup.specs.Watching as watching
 use Rattle.alive_regroup.specs.Watching.{changed_at}
@@ -15,7 +15,7 @@ use Rattle.world_semantics.specs.World.{boot, is_running}
 use Rattle.world_semantics.specs.Running.{Done, run_done}
 use Rattle.computed_changes.specs.Entered.{enter_done}
 use Rattle.computed_changes.specs.Handed.{handed_done}
-use Rattle.computed_changes.specs.Stopped.{stop_done, stopped_world, marked_done}
+use Rattle.computed_changes.specs.Stopped.{stop_done, stopped_world, down_done}
 use Rattle.letters.specs.Routes.{letters_of}
 use Rattle.letters.specs.Again.{sent_again}
 use Rattle.machine_states.specs.States.{State, Played, Makes, Skips, WouldStop}
@@ -77,14 +77,14 @@ marked_by node processor s (Some done) = after_marked node processor s done
 
 -- a node marks a processor that has stopped, unless it has marked it before
 abbrev pub marks : ℕ → ℕ → Underway → Underway
-marks node processor s = marked_by node processor s (marked_done node processor s.world)
+marks node processor s = marked_by node processor s (down_done node processor s.world)
 
 -- Packets that come
 
 -- a message is handed over at a node: it changes the world, or the node notes the report of another one, or it marks the processor that is down
 abbrev pub handed : ℕ → NodeMessage → Underway → Underway
 handed node (Carrying message) s = after_any s (handed_done s.site node message s.world)
-handed node (Reporting from silent) s = record s { wires = learns node (changed_at from (watching.reported silent)) s.wires }
+handed node (Reporting from silent) s = record s { wires = learns node (changed_at from (watching.neighbour_after_report silent)) s.wires }
 handed node (Declaring processor) s = marks node processor s
 
 abbrev pub handed_any : ℕ → Option NodeMessage → Underway → Underway

@@ -2,9 +2,9 @@
 use Rattle.std.specs.Prelude.{ℕ, if◌then◌else◌, List, [], ◌∷◌, map}
 use Rattle.schedule.specs.declared.event.Event.{Event}
 use Rattle.machine_states.specs.States.{Played, Makes, Skips, WouldStop}
-use Rattle.wire.specs.declared.packet.Packet.{Packet}
-use Rattle.wire.specs.declared.packet.PacketKind.{PacketKind}
-use Rattle.wire.specs.declared.packet.PacketKind.TheVariants as kind
+use Rattle.packet_words.specs.declared.packet.Packet.{Packet}
+use Rattle.packet_words.specs.declared.packet.PacketKind.{PacketKind}
+use Rattle.packet_words.specs.declared.packet.PacketKind.TheVariants as kind
 use Rattle.packet_wires.specs.Wires.{Wires}
 use Rattle.packet_wires.specs.Play.{Packeted, play}
 

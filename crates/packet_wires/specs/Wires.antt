@@ -2,11 +2,11 @@
 -- packets that are acknowledged and sent again over the other bus, and I'm-alive packets over both are Bartlett's; numbers and orders are this project's own.
 use Rattle.std.specs.Prelude.{ℕ, ◌==◌, Bool, true, false, ℤ, List, [], ◌∷◌, ◌++◌, map, slice_get, Option, Some, None, if◌then◌else◌}
 use Rattle.std.specs.List.{filter, remove}
-use Rattle.wire.specs.declared.bus_name.BusName.{BusName}
-use Rattle.wire.specs.declared.bus_name.BusName.TheVariants as bus
-use Rattle.wire.specs.declared.packet.Packet.{Packet}
-use Rattle.wire.specs.declared.packet.PacketKind.{PacketKind}
-use Rattle.wire.specs.declared.packet.PacketKind.TheVariants as kind
+use Rattle.packet_words.specs.declared.bus_name.BusName.{BusName}
+use Rattle.packet_words.specs.declared.bus_name.BusName.TheVariants as bus
+use Rattle.packet_words.specs.declared.packet.Packet.{Packet}
+use Rattle.packet_words.specs.declared.packet.PacketKind.{PacketKind}
+use Rattle.packet_words.specs.declared.packet.PacketKind.TheVariants as kind
 use Rattle.bus_model.specs.Packets.{sent}
 use Rattle.link_control.specs.declared.channel.Resent.{Resent}
 use Rattle.link_control.specs.Ends.{End, packet_of, after_push, sent_by_push, after_packet, sent_by_packet, after_tick, sent_by_tick, after_down}
@@ -164,7 +164,7 @@ bus_of_answer name (kind.Acknowledgement number) = bus.X
 
 -- an I'm-alive packet was heard
 abbrev pub heard_of : ℕ → PacketKind → Watching → Watching
-heard_of sender kind.Alive watch = changed_at sender watching.heard watch
+heard_of sender kind.Alive watch = changed_at sender watching.neighbour_after_alive watch
 heard_of sender (kind.Piece number piece) watch = watch
 heard_of sender (kind.Acknowledgement number) watch = watch
 
@@ -218,7 +218,7 @@ down_at x y node e midst = end_changed x y node (after_down e) midst
 
 -- the node x cuts the processor y off: it throws away its channels with it, and expects no more to hear of it
 abbrev pub cut_off : ℕ → ℕ → Midst → Midst
-cut_off x y midst = learns x (changed_at y watching.marked) (at_end x y (down_at x y) midst)
+cut_off x y midst = learns x (changed_at y watching.neighbour_after_down) (at_end x y (down_at x y) midst)
 
 -- the node x tells all others that a processor is down, first the processors and then the node of the terminals. It sends the one that is down nothing, as
 -- it has cut that one off

@@ -1,7 +1,7 @@
 -- Whence comes what a packet completes.
 use Rattle.std.proofs.Common.{◌≡◌, ℕ, ℤ, true, List, Option, Some, None, subst}
-use Rattle.wire.specs.declared.bus_name.BusName.{BusName}
-use Rattle.wire.specs.declared.packet.Packet.{Packet}
+use Rattle.packet_words.specs.declared.bus_name.BusName.{BusName}
+use Rattle.packet_words.specs.declared.packet.Packet.{Packet}
 use Rattle.world_semantics.specs.World.{is_running}
 use Rattle.letters.specs.Routes.{Letter}
 use Rattle.message_layout.specs.Messages.{Carrying}

@@ -3,18 +3,18 @@ use Rattle.std.proofs.Common.{◌≡◌, ℕ, zero, suc, ℤ, Bool, true, false,
 use Rattle.tal_tree.specs.declared.site.Site.{Site}
 use Rattle.schedule.specs.declared.event.Event.{Event}
 use Rattle.schedule.specs.declared.event.Event.TheVariants.{Run, Enter, Deliver, Lose, Repeat, Tick, Fail}
-use Rattle.wire.specs.declared.bus_name.BusName.{BusName}
-use Rattle.wire.specs.declared.packet.Packet.{Packet}
+use Rattle.packet_words.specs.declared.bus_name.BusName.{BusName}
+use Rattle.packet_words.specs.declared.packet.Packet.{Packet}
 use Rattle.world_semantics.specs.Running.{Done, run_done}
 use Rattle.world_semantics.specs.World.{boot, is_running}
 use Rattle.computed_changes.specs.Entered.{enter_done}
 use Rattle.computed_changes.specs.Handed.{handed_done}
-use Rattle.computed_changes.specs.Stopped.{marked_done, stopped_world, stop_where, stop_done}
+use Rattle.computed_changes.specs.Stopped.{down_done, stopped_world, stop_where, stop_done}
 use Rattle.letters.specs.Idle.{OneStops}
 use Rattle.machine_states.specs.States.{State, Played, Makes, Skips, WouldStop}
 use Rattle.message_wires.specs.Play.{has_stopped}
 use Rattle.world_semantics.proofs.Lists.{Changed, is_new, is_same, changed}
-use Rattle.wires_laws.proofs.Stopping.{StopsNone, run-none, enter-none, handed-none, mark-none}
+use Rattle.message_wires_laws.proofs.Stopping.{StopsNone, run-none, enter-none, handed-none, mark-none}
 use Rattle.message_layout.specs.Messages.{NodeMessage, Carrying, Reporting, Declaring}
 use Rattle.message_layout.specs.Reading.{understood}
 use Rattle.packet_wires.specs.Play.{Packeted, Underway, begun, made_by, after_any, marked_by, marks, handed, handed_any, handed_words, completed, received, deliver_acted, lose_acted, repeat_acted, fail_acted, marks_and_declares, pulled, pulls, line_of, pulls_its, tick_acted, packet_at, acted, taken_off, ended, play}
@@ -40,7 +40,7 @@ made-goes s None none = skips
 made-goes s (Some done) none = stops_none refl none
 
 pub marks-stay : (node processor : ℕ) (s : Underway) → Stays s (marks node processor s)
-marks-stay node processor s = by (marked_done node processor s.world) (mark-none s.site s.world node processor)
+marks-stay node processor s = by (down_done node processor s.world) (mark-none s.site s.world node processor)
   where
     by : (done : Option Done) → StopsNone s.world done → Stays s (marked_by node processor s done)
     by None none = record { site = refl; stopped = refl }

@@ -13,9 +13,9 @@ use Rattle.world_semantics.specs.World.{is_running}
 use Rattle.letters.specs.Idle.{IsIdle}
 use Rattle.letters.specs.Routes.{Letter}
 use Rattle.message_wires.specs.Idle as whole
-use Rattle.message_wires.specs.Play.{Whole}
+use Rattle.message_wires.specs.Play.{MachineState}
 use Rattle.message_wires.specs.Wires.{wires_at_boot}
-use Rattle.wires_laws.proofs.Idle.{idle-both}
+use Rattle.message_wires_laws.proofs.Idle.{idle-both}
 use Rattle.packet_wires.specs.Idle.{holds_nothing, is_quiet, all_quiet, is_idle}
 use Rattle.packet_wires.specs.Nodes.{numbers, all_nodes, end_at}
 use Rattle.packet_wires.specs.Play.{Packeted}
@@ -24,7 +24,7 @@ use Rattle.packet_nets.proofs.Between.{between-yes, between-no, goes-there}
 use Rattle.packet_nets.proofs.Tied.{running-low, running-stands}
 
 -- the site and the world of a state, with no wires under them
-abbrev bare : Packeted → Whole
+abbrev bare : Packeted → MachineState
 bare s = record { site = s.site; world = s.world; wires = wires_at_boot }
 
 -- a way whose sender holds nothing has handed over all that was pushed

@@ -6,9 +6,9 @@ use Rattle.gd_words.specs.Members.{IsAmong}
 use Rattle.gd_words.proofs.Among.{among-left, among-right, among-either}
 use Rattle.schedule.specs.declared.event.Event.{Event}
 use Rattle.schedule.specs.declared.event.Event.TheVariants.{Run, Enter, Deliver, Lose, Repeat, Tick, Fail}
-use Rattle.wire.specs.declared.bus_name.BusName.{BusName}
-use Rattle.wire.specs.declared.bus_name.BusName.TheVariants as bus
-use Rattle.wire.specs.declared.packet.Packet.{Packet}
+use Rattle.packet_words.specs.declared.bus_name.BusName.{BusName}
+use Rattle.packet_words.specs.declared.bus_name.BusName.TheVariants as bus
+use Rattle.packet_words.specs.declared.packet.Packet.{Packet}
 use Rattle.alive_regroup.specs.Watching as watching
 use Rattle.alive_regroup.specs.Watching.{changed_at}
 use Rattle.channel_laws.specs.Net.{Net, ticked_net}
@@ -17,12 +17,12 @@ use Rattle.world_semantics.specs.Running.{Done, run_done}
 use Rattle.world_semantics.specs.World.{is_running, runs_by}
 use Rattle.computed_changes.specs.Entered.{enter_done}
 use Rattle.computed_changes.specs.Handed.{handed_done}
-use Rattle.computed_changes.specs.Stopped.{marked_done, stopped_world, stop_where, stop_done}
+use Rattle.computed_changes.specs.Stopped.{down_done, stopped_world, stop_where, stop_done}
 use Rattle.letters.specs.Again.{sent_again}
 use Rattle.letters.specs.Routes.{Letter, letters_of}
 use Rattle.machine_states.specs.States.{Played, Makes, Skips, WouldStop}
 use Rattle.message_wires.specs.Play.{has_stopped}
-use Rattle.wires_laws.proofs.Stopping.{StopsNone, run-none, enter-none, handed-none, mark-none}
+use Rattle.message_wires_laws.proofs.Stopping.{StopsNone, run-none, enter-none, handed-none, mark-none}
 use Rattle.message_layout.specs.Messages.{NodeMessage, Carrying, Reporting, Declaring}
 use Rattle.message_layout.specs.Reading.{understood}
 use Rattle.packet_wires.specs.Nodes.{end_at}
@@ -71,9 +71,9 @@ module _ {a b : ℕ} {on : List Packet} {start : Net} where
 
   marks-lead : {came : List Packet} (node processor : ℕ) (s : Underway) → is_running s.world.stopped node ≡ true → Passing a b on start came s
       → Passing a b on start came (marks node processor s)
-  marks-lead {came = came} node processor s runs P = by (marked_done node processor s.world) refl (mark-none s.site s.world node processor)
+  marks-lead {came = came} node processor s runs P = by (down_done node processor s.world) refl (mark-none s.site s.world node processor)
     where
-      by : (done : Option Done) → marked_done node processor s.world ≡ done → StopsNone s.world done → Passing a b on start came (marked_by node processor s done)
+      by : (done : Option Done) → down_done node processor s.world ≡ done → StopsNone s.world done → Passing a b on start came (marked_by node processor s done)
       by None e none = P
       by (Some done) e none =
           posted-leads done.world.stopped (cut_off node processor s.wires)
@@ -83,7 +83,7 @@ module _ {a b : ℕ} {on : List Packet} {start : Net} where
   handed-leads : {came : List Packet} (node : ℕ) (told : NodeMessage) (s : Underway) → is_running s.world.stopped node ≡ true → Passing a b on start came s
       → Passing a b on start came (handed node told s)
   handed-leads node (Carrying message) s runs P = any-leads s (handed_done s.site node message s.world) (handed-none s.site s.world node message) P
-  handed-leads node (Reporting from set) s runs P = watched-passes node (changed_at from (watching.reported set)) s.wires P
+  handed-leads node (Reporting from set) s runs P = watched-passes node (changed_at from (watching.neighbour_after_report set)) s.wires P
   handed-leads node (Declaring processor) s runs P = marks-lead node processor s runs P
 
   words-lead : {came : List Packet} (node : ℕ) (words : Option (List ℤ)) (s : Underway) → is_running s.world.stopped node ≡ true → Passing a b on start came s

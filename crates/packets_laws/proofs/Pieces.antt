@@ -1,12 +1,12 @@
 -- Only the last piece of a message hands anything over.
 use Rattle.std.proofs.Common.{◌≡◌, ◌⊎◌, inl, inr, ℕ, ℤ, Bool, true, false, if◌then◌else◌, List, Option, Some, None, refl, sym, subst, ◌∙◌}
 use Rattle.schedule.specs.declared.event.Event.TheVariants.{Deliver, Lose, Repeat}
-use Rattle.wire.specs.declared.bus_name.BusName.{BusName}
-use Rattle.wire.specs.declared.packet.Packet.{Packet}
-use Rattle.wire.specs.declared.packet.PacketKind.{PacketKind}
-use Rattle.wire.specs.declared.packet.PacketKind.TheVariants as kind
-use Rattle.wire.specs.declared.piece.Piece.{Piece}
-use Rattle.wire.specs.Pieces as pieces
+use Rattle.packet_words.specs.declared.bus_name.BusName.{BusName}
+use Rattle.packet_words.specs.declared.packet.Packet.{Packet}
+use Rattle.packet_words.specs.declared.packet.PacketKind.{PacketKind}
+use Rattle.packet_words.specs.declared.packet.PacketKind.TheVariants as kind
+use Rattle.packet_words.specs.declared.piece.Piece.{Piece}
+use Rattle.packet_words.specs.Pieces as pieces
 use Rattle.link_control.specs.Ends as ends
 use Rattle.link_control.specs.Ends.{End, handed_by_packet, handed_by_kind}
 use Rattle.world_semantics.specs.World.{is_running}

@@ -5,9 +5,9 @@ use Rattle.gd_words.proofs.Among.{among-at, among-left, among-right}
 use Rattle.tal_tree.specs.declared.site.Site.{Site}
 use Rattle.schedule.specs.declared.event.Event.{Event}
 use Rattle.schedule.specs.declared.event.Event.TheVariants.{Run, Enter, Deliver, Lose, Repeat, Tick, Fail}
-use Rattle.wire.specs.declared.bus_name.BusName.{BusName}
-use Rattle.wire.specs.declared.bus_name.BusName.TheVariants as bus
-use Rattle.wire.specs.declared.packet.Packet.{Packet}
+use Rattle.packet_words.specs.declared.bus_name.BusName.{BusName}
+use Rattle.packet_words.specs.declared.bus_name.BusName.TheVariants as bus
+use Rattle.packet_words.specs.declared.packet.Packet.{Packet}
 use Rattle.channel_laws.specs.Net.{stopped_net}
 use Rattle.alive_regroup.specs.Watching as watching
 use Rattle.alive_regroup.specs.Watching.{changed_at}
@@ -21,17 +21,17 @@ use Rattle.world_semantics.proofs.Ran.{run-may, run-idle}
 use Rattle.computed_changes.specs.Entered.{enter_done}
 use Rattle.computed_changes.specs.Laws.{IsSent}
 use Rattle.computed_changes.specs.Handed.{handed_done}
-use Rattle.computed_changes.specs.Stopped.{stop_done, stop_where, stopped_world, marked_done, mark_where}
+use Rattle.computed_changes.specs.Stopped.{stop_done, stop_where, stopped_world, down_done, mark_where}
 use Rattle.computed_changes.proofs.Entered.{enter-may, enter-only}
 use Rattle.computed_changes.proofs.Made.{handed-may}
 use Rattle.computed_changes.proofs.Outcomes.{idle-where}
 use Rattle.computed_changes.proofs.Stopped.{stop-may, stop-only, mark-may}
 use Rattle.letters.specs.Routes.{Letter, letters_of}
 use Rattle.letters.specs.Again.{sent_again}
-use Rattle.letters.specs.Posts.{Post, with_letters, after_marking, without_those_between, HasPlayed, played_more, Plays, plays_run, plays_no_run, plays_enter, plays_no_enter, plays_nothing, plays_hand, plays_drop, plays_again, plays_mark, plays_loss, plays_repeat, plays_no_tick, plays_tick, plays_tick_stop, plays_fail, plays_no_fail, MakesMarks, no_mark, one_mark, IsTaken}
+use Rattle.letters.specs.Posts.{Post, with_letters, post_after_down, without_those_between, HasPlayed, played_more, PlaysEvent, plays_run, plays_no_run, plays_enter, plays_no_enter, plays_nothing, plays_hand, plays_drop, plays_again, plays_mark, plays_loss, plays_repeat, plays_no_tick, plays_tick, plays_tick_stop, plays_fail, plays_no_fail, NotesLetters, no_mark, one_mark, IsTaken}
 use Rattle.machine_states.specs.States.{Played, Makes, Skips, WouldStop}
 use Rattle.message_wires.specs.Play.{has_stopped}
-use Rattle.wires_laws.proofs.Stopping.{StopsNone, run-none, enter-none, handed-none, mark-none}
+use Rattle.message_wires_laws.proofs.Stopping.{StopsNone, run-none, enter-none, handed-none, mark-none}
 use Rattle.message_layout.specs.Messages.{NodeMessage, Carrying, Reporting, Declaring}
 use Rattle.message_layout.specs.Reading.{understood}
 use Rattle.packet_wires.specs.Wires.{Wires, Midst, bus_named, goes_over, all_posted, arrived, learns, ticked, cut_off}
@@ -100,7 +100,7 @@ pub now-stopped : (stopped : List Bool) (processor : ℕ) → slice_get stopped 
 now-stopped stopped processor e = set-there stopped processor false true e
 
 -- a mark is made of a stopped processor alone
-pub mark-gone : (node processor : ℕ) (w : World) (done : Done) → marked_done node processor w ≡ Some done → slice_get w.stopped processor ≡ Some true
+pub mark-gone : (node processor : ℕ) (w : World) (done : Done) → down_done node processor w ≡ Some done → slice_get w.stopped processor ≡ Some true
 mark-gone node processor w done e = by (slice_get w.stopped processor) refl e
   where
     by : (one : Option Bool) → slice_get w.stopped processor ≡ one → mark_where node processor w one ≡ Some done → slice_get w.stopped processor ≡ Some true
@@ -110,8 +110,8 @@ mark-gone node processor w done e = by (slice_get w.stopped processor) refl e
 
 -- a mark at a node that runs
 marked-on : {on : List Packet} (s : Underway) (events : List Event) (owed sent : List Letter) (node processor : ℕ) (done : Done) → FitAll s.site events → is_running s.world.stopped node ≡ true
-    → marked_done node processor s.world ≡ Some done → Ties s.site s.world.stopped on s.wires owed sent
-    → HasPlayed s.site events (after_marking s.site node processor done.sendings done.world (record { world = s.world; owed = owed; sent = sent }))
+    → down_done node processor s.world ≡ Some done → Ties s.site s.world.stopped on s.wires owed sent
+    → HasPlayed s.site events (post_after_down s.site node processor done.sendings done.world (record { world = s.world; owed = owed; sent = sent }))
     → Carries events on (after_marked node processor s done)
 marked-on {on = on} s events owed sent node processor done fit runs e T played =
     posted-on s events done.world (cut_off node processor s.wires) (without_those_between node processor owed) sent
@@ -130,7 +130,7 @@ module _ (events : List Event) (on : List Packet) (s : Underway) (owed sent : Li
   Post_of owed = record { world = s.world; owed = owed; sent = sent }
 
   abbrev Same : Event → Type 0
-  Same event = Plays s.site (Post_of owed) event (Post_of owed)
+  Same event = PlaysEvent s.site (Post_of owed) event (Post_of owed)
 
   -- the post stays the same, and the new wires are tied to it
   calm : (event : Event) (midst : Midst) → Ties s.site s.world.stopped on midst owed sent → Same event → Carries (events ++ event ∷ []) on (record s { wires = midst })
@@ -140,7 +140,7 @@ module _ (events : List Event) (on : List Packet) (s : Underway) (owed sent : Li
   T = carried.ties
 
   changes : (event : Event) (done : Done) → StopsNone s.world (Some done)
-      → Plays s.site (Post_of owed) event (with_letters (letters_of s.site done.world done.sendings) (record { world = done.world; owed = owed; sent = sent }))
+      → PlaysEvent s.site (Post_of owed) event (with_letters (letters_of s.site done.world done.sendings) (record { world = done.world; owed = owed; sent = sent }))
       → Carries (events ++ event ∷ []) on (after_done s done)
   changes event done none plays =
       posted-on s (events ++ event ∷ []) done.world s.wires owed sent (letters_of s.site done.world done.sendings) (fit event) none carried.ties (played_more carried.played plays)
@@ -234,9 +234,9 @@ module _ (events : List Event) (on : List Packet) (s : Underway) (owed sent : Li
         (played_more carried.played (plays_again (letter message) among (handed-may s.site _ _ s.world done (honest (letter message) among) e)))
 
     mark-on : (processor : ℕ) → Ties s.site s.world.stopped on next owed sent → Handed (marks p.receiver processor here)
-    mark-on processor T = by (marked_done p.receiver processor s.world) refl
+    mark-on processor T = by (down_done p.receiver processor s.world) refl
       where
-        by : (done : Option Done) → marked_done p.receiver processor s.world ≡ done → Handed (marked_by p.receiver processor here done)
+        by : (done : Option Done) → down_done p.receiver processor s.world ≡ done → Handed (marked_by p.receiver processor here done)
         by None e = calm (Deliver y k) next T plays_nothing
         by (Some done) e =
             marked-on here (events ++ Deliver y k ∷ []) owed sent p.receiver processor done (fit (Deliver y k)) runs e T
@@ -245,8 +245,8 @@ module _ (events : List Event) (on : List Packet) (s : Underway) (owed sent : Li
     other-on : (told : NodeMessage) → message_of told ≡ None → Ties s.site s.world.stopped on next owed sent → Handed (handed p.receiver told here)
     other-on (Carrying message) none T = absurd cc
     other-on (Reporting from set) none T =
-        calm (Deliver y k) (learns p.receiver (changed_at from (watching.reported set)) next)
-        (watched-ties next p.receiver (changed_at from (watching.reported set)) (λ watch is. changed-watch from (watching.reported set) refl is) T) plays_nothing
+        calm (Deliver y k) (learns p.receiver (changed_at from (watching.neighbour_after_report set)) next)
+        (watched-ties next p.receiver (changed_at from (watching.neighbour_after_report set)) (λ watch is. changed-watch from (watching.neighbour_after_report set) refl is) T) plays_nothing
     other-on (Declaring processor) none T = mark-on processor T
 
     read-on : (words : List ℤ) (told : NodeMessage) → understood s.site words ≡ Some told → Handed (handed p.receiver told here)
@@ -305,14 +305,14 @@ module _ (events : List Event) (on : List Packet) (s : Underway) (owed sent : Li
     -- the node marks the processor in a world in which that has stopped
     held-on : (w : World) (processor : ℕ) → is_running w.stopped node ≡ true → slice_get w.stopped processor ≡ Some true → processor ≤ 15
         → Ties s.site w.stopped on (ticked s.site.processors node s.wires) owed sent
-        → ((post : Post) → MakesMarks s.site node (record { world = w; owed = owed; sent = sent }) post → Plays s.site (Post_of owed) (Tick node) post)
+        → ((post : Post) → NotesLetters s.site node (record { world = w; owed = owed; sent = sent }) post → PlaysEvent s.site (Post_of owed) (Tick node) post)
         → Ticks (marks_and_declares node processor (record s { world = w; wires = ticked s.site.processors node s.wires }))
-    held-on w processor alive gone few T plays = by (marked_done node processor w) refl (mark-none s.site w node processor)
+    held-on w processor alive gone few T plays = by (down_done node processor w) refl (mark-none s.site w node processor)
       where
         one : Underway
         one = record s { world = w; wires = ticked s.site.processors node s.wires }
 
-        by : (done : Option Done) → marked_done node processor w ≡ done → StopsNone w done
+        by : (done : Option Done) → down_done node processor w ≡ done → StopsNone w done
             → Ticks (declared node processor (marked_by node processor (record s { world = w; wires = ticked s.site.processors node s.wires }) done))
         by None e none = told-on processor (record s { world = w; wires = ticked s.site.processors node s.wires }) refl alive gone few
             (owed, sent, record { played = played_more carried.played (plays _ no_mark); ties = T })

@@ -3,14 +3,14 @@ use Rattle.std.proofs.Common.{◌≡◌, ◌≤◌, ◌<◌, ℕ, ℤ, true, Lis
 use Rattle.gd_words.specs.Members.{IsAmong}
 use Rattle.tal_tree.specs.declared.site.Site.{Site}
 use Rattle.schedule.specs.declared.event.Event.{Event}
-use Rattle.wire.specs.declared.bus_name.BusName.{BusName}
-use Rattle.wire.specs.declared.packet.Packet.{Packet}
+use Rattle.packet_words.specs.declared.bus_name.BusName.{BusName}
+use Rattle.packet_words.specs.declared.packet.Packet.{Packet}
 use Rattle.world_semantics.specs.Follows.{IsIdleFor, IsRun}
 use Rattle.world_semantics.specs.Messages.{Handing}
 use Rattle.computed_changes.specs.Handed.{handed_done}
 use Rattle.computed_changes.specs.Laws.{HasCopiesApart, IsSent}
 use Rattle.computed_changes.proofs.Outcomes.{idle-where, run-only}
-use Rattle.headline.specs.Fit.{IsFit}
+use Rattle.takeover_laws.specs.Fit.{IsFit}
 use Rattle.awaited_requests.specs.Seats.{IsLaidOut}
 use Rattle.letters_layout.specs.Fitting.{IsSmall}
 use Rattle.letters_layout.proofs.Letters.{all-fit}
@@ -18,8 +18,8 @@ use Rattle.letters.specs.Posts.{Post}
 use Rattle.letters.specs.Posts as posts
 use Rattle.letters.specs.Routes.{Letter}
 use Rattle.letters.proofs.Worlds.{played-run}
-use Rattle.sent_letters.proofs.Fitting.{letter-fits}
-use Rattle.sent_letters.proofs.Honest.{played-honest}
+use Rattle.letter_laws.proofs.Fitting.{letter-fits}
+use Rattle.letter_laws.proofs.Honest.{played-honest}
 use Rattle.packet_wires.specs.Play.{Packeted, play, completed, packet_at}
 use Rattle.packet_wires.specs.Nodes.{end_at}
 use Rattle.world_semantics.specs.World.{is_running}

@@ -1,7 +1,7 @@
 -- What is played, as a post: the world with its letters.
 use Rattle.std.specs.Prelude.{List}
 use Rattle.schedule.specs.declared.event.Event.{Event}
-use Rattle.wire.specs.declared.packet.Packet.{Packet}
+use Rattle.packet_words.specs.declared.packet.Packet.{Packet}
 use Rattle.letters.specs.Posts.{HasPlayed}
 use Rattle.letters.specs.Routes.{Letter}
 use Rattle.packet_wires.specs.Play.{Packeted, Underway, begun}

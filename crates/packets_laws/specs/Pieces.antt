@@ -1,9 +1,9 @@
 -- What a packet is that hands something over.
 use Rattle.std.specs.Prelude.{◌≡◌, ℕ, true, Some}
-use Rattle.wire.specs.declared.bus_name.BusName.{BusName}
-use Rattle.wire.specs.declared.packet.Packet.{Packet}
-use Rattle.wire.specs.declared.packet.PacketKind.TheVariants as kind
-use Rattle.wire.specs.declared.piece.Piece.{Piece}
+use Rattle.packet_words.specs.declared.bus_name.BusName.{BusName}
+use Rattle.packet_words.specs.declared.packet.Packet.{Packet}
+use Rattle.packet_words.specs.declared.packet.PacketKind.TheVariants as kind
+use Rattle.packet_words.specs.declared.piece.Piece.{Piece}
 use Rattle.world_semantics.specs.World.{is_running}
 use Rattle.packet_wires.specs.Play.{Packeted, packet_at}
 

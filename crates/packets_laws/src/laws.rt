@@ -1,14 +1,14 @@
 //! Laws of what is played over packets.
 ghost use Rattle.std.specs.Prelude.{◌≡◌, ◌≤◌, ◌⊎◌, ◌<◌, ℕ, ℤ, Bool, true, List, length, slice_get, Some};
 ghost use Rattle.gd_words.specs.Members.{IsAmong};
-ghost use Rattle.wire.specs.declared.bus_name.BusName.{BusName};
-ghost use Rattle.wire.specs.declared.packet.Packet.{Packet};
+ghost use Rattle.packet_words.specs.declared.bus_name.BusName.{BusName};
+ghost use Rattle.packet_words.specs.declared.packet.Packet.{Packet};
 ghost use Rattle.tal_tree.specs.declared.site.Site.{Site};
 ghost use Rattle.schedule.specs.declared.event.Event.{Event};
 ghost use Rattle.schedule.specs.declared.event.Event.TheVariants.{Deliver, Lose, Repeat, Tick};
 ghost use Rattle.world_semantics.specs.Follows.{IsRun};
-ghost use Rattle.world_semantics.specs.World.{Mark, is_running};
-ghost use Rattle.headline.specs.Fit.{IsFit};
+ghost use Rattle.world_semantics.specs.World.{Down, is_running};
+ghost use Rattle.takeover_laws.specs.Fit.{IsFit};
 ghost use Rattle.awaited_requests.specs.Seats.{IsLaidOut};
 ghost use Rattle.letters.specs.Idle.{IsIdle, OneStops};
 ghost use Rattle.letters.specs.Posts.{HasPlayed};
@@ -55,9 +55,9 @@ pub fn only_a_last_piece_hands_over()
 
 /// A node has marked only what has stopped, and all marks of a run name one processor.
 pub fn only_what_has_stopped_is_marked()
-    ensures stopped { (site : Site) (events : List Event) (s : Packeted) (mark : Mark) → IsFit site → IsSmall site → IsLaidOut site → length events < 4294967296
+    ensures stopped { (site : Site) (events : List Event) (s : Packeted) (mark : Down) → IsFit site → IsSmall site → IsLaidOut site → length events < 4294967296
         → IsPlayed site events s → IsAmong mark s.world.marks → slice_get s.world.stopped mark.down ≡ Some true }
-    ensures one { (site : Site) (events : List Event) (s : Packeted) (one : Mark) (other : Mark) → IsFit site → IsSmall site → IsLaidOut site
+    ensures one { (site : Site) (events : List Event) (s : Packeted) (one : Down) (other : Down) → IsFit site → IsSmall site → IsLaidOut site
         → length events < 4294967296 → IsPlayed site events s → IsAmong one s.world.marks → IsAmong other s.world.marks → one.down ≡ other.down }
 {}
 

@@ -6,8 +6,8 @@ use Rattle.plain_semantics.specs.SiteLimits.{KeepsSiteLimits}
 use Rattle.letters.specs.Routes.{Letter}
 use Rattle.world_semantics.specs.Follows.{IsRun}
 use Rattle.awaited_requests.specs.Seats.{IsLaidOut}
-use Rattle.headline_laws.proofs.Accepted.{accepted-fit}
-use Rattle.headline_laws.specs.Premises.{IsAcceptedSite}
+use Rattle.accepted_sites.proofs.Accepted.{accepted-fit}
+use Rattle.accepted_sites.specs.Premises.{IsAcceptedSite}
 use Rattle.idle_end.specs.Ends.{IsIdleEnd}
 use Rattle.idle_laws.proofs.Ended.{played-ends}
 use Rattle.packet_wires.specs.Idle.{is_idle}

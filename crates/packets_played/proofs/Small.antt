@@ -18,7 +18,7 @@ use Rattle.plain_semantics.specs.SiteLimits.{KeepsSiteLimits}
 use Rattle.plain_semantics.proofs.Few.{openers-few}
 use Rattle.tal_laws.proofs.Ordered.{read_is_ordered}
 use Rattle.tal_laws.proofs.WithinLimits.{read_is_within}
-use Rattle.headline_laws.specs.Premises.{IsAcceptedSite}
+use Rattle.accepted_sites.specs.Premises.{IsAcceptedSite}
 use Rattle.letters_layout.specs.Fitting.{IsSmall}
 
 -- Depths

@@ -9,7 +9,7 @@ ghost use Rattle.world_semantics.specs.declared.which.Which.{Which};
 ghost use Rattle.world_semantics.specs.Kept.{acts_of, closed};
 ghost use Rattle.world_semantics.specs.World.{Pair, copy_of};
 ghost use Rattle.awaited_requests.specs.Seats.{IsLaidOut};
-ghost use Rattle.headline_laws.specs.Premises.{IsAcceptedSite};
+ghost use Rattle.accepted_sites.specs.Premises.{IsAcceptedSite};
 ghost use Rattle.idle_end.specs.Ends.{IsAsCopy};
 ghost use Rattle.packet_wires.specs.Idle.{is_idle};
 ghost use Rattle.packet_wires.specs.Play.{Packeted};

@@ -2,27 +2,27 @@
 use Rattle.std.proofs.Common.{◌≡◌, ℕ, suc, ◌+◌, ◌-◌, ◌<◌, List, ◌++◌, ap, ap₂, sym, ◌∙◌, arith}
 use Rattle.world_semantics.specs.Messages.{Sending}
 use Rattle.world_semantics.specs.Running.{Done}
-use Rattle.computed_changes.specs.Stopped.{marked_done}
+use Rattle.computed_changes.specs.Stopped.{down_done}
 use Rattle.letters.specs.Again.{sent_again}
-use Rattle.message_wires.specs.Play.{Whole, after_marked, marked_by, marks_from}
+use Rattle.message_wires.specs.Play.{MachineState, after_noted, noted_by, notes_from}
 use Rattle.message_wires.specs.Wires.{paid_between}
 use Rattle.pair_machine.specs.Told.{sent_all}
 
-pub marked-steps : (s marked paid after : Whole) (node processor : ℕ) (sendings : List Sending) (done : Done)
+pub marked-steps : (s marked paid after : MachineState) (node processor : ℕ) (sendings : List Sending) (done : Done)
     → marked ≡ record s { world = done.world } → sendings ≡ done.sendings ++ sent_again s.site s.world done.world node processor
     → paid ≡ record marked { wires = paid_between node processor marked.wires } → after ≡ sent_all sendings paid
-    → after ≡ after_marked node processor s done
+    → after ≡ after_noted node processor s done
 marked-steps s marked paid after node processor sendings done marks tells pays posts =
     posts
     ∙ ap₂ sent_all tells
-    (pays ∙ ap (λ (s : Whole). record s { wires = paid_between node processor s.wires }) marks)
+    (pays ∙ ap (λ (s : MachineState). record s { wires = paid_between node processor s.wires }) marks)
 
 left-more : (place count : ℕ) → place < count → count - place ≡ suc (count - (place + 1))
 left-more place count within = omega arith
 
 -- after the mark of one processor what is left to be marked leads to the same
-pub marks-step : (node place count : ℕ) (s after : Whole) → place < count → after ≡ marked_by node place s (marked_done node place s.world)
-    → marks_from node (place + 1) (count - (place + 1)) after ≡ marks_from node place (count - place) s
+pub marks-step : (node place count : ℕ) (s after : MachineState) → place < count → after ≡ noted_by node place s (down_done node place s.world)
+    → notes_from node (place + 1) (count - (place + 1)) after ≡ notes_from node place (count - place) s
 marks-step node place count s after within marks =
-    ap (λ next. marks_from node (place + 1) (count - (place + 1)) next) marks
-    ∙ ap (λ more. marks_from node place more s) (sym (left-more place count within))
+    ap (λ next. notes_from node (place + 1) (count - (place + 1)) next) marks
+    ∙ ap (λ more. notes_from node place more s) (sym (left-more place count within))

@@ -1,7 +1,7 @@
 -- The kinds of packets, and where they stand.
 use Rattle.std.proofs.Common.{◌≡◌, ◌↔◌, ℕ, ◌<◌, zero, suc, Bool, true, false, if◌then◌else◌, List, [], ◌∷◌, length, Option, Some, None, slice_get, refl, arith}
 use Rattle.std.specs.Option.{option_map}
-use Rattle.message_wires.specs.Play.{Whole, packet_at}
+use Rattle.message_wires.specs.Play.{MachineState, packet_at}
 use Rattle.message_wires.specs.Wires.{Sent}
 use Rattle.pair_machine.specs.Seen.{kind_at, piece}
 
@@ -28,10 +28,10 @@ kind-past (packet ∷ bus) (suc k) past = kind-past bus k (λ less. past (omega 
 past-kind : (bus : List Sent) (k : ℕ) → option_map (λ (one : Sent). piece) (slice_get bus k) ≡ None → k < length bus → ⊥
 past-kind bus k none within = absurd (cc (none, kind-within bus k within))
 
-pub kind-there : (s : Whole) (y : Bool) (k : ℕ) → (k < (if y then 0 else length s.wires.bus) ↔ kind_at s y k ≡ Some piece)
+pub kind-there : (s : MachineState) (y : Bool) (k : ℕ) → (k < (if y then 0 else length s.wires.bus) ↔ kind_at s y k ≡ Some piece)
 kind-there s true k = (λ within. absurd (omega (arith, within)), λ there. absurd (cc))
 kind-there s false k = (kind-within s.wires.bus k, within-kind s.wires.bus k)
 
-pub kind-none : (s : Whole) (y : Bool) (k : ℕ) → ((k < (if y then 0 else length s.wires.bus) → ⊥) ↔ kind_at s y k ≡ None)
+pub kind-none : (s : MachineState) (y : Bool) (k : ℕ) → ((k < (if y then 0 else length s.wires.bus) → ⊥) ↔ kind_at s y k ≡ None)
 kind-none s true k = (λ past. refl, λ none within. absurd (omega (arith, within)))
 kind-none s false k = (kind-past s.wires.bus k, past-kind s.wires.bus k)

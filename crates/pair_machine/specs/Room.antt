@@ -4,12 +4,12 @@ use Rattle.gd_words.specs.Members.{IsAmong}
 use Rattle.world_semantics.specs.Messages.{Sending}
 use Rattle.machine_states.specs.States.{Played, Makes, Skips, WouldStop}
 use Rattle.message_wires.specs.Wires.{Sent, Wires}
-use Rattle.message_wires.specs.Play.{Whole}
+use Rattle.message_wires.specs.Play.{MachineState}
 use Rattle.world_copies.specs.Room.{NamesItsOpener}
 use Rattle.pair_machine.specs.Told.{sent_all}
 
 -- the count of the letters that were sent has 64 bits
-abbrev pub AreCounted : Whole → Type 0
+abbrev pub AreCounted : MachineState → Type 0
 AreCounted s = s.wires.count < 2 ^ 64
 
 -- and so it has after an event, if that makes a change
@@ -19,10 +19,10 @@ AreCountedAfter Skips = Unit {0}
 AreCountedAfter (WouldStop processor) = Unit {0}
 
 -- and after these messages were sent, if something is done that sends them
-abbrev pub AreCountedTelling : Option (List Sending) → Whole → Type 0
+abbrev pub AreCountedTelling : Option (List Sending) → MachineState → Type 0
 AreCountedTelling None s = Unit {0}
 AreCountedTelling (Some sendings) s = AreCounted (sent_all sendings s)
 
 -- each request on the bus names an opener of the process that it is for
-abbrev pub OpenersAreThere : Whole → Type 0
+abbrev pub OpenersAreThere : MachineState → Type 0
 OpenersAreThere s = (packet : Sent) → IsAmong packet s.wires.bus → NamesItsOpener s.site packet.letter.message

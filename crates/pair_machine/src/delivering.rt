@@ -2,22 +2,22 @@ ghost use Rattle.std.specs.Prelude.{◌≡◌, IfOk, OnOk};
 ghost use Rattle.computed_changes.specs.Handed.{handed_done};
 ghost use Rattle.machine_states.specs.States.{Settles};
 ghost use Rattle.number_ranges.specs.HasRoom.{HasRoom};
-ghost use Rattle.message_wires.specs.Play.{after_any, comes_in, deliver_played, lose_played, packet_at, received, repeat_played};
+ghost use Rattle.message_wires.specs.Play.{after_any, comes_in, deliver_played, lose_played, packet_at, state_after_receiving, repeat_played};
 ghost use Rattle.sendings.specs.Seen.{message_of};
-ghost use Rattle.node_copies.specs.Seen.{told_by};
+ghost use Rattle.node_copies.specs.Seen.{step_sendings};
 ghost use Rattle.world_copies.specs.Room.{NamesItsOpener};
 ghost use Rattle.world_copies.specs.Told.{sent_in};
 ghost use Rattle.pair_machine.specs.Room.{AreCounted, AreCountedAfter, OpenersAreThere};
 ghost use Rattle.pair_machine.specs.Told.{unsent};
 
-use crate::whole::Whole;
+use crate::whole::MachineParts;
 use gd_words::NoMemory;
 use machine_states::Effect;
-use node_copies::Step;
+use node_copies::StepOutcome;
 use posted_letters::Sent;
 use sendings::Message;
 
-impl Whole {
+impl MachineParts {
     /// The packet at a position of a bus is taken off, and its letter comes in or is dropped.
     #[tactic(auto, using(crate::proofs::Packets::none_removed))]
     pub(crate) fn deliver(&mut self, y: bool, k: u32) -> Result<Effect, NoMemory>
@@ -42,8 +42,8 @@ impl Whole {
     fn receive(&mut self, packet: Sent) -> Result<(), NoMemory>
         requires opener { NamesItsOpener self.old.site packet.letter.message }
         requires room { HasRoom self.old }
-        requires letters { AreCounted (received packet self.old) }
-        ensures { OnOk result (self.new ≡ received packet self.old) }
+        requires letters { AreCounted (state_after_receiving packet self.old) }
+        ensures { OnOk result (self.new ≡ state_after_receiving packet self.old) }
     {
         if self.comes_in(&packet) {
             self.wires.pay(packet.number());
@@ -76,10 +76,10 @@ impl Whole {
     }
 
     /// A message is handed over at a node. What that sends isn't posted yet.
-    fn hand_over(&mut self, node: u8, message: Message) -> Result<Step, NoMemory>
+    fn hand_over(&mut self, node: u8, message: Message) -> Result<StepOutcome, NoMemory>
         requires opener { NamesItsOpener self.old.site (message_of message) }
         requires room { HasRoom self.old }
-        ensures told { IfOk result (λ step. told_by step ≡ sent_in (handed_done self.old.site node (message_of message) self.old.world)) }
+        ensures told { IfOk result (λ step. step_sendings step ≡ sent_in (handed_done self.old.site node (message_of message) self.old.world)) }
         ensures state { OnOk result (self.new ≡ unsent self.old (handed_done self.old.site node (message_of message) self.old.world)) }
     {
         let step = self.world.hand(node, message)?;

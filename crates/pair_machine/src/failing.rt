@@ -3,11 +3,11 @@ ghost use Rattle.machine_states.specs.States.{Settles};
 ghost use Rattle.computed_changes.specs.Stopped.{stop_done, stopped_world};
 ghost use Rattle.message_wires.specs.Play.{fail_played};
 
-use crate::whole::Whole;
+use crate::whole::MachineParts;
 use gd_words::NoMemory;
 use machine_states::Effect;
 
-impl Whole {
+impl MachineParts {
     /// A processor stops, unless another one has stopped.
     pub(crate) fn fail(&mut self, processor: u8) -> Result<Effect, NoMemory>
         ensures { IfOk result (λ effect. Settles (fail_played processor self.old (stop_done processor self.old.world)) self.old effect self.new) }

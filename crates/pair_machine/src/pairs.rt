@@ -4,18 +4,18 @@ ghost use Rattle.machine_states.specs.States.{Settles};
 ghost use Rattle.world_semantics.specs.Kept.{acts_of};
 ghost use Rattle.node_copies.specs.ShownCounts.{replies_in, writes_in};
 ghost use Rattle.message_wires.specs.Idle.{is_idle};
-ghost use Rattle.message_wires.specs.Play.{packet_at, play, whole_at_boot};
+ghost use Rattle.message_wires.specs.Play.{packet_at, play, machine_at_boot};
 ghost use Rattle.number_ranges.specs.HasRoom.{HasRoom, HasRoomForLetters};
 ghost use Rattle.process_copies.specs.Starting.{IsStartable};
 ghost use Rattle.world_copies.specs.Seen.{ArePlaced, pairs_in};
 ghost use Rattle.pair_machine.specs.Room.{OpenersAreThere};
 ghost use Rattle.pair_machine.specs.Seen.{closed_state, kind_at};
 
-use crate::whole::Whole;
+use crate::whole::MachineParts;
 use gd_words::NoMemory;
 use logs::Shared;
 use machine_states::Effect;
-use node_copies::Marks;
+use node_copies::Downs;
 use process_copies::ProcessCopies;
 use schedule::Event;
 use std::alloc::Global;
@@ -28,32 +28,32 @@ const PIECE: u8 = 1;
 
 /// The machine over whole messages. Once an allocation was refused to it, it answers so for good.
 #[derive(Drop)]
-pub struct Pairs {
+pub struct PairMachine {
     broken: Option<NoMemory>,
-    whole: Whole,
+    whole: MachineParts,
 }
 
-impl Model for Pairs {
+impl Model for PairMachine {
     ghost use Rattle.std.specs.Coded.{codes};
     ghost use Rattle.std.specs.Prelude.{is_some};
     ghost use Rattle.tal_tree.specs.contracts.statement.Statement as statement;
-    ghost use Rattle.pair_machine.specs.Seen.{Standing};
+    ghost use Rattle.pair_machine.specs.Seen.{MachineStanding};
 
-    ghost Value = { Standing };
+    ghost Value = { MachineStanding };
 
     ghost coded = { Prim.hlevel (codes, statement.the_row.coded) };
 
     ghost view = { λ pairs. record { is_broken = is_some pairs.broken; state = pairs.whole } };
 }
 
-impl Pairs {
+impl PairMachine {
     /// The machine at the beginning.
-    pub fn boot(alloc: Global, site: &Shared<Site>) -> Result<Pairs, NoMemory>
+    pub fn boot(alloc: Global, site: &Shared<Site>) -> Result<PairMachine, NoMemory>
         requires { IsStartable site.now }
-        ensures { IfOk result (λ pairs. pairs ≡ record { is_broken = false; state = whole_at_boot site.now }) }
+        ensures { IfOk result (λ pairs. pairs ≡ record { is_broken = false; state = machine_at_boot site.now }) }
     {
-        let whole = Whole::boot(alloc, site)?;
-        Ok(Pairs {
+        let whole = MachineParts::boot(alloc, site)?;
+        Ok(PairMachine {
             broken: None,
             whole,
         })
@@ -161,7 +161,7 @@ impl Pairs {
     }
 
     /// Which node has marked which processor.
-    pub fn marks(&self) -> &Marks
+    pub fn marks(&self) -> &Downs
         ensures { result.now ≡ self.now.state.world.marks }
     {
         self.whole.world.marks()
@@ -196,7 +196,7 @@ impl Pairs {
     }
 }
 
-impl Whole {
+impl MachineParts {
     fn event(&mut self, event: Event) -> Result<Effect, NoMemory>
         requires room { HasRoom self.old }
         requires letters { HasRoomForLetters self.old }

@@ -1,15 +1,15 @@
 ghost use Rattle.std.specs.Prelude.{◌≡◌, [], ◌∷◌, IfOk, OnOk};
 ghost use Rattle.pair_machine.specs.Room.{AreCounted, AreCountedTelling};
 ghost use Rattle.pair_machine.specs.Told.{Answers, sent_all};
-ghost use Rattle.node_copies.specs.Seen.{told_by};
+ghost use Rattle.node_copies.specs.Seen.{step_sendings};
 
-use crate::whole::Whole;
+use crate::whole::MachineParts;
 use gd_words::{List, NoMemory};
 use machine_states::Effect;
-use node_copies::Step;
+use node_copies::StepOutcome;
 use sendings::{Letter, Sending};
 
-impl Whole {
+impl MachineParts {
     /// A message is sent at a node: a letter is posted to where the node finds the receiver.
     #[tactic(auto, using(crate::proofs::Room::posted_next))]
     pub(crate) fn post(&mut self, sending: Sending) -> Result<(), NoMemory>
@@ -39,14 +39,14 @@ impl Whole {
     }
 
     /// Posts what a step sends that a process was to make, and answers whether it was made.
-    pub(crate) fn tell(&mut self, step: Step) -> Result<Effect, NoMemory>
-        requires { AreCountedTelling (told_by step) self.old }
-        ensures { IfOk result (λ effect. Answers (told_by step) self.old effect self.new) }
+    pub(crate) fn tell(&mut self, step: StepOutcome) -> Result<Effect, NoMemory>
+        requires { AreCountedTelling (step_sendings step) self.old }
+        ensures { IfOk result (λ effect. Answers (step_sendings step) self.old effect self.new) }
     {
         match step {
-            Step::Impossible => Ok(Effect::Skipped),
-            Step::Quiet => Ok(Effect::Done),
-            Step::Sends(sending) => {
+            StepOutcome::Impossible => Ok(Effect::Skipped),
+            StepOutcome::Quiet => Ok(Effect::Done),
+            StepOutcome::Sends(sending) => {
                 self.post(sending)?;
                 Ok(Effect::Done)
             }

@@ -4,17 +4,17 @@ ghost use Rattle.machine_states.specs.States.{Settles};
 ghost use Rattle.message_wires.specs.Play.{made_by};
 ghost use Rattle.number_ranges.specs.HasRoom.{HasRoom};
 ghost use Rattle.world_semantics.specs.Running.{run_done};
-ghost use Rattle.node_copies.specs.Seen.{told_by};
+ghost use Rattle.node_copies.specs.Seen.{step_sendings};
 ghost use Rattle.world_copies.specs.Told.{sent_in};
 ghost use Rattle.pair_machine.specs.Room.{AreCountedAfter};
 ghost use Rattle.pair_machine.specs.Told.{unsent};
 
-use crate::whole::Whole;
+use crate::whole::MachineParts;
 use gd_words::NoMemory;
 use machine_states::Effect;
-use node_copies::Step;
+use node_copies::StepOutcome;
 
-impl Whole {
+impl MachineParts {
     /// A process runs.
     pub(crate) fn run(&mut self, number: u8) -> Result<Effect, NoMemory>
         requires room { HasRoom self.old }
@@ -38,9 +38,9 @@ impl Whole {
     }
 
     /// A process makes its step, if it can. What that sends isn't posted yet.
-    fn run_process(&mut self, number: u8) -> Result<Step, NoMemory>
+    fn run_process(&mut self, number: u8) -> Result<StepOutcome, NoMemory>
         requires { HasRoom self.old }
-        ensures told { IfOk result (λ step. told_by step ≡ sent_in (run_done self.old.site number self.old.world)) }
+        ensures told { IfOk result (λ step. step_sendings step ≡ sent_in (run_done self.old.site number self.old.world)) }
         ensures state { OnOk result (self.new ≡ unsent self.old (run_done self.old.site number self.old.world)) }
     {
         let step = self.world.run(number)?;
@@ -48,9 +48,9 @@ impl Whole {
     }
 
     /// A terminal enters, if it can. What that sends isn't posted yet.
-    fn enter_next(&mut self, terminal: u8) -> Result<Step, NoMemory>
+    fn enter_next(&mut self, terminal: u8) -> Result<StepOutcome, NoMemory>
         requires { HasRoom self.old }
-        ensures told { IfOk result (λ step. told_by step ≡ sent_in (enter_done self.old.site terminal self.old.world)) }
+        ensures told { IfOk result (λ step. step_sendings step ≡ sent_in (enter_done self.old.site terminal self.old.world)) }
         ensures state { OnOk result (self.new ≡ unsent self.old (enter_done self.old.site terminal self.old.world)) }
     {
         let step = self.world.enter(terminal)?;

@@ -1,19 +1,19 @@
 ghost use Rattle.std.specs.Prelude.{◌≡◌, ◌++◌, IfOk, OnOk, length};
 ghost use Rattle.machine_states.specs.States.{Settles};
-ghost use Rattle.computed_changes.specs.Stopped.{marked_done, marked_world};
+ghost use Rattle.computed_changes.specs.Stopped.{down_done, world_at_down};
 ghost use Rattle.letters.specs.Again.{sent_again};
 ghost use Rattle.number_ranges.specs.HasRoom.{HasRoom};
-ghost use Rattle.message_wires.specs.Play.{after_marked, marked_by, marks_from, tick_played};
+ghost use Rattle.message_wires.specs.Play.{after_noted, noted_by, notes_from, tick_played};
 ghost use Rattle.message_wires.specs.Wires.{paid_between, wires_again};
 ghost use Rattle.world_copies.specs.Room.{AllWatchersHaveRoom};
 ghost use Rattle.pair_machine.specs.Room.{AreCounted, AreCountedAfter};
 
-use crate::whole::Whole;
+use crate::whole::MachineParts;
 use gd_words::{List, NoMemory};
 use machine_states::Effect;
 use sendings::Sending;
 
-impl Whole {
+impl MachineParts {
     /// The tick of a node: it marks what has stopped, and puts on the bus again what it sent that is owed and not there.
     pub(crate) fn tick(&mut self, node: u8) -> Result<Effect, NoMemory>
         requires room { HasRoom self.old }
@@ -39,8 +39,8 @@ impl Whole {
     /// A node marks each processor that has stopped and isn't marked yet. For most of a run none has.
     fn mark_stopped(&mut self, node: u8) -> Result<(), NoMemory>
         requires watching { AllWatchersHaveRoom self.old.world.processes }
-        requires letters { AreCounted (marks_from node 0 (length self.old.world.stopped) self.old) }
-        ensures { OnOk result (self.new ≡ marks_from node 0 (length self.old.world.stopped) self.old) }
+        requires letters { AreCounted (notes_from node 0 (length self.old.world.stopped) self.old) }
+        ensures { OnOk result (self.new ≡ notes_from node 0 (length self.old.world.stopped) self.old) }
     {
         if self.world.has_stopped() {
             self.mark_each(node)?;
@@ -51,8 +51,8 @@ impl Whole {
     /// A node looks at each processor, whether it is to be marked.
     fn mark_each(&mut self, node: u8) -> Result<(), NoMemory>
         requires watching { AllWatchersHaveRoom self.old.world.processes }
-        requires letters { AreCounted (marks_from node 0 (length self.old.world.stopped) self.old) }
-        ensures { OnOk result (self.new ≡ marks_from node 0 (length self.old.world.stopped) self.old) }
+        requires letters { AreCounted (notes_from node 0 (length self.old.world.stopped) self.old) }
+        ensures { OnOk result (self.new ≡ notes_from node 0 (length self.old.world.stopped) self.old) }
     {
         for processor in 0..self.world.processors() {
             self.mark(node, processor)?;
@@ -62,8 +62,8 @@ impl Whole {
 
     fn mark(&mut self, node: u8, processor: u8) -> Result<(), NoMemory>
         requires watching { AllWatchersHaveRoom self.old.world.processes }
-        requires letters { AreCounted (marked_by node processor self.old (marked_done node processor self.old.world)) }
-        ensures { OnOk result (self.new ≡ marked_by node processor self.old (marked_done node processor self.old.world)) }
+        requires letters { AreCounted (noted_by node processor self.old (down_done node processor self.old.world)) }
+        ensures { OnOk result (self.new ≡ noted_by node processor self.old (down_done node processor self.old.world)) }
     {
         if self.world.is_to_mark(node, processor) {
             self.mark_down(node, processor)?;
@@ -74,9 +74,9 @@ impl Whole {
     /// A node marks a processor that has stopped: what was owed between both is so no more, and what the mark sends is posted.
     fn mark_down(&mut self, node: u8, processor: u8) -> Result<(), NoMemory>
         requires watching { AllWatchersHaveRoom self.old.world.processes }
-        requires letters { AreCounted (after_marked node processor self.old
-            (marked_world node processor self.old.world)) }
-        ensures { OnOk result (self.new ≡ after_marked node processor self.old (marked_world node processor self.old.world)) }
+        requires letters { AreCounted (after_noted node processor self.old
+            (world_at_down node processor self.old.world)) }
+        ensures { OnOk result (self.new ≡ after_noted node processor self.old (world_at_down node processor self.old.world)) }
     {
         let sendings = self.mark_world(node, processor)?;
         self.pay_between(node, processor);
@@ -94,9 +94,9 @@ impl Whole {
     /// A node marks a processor. What that sends isn't posted yet.
     fn mark_world(&mut self, node: u8, processor: u8) -> Result<List<Sending>, NoMemory>
         requires { AllWatchersHaveRoom self.old.world.processes }
-        ensures told { IfOk result (λ sendings. sendings ≡ (marked_world node processor self.old.world).sendings
-            ++ sent_again self.old.site self.old.world (marked_world node processor self.old.world).world node processor) }
-        ensures state { OnOk result (self.new ≡ record self.old { world = (marked_world node processor self.old.world).world }) }
+        ensures told { IfOk result (λ sendings. sendings ≡ (world_at_down node processor self.old.world).sendings
+            ++ sent_again self.old.site self.old.world (world_at_down node processor self.old.world).world node processor) }
+        ensures state { OnOk result (self.new ≡ record self.old { world = (world_at_down node processor self.old.world).world }) }
     {
         let sendings = self.world.mark(node, processor)?;
         Ok(sendings)

@@ -1,6 +1,6 @@
 ghost use Rattle.std.specs.Prelude.{◌≡◌, length, IfOk, OnOk};
 ghost use Rattle.message_wires.specs.Idle.{is_idle};
-ghost use Rattle.message_wires.specs.Play.{whole_at_boot};
+ghost use Rattle.message_wires.specs.Play.{machine_at_boot};
 ghost use Rattle.process_copies.specs.Starting.{IsStartable};
 ghost use Rattle.pair_machine.specs.Seen.{closed_state};
 
@@ -14,31 +14,31 @@ use world_copies::WorldCopies;
 
 /// All of the machine: the world, and the wires.
 #[derive(Drop)]
-pub struct Whole {
+pub struct MachineParts {
     pub(crate) world: WorldCopies,
     pub(crate) wires: PostedLetters,
 }
 
-impl Model for Whole {
+impl Model for MachineParts {
     ghost use Rattle.std.specs.Coded.{codes};
     ghost use Rattle.tal_tree.specs.contracts.statement.Statement as statement;
     ghost use Rattle.message_wires.specs.Play as play;
 
-    ghost Value = { play.Whole };
+    ghost Value = { play.MachineState };
 
     ghost coded = { Prim.hlevel (codes, statement.the_row.coded) };
 
     ghost view = { λ m. record { site = m.world.site; world = m.world.world; wires = m.wires } };
 }
 
-impl Whole {
+impl MachineParts {
     /// The state at the beginning.
-    pub(crate) fn boot(alloc: Global, site: &Shared<Site>) -> Result<Whole, NoMemory>
+    pub(crate) fn boot(alloc: Global, site: &Shared<Site>) -> Result<MachineParts, NoMemory>
         requires { IsStartable site.now }
-        ensures { IfOk result (λ whole. whole ≡ whole_at_boot site.now) }
+        ensures { IfOk result (λ whole. whole ≡ machine_at_boot site.now) }
     {
         let world = WorldCopies::boot(alloc, site)?;
-        Ok(Whole {
+        Ok(MachineParts {
             world,
             wires: PostedLetters::new(alloc),
         })

@@ -6,7 +6,7 @@ use Rattle.tal_tree.specs.declared.program.Procedure.{Procedure}
 use Rattle.tal_tree.specs.declared.statement.Statement.{Statement}
 use Rattle.tal_tree.specs.declared.statement.What.{What, What-F, out-What}
 use Rattle.process_semantics.specs.State.{Entry, Run, Test, Last, runs_of, first_of}
-use Rattle.process_semantics.specs.Rests.{number_of}
+use Rattle.process_semantics.specs.Rests.{entry_number}
 use Rattle.path_semantics.specs.declared.dues.Dues.{Dues}
 use Rattle.path_semantics.specs.Dues.{with_changed, changed_by_return, after_entry}
 use Rattle.tal_tree.specs.Statements.{last_of, numbers_of}
@@ -41,70 +41,70 @@ next-later [] (caller ∷ callers) dues next is =
 
 -- an entry above is of a later procedure
 above-number : (program : Program) (low : ℕ) (callers : Place) (entry : Entry) → AreLevels program low callers → IsAmong entry (all_entries callers)
-    → (k : ℕ) × (low ≤ k) × IsAmong (number_of entry) (numbers_of_procedure program k)
+    → (k : ℕ) × (low ≤ k) × IsAmong (entry_number entry) (numbers_of_procedure program k)
 above-number program low [] entry levels among = absurd among
 above-number program low (frame ∷ callers) entry levels among =
     elim (among-either entry frame (all_entries callers) among) [
-      | inl in_frame ↦ (levels.0, levels.1, (levels.2.belong entry in_frame).numbers (number_of entry) (number-own entry))
+      | inl in_frame ↦ (levels.0, levels.1, (levels.2.belong entry in_frame).numbers (entry_number entry) (number-own entry))
       | inr above ↦ higher (above-number program (levels.0 + 1) callers entry levels.3 above)
     ]
   where
-    higher : (k : ℕ) × (levels.0 + 1 ≤ k) × IsAmong (number_of entry) (numbers_of_procedure program k)
-        → (k : ℕ) × (low ≤ k) × IsAmong (number_of entry) (numbers_of_procedure program k)
+    higher : (k : ℕ) × (levels.0 + 1 ≤ k) × IsAmong (entry_number entry) (numbers_of_procedure program k)
+        → (k : ℕ) × (low ≤ k) × IsAmong (entry_number entry) (numbers_of_procedure program k)
     higher (k, above, number) = let least : low ≤ levels.0 = levels.1 in (k, omega arith, number)
 
 -- what comes after an entry has none of its numbers
 next-apart : (program : Program) → IsOrdered program → (entry : Entry) (rest : List Entry) (callers : Place) (dues : Dues) (next : Entry)
-    → AreLevels program 0 ((entry ∷ rest) ∷ callers) → next_in (stand_at rest callers dues).place ≡ Some next → IsAmong (number_of next) (numbers_at entry) → ⊥
+    → AreLevels program 0 ((entry ∷ rest) ∷ callers) → next_in (stand_at rest callers dues).place ≡ Some next → IsAmong (entry_number next) (numbers_at entry) → ⊥
 next-apart program ordered entry rest callers dues next levels is inner =
     elim (next-later rest callers dues next is) [
       | inl later ↦ levels.2.apart.1 next later inner
       | inr above ↦ apart-above (above-number program (levels.0 + 1) callers next levels.3 above)
     ]
   where
-    apart-above : (k : ℕ) × (levels.0 + 1 ≤ k) × IsAmong (number_of next) (numbers_of_procedure program k) → ⊥
+    apart-above : (k : ℕ) × (levels.0 + 1 ≤ k) × IsAmong (entry_number next) (numbers_of_procedure program k) → ⊥
     apart-above (k, above, number) =
-        given-apart (λ (procedure : Procedure). numbers_of procedure.body) program.procedures levels.0 k (number_of next) ordered.numbers (omega arith)
-        ((levels.2.belong entry (inl refl)).numbers (number_of next) inner) number
+        given-apart (λ (procedure : Procedure). numbers_of procedure.body) program.procedures levels.0 k (entry_number next) ordered.numbers (omega arith)
+        ((levels.2.belong entry (inl refl)).numbers (entry_number next) inner) number
 
 -- what tells the two ways of a test apart
 record AreBranches (entry : Entry) (rest : List Entry) (callers : Place) (dues : Dues) (first second : List Entry) : Type 0 where
-  in_first : (one : Entry) (more : List Entry) → first ≡ one ∷ more → IsAmong (number_of one) (numbers_at entry)
-  in_second : (one : Entry) (more : List Entry) → second ≡ one ∷ more → IsAmong (number_of one) (numbers_at entry)
-  differ : (one other : Entry) (more others : List Entry) → first ≡ one ∷ more → second ≡ other ∷ others → number_of one ≡ number_of other → ⊥
-  after : (next : Entry) → next_in (stand_at rest callers dues).place ≡ Some next → IsAmong (number_of next) (numbers_at entry) → ⊥
+  in_first : (one : Entry) (more : List Entry) → first ≡ one ∷ more → IsAmong (entry_number one) (numbers_at entry)
+  in_second : (one : Entry) (more : List Entry) → second ≡ one ∷ more → IsAmong (entry_number one) (numbers_at entry)
+  differ : (one other : Entry) (more others : List Entry) → first ≡ one ∷ more → second ≡ other ∷ others → entry_number one ≡ entry_number other → ⊥
+  after : (next : Entry) → next_in (stand_at rest callers dues).place ≡ Some next → IsAmong (entry_number next) (numbers_at entry) → ⊥
 
-number-same : (one next : Entry) (found : Option Entry) → option_map number_of found ≡ Some (number_of one) → found ≡ Some next → number_of one ≡ number_of next
-number-same one next found has is = cc (ap (option_map number_of) is)
+number-same : (one next : Entry) (found : Option Entry) → option_map entry_number found ≡ Some (entry_number one) → found ≡ Some next → entry_number one ≡ entry_number next
+number-same one next found has is = cc (ap (option_map entry_number) is)
 
 branches-differ : (entry : Entry) (rest : List Entry) (callers : Place) (dues : Dues) (first second : List Entry) → AreBranches entry rest callers dues first second
     → number_at (stand_at (first ++ rest) callers dues) ≡ number_at (stand_at (second ++ rest) callers dues)
     → stand_at (first ++ rest) callers dues ≡ stand_at (second ++ rest) callers dues
 branches-differ entry rest callers dues [] [] are same = refl
 branches-differ entry rest callers dues (one ∷ more) (other ∷ others) are same =
-    absurd (are.differ one other more others refl refl (let equal : number_of one ≡ number_of other = cc in equal))
+    absurd (are.differ one other more others refl refl (let equal : entry_number one ≡ entry_number other = cc in equal))
 branches-differ entry rest callers dues (one ∷ more) [] are same =
-    let found = numbered number_of (next_in (stand_at rest callers dues).place) (number_of one) (sym same) in
-    let equal : number_of one ≡ number_of found.0 = number-same one found.0 (next_in (stand_at rest callers dues).place) (sym same) found.1 in
+    let found = numbered entry_number (next_in (stand_at rest callers dues).place) (entry_number one) (sym same) in
+    let equal : entry_number one ≡ entry_number found.0 = number-same one found.0 (next_in (stand_at rest callers dues).place) (sym same) found.1 in
     absurd (are.after found.0 found.1 (subst (λ (n : ℕ). IsAmong n (numbers_at entry)) equal (are.in_first one more refl)))
 branches-differ entry rest callers dues [] (other ∷ others) are same =
-    let found = numbered number_of (next_in (stand_at rest callers dues).place) (number_of other) same in
-    let equal : number_of other ≡ number_of found.0 = number-same other found.0 (next_in (stand_at rest callers dues).place) same found.1 in
+    let found = numbered entry_number (next_in (stand_at rest callers dues).place) (entry_number other) same in
+    let equal : entry_number other ≡ entry_number found.0 = number-same other found.0 (next_in (stand_at rest callers dues).place) same found.1 in
     absurd (are.after found.0 found.1 (subst (λ (n : ℕ). IsAmong n (numbers_at entry)) equal (are.in_second other others refl)))
 
-runs-first : (part : List Statement) (one : Entry) (more : List Entry) → runs_of part ≡ one ∷ more → IsAmong (number_of one) (numbers_of part)
+runs-first : (part : List Statement) (one : Entry) (more : List Entry) → runs_of part ≡ one ∷ more → IsAmong (entry_number one) (numbers_of part)
 runs-first [] one more is = absurd (cc)
 runs-first (statement ∷ part) one more is =
     let same : one ≡ Run statement = cc in
-    run-numbers one (statement ∷ part) (number_of one) (inl same) (number-own one)
+    run-numbers one (statement ∷ part) (entry_number one) (inl same) (number-own one)
 
 -- the first entry of a body that others follow
 run-first-of : (part : List Statement) (entry : Entry) (others : List Entry) (one : Entry) (more : List Entry) → runs_of part ++ entry ∷ others ≡ one ∷ more
-    → IsAmong (number_of one) (numbers_of part) ⊎ (one ≡ entry)
+    → IsAmong (entry_number one) (numbers_of part) ⊎ (one ≡ entry)
 run-first-of [] entry others one more is = inr (let same : one ≡ entry = cc in same)
 run-first-of (statement ∷ part) entry others one more is =
     let same : one ≡ Run statement = cc in
-    inl (run-numbers one (statement ∷ part) (number_of one) (inl same) (number-own one))
+    inl (run-numbers one (statement ∷ part) (entry_number one) (inl same) (number-own one))
 
 abbrev Differ : Dues → Place → Place → Type 0
 Differ dues one other = number_at (settled dues one) ≡ number_at (settled dues other) → settled dues one ≡ settled dues other
@@ -132,8 +132,8 @@ both-differ dues one other first second differ (inr (inr among)) also number = a
 
 -- a body that comes again, or what comes after
 round-differ : (entry : Entry) (rest : List Entry) (callers : Place) (dues : Dues) (body : List Statement) (again : Entry) (more : List Entry)
-    → ((n : ℕ) → IsAmong n (numbers_of body) → IsAmong n (numbers_at entry)) → IsAmong (number_of again) (numbers_at entry)
-    → ((next : Entry) → next_in (stand_at rest callers dues).place ≡ Some next → IsAmong (number_of next) (numbers_at entry) → ⊥)
+    → ((n : ℕ) → IsAmong n (numbers_of body) → IsAmong n (numbers_at entry)) → IsAmong (entry_number again) (numbers_at entry)
+    → ((next : Entry) → next_in (stand_at rest callers dues).place ≡ Some next → IsAmong (entry_number next) (numbers_at entry) → ⊥)
     → Differ dues ((runs_of body ++ again ∷ (more ++ rest)) ∷ callers) (rest ∷ callers)
 round-differ entry rest callers dues body again more part own after same =
     let regroup : (runs_of body ++ again ∷ more) ++ rest ≡ runs_of body ++ again ∷ (more ++ rest) = append_assoc (runs_of body) (again ∷ more) rest in
@@ -145,9 +145,9 @@ round-differ entry rest callers dues body again more part own after same =
       after = after;
     }) (ap (λ (frame : List Entry). number_at (stand_at frame callers dues)) regroup ∙ same)
   where
-    from-body : (e : Entry) (later : List Entry) → IsAmong (number_of e) (numbers_of body) ⊎ (e ≡ again) → IsAmong (number_of e) (numbers_at entry)
-    from-body e later (inl inner) = part (number_of e) inner
-    from-body e later (inr is) = subst (λ (f : Entry). IsAmong (number_of f) (numbers_at entry)) (sym is) own
+    from-body : (e : Entry) (later : List Entry) → IsAmong (entry_number e) (numbers_of body) ⊎ (e ≡ again) → IsAmong (entry_number e) (numbers_at entry)
+    from-body e later (inl inner) = part (entry_number e) inner
+    from-body e later (inr is) = subst (λ (f : Entry). IsAmong (entry_number f) (numbers_at entry)) (sym is) own
 
 statement-differ : (program : Program) → IsOrdered program → (self : Statement) (rest : List Entry) (callers : Place) (dues : Dues) (one other : Place)
     (what : What-F What Statement) → out-What self.what ≡ what → AreLevels program 0 ((Run self ∷ rest) ∷ callers)
@@ -159,9 +159,9 @@ statement-differ program ordered self rest callers dues one other (What-F.If tes
     let in_second = if-second self test first second is distinct in
     both-differ dues one other ((runs_of first ++ rest) ∷ callers) ((runs_of second ++ rest) ∷ callers)
     (branches-differ (Run self) rest callers dues (runs_of first) (runs_of second) (record {
-      in_first = λ e more begins. in_first.numbers (number_of e) (runs-first first e more begins);
-      in_second = λ e more begins. in_second.numbers (number_of e) (runs-first second e more begins);
-      differ = λ e f more others begins ends equal. distinct-apart (numbers_of first) (numbers_of second) parts (number_of e) (runs-first first e more begins)
+      in_first = λ e more begins. in_first.numbers (entry_number e) (runs-first first e more begins);
+      in_second = λ e more begins. in_second.numbers (entry_number e) (runs-first second e more begins);
+      differ = λ e f more others begins ends equal. distinct-apart (numbers_of first) (numbers_of second) parts (entry_number e) (runs-first first e more begins)
           (subst (λ (n : ℕ). IsAmong n (numbers_of second)) (sym equal) (runs-first second f others ends));
       after = λ next later inner. next-apart program ordered (Run self) rest callers dues next levels later inner;
     })) among also

@@ -5,7 +5,7 @@ use Rattle.tal_tree.specs.declared.program.Procedure.{Procedure}
 use Rattle.tal_tree.specs.declared.statement.Statement.{Statement}
 use Rattle.tal_tree.specs.declared.statement.What.{What, What-F, out-What}
 use Rattle.process_semantics.specs.State.{Entry, Run, Test, Last, runs_of}
-use Rattle.process_semantics.specs.Rests.{number_of}
+use Rattle.process_semantics.specs.Rests.{entry_number}
 use Rattle.tal_tree.specs.Statements.{last_of, all_in, all_of, numbers_of, own_calls, calls_of}
 use Rattle.path_semantics.specs.Place.{Place, body_in}
 use Rattle.gd_words.specs.Members.{AreDistinct, IsAmong}
@@ -37,7 +37,7 @@ number-in-test : (number : ℕ) (what : What-F What Statement) → IsAmong (numb
 number-in-test number (What-F.For variable from to body last) = inl refl
 number-in-test number _ = inl refl
 
-pub number-own : (entry : Entry) → IsAmong (number_of entry) (numbers_at entry)
+pub number-own : (entry : Entry) → IsAmong (entry_number entry) (numbers_at entry)
 number-own (Run statement) = inl refl
 number-own (Test statement) = number-in-test statement.number (out-What statement.what)
 number-own (Last statement) = inl refl
@@ -47,7 +47,7 @@ number-own (Last statement) = inl refl
 -- no later entry has a number of an earlier one
 abbrev pub AreApart : List Entry → Type 0
 AreApart [] = Unit {0}
-AreApart (entry ∷ rest) = AreDistinct (numbers_at entry) × ((later : Entry) → IsAmong later rest → IsAmong (number_of later) (numbers_at entry) → ⊥) × AreApart rest
+AreApart (entry ∷ rest) = AreDistinct (numbers_at entry) × ((later : Entry) → IsAmong later rest → IsAmong (entry_number later) (numbers_at entry) → ⊥) × AreApart rest
 
 abbrev pub numbers_of_procedure : Program → ℕ → List ℕ
 numbers_of_procedure program k = given_at (λ (procedure : Procedure). numbers_of procedure.body) (slice_get program.procedures k)
@@ -93,7 +93,7 @@ run-calls entry statements n among inner =
     (subst (λ (e : Entry). IsAmong n (calls_at e)) found.2 inner)
 
 pub apart-join : (first second : List Entry) → AreApart first → AreApart second
-    → ((entry later : Entry) → IsAmong entry first → IsAmong later second → IsAmong (number_of later) (numbers_at entry) → ⊥) → AreApart (first ++ second)
+    → ((entry later : Entry) → IsAmong entry first → IsAmong later second → IsAmong (entry_number later) (numbers_at entry) → ⊥) → AreApart (first ++ second)
 apart-join [] second one two cross = two
 apart-join (entry ∷ first) second one two cross = (
   one.0,
@@ -106,8 +106,8 @@ apart-runs [] distinct = tt
 apart-runs (statement ∷ rest) distinct =
     let split : AreDistinct (numbers_at (Run statement) ++ numbers_of rest) = subst AreDistinct (numbers-more statement rest) distinct in (
       distinct-left (numbers_at (Run statement)) (numbers_of rest) split,
-      (λ later among inner. distinct-apart (numbers_at (Run statement)) (numbers_of rest) split (number_of later) inner
-          (run-numbers later rest (number_of later) among (number-own later))),
+      (λ later among inner. distinct-apart (numbers_at (Run statement)) (numbers_of rest) split (entry_number later) inner
+          (run-numbers later rest (entry_number later) among (number-own later))),
       apart-runs rest (distinct-right (numbers_at (Run statement)) (numbers_of rest) split),
     )
 

@@ -4,7 +4,7 @@ use Rattle.tal_tree.specs.declared.program.Program.{Program}
 use Rattle.tal_tree.specs.declared.statement.Statement.{Statement}
 use Rattle.tal_tree.specs.declared.statement.What.{What, What-F, out-What}
 use Rattle.process_semantics.specs.State.{Entry, Run, Test, Last, runs_of}
-use Rattle.process_semantics.specs.Rests.{number_of}
+use Rattle.process_semantics.specs.Rests.{entry_number}
 use Rattle.tal_tree.specs.Statements.{last_of, within, all_in, all_of, numbers_of, call_in, own_calls, calls_of}
 use Rattle.path_semantics.specs.Place.{Place, body_of, ways_of, rounds_of, ways}
 use Rattle.gd_words.specs.Members.{AreDistinct, IsAmong}
@@ -24,10 +24,10 @@ pub record ArePartOf (entry : Entry) (part : List Statement) : Type 0 where
 
 -- the entries of a part, before others that are apart from it
 part-frame : (program : Program) (k : ℕ) (entry : Entry) (part : List Statement) (rest : List Entry) → ArePartOf entry part → BelongsTo program k entry → IsFrameOf program k rest
-    → ((later : Entry) → IsAmong later rest → IsAmong (number_of later) (numbers_of part) → ⊥) → IsFrameOf program k (runs_of part ++ rest)
+    → ((later : Entry) → IsAmong later rest → IsAmong (entry_number later) (numbers_of part) → ⊥) → IsFrameOf program k (runs_of part ++ rest)
 part-frame program k entry part rest is belongs later cross = record {
   apart = apart-join (runs_of part) rest (apart-runs part is.distinct) later.apart
-      (λ one other among there'. λ inner. cross other there' (run-numbers one part (number_of other) among inner));
+      (λ one other among there'. λ inner. cross other there' (run-numbers one part (entry_number other) among inner));
   belong = λ one among. elim (among-either one (runs_of part) rest among) [
     | inl in_part ↦ record {
       numbers = λ n inner. belongs.numbers n (is.numbers n (run-numbers one part n in_part inner));
@@ -45,7 +45,7 @@ other-first : (program : Program) (k : ℕ) (entry other : Entry) (rest : List E
     → ((n : ℕ) → IsAmong n (numbers_at other) → IsAmong n (numbers_at entry)) → ((n : ℕ) → IsAmong n (calls_at other) → IsAmong n (calls_at entry))
     → IsFrameOf program k (other ∷ rest)
 other-first program k entry other rest is distinct numbers calls = record {
-  apart = (distinct, (λ later among inner. is.apart.1 later among (numbers (number_of later) inner)), is.apart.2);
+  apart = (distinct, (λ later among inner. is.apart.1 later among (numbers (entry_number later) inner)), is.apart.2);
   belong = λ one among. first-or-later one among;
 }
   where
@@ -112,7 +112,7 @@ branch-frame : (program : Program) (k : ℕ) (entry : Entry) (part : List Statem
     → IsFrameOf program k (runs_of part ++ rest)
 branch-frame program k entry part rest is frame =
     part-frame program k entry part rest is (frame.belong entry (inl refl)) (tail-frame program k entry rest frame)
-    (λ later among inner. frame.apart.1 later among (is.numbers (number_of later) inner))
+    (λ later among inner. frame.apart.1 later among (is.numbers (entry_number later) inner))
 
 -- the frame inside a WHILE, which comes again
 while-frame : (program : Program) (k : ℕ) (self : Statement) (test : _) (body : List Statement) (rest : List Entry) → out-What self.what ≡ What-F.While test body
@@ -123,10 +123,10 @@ while-frame program k self test body rest is frame =
     part-frame program k (Run self) body (Run self ∷ rest) part (frame.belong (Run self) (inl refl)) frame
     (λ later among inner. apart-from later among inner part distinct)
   where
-    apart-from : (later : Entry) → IsAmong later (Run self ∷ rest) → IsAmong (number_of later) (numbers_of body) → ArePartOf (Run self) body
+    apart-from : (later : Entry) → IsAmong later (Run self ∷ rest) → IsAmong (entry_number later) (numbers_of body) → ArePartOf (Run self) body
         → AreDistinct (self.number ∷ numbers_of body) → ⊥
-    apart-from later (inl same) inner part distinct = distinct.0 (subst (λ (e : Entry). IsAmong (number_of e) (numbers_of body)) same inner)
-    apart-from later (inr among) inner part distinct = frame.apart.1 later among (part.numbers (number_of later) inner)
+    apart-from later (inl same) inner part distinct = distinct.0 (subst (λ (e : Entry). IsAmong (entry_number e) (numbers_of body)) same inner)
+    apart-from later (inr among) inner part distinct = frame.apart.1 later among (part.numbers (entry_number later) inner)
 
 for-frame : (program : Program) (k : ℕ) (self : Statement) (variable : _) (from to : _) (body : List Statement) (last : ℕ) (rest : List Entry)
     → out-What self.what ≡ What-F.For variable from to body last → IsFrameOf program k (Run self ∷ rest) → IsFrameOf program k (Test self ∷ rest)
@@ -152,15 +152,15 @@ round-frame program k self variable from to body last rest is frame =
     part-frame program k (Test self) body (Last self ∷ Test self ∷ rest) part (frame.belong (Test self) (inl refl)) again
     (λ later among inner. apart-from later among inner part distinct count)
   where
-    last-apart : (later : Entry) → IsAmong later (Test self ∷ rest) → IsAmong (number_of later) (last_of (out-What self.what) ∷ [])
+    last-apart : (later : Entry) → IsAmong later (Test self ∷ rest) → IsAmong (entry_number later) (last_of (out-What self.what) ∷ [])
         → numbers_at (Test self) ≡ (self.number + 1) ∷ numbers_of body ++ last ∷ [] → AreDistinct ((self.number + 1) ∷ numbers_of body ++ last ∷ [])
         → last_of (out-What self.what) ≡ last → ⊥
     last-apart later (inl same) (inl equal) test distinct count =
-        distinct.0 (among-right (self.number + 1) (numbers_of body) (last ∷ []) (inl (sym (ap number_of same) ∙ equal ∙ count)))
+        distinct.0 (among-right (self.number + 1) (numbers_of body) (last ∷ []) (inl (sym (ap entry_number same) ∙ equal ∙ count)))
     last-apart later (inl same) (inr among) test distinct count = among
     last-apart later (inr there') (inl equal) test distinct count =
-        frame.apart.1 later there' (subst (IsAmong (number_of later)) (sym test)
-        (inr (among-right (number_of later) (numbers_of body) (last ∷ []) (inl (equal ∙ count)))))
+        frame.apart.1 later there' (subst (IsAmong (entry_number later)) (sym test)
+        (inr (among-right (entry_number later) (numbers_of body) (last ∷ []) (inl (equal ∙ count)))))
     last-apart later (inr there') (inr among) test distinct count = among
 
     in-test : (n : ℕ) → IsAmong n (last_of (out-What self.what) ∷ []) → numbers_at (Test self) ≡ (self.number + 1) ∷ numbers_of body ++ last ∷ []
@@ -176,13 +176,13 @@ round-frame program k self variable from to body last rest is frame =
     })
     last-or-later one (inr among) test count = frame.belong one among
 
-    apart-from : (later : Entry) → IsAmong later (Last self ∷ Test self ∷ rest) → IsAmong (number_of later) (numbers_of body) → ArePartOf (Test self) body
+    apart-from : (later : Entry) → IsAmong later (Last self ∷ Test self ∷ rest) → IsAmong (entry_number later) (numbers_of body) → ArePartOf (Test self) body
         → AreDistinct ((self.number + 1) ∷ numbers_of body ++ last ∷ []) → last_of (out-What self.what) ≡ last → ⊥
     apart-from later (inl same) inner part distinct count =
-        distinct-apart (numbers_of body) (last ∷ []) distinct.1 last (subst (λ (n : ℕ). IsAmong n (numbers_of body)) (ap number_of same ∙ count) inner) (inl refl)
+        distinct-apart (numbers_of body) (last ∷ []) distinct.1 last (subst (λ (n : ℕ). IsAmong n (numbers_of body)) (ap entry_number same ∙ count) inner) (inl refl)
     apart-from later (inr (inl same)) inner part distinct count =
-        distinct.0 (among-left (self.number + 1) (numbers_of body) (last ∷ []) (subst (λ (n : ℕ). IsAmong n (numbers_of body)) (ap number_of same) inner))
-    apart-from later (inr (inr among)) inner part distinct count = frame.apart.1 later among (part.numbers (number_of later) inner)
+        distinct.0 (among-left (self.number + 1) (numbers_of body) (last ∷ []) (subst (λ (n : ℕ). IsAmong n (numbers_of body)) (ap entry_number same) inner))
+    apart-from later (inr (inr among)) inner part distinct count = frame.apart.1 later among (part.numbers (entry_number later) inner)
 
 statement-levels : (program : Program) → IsOrdered program → (self : Statement) (rest : List Entry) (callers way : Place) (what : What-F What Statement) → out-What self.what ≡ what
     → (k : ℕ) → IsFrameOf program k (Run self ∷ rest) → AreLevels program (k + 1) callers → IsAmong way (ways_of program self rest callers what) → AreLevels program 0 way

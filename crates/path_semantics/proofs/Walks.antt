@@ -6,7 +6,7 @@ use Rattle.tal_tree.specs.declared.statement.Statement.{Statement}
 use Rattle.tal_tree.specs.declared.statement.What.{What, What-F, out-What}
 use Rattle.process_semantics.specs.State.{Entry, Run, Test, Last}
 use Rattle.path_semantics.specs.declared.reason.Reason.{Reason}
-use Rattle.process_semantics.specs.Rests.{number_of}
+use Rattle.process_semantics.specs.Rests.{entry_number}
 use Rattle.path_semantics.specs.declared.dues.Dues.{Dues}
 use Rattle.path_semantics.specs.Dues.{after_entry}
 use Rattle.path_semantics.specs.Place.{Place, Stand, next_in, ways_of, rounds_of, ways, settled, stands_after, first_stand}
@@ -105,14 +105,14 @@ pub breaks-on : (program : Program) (path : List ℕ) (stand : Stand) (reason : 
     → (longer : List ℕ) × Breaks program longer reason
 breaks-on program path stand reason walk is =
     let found = breaking-entry program reason stand.dues (next_in stand.place) is in (
-      path ++ number_of found.0 ∷ [],
+      path ++ entry_number found.0 ∷ [],
       record {
         front = path;
-        number = number_of found.0;
+        number = entry_number found.0;
         stand = stand;
         split = refl;
         leads = walk;
-        next = next-number number_of (next_in stand.place) found.0 found.1;
+        next = next-number entry_number (next_in stand.place) found.0 found.1;
         breaks = is;
       },
     )

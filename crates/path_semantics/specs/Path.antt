@@ -2,12 +2,12 @@
 use Rattle.std.specs.Prelude.{◌≡◌, ℕ, List, [], ◌∷◌, Option, Some, option_map}
 use Rattle.gd_words.specs.Members.{IsAmong}
 use Rattle.tal_tree.specs.declared.program.Program.{Program}
-use Rattle.process_semantics.specs.Rests.{number_of}
+use Rattle.process_semantics.specs.Rests.{entry_number}
 use Rattle.path_semantics.specs.Place.{Stand, next_entry, successors, first_stand}
 
 -- the number of the next entry: its statement's, and for a FOR's test and last assignment one of their own; none where the program has ended
 abbrev pub number_at : Stand → Option ℕ
-number_at stand = option_map number_of (next_entry stand)
+number_at stand = option_map entry_number (next_entry stand)
 
 -- a step: the next entry has this number, and it leads there
 pub record Steps (program : Program) (here : Stand) (number : ℕ) (there : Stand) : Type 0 where

@@ -2,7 +2,7 @@ ghost use Rattle.std.specs.Prelude.{◌≡◌, ◌↔◌, [], ◌∷◌, ◌++�
 ghost use Rattle.std.specs.Option.{option_map};
 ghost use Rattle.std.specs.List.{list_any};
 ghost use Rattle.tal_tree.specs.declared.statement.What.{out-What};
-ghost use Rattle.process_semantics.specs.Rests.{number_of};
+ghost use Rattle.process_semantics.specs.Rests.{entry_number};
 ghost use Rattle.tal_tree.specs.Statements.{last_of};
 ghost use Rattle.process_semantics.specs.SeenEntries.{entry_of};
 ghost use Rattle.path_semantics.specs.Path.{number_at, IsPath};
@@ -110,7 +110,7 @@ impl<'a> Stand<'a> {
 
 /// The number of an entry: that of its statement, and those of a FOR's test and of its last assignment.
 pub fn entry_number(entry: Entry<'_>) -> u32
-    ensures { result ≡ number_of (entry_of entry.entry) }
+    ensures { result ≡ entry_number (entry_of entry.entry) }
 {
     match entry {
         Entry::Run(statement) => u32::from(statement.number),

@@ -15,7 +15,7 @@ pub enum Reason {
 
 /// Why a program is refused.
 #[derive(Drop)]
-pub enum Refusal {
+pub enum RefusalFault {
     /// Its calls go more than 16 procedures deep.
     TooDeep,
     /// With its calls written out it has so many statements, more than 8,192.

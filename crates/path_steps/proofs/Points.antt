@@ -11,7 +11,7 @@ use Rattle.process_semantics.specs.declared.point.Point.TheVariants as point
 use Rattle.process_semantics.specs.State.{Entry, Run, ProgramState, count_of}
 use Rattle.process_semantics.specs.Changes.{with_hand, with_waiting}
 use Rattle.process_semantics.proofs.Points.{AtCall, at_read, at_await, at_reply, at_checkpoint, StandsAt}
-use Rattle.process_semantics.specs.Calls.{took_in, got_in, file_in, after_answered, after_mark}
+use Rattle.process_semantics.specs.Calls.{took_in, got_in, file_in, after_answered, after_checkpoint}
 use Rattle.path_semantics.specs.declared.dues.Dues.{Dues}
 use Rattle.path_semantics.specs.Dues.{no_dues, after_entry, after_statement}
 use Rattle.path_semantics.specs.Place.{Place, Stand, place_of, settled}
@@ -75,10 +75,10 @@ module _ (code : Program) (dues : Dues) (s : ProgramState) (statement : Statemen
       (run-grown code dues s statement rest callers (What-F.Reply buffer count) is (λ c. c)) (via code dues s statement rest callers (What-F.Reply buffer count) is _ (inl refl)) in
       hand-goes false goes
 
-  pub marked-in : place_of s.frames ≡ (Run statement ∷ rest) ∷ callers → (what : What-F What Statement) → out-What statement.what ≡ what → AtCall code s what point.Mark
-      → There (settled no_dues (place_of (after_mark s).frames))
+  pub marked-in : place_of s.frames ≡ (Run statement ∷ rest) ∷ callers → (what : What-F What Statement) → out-What statement.what ≡ what → AtCall code s what point.AtCheckpoint
+      → There (settled no_dues (place_of (after_checkpoint s).frames))
   marked-in place what is (at_checkpoint items files) =
       let led : There (settled after (rest ∷ callers)) = via code dues s statement rest callers (What-F.Checkpoint items files) is _ (inl refl) in
       let none : after ≡ no_dues = ap (after_statement dues) is in
-      let gone : place_of (after_mark s).frames ≡ rest ∷ callers = place-done s.frames ∙ ap without_first place in
+      let gone : place_of (after_checkpoint s).frames ≡ rest ∷ callers = place-done s.frames ∙ ap without_first place in
       subst (λ (p : Place). There (settled no_dues p)) (sym gone) (subst (λ (d : Dues). There (settled d (rest ∷ callers))) none led)

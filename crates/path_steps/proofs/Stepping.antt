@@ -11,7 +11,7 @@ use Rattle.process_semantics.specs.State.{Entry, Run, Frame, ProgramState, first
 use Rattle.process_semantics.specs.Points.{point_of}
 use Rattle.process_semantics.specs.Steps.{inner, inner_entry, or_ends}
 use Rattle.process_semantics.proofs.Points.{AtCall, at_ask, stands-at, awaits-at, in-next}
-use Rattle.process_semantics.specs.Calls.{after_took, after_asked, after_got, file_in, asked_file, after_answered, after_mark}
+use Rattle.process_semantics.specs.Calls.{after_took, after_asked, after_got, file_in, asked_file, after_answered, after_checkpoint}
 use Rattle.path_semantics.specs.declared.dues.Dues.{Dues}
 use Rattle.path_semantics.specs.Dues.{no_dues, after_entry}
 use Rattle.path_semantics.specs.Place.{Place, Stand, place_of, settled, successors, stands_after}
@@ -121,12 +121,12 @@ answered-steps code dues s at =
           (answered-in code dues s stands.statement stands.rest (place_of stands.callers) (place-at stands) (out-What stands.statement.what) refl stands.call),
     )
 
--- at Mark nothing is due afterwards
-pub marked-steps : (code : Program) (dues : Dues) (s : ProgramState) → point_of code s ≡ point.Mark → StaysOrGoesOn code (stand_of dues s) (stand_of no_dues (after_mark s))
+-- at a checkpoint nothing is due afterwards
+pub marked-steps : (code : Program) (dues : Dues) (s : ProgramState) → point_of code s ≡ point.AtCheckpoint → StaysOrGoesOn code (stand_of dues s) (stand_of no_dues (after_checkpoint s))
 marked-steps code dues s at =
-    let stands = stands-at code s point.Mark (λ e. cc) (λ e. cc) at in
+    let stands = stands-at code s point.AtCheckpoint (λ e. cc) (λ e. cc) at in
     let led = marked-in code dues s stands.statement stands.rest (place_of stands.callers) (place-at stands) (out-What stands.statement.what) refl stands.call in
-    led-on code dues (stand_of no_dues (after_mark s)) s (Run stands.statement) stands.rest (place_of stands.callers) (place-at stands) led
+    led-on code dues (stand_of no_dues (after_checkpoint s)) s (Run stands.statement) stands.rest (place_of stands.callers) (place-at stands) led
 
 -- after Ask there is room for the reply
 pub asked-room : (code : Program) (s : ProgramState) → point_of code s ≡ point.Ask → HasRoom code (after_asked s)

@@ -1,10 +1,10 @@
 ghost use Rattle.std.specs.Prelude.{◌≡◌, ◌<◌, false, true, List, ℤ};
 ghost use Rattle.tal_tree.specs.declared.program.Program.{Program};
-ghost use Rattle.process_semantics.specs.declared.point.Point.TheVariants.{Take, Ask, Await, Answer, Mark};
+ghost use Rattle.process_semantics.specs.declared.point.Point.TheVariants.{Take, Ask, Await, Answer, AtCheckpoint};
 ghost use Rattle.process_semantics.specs.State.{ProgramState};
 ghost use Rattle.process_semantics.specs.Points.{point_of};
 ghost use Rattle.process_semantics.specs.Steps.{inner};
-ghost use Rattle.process_semantics.specs.Calls.{after_took, asked_file, after_asked, after_got, after_answered, after_mark};
+ghost use Rattle.process_semantics.specs.Calls.{after_took, asked_file, after_asked, after_got, after_answered, after_checkpoint};
 ghost use Rattle.path_semantics.specs.declared.dues.Dues.{Dues};
 ghost use Rattle.path_semantics.specs.Dues.{no_dues};
 ghost use Rattle.path_semantics.specs.Break.{asked_count};
@@ -28,7 +28,7 @@ pub fn steps_follow_paths()
         × (asked_count (asked_file s) dues < asked_count (asked_file s) later) }
     ensures answered { (program : Program) (dues : Dues) (s : ProgramState) → point_of program s ≡ Answer
         → (later : Dues) × FollowsPath program dues later s (after_answered s) }
-    ensures marked { (program : Program) (dues : Dues) (s : ProgramState) → point_of program s ≡ Mark
-        → StaysOrGoesOn program (stand_of dues s) (stand_of no_dues (after_mark s)) }
+    ensures marked { (program : Program) (dues : Dues) (s : ProgramState) → point_of program s ≡ AtCheckpoint
+        → StaysOrGoesOn program (stand_of dues s) (stand_of no_dues (after_checkpoint s)) }
     ensures room { (program : Program) (s : ProgramState) → point_of program s ≡ Ask → HasRoom program (after_asked s) }
 {}

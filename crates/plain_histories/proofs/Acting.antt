@@ -20,7 +20,7 @@ use Rattle.plain_semantics.specs.Openers.{openers_of, opener_of}
 use Rattle.plain_semantics.specs.declared.slot.Opener.{Opener}
 use Rattle.plain_semantics.specs.declared.slot.Slot.{Slot}
 use Rattle.plain_semantics.specs.declared.slot.Slot.TheVariants.{Empty, Waiting, Taken, Answered}
-use Rattle.world_semantics.specs.Core.{Core, Deed, Went, Marked, Took, Asked, Got, Answered as Replied, Acted, goes, marks, takes, asks, gets, answers, acts}
+use Rattle.world_semantics.specs.Core.{Core, Deed, Went, Checkpointed, Took, Asked, Got, Answered as Replied, Acted, goes, marks, takes, asks, gets, answers, acts}
 use Rattle.world_semantics.specs.Own.{found_on}
 use Rattle.world_semantics.proofs.Lists.{some-same}
 use Rattle.process_histories.specs.Bounds.{AreBounded}
@@ -132,7 +132,7 @@ module _ (site : Site) (plain : Plain) (ledger : Ledger) (number : ℕ) (spec : 
 
       by : (p : Point) → process.point core.state ≡ p → step_at site number one plain p ≡ Some m → IsStep site ledger number spec
       by point.Inner at makes = record { deed = Went; step = refl; can = record { before = core; after = _; done = done; advances = goes at; allowed = tt } }
-      by point.Mark at makes = record { deed = Marked; step = refl; can = record { before = core; after = _; done = done; advances = marks at; allowed = tt } }
+      by point.AtCheckpoint at makes = record { deed = Checkpointed; step = refl; can = record { before = core; after = _; done = done; advances = marks at; allowed = tt } }
       by point.Ask at makes = record {
         deed = Asked (process.asked_file core.state) (process.asked_words core.state);
         step = refl;
@@ -189,7 +189,7 @@ module _ (site : Site) (plain : Plain) (ledger : Ledger) (number : ℕ) (spec : 
       by point.Ask stands makes = absurd (cc)
       by point.Await stands makes = absurd (cc)
       by point.Answer stands makes = absurd (cc)
-      by point.Mark stands makes = absurd (cc)
+      by point.AtCheckpoint stands makes = absurd (cc)
       by point.Device stands makes = absurd (cc)
       by point.Ended stands makes = absurd (cc)
 

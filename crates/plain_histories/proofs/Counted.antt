@@ -8,7 +8,7 @@ use Rattle.tal_tree.specs.declared.site.ProcessSpec.{ProcessSpec}
 use Rattle.tal_tree.specs.declared.site.Site.{Site}
 use Rattle.tal_tree.specs.declared.site.Who.{Who}
 use Rattle.tal_tree.specs.declared.site.Who.TheVariants as who
-use Rattle.world_semantics.specs.Core.{Core, Deed, Went, Marked, Took, Asked, Got, Answered, Acted}
+use Rattle.world_semantics.specs.Core.{Core, Deed, Went, Checkpointed, Took, Asked, Got, Answered, Acted}
 use Rattle.world_semantics.specs.Kept.{is_own, own_acts}
 use Rattle.process_histories.specs.Bounds.{IsShort, AreShort}
 use Rattle.process_histories.specs.Histories.{HasDone, one_more}
@@ -22,7 +22,7 @@ use Rattle.plain_histories.proofs.Terminals.{requests-printed}
 
 own-of : (number other : ℕ) (deed : Deed) → is_own other (act_of number deed) ≡ (other == number)
 own-of number other Went = refl
-own-of number other Marked = refl
+own-of number other Checkpointed = refl
 own-of number other (Took place words) = refl
 own-of number other (Asked file words) = refl
 own-of number other (Got file words) = refl
@@ -55,7 +55,7 @@ allowed-short number spec (Took place words) is done (one, opens, waits) =
     is.requests one words (subst (λ all. IsAmong words all) (sym waits) (inl refl))
 allowed-short number spec (Acted call found) is done found_is = let eight = found-eight call done in rw found_is (omega (arith, eight))
 allowed-short number spec Went is done allowed = tt
-allowed-short number spec Marked is done allowed = tt
+allowed-short number spec Checkpointed is done allowed = tt
 allowed-short number spec (Asked file words) is done allowed = tt
 allowed-short number spec (Got file words) is done allowed = tt
 allowed-short number spec (Answered place words) is done allowed = tt

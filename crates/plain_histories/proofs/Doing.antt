@@ -17,7 +17,7 @@ use Rattle.plain_semantics.specs.declared.slot.Slot.TheVariants.{Empty, Waiting,
 use Rattle.whole_states.specs.Processes.{IsRegularKind}
 use Rattle.disc_device.specs.declared.stored.Stored.{Stored}
 use Rattle.checkpoint_image.specs.Receive.{is_place}
-use Rattle.world_semantics.specs.Core.{Core, Deed, Went, Marked, Took, Asked, Got, Answered as Replied, Acted, Advances, goes, marks, takes, asks, gets, answers, acts}
+use Rattle.world_semantics.specs.Core.{Core, Deed, Went, Checkpointed, Took, Asked, Got, Answered as Replied, Acted, Advances, goes, marks, takes, asks, gets, answers, acts}
 use Rattle.world_semantics.proofs.Lists.{some-same}
 use Rattle.process_histories.specs.Devices.{sectors_after, after_call, FoundWhatStood}
 use Rattle.process_histories.specs.Histories.{HasDone, one_more}
@@ -93,11 +93,11 @@ module _ (site : Site) (plain : Plain) (ledger : Ledger) (number : ℕ) (spec : 
             refl (λ asker opener file is e. refl) (λ place. refl) (λ place. refl) (λ file. refl);
       }
   made-at at (marks stands) allowed =
-      let now : PlainProcess = record one { state = process.after_mark before.state } in
+      let now : PlainProcess = record one { state = process.after_checkpoint before.state } in
       record {
         next = with_process number now plain;
         makes = rw (at, stands) refl;
-        agrees = agrees-still site plain ledger number spec Marked agrees there one now at
+        agrees = agrees-still site plain ledger number spec Checkpointed agrees there one now at
             (record { core = _; done = one_more done (marks stands); state = refl; hand = refl; sectors = refl; found = right })
             refl (λ asker opener file is e. refl) (λ place. refl) (λ place. refl) (λ file. refl);
       }

@@ -9,7 +9,7 @@ use Rattle.tal_tree.specs.declared.act.Shown.TheVariants.{Reply}
 use Rattle.tal_tree.specs.declared.site.Site.{Site}
 use Rattle.plain_semantics.specs.Machine.{Plain, made_before, made_all, plain_start}
 use Rattle.plain_semantics.proofs.Runs.{made_all-snoc}
-use Rattle.world_semantics.specs.Core.{Deed, Went, Marked, Took, Asked, Got, Answered, Acted}
+use Rattle.world_semantics.specs.Core.{Deed, Went, Checkpointed, Took, Asked, Got, Answered, Acted}
 use Rattle.plain_histories.specs.Agreeing.{AreRegular, Agrees}
 use Rattle.plain_histories.specs.Booking.{act_of, shown_of, AreBooked, none_booked, deed_booked, entry_booked, reply_booked}
 use Rattle.plain_histories.specs.Ledgers.{Ledger}
@@ -39,7 +39,7 @@ one-more {site = site} {acts = acts} {shown = shown} act said run makes =
 -- a deed shows at most one thing
 shown-one : (number : ℕ) (deed : Deed) → shown_of number deed ≡ reverse (shown_of number deed)
 shown-one number Went = refl
-shown-one number Marked = refl
+shown-one number Checkpointed = refl
 shown-one number (Took place words) = refl
 shown-one number (Asked file words) = refl
 shown-one number (Got file words) = refl

@@ -82,7 +82,7 @@ step-by site plain p one point.Inner found at none = none
 step-by site plain p one point.Ask found at none = none
 step-by site plain p one point.Await found at none = none
 step-by site plain p one point.Answer found at none = none
-step-by site plain p one point.Mark found at none = none
+step-by site plain p one point.AtCheckpoint found at none = none
 step-by site plain p one point.Device found at none = none
 step-by site plain p one point.Ended found at none = none
 
@@ -115,7 +115,7 @@ take-by site plain p o one point.Inner found at none = refl
 take-by site plain p o one point.Ask found at none = refl
 take-by site plain p o one point.Await found at none = refl
 take-by site plain p o one point.Answer found at none = refl
-take-by site plain p o one point.Mark found at none = refl
+take-by site plain p o one point.AtCheckpoint found at none = refl
 take-by site plain p o one point.Device found at none = refl
 take-by site plain p o one point.Ended found at none = refl
 

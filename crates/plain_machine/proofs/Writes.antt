@@ -67,7 +67,7 @@ last-answered : (s : ProcessState) → last_write_of (process.after_answered s) 
 last-answered (Runs code s) = refl
 last-answered (Serves sectors s) = refl
 
-last-marked : (s : ProcessState) → last_write_of (process.after_mark s) ≡ last_write_of s
+last-marked : (s : ProcessState) → last_write_of (process.after_checkpoint s) ≡ last_write_of s
 last-marked (Runs code s) = refl
 last-marked (Serves sectors s) = refl
 
@@ -125,7 +125,7 @@ module _ (site : Site) (plain : Plain) where
     step-at-within point.Answer =
         write-slot next _ (Answered (process.answer_of one.state)) (with_process number (record one { state = process.after_answered one.state; hand = None }) plain)
         (write-one (record one { state = process.after_answered one.state; hand = None }) (omega (arith, last-answered one.state)))
-    step-at-within point.Mark = write-state (process.after_mark one.state) (last-marked one.state)
+    step-at-within point.AtCheckpoint = write-state (process.after_checkpoint one.state) (last-marked one.state)
     step-at-within point.Device = write-one _ (last-device one.state _)
     step-at-within point.Take = tt
     step-at-within point.Ended = tt
@@ -143,7 +143,7 @@ module _ (site : Site) (plain : Plain) where
     take-at-within place point.Ask = tt
     take-at-within place point.Await = tt
     take-at-within place point.Answer = tt
-    take-at-within place point.Mark = tt
+    take-at-within place point.AtCheckpoint = tt
     take-at-within place point.Device = tt
     take-at-within place point.Ended = tt
 

@@ -4,7 +4,7 @@ ghost use Rattle.checkpoint_image.specs.Behaving.{last_write_of};
 ghost use Rattle.plain_semantics.specs.Openers.{openers_of};
 ghost use Rattle.plain_semantics.specs.SiteLimits.{KeepsSiteLimits};
 ghost use Rattle.process_semantics.specs.State.{zeros};
-ghost use Rattle.process_semantics.specs.Process.{point, after_inner, after_took, asked_file, asked_words, after_asked, after_got, answer_of, after_answered, after_mark, call_of, after_device};
+ghost use Rattle.process_semantics.specs.Process.{point, after_inner, after_took, asked_file, asked_words, after_asked, after_got, answer_of, after_answered, after_checkpoint, call_of, after_device};
 ghost use Rattle.plain_semantics.specs.Machine.{process_at_first, sectors_at_first, found_by, written_by};
 ghost use Rattle.processes.specs.Seen.{IsLoadableKind};
 ghost use Rattle.plain_machine.specs.Rounds.{waiting_from};
@@ -88,7 +88,7 @@ impl PlainProcess {
 
     pub(crate) fn marked(&mut self)
         requires { point self.old.state ≡ Point.Mark }
-        ensures { self.new ≡ record self.old { state = after_mark self.old.state } }
+        ensures { self.new ≡ record self.old { state = after_checkpoint self.old.state } }
     {
         self.process.marked();
     }

@@ -104,7 +104,7 @@ impl State {
                 self.answer(number);
                 Outcome::Quiet
             }
-            Point::Mark => {
+            Point::AtCheckpoint => {
                 self.mark(number);
                 Outcome::Quiet
             }
@@ -125,7 +125,7 @@ impl State {
 
     fn mark(&mut self, number: usize)
         requires { IsAt number Point.Mark self.old }
-        ensures { IfSome (slice_get self.old.processes number) (λ one. self.new ≡ with_state number one (process.after_mark one.state) self.old) }
+        ensures { IfSome (slice_get self.old.processes number) (λ one. self.new ≡ with_state number one (process.after_checkpoint one.state) self.old) }
     {
         if number < self.processes.len() {
             self.processes[number].marked();
@@ -366,7 +366,7 @@ impl State {
                 Point::Inner => true,
                 Point::Ask => true,
                 Point::Answer => true,
-                Point::Mark => true,
+                Point::AtCheckpoint => true,
                 Point::Device => true,
             },
         }

@@ -2,7 +2,7 @@ ghost use Rattle.std.specs.Prelude.{◌≡◌, ◌≤◌, [], length, IfOk, OnOk
 ghost use Rattle.tal_tree.specs.declared.statement.What.{out-What};
 ghost use Rattle.process_semantics.specs.State.{words_of, count_of};
 ghost use Rattle.process_semantics.specs.Points.{point_in, point_of};
-ghost use Rattle.process_semantics.specs.Calls.{received, took_in, got_in, first_words, file_in, asked_in, answer_in, after_took, asked_file, asked_words, after_asked, after_got, answer_of, after_answered, after_mark};
+ghost use Rattle.process_semantics.specs.Calls.{received, took_in, got_in, first_words, file_in, asked_in, answer_in, after_took, asked_file, asked_words, after_asked, after_got, answer_of, after_answered, after_checkpoint};
 
 use crate::execution::Execution;
 use gd_words::{NoMemory, Words};
@@ -62,7 +62,7 @@ impl<'a> Execution<'a> {
                 let count = self.count(alloc, *buffer, count)?;
                 Ok(where_good(Point::Answer, count))
             }
-            What::Checkpoint { items: _, files: _ } => Ok(Point::Mark),
+            What::Checkpoint { items: _, files: _ } => Ok(Point::AtCheckpoint),
             _ => Ok(Point::Inner),
         }
     }
@@ -193,9 +193,9 @@ impl<'a> Execution<'a> {
         }
     }
 
-    /// The step at Mark.
+    /// The step at a checkpoint.
     pub fn marked(&mut self)
-        ensures { self.new ≡ record self.old { state = after_mark self.old.state } }
+        ensures { self.new ≡ record self.old { state = after_checkpoint self.old.state } }
     {
         self.done();
     }

@@ -1,6 +1,6 @@
 ghost use Rattle.std.specs.Prelude.{◌≡◌, ◌≤◌, ◌-◌, ◌∷◌, ◌++◌, length, drop, slice_set, IfOk, OnOk};
 ghost use Rattle.std.specs.Option.{option_map};
-ghost use Rattle.process_semantics.specs.Rests.{next_number, number_of};
+ghost use Rattle.process_semantics.specs.Rests.{next_number, entry_number};
 ghost use Rattle.process_semantics.specs.State.{first_of, runs_of, frame_of, zeros};
 ghost use Rattle.process_semantics.specs.SeenEntries.{entry_of};
 
@@ -65,7 +65,7 @@ impl<'a> Frame<'a> {
     {
         match self.next() {
             None => 0,
-            Some(entry) => number_of(entry),
+            Some(entry) => entry_number(entry),
         }
     }
 
@@ -126,8 +126,8 @@ pub struct Frames<'a> {
 }
 
 /// The number of an entry.
-fn number_of(entry: Entry<'_>) -> usize
-    ensures number { result ≡ number_of (entry_of entry.entry) }
+fn entry_number(entry: Entry<'_>) -> usize
+    ensures number { result ≡ entry_number (entry_of entry.entry) }
     ensures few { result ≤ 65536 }
 {
     match entry {

@@ -76,8 +76,8 @@ step-other site number one plain point.Answer m p came ne out =
     ap (λ (m : Made). slice_get m.plain.processes p) (sym (some-made _ m came))
     ∙ both-other number (record one { state = process.after_answered one.state; hand = None }) (answered_by number one.hand) (Answered (process.answer_of one.state)) plain p ne
     (answer-other number one.hand p ne)
-step-other site number one plain point.Mark m p came ne out =
-    ap (λ (m : Made). slice_get m.plain.processes p) (sym (some-made _ m came)) ∙ process-other number (record one { state = process.after_mark one.state }) plain p ne
+step-other site number one plain point.AtCheckpoint m p came ne out =
+    ap (λ (m : Made). slice_get m.plain.processes p) (sym (some-made _ m came)) ∙ process-other number (record one { state = process.after_checkpoint one.state }) plain p ne
 step-other site number one plain point.Device m p came ne out =
     ap (λ (m : Made). slice_get m.plain.processes p) (sym (some-made _ m came))
     ∙ process-other number _ plain p ne
@@ -100,7 +100,7 @@ take-other number place one plain point.Inner m p came ne = absurd (cc)
 take-other number place one plain point.Ask m p came ne = absurd (cc)
 take-other number place one plain point.Await m p came ne = absurd (cc)
 take-other number place one plain point.Answer m p came ne = absurd (cc)
-take-other number place one plain point.Mark m p came ne = absurd (cc)
+take-other number place one plain point.AtCheckpoint m p came ne = absurd (cc)
 take-other number place one plain point.Device m p came ne = absurd (cc)
 take-other number place one plain point.Ended m p came ne = absurd (cc)
 
@@ -176,7 +176,7 @@ step-entered site number one plain point.Ask m came =
 step-entered site number one plain point.Await m came = got-entered number one (own_opener site number one) plain (slot_of plain (own_opener site number one)) m came
 step-entered site number one plain point.Answer m came =
     ap (λ (m : Made). m.plain.entered) (sym (some-made _ m came)) ∙ slot-entered (answered_by number one.hand) (Answered (process.answer_of one.state)) _
-step-entered site number one plain point.Mark m came = ap (λ (m : Made). m.plain.entered) (sym (some-made _ m came))
+step-entered site number one plain point.AtCheckpoint m came = ap (λ (m : Made). m.plain.entered) (sym (some-made _ m came))
 step-entered site number one plain point.Device m came = ap (λ (m : Made). m.plain.entered) (sym (some-made _ m came))
 step-entered site number one plain point.Take m came = absurd (cc)
 step-entered site number one plain point.Ended m came = absurd (cc)
@@ -196,7 +196,7 @@ take-entered number place one plain point.Inner m came = absurd (cc)
 take-entered number place one plain point.Ask m came = absurd (cc)
 take-entered number place one plain point.Await m came = absurd (cc)
 take-entered number place one plain point.Answer m came = absurd (cc)
-take-entered number place one plain point.Mark m came = absurd (cc)
+take-entered number place one plain point.AtCheckpoint m came = absurd (cc)
 take-entered number place one plain point.Device m came = absurd (cc)
 take-entered number place one plain point.Ended m came = absurd (cc)
 
@@ -271,7 +271,7 @@ step-still site number one first second point.Await same none =
     ap (got_made number one (own_opener site number one) second) (slot-same first second (own_opener site number one) same)
     ∙ got-still number one (own_opener site number one) first second (slot_of first (own_opener site number one)) none
 step-still site number one first second point.Answer same none = absurd (cc)
-step-still site number one first second point.Mark same none = absurd (cc)
+step-still site number one first second point.AtCheckpoint same none = absurd (cc)
 step-still site number one first second point.Device same none = absurd (cc)
 step-still site number one first second point.Take same none = refl
 step-still site number one first second point.Ended same none = refl
@@ -297,7 +297,7 @@ take-still number place one first second point.Inner none = refl
 take-still number place one first second point.Ask none = refl
 take-still number place one first second point.Await none = refl
 take-still number place one first second point.Answer none = refl
-take-still number place one first second point.Mark none = refl
+take-still number place one first second point.AtCheckpoint none = refl
 take-still number place one first second point.Device none = refl
 take-still number place one first second point.Ended none = refl
 

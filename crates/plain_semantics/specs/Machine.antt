@@ -146,7 +146,7 @@ step_at site number one plain point.Ask =
     (with_state number one (process.after_asked one.state) plain)))
 step_at site number one plain point.Await = got_made number one (own_opener site number one) plain (slot_of plain (own_opener site number one))
 step_at site number one plain point.Answer = Some (quiet (answer_made number one plain))
-step_at site number one plain point.Mark = Some (quiet (with_state number one (process.after_mark one.state) plain))
+step_at site number one plain point.AtCheckpoint = Some (quiet (with_state number one (process.after_checkpoint one.state) plain))
 step_at site number one plain point.Device = Some (device_made number one plain (process.call_of one.state))
 step_at site number one plain point.Take = None
 step_at site number one plain point.Ended = None

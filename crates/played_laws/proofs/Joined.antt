@@ -8,21 +8,21 @@ use Rattle.letters.specs.Posts.{HasPlayed}
 use Rattle.letters.specs.Routes.{Letter}
 use Rattle.world_semantics.specs.Follows.{IsRun}
 use Rattle.awaited_requests.specs.Seats.{IsLaidOut}
-use Rattle.headline_laws.proofs.Accepted.{accepted-fit}
-use Rattle.headline_laws.specs.Premises.{IsAcceptedSite}
+use Rattle.accepted_sites.proofs.Accepted.{accepted-fit}
+use Rattle.accepted_sites.specs.Premises.{IsAcceptedSite}
 use Rattle.idle_end.specs.Ends.{IsIdleEnd}
 use Rattle.idle_laws.proofs.Ended.{played-ends}
 use Rattle.message_wires.specs.Idle.{is_idle}
-use Rattle.message_wires.specs.Play.{Whole}
+use Rattle.message_wires.specs.Play.{MachineState}
 use Rattle.message_wires.specs.Runs.{IsPlayed, post_of}
-use Rattle.wires_laws.proofs.Going.{played-one, played-site}
-use Rattle.wires_laws.proofs.Idle.{idle-both}
-use Rattle.wires_laws.proofs.Runs.{played-letters, played-world}
+use Rattle.message_wires_laws.proofs.Going.{played-one, played-site}
+use Rattle.message_wires_laws.proofs.Idle.{idle-both}
+use Rattle.message_wires_laws.proofs.Runs.{played-letters, played-world}
 
 pub apart : (site : Site) → IsLaidOut site → HasCopiesApart site
 apart site out number spec there = (out.places number spec there).2
 
-module _ (site : Site) (accepted : IsAcceptedSite site) (out : IsLaidOut site) (events : List Event) (s : Whole) (few : length events < 4294967295)
+module _ (site : Site) (accepted : IsAcceptedSite site) (out : IsLaidOut site) (events : List Event) (s : MachineState) (few : length events < 4294967295)
     (played : IsPlayed site events s) where
   pub runs : IsRun site events s.world
   runs = played-world site (accepted-fit site accepted) (apart site out) events s (omega (arith, few)) played

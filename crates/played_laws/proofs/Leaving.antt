@@ -9,17 +9,17 @@ use Rattle.tal_tree.specs.declared.statement.What.TheBlock.{shown-the_row-Statem
 use Rattle.process_semantics.specs.declared.point.Point.TheVariants.{Ended}
 use Rattle.process_semantics.specs.Process.{point}
 use Rattle.message_wires.specs.Idle.{is_idle}
-use Rattle.message_wires.specs.Play.{whole_at_boot}
+use Rattle.message_wires.specs.Play.{machine_at_boot}
 use Rattle.message_wires.specs.Runs.{IsPlayed, played_none}
 use Rattle.played_laws.specs.Leaving.{leaving_end, leaving_events, leaving_site}
 use Rattle.played_laws.proofs.Played.{are_played, played-on}
 
-all-played : are_played (whole_at_boot leaving_site) leaving_events ≡ true
+all-played : are_played (machine_at_boot leaving_site) leaving_events ≡ true
 unfolding out-What shown-the_row-Statement-0 shown out int_wrap
 all-played = refl
 
 pub leaving-played : IsPlayed leaving_site leaving_events leaving_end
-leaving-played = played-on (whole_at_boot leaving_site) leaving_events played_none all-played
+leaving-played = played-on (machine_at_boot leaving_site) leaving_events played_none all-played
 
 pub leaving-idle : is_idle leaving_end ≡ true
 unfolding out-What shown-the_row-Statement-0 shown out int_wrap

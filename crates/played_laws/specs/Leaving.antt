@@ -10,7 +10,7 @@ use Rattle.schedule.specs.declared.event.Event.{Event}
 use Rattle.schedule.specs.declared.event.Event.TheVariants as event
 use Rattle.world_semantics.specs.Examples.{delivery, line, run, server}
 use Rattle.message_wires.specs.Examples.{end_of}
-use Rattle.message_wires.specs.Play.{Whole, whole_at_boot}
+use Rattle.message_wires.specs.Play.{MachineState, machine_at_boot}
 
 abbrev leaving : List Statement
 leaving = line 4 (what.ReadUpdate 3 (Number (pos 1)) (variable.Simple 1)) ∷ line 5 what.Stop ∷ []
@@ -27,5 +27,5 @@ leaving_site = record {
 abbrev pub leaving_events : List Event
 leaving_events = event.Enter 0 ∷ run ∷ run ∷ run ∷ delivery ∷ run ∷ run ∷ []
 
-abbrev pub leaving_end : Whole
-leaving_end = end_of (whole_at_boot leaving_site) leaving_events
+abbrev pub leaving_end : MachineState
+leaving_end = end_of (machine_at_boot leaving_site) leaving_events

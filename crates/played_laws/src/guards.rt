@@ -8,7 +8,7 @@ ghost use Rattle.plain_semantics.specs.Machine.{IsNoneLeft, shown_by};
 ghost use Rattle.world_semantics.specs.Examples.{adder_for, reply};
 ghost use Rattle.world_semantics.specs.Kept.{closed};
 ghost use Rattle.awaited_requests.specs.Seats.{IsLaidOut};
-ghost use Rattle.headline_laws.specs.Premises.{IsAcceptedSite};
+ghost use Rattle.accepted_sites.specs.Premises.{IsAcceptedSite};
 ghost use Rattle.message_wires.specs.Idle.{is_idle};
 ghost use Rattle.message_wires.specs.Runs.{IsPlayed};
 ghost use Rattle.played_laws.specs.Leaving.{leaving_end, leaving_events, leaving_site};

@@ -5,8 +5,8 @@ use Rattle.schedule.specs.declared.event.Event.TheVariants.{Run, Enter, Deliver,
 use Rattle.schedule.specs.declared.event.Counts.{Counts}
 use Rattle.player.specs.declared.standing.Sizes.{Sizes}
 use Rattle.player.specs.declared.standing.Rule.TheVariants.{Drain, Mute, Until}
-use Rattle.player.specs.declared.standing.Standing.{Standing}
-use Rattle.player.specs.declared.standing.Standing.TheVariants as standing
+use Rattle.player.specs.declared.standing.LinePlace.{LinePlace}
+use Rattle.player.specs.declared.standing.LinePlace.TheVariants as standing
 use Rattle.player.specs.declared.standing.Move.{Move}
 use Rattle.player.specs.Lines.{proposed, is_over, muted, spared, decided, decided_move, next_event, on_bus, packet_of, packet_of_move, aimed}
 
@@ -36,7 +36,7 @@ spared-concerns x y counts (Repeat bus k) = refl
 spared-concerns x y counts (Tick tick) = refl
 spared-concerns x y counts (Fail processor) = refl
 
-decided-concerns : (x y : ℕ) (standing : Standing) (counts : Counts) (event : Event) → packet_of x y (decided standing counts event) ≡ packet_of x y event
+decided-concerns : (x y : ℕ) (standing : LinePlace) (counts : Counts) (event : Event) → packet_of x y (decided standing counts event) ≡ packet_of x y event
 decided-concerns x y standing.Ended counts event = refl
 decided-concerns x y (standing.Event again left) counts event = refl
 decided-concerns x y (standing.Rounds Drain left place) counts event = refl
@@ -44,7 +44,7 @@ decided-concerns x y (standing.Rounds (Mute node) left place) counts event = mut
 decided-concerns x y (standing.Rounds (Until writes count) left place) counts event = refl
 decided-concerns x y (standing.Mixed left place draws) counts event = spared-concerns x y counts event
 
-pub aimed-concerned : (sizes : Sizes) (standing : Standing) (counts : Counts) (move : Move) → next_event sizes standing counts ≡ Some move
+pub aimed-concerned : (sizes : Sizes) (standing : LinePlace) (counts : Counts) (move : Move) → next_event sizes standing counts ≡ Some move
     → aimed sizes counts.x counts.y standing ≡ packet_of counts.x counts.y move.event
 aimed-concerned sizes standing counts move is = by (is_over standing counts) (proposed sizes counts.x counts.y standing) is
   where

@@ -10,8 +10,8 @@ use Rattle.player.specs.declared.standing.Place.{Place}
 use Rattle.player.specs.declared.standing.Place.TheVariants as place
 use Rattle.player.specs.declared.standing.MixedPlace.{MixedPlace}
 use Rattle.player.specs.declared.standing.MixedPlace.TheVariants as mixed
-use Rattle.player.specs.declared.standing.Standing.{Standing}
-use Rattle.player.specs.declared.standing.Standing.TheVariants as standing
+use Rattle.player.specs.declared.standing.LinePlace.{LinePlace}
+use Rattle.player.specs.declared.standing.LinePlace.TheVariants as standing
 use Rattle.player.specs.declared.standing.Move.{Move}
 use Rattle.player.specs.Rounds.{next_turn}
 use Rattle.player.specs.Mixes.{next_mixed}
@@ -43,7 +43,7 @@ spared-rounds counts (Repeat bus k) = refl
 spared-rounds counts (Tick tick) = refl
 spared-rounds counts (Fail processor) = refl
 
-decided-rounds : (standing : Standing) (counts : Counts) (event : Event) → rounds_of_event (decided standing counts event) ≡ rounds_of_event event
+decided-rounds : (standing : LinePlace) (counts : Counts) (event : Event) → rounds_of_event (decided standing counts event) ≡ rounds_of_event event
 decided-rounds standing.Ended counts event = refl
 decided-rounds (standing.Event again left) counts event = refl
 decided-rounds (standing.Rounds Drain left place) counts event = refl
@@ -86,7 +86,7 @@ within ended under left one = omega (arith, one)
 before : (n left : ℕ) → n ≤ left → n ≤ left + 0
 before n left low = omega (arith, low)
 
-proposed-kept : (sizes : Sizes) (x y : ℕ) (standing : Standing) → sizes.processors ≤ 16 → ended_and_left (proposed sizes x y standing) ≤ rounds_left standing
+proposed-kept : (sizes : Sizes) (x y : ℕ) (standing : LinePlace) → sizes.processors ≤ 16 → ended_and_left (proposed sizes x y standing) ≤ rounds_left standing
 proposed-kept sizes x y standing.Ended few = none 0
 proposed-kept sizes x y (standing.Event event left) few =
     begun-kept left (record { event = event; standing = standing.Event event (left - 1) }) (let one = at-most-one event in omega (arith, one))
@@ -110,7 +110,7 @@ proposed-kept sizes x y (standing.Mixed left stand draws) few = by stand (mixed-
     by (mixed.Repeated bus k packets) one = within _ _ left one
     by (mixed.Ticks node) one = within _ _ left one
 
-next-kept : (sizes : Sizes) (standing : Standing) (counts : Counts) → sizes.processors ≤ 16 → ended_and_left (next_event sizes standing counts) ≤ rounds_left standing
+next-kept : (sizes : Sizes) (standing : LinePlace) (counts : Counts) → sizes.processors ≤ 16 → ended_and_left (next_event sizes standing counts) ≤ rounds_left standing
 next-kept sizes standing counts few =
     by (is_over standing counts) (proposed sizes counts.x counts.y standing) (proposed-kept sizes counts.x counts.y standing few)
   where
@@ -127,7 +127,7 @@ told-ended : (move : Option Move) (events : List Event) → rounds_ended events 
 told-ended None events low = low
 told-ended (Some move) events low = omega (arith, low)
 
-pub rounds-kept : (sizes : Sizes) (standing : Standing) (counts : List Counts) → sizes.processors ≤ 16
+pub rounds-kept : (sizes : Sizes) (standing : LinePlace) (counts : List Counts) → sizes.processors ≤ 16
     → rounds_ended (events_from sizes standing counts) ≤ rounds_left standing
 rounds-kept sizes standing [] few = none (rounds_left standing)
 rounds-kept sizes standing (counts ∷ more) few =

@@ -6,8 +6,8 @@ use Rattle.player.specs.declared.standing.Place.{Place}
 use Rattle.player.specs.declared.standing.Place.TheVariants as place
 use Rattle.player.specs.declared.standing.MixedPlace.{MixedPlace}
 use Rattle.player.specs.declared.standing.MixedPlace.TheVariants as mixed
-use Rattle.player.specs.declared.standing.Standing.{Standing}
-use Rattle.player.specs.declared.standing.Standing.TheVariants as standing
+use Rattle.player.specs.declared.standing.LinePlace.{LinePlace}
+use Rattle.player.specs.declared.standing.LinePlace.TheVariants as standing
 
 -- the tick of node 16 ends a round
 abbrev pub rounds_of_event : Event → ℕ
@@ -29,7 +29,7 @@ under_way_mixed mixed.Before = 0
 under_way_mixed _ = 1
 
 -- how many rounds a line may still end
-abbrev pub rounds_left : Standing → ℕ
+abbrev pub rounds_left : LinePlace → ℕ
 rounds_left standing.Ended = 0
 rounds_left (standing.Event event left) = left
 rounds_left (standing.Rounds rule left place) = left + under_way place

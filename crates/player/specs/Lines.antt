@@ -15,14 +15,14 @@ use Rattle.player.specs.declared.standing.MixedPlace.TheVariants as mixed
 use Rattle.player.specs.declared.standing.MixedTurn.{MixedTurn}
 use Rattle.player.specs.declared.standing.Rule.{Rule}
 use Rattle.player.specs.declared.standing.Rule.TheVariants as rule
-use Rattle.player.specs.declared.standing.Standing.{Standing}
-use Rattle.player.specs.declared.standing.Standing.TheVariants as standing
+use Rattle.player.specs.declared.standing.LinePlace.{LinePlace}
+use Rattle.player.specs.declared.standing.LinePlace.TheVariants as standing
 use Rattle.player.specs.declared.standing.Move.{Move}
 use Rattle.player.specs.Rounds.{next_turn}
 use Rattle.player.specs.Mixes.{first_draws, next_mixed}
 
 -- where a line stands at first
-abbrev pub begun : Line → Standing
+abbrev pub begun : Line → LinePlace
 begun (One event) = standing.Event event 1
 begun (Many event times) = standing.Event event times
 begun (Drain rounds) = standing.Rounds rule.Drain rounds place.Before
@@ -45,7 +45,7 @@ abbrev pub moved_mixed : ℕ → MixedTurn → Move
 moved_mixed left turn = record { event = turn.event; standing = standing.Mixed left turn.place turn.draws }
 
 -- the next event where nothing ends the line early and no packet is an alive one, with so many packets on buses X and Y; none where nothing is left of the line
-abbrev pub proposed : Sizes → ℕ → ℕ → Standing → Option Move
+abbrev pub proposed : Sizes → ℕ → ℕ → LinePlace → Option Move
 proposed sizes x y standing.Ended = None
 proposed sizes x y (standing.Event event left) =
     if nat_lt 0 left then Some (record { event = event; standing = standing.Event event (left - 1) }) else None
@@ -70,17 +70,17 @@ is_reached (rule.Until false count) counts = nat_le count counts.replies
 is_reached _ counts = false
 
 -- whether the next event depends on whether the machine is idle
-abbrev pub asks_idle : Standing → Bool
+abbrev pub asks_idle : LinePlace → Bool
 asks_idle (standing.Rounds rule left place) = minds_idle rule && is_before place
 asks_idle _ = false
 
 -- whether the count that a line waits for is reached
-abbrev pub has_reached : Standing → Counts → Bool
+abbrev pub has_reached : LinePlace → Counts → Bool
 has_reached (standing.Rounds rule left place) counts = is_reached rule counts
 has_reached _ counts = false
 
 -- whether a line ends early
-abbrev pub is_over : Standing → Counts → Bool
+abbrev pub is_over : LinePlace → Counts → Bool
 is_over standing counts = has_reached standing counts || (asks_idle standing && counts.idle)
 
 -- an alive packet of a muted node is lost in place of being delivered
@@ -94,23 +94,23 @@ spared counts (event.Lose y k) = if counts.alive then event.Deliver y k else eve
 spared counts event = event
 
 -- what comes of an event where the packet that it concerns is an alive one, or isn't
-abbrev pub decided : Standing → Counts → Event → Event
+abbrev pub decided : LinePlace → Counts → Event → Event
 decided (standing.Rounds (rule.Mute node) left place) counts event = muted node counts event
 decided (standing.Mixed left place draws) counts event = spared counts event
 decided _ counts event = event
 
-abbrev pub decided_move : Standing → Counts → Move → Move
+abbrev pub decided_move : LinePlace → Counts → Move → Move
 decided_move standing counts move = record move { event = decided standing counts move.event }
 
 -- the next event of a line, and where the line stands then; none where it has ended
-abbrev pub next_event : Sizes → Standing → Counts → Option Move
+abbrev pub next_event : Sizes → LinePlace → Counts → Option Move
 next_event sizes standing counts =
     if is_over standing counts
     then None
     else option_map (decided_move standing counts) (proposed sizes counts.x counts.y standing)
 
 -- where a line stands after its next event
-abbrev pub stands_after : Option Move → Standing
+abbrev pub stands_after : Option Move → LinePlace
 stands_after (Some move) = move.standing
 stands_after None = standing.Ended
 
@@ -133,5 +133,5 @@ packet_of_move x y (Some move) = packet_of x y move.event
 packet_of_move x y None = None
 
 -- the packet that the next event of a line concerns, where the line goes on
-abbrev pub aimed : Sizes → ℕ → ℕ → Standing → Option (Bool × ℕ)
+abbrev pub aimed : Sizes → ℕ → ℕ → LinePlace → Option (Bool × ℕ)
 aimed sizes x y standing = packet_of_move x y (proposed sizes x y standing)

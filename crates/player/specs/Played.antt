@@ -5,7 +5,7 @@ use Rattle.schedule.specs.declared.event.Event.TheVariants as event
 use Rattle.schedule.specs.declared.event.Counts.{Counts}
 use Rattle.schedule.specs.declared.line.Line.{Line}
 use Rattle.player.specs.declared.standing.Sizes.{Sizes}
-use Rattle.player.specs.declared.standing.Standing.{Standing}
+use Rattle.player.specs.declared.standing.LinePlace.{LinePlace}
 use Rattle.player.specs.declared.standing.Move.{Move}
 use Rattle.player.specs.Lines.{begun, next_event, stands_after}
 
@@ -14,7 +14,7 @@ told None = []
 told (Some move) = move.event ∷ []
 
 -- the events that a line gives as it is asked once with each of these counts
-abbrev pub events_from : Sizes → Standing → List Counts → List Event
+abbrev pub events_from : Sizes → LinePlace → List Counts → List Event
 events_from sizes standing [] = []
 events_from sizes standing (counts ∷ more) = told (next_event sizes standing counts) ++ events_from sizes (stands_after (next_event sizes standing counts)) more
 

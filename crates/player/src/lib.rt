@@ -14,5 +14,5 @@ pub mod standing;
 pub mod stop;
 
 pub use player::Player;
-pub use standing::{MixedPlace, Place, Rule, Sizes, Standing};
-pub use stop::Stop;
+pub use standing::{MixedPlace, Place, Rule, Sizes, LinePlace};
+pub use stop::ProcessorStop;

@@ -1,20 +1,20 @@
 ghost use Rattle.std.specs.Prelude.{◌≡◌, ◌-◌, nat_lt, Bool, false, Some, None, if◌then◌else◌};
 ghost use Rattle.schedule.specs.declared.event.Counts.{Counts as AnyCounts};
-ghost use Rattle.player.specs.declared.standing.Standing.TheVariants as standing;
+ghost use Rattle.player.specs.declared.standing.LinePlace.TheVariants as standing;
 ghost use Rattle.player.specs.declared.standing.Place.TheVariants as place;
 ghost use Rattle.player.specs.Lines.{begun, is_before, is_before_mixed, proposed, has_reached, asks_idle, decided, next_event, stands_after, event_of, packet_of, on_bus, aimed};
 
 use crate::mixed::{first_draws, next_mixed};
 use crate::round::next_turn;
 use crate::rule::{muted, spared};
-use crate::standing::{MixedPlace, Move, Place, Rule, Sizes, Standing};
+use crate::standing::{MixedPlace, Move, Place, Rule, Sizes, LinePlace};
 use schedule::{Counts, Event, Line};
 
 /// Gives the events of a line one by one.
 #[derive(Clone, Copy, PartialEq, Eq)]
 pub struct Player {
     sizes: Sizes,
-    standing: Standing,
+    standing: LinePlace,
 }
 
 impl Player {
@@ -29,7 +29,7 @@ impl Player {
                 processes,
                 terminals,
             },
-            standing: Standing::Ended,
+            standing: LinePlace::Ended,
         }
     }
 
@@ -55,7 +55,7 @@ impl Player {
         ensures standing { self.new ≡ record self.old { standing = stands_after (next_event self.old.sizes self.old.standing counts.now) } }
     {
         let Some(next) = next_event(self.sizes, self.standing, counts) else {
-            self.standing = Standing::Ended;
+            self.standing = LinePlace::Ended;
             return None;
         };
         self.standing = next.standing;
@@ -71,12 +71,12 @@ impl Player {
     }
 }
 
-fn begun(line: Line) -> Standing
+fn begun(line: Line) -> LinePlace
     ensures { result ≡ begun line }
 {
     match line {
-        Line::One(event) => Standing::Event { event, left: 1 },
-        Line::Many { event, times } => Standing::Event { event, left: times },
+        Line::One(event) => LinePlace::Event { event, left: 1 },
+        Line::Many { event, times } => LinePlace::Event { event, left: times },
         Line::Drain(rounds) => before_rounds(Rule::Drain, rounds),
         Line::Mute { node, rounds } => before_rounds(Rule::Mute(node), rounds),
         Line::Until {
@@ -84,7 +84,7 @@ fn begun(line: Line) -> Standing
             count,
             rounds,
         } => before_rounds(Rule::Until { writes, count }, rounds),
-        Line::Mix { start, rounds } => Standing::Mixed {
+        Line::Mix { start, rounds } => LinePlace::Mixed {
             left: rounds,
             place: MixedPlace::Before,
             draws: first_draws(start),
@@ -92,10 +92,10 @@ fn begun(line: Line) -> Standing
     }
 }
 
-fn before_rounds(rule: Rule, left: u32) -> Standing
+fn before_rounds(rule: Rule, left: u32) -> LinePlace
     ensures { result ≡ standing.Rounds rule left place.Before }
 {
-    Standing::Rounds {
+    LinePlace::Rounds {
         rule,
         left,
         place: Place::Before,
@@ -114,7 +114,7 @@ fn is_before_mixed(place: MixedPlace) -> bool
     matches!(place, MixedPlace::Before)
 }
 
-fn next_event(sizes: Sizes, standing: Standing, counts: &Counts) -> Option<Move>
+fn next_event(sizes: Sizes, standing: LinePlace, counts: &Counts) -> Option<Move>
     ensures { result ≡ next_event sizes standing counts.now }
 {
     if has_reached(standing, counts) || (asks_idle(standing) && counts.idle) {
@@ -127,13 +127,13 @@ fn next_event(sizes: Sizes, standing: Standing, counts: &Counts) -> Option<Move>
     })
 }
 
-fn proposed(sizes: Sizes, x: u32, y: u32, standing: Standing) -> Option<Move>
+fn proposed(sizes: Sizes, x: u32, y: u32, standing: LinePlace) -> Option<Move>
     ensures { result ≡ proposed sizes x y standing }
 {
     match standing {
-        Standing::Ended => None,
-        Standing::Event { event, left } => event_again(event, left),
-        Standing::Rounds { rule, left, place } => {
+        LinePlace::Ended => None,
+        LinePlace::Event { event, left } => event_again(event, left),
+        LinePlace::Rounds { rule, left, place } => {
             let left = if is_before(place) {
                 left.checked_sub(1)?
             } else {
@@ -142,14 +142,14 @@ fn proposed(sizes: Sizes, x: u32, y: u32, standing: Standing) -> Option<Move>
             let turn = next_turn(sizes, x, y, place);
             Some(Move {
                 event: turn.event,
-                standing: Standing::Rounds {
+                standing: LinePlace::Rounds {
                     rule,
                     left,
                     place: turn.place,
                 },
             })
         }
-        Standing::Mixed { left, place, draws } => {
+        LinePlace::Mixed { left, place, draws } => {
             let left = if is_before_mixed(place) {
                 left.checked_sub(1)?
             } else {
@@ -158,7 +158,7 @@ fn proposed(sizes: Sizes, x: u32, y: u32, standing: Standing) -> Option<Move>
             let turn = next_mixed(sizes, x, y, place, draws);
             Some(Move {
                 event: turn.event,
-                standing: Standing::Mixed {
+                standing: LinePlace::Mixed {
                     left,
                     place: turn.place,
                     draws: turn.draws,
@@ -174,7 +174,7 @@ fn event_again(event: Event, left: u32) -> Option<Move>
     if 0 < left {
         Some(Move {
             event,
-            standing: Standing::Event {
+            standing: LinePlace::Event {
                 event,
                 left: left - 1,
             },
@@ -184,33 +184,33 @@ fn event_again(event: Event, left: u32) -> Option<Move>
     }
 }
 
-fn has_reached(standing: Standing, counts: &Counts) -> bool
+fn has_reached(standing: LinePlace, counts: &Counts) -> bool
     ensures { result ≡ has_reached standing counts.now }
 {
     match standing {
-        Standing::Rounds { rule, .. } => rule.is_reached(counts),
-        Standing::Ended | Standing::Event { .. } | Standing::Mixed { .. } => false,
+        LinePlace::Rounds { rule, .. } => rule.is_reached(counts),
+        LinePlace::Ended | LinePlace::Event { .. } | LinePlace::Mixed { .. } => false,
     }
 }
 
-fn asks_idle(standing: Standing) -> bool
+fn asks_idle(standing: LinePlace) -> bool
     ensures { result ≡ asks_idle standing }
 {
     match standing {
-        Standing::Rounds { rule, place, .. } => rule.minds_idle() && is_before(place),
-        Standing::Ended | Standing::Event { .. } | Standing::Mixed { .. } => false,
+        LinePlace::Rounds { rule, place, .. } => rule.minds_idle() && is_before(place),
+        LinePlace::Ended | LinePlace::Event { .. } | LinePlace::Mixed { .. } => false,
     }
 }
 
-fn decided(standing: Standing, counts: &Counts, event: Event) -> Event
+fn decided(standing: LinePlace, counts: &Counts, event: Event) -> Event
     ensures { result ≡ decided standing counts.now event }
 {
     match standing {
-        Standing::Rounds {
+        LinePlace::Rounds {
             rule: Rule::Mute(node),
             ..
         } => muted(node, counts, event),
-        Standing::Mixed { .. } => spared(counts, event),
+        LinePlace::Mixed { .. } => spared(counts, event),
         _ => event,
     }
 }

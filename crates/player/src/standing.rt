@@ -53,7 +53,7 @@ pub enum Rule {
 
 /// Where a line stands.
 #[derive(Clone, Copy, PartialEq, Eq)]
-pub enum Standing {
+pub enum LinePlace {
     Ended,
     /// So many times the event is left.
     Event {
@@ -93,5 +93,5 @@ pub struct MixedTurn {
 #[derive(Clone, Copy, PartialEq, Eq)]
 pub struct Move {
     pub event: Event,
-    pub standing: Standing,
+    pub standing: LinePlace,
 }

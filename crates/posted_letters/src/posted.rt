@@ -1,7 +1,7 @@
 ghost use Rattle.std.specs.Prelude.{◌≡◌, length, slice_get, IfOk, OnOk};
 ghost use Rattle.std.specs.Option.{option_map};
 ghost use Rattle.message_wires.specs.Idle.{none_owed};
-ghost use Rattle.message_wires.specs.Wires.{paid, paid_between, posted, wires_again, wires_at_boot, without_packet};
+ghost use Rattle.message_wires.specs.Wires.{paid, paid_between, wires_after_post, wires_again, wires_at_boot, without_packet};
 ghost use Rattle.gd_words.specs.Ranges.{HasNextLong};
 ghost use Rattle.posted_letters.specs.Repeats.{IsRepeated};
 
@@ -64,7 +64,7 @@ impl PostedLetters {
     /// Sends a letter: it is owed, and a packet of it goes to the bus. The number of its sending has a successor.
     pub fn post(&mut self, letter: Letter) -> Result<(), NoMemory>
         requires { HasNextLong self.old.count }
-        ensures { OnOk result (self.new ≡ posted letter self.old) }
+        ensures { OnOk result (self.new ≡ wires_after_post letter self.old) }
     {
         let number = self.count;
         let packet = letter.copy()?;

@@ -56,11 +56,11 @@ answered-hand : (s : ProcessState) → process.in_hand (process.after_answered s
 answered-hand (Runs program s) = refl
 answered-hand (Serves sectors s) = refl
 
-marked-files : (s : ProcessState) → files_of (process.after_mark s) ≡ files_of s
+marked-files : (s : ProcessState) → files_of (process.after_checkpoint s) ≡ files_of s
 marked-files (Runs program s) = refl
 marked-files (Serves sectors s) = refl
 
-marked-hand : (s : ProcessState) → process.in_hand (process.after_mark s) ≡ process.in_hand s
+marked-hand : (s : ProcessState) → process.in_hand (process.after_checkpoint s) ≡ process.in_hand s
 marked-hand (Runs program s) = refl
 marked-hand (Serves sectors s) = refl
 
@@ -89,8 +89,8 @@ module _ (state new : ProcessState) (next : List ℕ) (remembered : Remembered) 
   pub getting : (words : List ℤ) → process.point state ≡ point.Await → new ≡ process.after_got state words → IsConsistent new next remembered
   getting words at = stepping (process.after_got state words) (got-order state words at is.order) (got-hand state words) (got-files state words)
 
-  pub passing : process.point state ≡ point.Mark → new ≡ process.after_mark state → IsConsistent new next remembered
-  passing at = stepping (process.after_mark state) (marked-order state at is.order) (marked-hand state) (marked-files state)
+  pub passing : process.point state ≡ point.AtCheckpoint → new ≡ process.after_checkpoint state → IsConsistent new next remembered
+  passing at = stepping (process.after_checkpoint state) (marked-order state at is.order) (marked-hand state) (marked-files state)
 
   pub acting : (found : List ℤ) → process.point state ≡ point.Device → new ≡ process.after_device state found → IsConsistent new next remembered
   acting found at = stepping (process.after_device state found) (device-order state found at is.order) (device-hand state found) (device-files state found)

@@ -5,7 +5,7 @@ use Rattle.std.proofs.lemmas.Option.{slice_get_within}
 use Rattle.checkpoint_image.specs.Receive.{holds, kept_or_old, standing_at, standing_by}
 use Rattle.checkpoint_image.specs.declared.receive.OpenerBlock.{OpenerBlock}
 use Rattle.checkpoint_image.specs.declared.receive.ReceiveBlock.{ReceiveBlock}
-use Rattle.checkpoint_image.specs.declared.receive.Standing.TheVariants.{Next, InHand, Ahead}
+use Rattle.checkpoint_image.specs.declared.receive.RequestStanding.TheVariants.{Next, InHand, Ahead}
 use Rattle.sync_ids.specs.Tables.{last_taken, taken_in}
 
 by-tests : (same ahead held : Bool) (kept : Option (List ℤ))

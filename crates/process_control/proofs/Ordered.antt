@@ -48,7 +48,7 @@ pub answered-order : (s : ProcessState) → process.point s ≡ point.Answer →
 answered-order (Runs program s) at is = (is.0, awake-whole (answered-awake program s at is.1))
 answered-order (Serves sectors s) at is = tt
 
-mark-device : (request : Option (List ℤ)) → HoldsAt point.Mark request → HoldsAt point.Device request
+mark-device : (request : Option (List ℤ)) → HoldsAt point.AtCheckpoint request → HoldsAt point.Device request
 mark-device None is = is
 mark-device (Some request) is = is
 
@@ -56,9 +56,9 @@ device-answer : (request : Option (List ℤ)) → HoldsAt point.Device request �
 device-answer None is = is
 device-answer (Some request) is = is
 
-pub marked-order : (s : ProcessState) → process.point s ≡ point.Mark → IsInOrder s → IsInOrder (process.after_mark s)
+pub marked-order : (s : ProcessState) → process.point s ≡ point.AtCheckpoint → IsInOrder s → IsInOrder (process.after_checkpoint s)
 marked-order (Runs program s) at is = (is.0, awake-whole (marked-awake program s at is.1))
-marked-order (Serves sectors s) at is = mark-device s.request (holds-at s point.Mark at is)
+marked-order (Serves sectors s) at is = mark-device s.request (holds-at s point.AtCheckpoint at is)
 
 pub device-order : (s : ProcessState) (found : List ℤ) → process.point s ≡ point.Device → IsInOrder s → IsInOrder (process.after_device s found)
 device-order (Runs program s) found at is = is

@@ -1,16 +1,16 @@
 -- What holds of every copy.
 use Rattle.std.specs.Prelude.{◌≡◌, ℕ, ℤ, List, length, Option, Some, is_some}
 use Rattle.process_semantics.specs.declared.point.Point.{Point}
-use Rattle.process_semantics.specs.declared.point.Point.TheVariants.{Take, Answer, Mark, Device}
+use Rattle.process_semantics.specs.declared.point.Point.TheVariants.{Take, Answer, AtCheckpoint, Device}
 use Rattle.process_semantics.specs.Process.{ProcessState, Runs, Serves, in_hand}
 use Rattle.whole_states.specs.Listing.{files_of}
 use Rattle.whole_states.specs.Processes.{IsWholeProcess}
 use Rattle.sync_ids.specs.Tables.{Remembered, IsSound}
 
--- a disc at Mark, at Device and at Answer has a request
+-- a disc at AtCheckpoint, at Device and at Answer has a request
 abbrev pub HoldsAt : Point → Option (List ℤ) → Type 0
 HoldsAt Take request = Unit {0}
-HoldsAt Mark (Some request) = Unit {0}
+HoldsAt AtCheckpoint (Some request) = Unit {0}
 HoldsAt Device (Some request) = Unit {0}
 HoldsAt Answer (Some request) = Unit {0}
 HoldsAt _ _ = ⊥

@@ -12,7 +12,7 @@ use Rattle.world_semantics.specs.Passes.{next_checkpoint}
 use Rattle.process_control.specs.Cores.{CoreAndDepths, core_at_start}
 use Rattle.computed_changes.specs.Checkpoints.{core_as}
 
--- a copy: its role, its era, the number of the last checkpoint sent or applied in that era, whether it has sent the checkpoint of the mark at which it stands,
+-- a copy: its role, its era, the number of the last checkpoint sent or applied in that era, whether it has sent the checkpoint at which it stands,
 -- whether that was acknowledged, its core, and how many replies are kept at most of each opener of its process
 pub record CopyState : Type 0 where
   pub role : Role
@@ -52,7 +52,7 @@ copy_checkpoint process copy = next_checkpoint process copy.era copy.number copy
 abbrev pub copy_sending : CopyState → CopyState
 copy_sending copy = record copy { number = copy.number + 1; sent = true; acknowledged = false }
 
--- the copy after it passed its mark
+-- the copy after it passed its checkpoint
 abbrev pub copy_passing : CopyState → CopyState
 copy_passing copy = record copy { core = after_passing copy.core; sent = false; acknowledged = false }
 

@@ -1,7 +1,7 @@
 ghost use Rattle.std.specs.Prelude.{◌≡◌, ◌<◌, ◌+◌, ◌^◌, true, is_some, IfOk, OnOk, OnErr};
 ghost use Rattle.std.specs.Option.{option_map, unwrap_or};
 ghost use Rattle.gd_words.specs.Ranges.{HasNext};
-ghost use Rattle.process_semantics.specs.declared.point.Point.TheVariants.{Mark};
+ghost use Rattle.process_semantics.specs.declared.point.Point.TheVariants.{AtCheckpoint};
 ghost use Rattle.process_semantics.specs.Process.{point};
 ghost use Rattle.world_semantics.specs.declared.role.Role.TheVariants.{Watching, Gone};
 ghost use Rattle.computed_changes.specs.Checkpoints.{core_where, is_next_for, is_of_last};
@@ -14,9 +14,9 @@ use std::alloc::Global;
 use world_semantics::Role;
 
 impl<B: Behaviour> CopyControl<B> {
-    /// The checkpoint of the mark at which it stands, for the other copy of its process. Its number has 32 bits. An error changes nothing.
+    /// The checkpoint at which it stands, for the other copy of its process. Its number has 32 bits. An error changes nothing.
     pub fn checkpoint_out(&mut self, alloc: Global, process: u8) -> Result<ImageMessage, NoMemory>
-        requires point { point self.old.core.state ≡ Mark }
+        requires point { point self.old.core.state ≡ AtCheckpoint }
         requires number { HasNext self.old.number }
         ensures message { IfOk result (λ message. message ≡ copy_checkpoint process self.old) }
         ensures ok { OnOk result (self.new ≡ copy_sending self.old) }
@@ -83,9 +83,9 @@ impl<B: Behaviour> CopyControl<B> {
         self.acknowledged = true;
     }
 
-    /// Goes on after its mark.
+    /// Goes on after its checkpoint.
     pub fn pass(&mut self)
-        requires { point self.old.core.state ≡ Mark }
+        requires { point self.old.core.state ≡ AtCheckpoint }
         ensures { self.new ≡ copy_passing self.old }
     {
         self.core.pass();

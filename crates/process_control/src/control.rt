@@ -7,7 +7,7 @@ ghost use Rattle.whole_states.specs.Listing.{files_of};
 ghost use Rattle.whole_states.specs.Processes.{IsWholeProcess};
 ghost use Rattle.checkpoint_image.specs.Behaving.{last_write_of};
 ghost use Rattle.checkpoint_image.specs.Receive.{standing};
-ghost use Rattle.checkpoint_image.specs.declared.receive.Standing.TheVariants.{Next};
+ghost use Rattle.checkpoint_image.specs.declared.receive.RequestStanding.TheVariants.{Next};
 ghost use Rattle.sync_ids.specs.Tables.{IsDepth};
 ghost use Rattle.world_semantics.specs.Core.{core_acting, core_getting, core_going, next_on};
 ghost use Rattle.process_control.specs.Cores.{core_taking, asking_of, core_asking, answering_of, core_answering};
@@ -15,7 +15,7 @@ ghost use Rattle.process_control.specs.Copies.{copy_at_start, with_core};
 
 use crate::inside::CopyCore;
 use crate::told::{Answering, Asking};
-use checkpoint_image::{Behaviour, Standing};
+use checkpoint_image::{Behaviour, RequestStanding};
 use gd_words::{DeviceCall, NoMemory, Request, Sector, Words};
 use process_semantics::Point;
 use std::alloc::Global;
@@ -102,7 +102,7 @@ impl<B: Behaviour> CopyControl<B> {
         self.number
     }
 
-    /// Whether it has sent the checkpoint of its mark.
+    /// Whether it has sent the checkpoint at which it stands.
     pub fn sent(&self) -> bool
         ensures { result ≡ self.now.sent }
     {
@@ -146,7 +146,7 @@ impl<B: Behaviour> CopyControl<B> {
     }
 
     /// How a request stands to its receive table. Where it was answered, and the reply is kept, this is told again.
-    pub fn standing(&self, request: &Request) -> Standing
+    pub fn standing(&self, request: &Request) -> RequestStanding
         requires { request.now.opener < length self.now.depths }
         ensures { result ≡ standing self.now.core.receive request.now }
     {

@@ -1,13 +1,13 @@
 ghost use Rattle.std.specs.Prelude.{◌≡◌, ◌<◌, ◌≤◌, ◌+◌, ◌^◌, All, false, is_some, length, Some, IfOk};
 ghost use Rattle.std.specs.Option.{unwrap_or};
 ghost use Rattle.gd_words.specs.Ranges.{HasNext};
-ghost use Rattle.process_semantics.specs.declared.point.Point.TheVariants.{Inner, Take, Ask, Await, Answer, Mark, Device};
+ghost use Rattle.process_semantics.specs.declared.point.Point.TheVariants.{Inner, Take, Ask, Await, Answer, AtCheckpoint, Device};
 ghost use Rattle.process_semantics.specs.Process.{asked_file, call_of, in_hand, point};
 ghost use Rattle.whole_states.specs.Listing.{files_of};
 ghost use Rattle.whole_states.specs.Processes.{IsWholeProcess};
 ghost use Rattle.checkpoint_image.specs.Behaving.{last_write_of};
 ghost use Rattle.checkpoint_image.specs.Receive.{standing};
-ghost use Rattle.checkpoint_image.specs.declared.receive.Standing.TheVariants.{Next};
+ghost use Rattle.checkpoint_image.specs.declared.receive.RequestStanding.TheVariants.{Next};
 ghost use Rattle.sync_ids.specs.Tables.{IsDepth};
 ghost use Rattle.world_semantics.specs.Core.{after_passing, carried, core_acting, core_getting, core_going, next_on};
 ghost use Rattle.process_control.specs.Cores.{core_at_start, core_taking, asking_of, core_asking, answering_of, core_answering};
@@ -183,7 +183,7 @@ impl<B: Behaviour> CopyCore<B> {
     }
 
     pub fn carried(&self, alloc: Global) -> Result<Image, NoMemory>
-        requires { point self.now.core.state ≡ Mark }
+        requires { point self.now.core.state ≡ AtCheckpoint }
         ensures { IfOk result (λ image. image ≡ carried self.now.core) }
     {
         let listed = self.behaviour.listed();
@@ -198,7 +198,7 @@ impl<B: Behaviour> CopyCore<B> {
     }
 
     pub fn pass(&mut self)
-        requires { point self.old.core.state ≡ Mark }
+        requires { point self.old.core.state ≡ AtCheckpoint }
         ensures { self.new ≡ record self.old { core = after_passing self.old.core } }
     {
         self.behaviour.marked();

@@ -1,5 +1,5 @@
 //! One copy of a process: `CopyControl`, its role, era and numbers, the process that runs, its receive table and the numbers of its
-//! files. A copy acts, sends the checkpoint of a mark and passes it, or watches and applies what comes whole or not at all, and takes
+//! files. A copy acts, sends a checkpoint and passes it, or watches and applies what comes whole or not at all, and takes
 //! over.
 //!
 //! Below stand `checkpoint_image` with `Behaviour` and checkpoints, `sync_ids` with `Receive` and `Asker`, `world_semantics` and

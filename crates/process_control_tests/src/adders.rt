@@ -1,4 +1,4 @@
-use crate::scripts::Step::{Answer, Ask, Checkpoint, Come, Learn, Pass, Repeat, Take, TakeOver};
+use crate::scripts::ScriptStep::{Answer, Ask, Checkpoint, Come, Learn, Pass, Repeat, Take, TakeOver};
 use crate::scripts::Turn::{First, Second};
 use crate::scripts::{Copies, Turn, play};
 use crate::starting::{start_both, terminal};

@@ -7,16 +7,16 @@ use std::alloc::Global;
 
 /// What a copy does next, and what is seen of it.
 #[derive(Clone, Copy)]
-pub enum Step<'a> {
+pub enum ScriptStep<'a> {
     /// Takes the request of this opener, number and word, which stands next.
     Take(u16, u32, i16),
-    /// Sends the checkpoint of its mark, which has these words.
+    /// Sends its checkpoint, which has these words.
     Checkpoint(&'a [i16]),
     /// What was sent last comes: it applies it, or ignores it.
     Come(bool),
     /// Learns that what it sent last was taken.
     Learn,
-    /// Goes on after its mark.
+    /// Goes on after its checkpoint.
     Pass,
     /// Asks under this number, and gets its own word back, which is this one.
     Ask(u32, i16),
@@ -31,8 +31,8 @@ pub enum Step<'a> {
 /// Which of two copies makes a step.
 #[derive(Clone, Copy)]
 pub enum Turn<'a> {
-    First(Step<'a>),
-    Second(Step<'a>),
+    First(ScriptStep<'a>),
+    Second(ScriptStep<'a>),
 }
 
 /// Two copies of a process, and what was sent last.
@@ -65,21 +65,21 @@ fn play_step<B: Behaviour>(
     alloc: Global,
     copy: &mut CopyControl<B>,
     sent: &mut Option<ImageMessage>,
-    step: Step<'_>,
+    step: ScriptStep<'_>,
 ) -> Result<bool, NoMemory> {
     match step {
-        Step::Take(opener, number, word) => take(alloc, copy, opener, number, word),
-        Step::Checkpoint(words) => {
+        ScriptStep::Take(opener, number, word) => take(alloc, copy, opener, number, word),
+        ScriptStep::Checkpoint(words) => {
             *sent = send(alloc, copy)?;
             has_words(alloc, sent, words)
         }
-        Step::Come(applies) => Ok(comes(copy, sent) == applies),
-        Step::Learn => Ok(learn(copy)),
-        Step::Pass => Ok(pass(copy)),
-        Step::Ask(number, word) => Ok(ask(copy, number, word)),
-        Step::Answer(opener, number, word) => Ok(answer(copy, opener, number, word)),
-        Step::Repeat(opener, number, word) => repeat(alloc, copy, opener, number, word),
-        Step::TakeOver(era) => Ok(take_over(copy, era)),
+        ScriptStep::Come(applies) => Ok(comes(copy, sent) == applies),
+        ScriptStep::Learn => Ok(learn(copy)),
+        ScriptStep::Pass => Ok(pass(copy)),
+        ScriptStep::Ask(number, word) => Ok(ask(copy, number, word)),
+        ScriptStep::Answer(opener, number, word) => Ok(answer(copy, opener, number, word)),
+        ScriptStep::Repeat(opener, number, word) => repeat(alloc, copy, opener, number, word),
+        ScriptStep::TakeOver(era) => Ok(take_over(copy, era)),
     }
 }
 

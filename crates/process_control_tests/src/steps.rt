@@ -2,7 +2,7 @@ ghost use Rattle.std.specs.Prelude.{◌≡◌, ◌<◌, ◌+◌, ◌^◌, ℕ, l
 ghost use Rattle.process_semantics.specs.Process.{point};
 ghost use Rattle.world_semantics.specs.Core.{next_on};
 
-use checkpoint_image::{Behaviour, ImageMessage, Standing, TakenMessage};
+use checkpoint_image::{Behaviour, ImageMessage, RequestStanding, TakenMessage};
 use gd_words::{NoMemory, Request, Words};
 use process_control::CopyControl;
 use process_semantics::Point;
@@ -62,7 +62,7 @@ pub fn take<B: Behaviour>(
     }
     let request = request(opener, number, word);
     match (point, copy.standing(&request)) {
-        (Point::Take, Standing::Next) => {
+        (Point::Take, RequestStanding::Next) => {
             copy.take(&request);
             Ok(true)
         }
@@ -70,13 +70,13 @@ pub fn take<B: Behaviour>(
     }
 }
 
-/// Sends the checkpoint of its mark; none where it doesn't stand there.
+/// Sends its checkpoint; none where it doesn't stand there.
 pub fn send<B: Behaviour>(
     alloc: Global,
     copy: &mut CopyControl<B>,
 ) -> Result<Option<ImageMessage>, NoMemory> {
     match settled(copy) {
-        Point::Mark if copy.number() < u32::MAX => {
+        Point::AtCheckpoint if copy.number() < u32::MAX => {
             let message = copy.checkpoint_out(alloc, 1)?;
             Ok(Some(message))
         }
@@ -98,10 +98,10 @@ pub fn learn<B: Behaviour>(copy: &mut CopyControl<B>) -> bool {
     copy.acknowledged()
 }
 
-/// Goes on after its mark.
+/// Goes on after its checkpoint.
 pub fn pass<B: Behaviour>(copy: &mut CopyControl<B>) -> bool {
     match settled(copy) {
-        Point::Mark => {
+        Point::AtCheckpoint => {
             copy.pass();
             !copy.sent() && !copy.acknowledged()
         }
@@ -171,7 +171,7 @@ pub fn repeat<B: Behaviour>(
         return Ok(false);
     }
     match copy.standing(&request(opener, number, 0)) {
-        Standing::Kept(words) => Ok(words.get(0) == Some(word)),
+        RequestStanding::Kept(words) => Ok(words.get(0) == Some(word)),
         _ => Ok(false),
     }
 }

@@ -7,12 +7,12 @@ use Rattle.disc_device.specs.declared.stored.Stored.{Stored}
 use Rattle.world_semantics.specs.declared.which.Which.{Which}
 use Rattle.world_semantics.specs.declared.which.Which.TheVariants.{First, Second}
 use Rattle.world_semantics.specs.Messages.{Sending}
-use Rattle.world_semantics.specs.World.{Mark, Pair}
+use Rattle.world_semantics.specs.World.{Down, Pair}
 use Rattle.node_copies.specs.Acting.{HasActed, Scene}
 use Rattle.world_semantics.specs.Records.{Records}
-use Rattle.node_copies.specs.Seen.{CopyAndDepths, told_by}
-use Rattle.node_copies.specs.declared.step.Step.{Step}
-use Rattle.node_copies.specs.declared.step.Step.TheVariants.{Impossible}
+use Rattle.node_copies.specs.Seen.{CopyAndDepths, step_sendings}
+use Rattle.node_copies.specs.declared.step.StepOutcome.{StepOutcome}
+use Rattle.node_copies.specs.declared.step.StepOutcome.TheVariants.{Impossible}
 use Rattle.process_copies.specs.Acting.{HasStepped, step_by_act}
 use Rattle.process_copies.specs.Seen.{Placed, sent_by}
 use Rattle.world_semantics.specs.Running.{Own, Stepped, first_step, own_of, step_at}
@@ -28,7 +28,7 @@ pub neither-first : (one : Option Stepped) (before between : Placed) (records mi
 neither-first None before between records mid h = (refl, h.1)
 neither-first (Some step) before between records mid h = let told = h.0 in absurd (cc)
 
-pub second-steps : (one : Option Stepped) (other : Placed → Records → Option Stepped) (step : Step) (before between after : Placed) (records mid now : Records)
+pub second-steps : (one : Option Stepped) (other : Placed → Records → Option Stepped) (step : StepOutcome) (before between after : Placed) (records mid now : Records)
     → HasStepped one Impossible before between records mid → HasStepped (other between mid) step between after mid now
     → HasStepped (first_step one (other before records)) step before after records now
 second-steps one other step before between after records mid now first second =
@@ -38,16 +38,16 @@ second-steps one other step before between after records mid now first second =
     (subst (λ (p : Placed). HasStepped (other p records) step p after records now) rest.0
     (subst (λ (r : Records). HasStepped (other between r) step between after r now) rest.1 second))
 
-pub first-steps : (one other : Option Stepped) (step : Step) (sent : List Sending) (before after : Placed) (records now : Records) → told_by step ≡ Some sent
+pub first-steps : (one other : Option Stepped) (step : StepOutcome) (sent : List Sending) (before after : Placed) (records now : Records) → step_sendings step ≡ Some sent
     → HasStepped one step before after records now → HasStepped (first_step one other) step before after records now
 first-steps None other step sent before after records now told h = let none = h.0 in absurd (cc)
 first-steps (Some made) other step sent before after records now told h = h
 
 -- Points
 
-pub at-other : (site : Site) (number : ℕ) (k : Which) (pair : Pair) (marks : List Mark) (records : Records) (stands : Point) → stands ≢ point.Mark
+pub at-other : (site : Site) (number : ℕ) (k : Which) (pair : Pair) (marks : List Down) (records : Records) (stands : Point) → stands ≢ point.AtCheckpoint
     → step_at site number k pair marks records stands ≡ step_by_act number k pair records (own_of site number k pair records stands)
-at-other site number k pair marks records point.Mark other = absurd (other refl)
+at-other site number k pair marks records point.AtCheckpoint other = absurd (other refl)
 at-other site number k pair marks records point.Inner other = refl
 at-other site number k pair marks records point.Take other = refl
 at-other site number k pair marks records point.Ask other = refl
@@ -64,7 +64,7 @@ with-first before after = record before { pair = record before.pair { first = af
 abbrev pub with-second : Placed → Scene → Placed
 with-second before after = record before { pair = record before.pair { second = after.one.copy; sectors = after.sectors } }
 
-pub first-acts : (before : Placed) (depths : List ℕ) (records : Records) (own : Option Own) (step : Step) (after : Scene)
+pub first-acts : (before : Placed) (depths : List ℕ) (records : Records) (own : Option Own) (step : StepOutcome) (after : Scene)
     → HasActed before.number own step (record { one = record { copy = before.pair.first; depths = depths }; sectors = before.pair.sectors; records = records }) after
     → HasStepped (step_by_act before.number First before.pair records own) step before (with-first before after) records after.records
 first-acts before depths records None step after h =
@@ -74,7 +74,7 @@ first-acts before depths records (Some own) step after h =
     let more = rest.1 in
     (h.0, (ap₂ (λ (one : CopyAndDepths) (sectors : List Stored). with-first before (record { one = one; sectors = sectors; records = records })) rest.0 more.0, more.1))
 
-pub second-acts : (before : Placed) (depths : List ℕ) (records : Records) (own : Option Own) (step : Step) (after : Scene)
+pub second-acts : (before : Placed) (depths : List ℕ) (records : Records) (own : Option Own) (step : StepOutcome) (after : Scene)
     → HasActed before.number own step (record { one = record { copy = before.pair.second; depths = depths }; sectors = before.pair.sectors; records = records }) after
     → HasStepped (step_by_act before.number Second before.pair records own) step before (with-second before after) records after.records
 second-acts before depths records None step after h =

@@ -4,15 +4,15 @@ use Rattle.std.specs.Option.{option_map}
 use Rattle.world_semantics.specs.declared.which.Which.{Which}
 use Rattle.world_semantics.specs.World.{Pair}
 use Rattle.world_semantics.specs.Records.{Records}
-use Rattle.node_copies.specs.Seen.{told_by}
-use Rattle.node_copies.specs.declared.step.Step.{Step}
+use Rattle.node_copies.specs.Seen.{step_sendings}
+use Rattle.node_copies.specs.declared.step.StepOutcome.{StepOutcome}
 use Rattle.process_copies.specs.Seen.{Placed, placed_after, records_after, sent_by}
 use Rattle.world_semantics.specs.Running.{Own, Stepped, own_step}
 
 -- the step that is told is this one of the process, or none: what it sends, and the process and the records after it
-abbrev pub HasStepped : Option Stepped → Step → Placed → Placed → Records → Records → Type 0
+abbrev pub HasStepped : Option Stepped → StepOutcome → Placed → Placed → Records → Records → Type 0
 HasStepped made step before after records now =
-    (told_by step ≡ sent_by made) × ((after ≡ placed_after before made) × (now ≡ records_after records made))
+    (step_sendings step ≡ sent_by made) × ((after ≡ placed_after before made) × (now ≡ records_after records made))
 
 -- the step of a process that an act of one of its copies is, or none
 abbrev pub step_by_act : ℕ → Which → Pair → Records → Option Own → Option Stepped

@@ -14,17 +14,17 @@ use Rattle.world_semantics.specs.Passes.{taken_of}
 use Rattle.computed_changes.specs.Fitting.{depths_of}
 use Rattle.computed_changes.specs.Checkpoints.{core_applying}
 use Rattle.computed_changes.specs.Replies.{awaits}
-use Rattle.world_semantics.specs.Shares.{Sharing, covered, covering, share_of, with_share}
+use Rattle.world_semantics.specs.Shares.{Sharing, covered_count, share_after_cover, share_of, with_share}
 use Rattle.world_semantics.specs.Records.{Records}
-use Rattle.node_copies.specs.Seen.{told_by}
-use Rattle.node_copies.specs.declared.step.Step.{Step}
+use Rattle.node_copies.specs.Seen.{step_sendings}
+use Rattle.node_copies.specs.declared.step.StepOutcome.{StepOutcome}
 use Rattle.world_semantics.specs.Running.{Stepped}
 use Rattle.process_copies.specs.Seen.{Placed, placed_after, records_after, sent_by}
 
 -- a step was made as it is defined, or none was possible and nothing changed
-abbrev pub Settles : Option Stepped → Placed → Records → Step → Placed → Records → Type 0
+abbrev pub Settles : Option Stepped → Placed → Records → StepOutcome → Placed → Records → Type 0
 Settles made old before step new after =
-    (told_by step ≡ sent_by made) × (new ≡ placed_after old made) × (after ≡ records_after before made)
+    (step_sendings step ≡ sent_by made) × (new ≡ placed_after old made) × (after ≡ records_after before made)
 
 -- a process with one of its copies changed
 abbrev pub placed_with : Which → Copy → Placed → Placed
@@ -42,15 +42,15 @@ is_awaiting site number copy reply = awaits site number copy.core reply (process
 abbrev pub core_by : Which → Placed → ImageMessage → Option Core
 core_by k old message = core_applying (depths_of old.site old.number) (copy_of k old.pair) message
 
--- the share of the other copy after the checkpoint of its mark was applied, and the kept acts
+-- the share of the other copy after its checkpoint was applied, and the kept acts
 abbrev pub other_covering : Which → Placed → List Act → Sharing
-other_covering k old kept = covering old.number kept (share_of (copy_of (other_of k) old.pair))
+other_covering k old kept = share_after_cover old.number kept (share_of (copy_of (other_of k) old.pair))
 
 -- the process after one of its copies applied a checkpoint, as far as the other copy and the process are concerned
 abbrev pub pair_covering : ℕ → Which → ImageMessage → List Act → Pair → Pair
 pair_covering number k message kept pair =
-    with_copy (other_of k) (with_share (covering number kept (share_of (copy_of (other_of k) pair))).share (copy_of (other_of k) pair))
-    (record pair { base = covered number kept (share_of (copy_of (other_of k) pair)); takens = taken_of message ∷ pair.takens })
+    with_copy (other_of k) (with_share (share_after_cover number kept (share_of (copy_of (other_of k) pair))).share (copy_of (other_of k) pair))
+    (record pair { base = covered_count number kept (share_of (copy_of (other_of k) pair)); takens = taken_of message ∷ pair.takens })
 
 -- Again
 

@@ -54,7 +54,7 @@ impl ProcessCopies {
         }
     }
 
-    /// Whether a copy acts and waits at a mark, its checkpoint sent.
+    /// Whether a copy acts and waits at a checkpoint, its checkpoint sent.
     pub fn waits_at_mark(&self) -> bool
         ensures { result ≡ (waits_at_mark self.now.pair.first || waits_at_mark self.now.pair.second) }
     {

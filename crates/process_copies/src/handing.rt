@@ -4,7 +4,7 @@ ghost use Rattle.process_semantics.specs.Process as process;
 ghost use Rattle.file_calls.specs.Queue.{sent_again};
 ghost use Rattle.plain_semantics.specs.Openers.{openers_of};
 ghost use Rattle.checkpoint_image.specs.Receive.{repeated};
-ghost use Rattle.world_semantics.specs.Shares.{covered, share_of, with_share};
+ghost use Rattle.world_semantics.specs.Shares.{covered_count, share_of, with_share};
 ghost use Rattle.number_ranges.specs.HasRoom.{CopyHasRoom, PairHasRoom};
 ghost use Rattle.sendings.specs.Seen.{message_of};
 ghost use Rattle.world_semantics.specs.World.{copy_of, other_of};
@@ -17,7 +17,7 @@ ghost use Rattle.computed_changes.specs.Replies.{awaits, got_step, reply_step, r
 ghost use Rattle.computed_changes.specs.Requests.{after_early_request, after_request, repeated_at, request_step};
 ghost use Rattle.node_copies.specs.Receiving.{copy_applying};
 ghost use Rattle.world_semantics.specs.Records as happened;
-ghost use Rattle.node_copies.specs.Seen.{told_by};
+ghost use Rattle.node_copies.specs.Seen.{step_sendings};
 ghost use Rattle.process_copies.specs.Receiving.{Settles, core_by, is_awaiting, other_covering, pair_covering, placed_with};
 ghost use Rattle.process_copies.specs.Seen.{placed_after, records_after, sent_by};
 
@@ -25,7 +25,7 @@ use crate::copies::ProcessCopies;
 use checkpoint_image::{ImageMessage, TakenMessage};
 use file_calls::Arrival;
 use gd_words::{NoMemory, Reply, Request};
-use node_copies::{Records, Step};
+use node_copies::{Records, StepOutcome};
 use process_semantics::Point;
 use sendings::{Message, Sending};
 use world_semantics::{Role, Which};
@@ -37,10 +37,10 @@ impl ProcessCopies {
         node: u8,
         message: Message,
         records: &mut Records,
-    ) -> Result<Step, NoMemory>
+    ) -> Result<StepOutcome, NoMemory>
         requires opener { NamesOpener self.old.site self.old.number (message_of message) }
         requires room { PairHasRoom self.old.pair }
-        ensures told { IfOk result (λ step. told_by step
+        ensures told { IfOk result (λ step. step_sendings step
             ≡ sent_by (step_on self.old.site self.old.number node self.old.pair records.old (message_of message))) }
         ensures process { OnOk result (self.new
             ≡ placed_after self.old (step_on self.old.site self.old.number node self.old.pair records.old (message_of message))) }
@@ -50,7 +50,7 @@ impl ProcessCopies {
         ensures number { self.new.number ≡ self.old.number }
     {
         match self.copy_in(node) {
-            None => Ok(Step::Impossible),
+            None => Ok(StepOutcome::Impossible),
             Some(which) => {
                 let step = self.come_to(which, message, records)?;
                 Ok(step)
@@ -64,7 +64,7 @@ impl ProcessCopies {
         which: Which,
         message: Message,
         records: &mut Records,
-    ) -> Result<Step, NoMemory>
+    ) -> Result<StepOutcome, NoMemory>
         requires opener { NamesOpener self.old.site self.old.number (message_of message) }
         requires room { CopyHasRoom (copy_of which self.old.pair) }
         ensures step { IfOk result (λ step. Settles
@@ -87,7 +87,7 @@ impl ProcessCopies {
         }
     }
 
-    fn request_to(&mut self, which: Which, request: Request) -> Step
+    fn request_to(&mut self, which: Which, request: Request) -> StepOutcome
         requires { request.opener < length (openers_of self.old.site self.old.number) }
         ensures step { (records : happened.Records) → Settles
             (request_step which self.old.pair records request (copy_of which self.old.pair).role)
@@ -99,15 +99,15 @@ impl ProcessCopies {
             Role::Acting => self.request_acting(which, request),
             Role::Watching => {
                 self.arrive_watching(which, request);
-                Step::Quiet
+                StepOutcome::Quiet
             }
-            Role::Gone => Step::Impossible,
+            Role::Gone => StepOutcome::Impossible,
         }
     }
 
-    fn request_acting(&mut self, which: Which, request: Request) -> Step
+    fn request_acting(&mut self, which: Which, request: Request) -> StepOutcome
         requires { request.opener < length (openers_of self.old.site self.old.number) }
-        ensures told { told_by result ≡ Some (repeated_at (copy_of which self.old.pair) request) }
+        ensures told { step_sendings result ≡ Some (repeated_at (copy_of which self.old.pair) request) }
         ensures process { self.new ≡ placed_with which (after_request (copy_of which self.old.pair) request) self.old }
     {
         let node = self.processor(which);
@@ -141,7 +141,7 @@ impl ProcessCopies {
         which: Which,
         reply: &Reply,
         records: &mut Records,
-    ) -> Result<Step, NoMemory>
+    ) -> Result<StepOutcome, NoMemory>
         requires { CopyHasRoom (copy_of which self.old.pair) }
         ensures step { IfOk result (λ step. Settles
             (reply_step self.old.site self.old.number which self.old.pair records.old reply.now (copy_of which self.old.pair).role)
@@ -154,7 +154,7 @@ impl ProcessCopies {
                 let step = self.reply_acting(which, reply, records)?;
                 Ok(step)
             }
-            Role::Watching | Role::Gone => Ok(Step::Impossible),
+            Role::Watching | Role::Gone => Ok(StepOutcome::Impossible),
         }
     }
 
@@ -163,7 +163,7 @@ impl ProcessCopies {
         which: Which,
         reply: &Reply,
         records: &mut Records,
-    ) -> Result<Step, NoMemory>
+    ) -> Result<StepOutcome, NoMemory>
         requires { CopyHasRoom (copy_of which self.old.pair) }
         ensures step { IfOk result (λ step. Settles
             (reply_step_where self.old.number which self.old.pair records.old reply.now
@@ -173,10 +173,10 @@ impl ProcessCopies {
         ensures number { self.new.number ≡ self.old.number }
     {
         if !self.awaits(which, reply) {
-            return Ok(Step::Impossible);
+            return Ok(StepOutcome::Impossible);
         }
         self.get_reply(which, reply, records)?;
-        Ok(Step::Quiet)
+        Ok(StepOutcome::Quiet)
     }
 
     /// Whether a copy awaits a reply.
@@ -228,7 +228,7 @@ impl ProcessCopies {
         which: Which,
         message: &ImageMessage,
         records: &mut Records,
-    ) -> Result<Step, NoMemory>
+    ) -> Result<StepOutcome, NoMemory>
         ensures step { IfOk result (λ step. Settles
             (checkpoint_step self.old.site self.old.number which self.old.pair records.old message.now (copy_of which self.old.pair).role)
             self.old records.old step self.new records.new) }
@@ -236,7 +236,7 @@ impl ProcessCopies {
         ensures number { self.new.number ≡ self.old.number }
     {
         if !self.apply(which, message) {
-            return Ok(Step::Impossible);
+            return Ok(StepOutcome::Impossible);
         }
         let step = self.applied(which, message, records)?;
         Ok(step)
@@ -260,8 +260,8 @@ impl ProcessCopies {
         which: Which,
         message: &ImageMessage,
         records: &mut Records,
-    ) -> Result<Step, NoMemory>
-        ensures told { IfOk result (λ step. told_by step ≡ Some (sent_at (copy_of which self.old.pair).processor (Taking (taken_of message.now) ∷ []))) }
+    ) -> Result<StepOutcome, NoMemory>
+        ensures told { IfOk result (λ step. step_sendings step ≡ Some (sent_at (copy_of which self.old.pair).processor (Taking (taken_of message.now) ∷ []))) }
         ensures process { OnOk result (self.new ≡ record self.old { pair = pair_covering self.old.number which message.now records.old.kept self.old.pair }) }
         ensures records { OnOk result (records.new ≡ record records.old { kept = (other_covering which self.old records.old.kept).kept }) }
         ensures site { self.new.site ≡ self.old.site }
@@ -272,12 +272,12 @@ impl ProcessCopies {
         let taken = taken_of(message);
         self.takens.add(taken)?;
         self.base = base;
-        Ok(Step::Sends(Sending::new(node, Message::Taking(taken))))
+        Ok(StepOutcome::Sends(Sending::new(node, Message::Taking(taken))))
     }
 
-    /// The mark of the other copy is kept, with what that copy held. Answers the base.
+    /// The checkpoint of the other copy is kept, with what that copy held. Answers the base.
     fn cover_other(&mut self, which: Which, records: &mut Records) -> Result<u64, NoMemory>
-        ensures base { IfOk result (λ base. base ≡ covered self.old.number records.old.kept (share_of (copy_of (other_of which) self.old.pair))) }
+        ensures base { IfOk result (λ base. base ≡ covered_count self.old.number records.old.kept (share_of (copy_of (other_of which) self.old.pair))) }
         ensures process { OnOk result (self.new ≡ placed_with (other_of which)
             (with_share (other_covering which self.old records.old.kept).share (copy_of (other_of which) self.old.pair)) self.old) }
         ensures records { OnOk result (records.new ≡ record records.old { kept = (other_covering which self.old records.old.kept).kept }) }
@@ -292,7 +292,7 @@ impl ProcessCopies {
         Ok(base)
     }
 
-    fn taken_to(&mut self, which: Which, taken: TakenMessage) -> Step
+    fn taken_to(&mut self, which: Which, taken: TakenMessage) -> StepOutcome
         ensures step { (records : happened.Records) → Settles
             (taken_step which self.old.pair records taken (copy_of which self.old.pair).role) self.old records result self.new records }
         ensures site { self.new.site ≡ self.old.site }
@@ -300,11 +300,11 @@ impl ProcessCopies {
     {
         match self.role(which) {
             Role::Acting => self.taken_acting(which, taken),
-            Role::Watching | Role::Gone => Step::Impossible,
+            Role::Watching | Role::Gone => StepOutcome::Impossible,
         }
     }
 
-    fn taken_acting(&mut self, which: Which, taken: TakenMessage) -> Step
+    fn taken_acting(&mut self, which: Which, taken: TakenMessage) -> StepOutcome
         ensures step { (records : happened.Records) → Settles
             (taken_step_where which self.old.pair records (is_of_last (copy_of which self.old.pair).sent
             (copy_of which self.old.pair).era (copy_of which self.old.pair).number taken))
@@ -313,10 +313,10 @@ impl ProcessCopies {
         ensures number { self.new.number ≡ self.old.number }
     {
         if !self.is_of_last(which, taken) {
-            return Step::Impossible;
+            return StepOutcome::Impossible;
         }
         self.acked(which);
-        Step::Quiet
+        StepOutcome::Quiet
     }
 
     fn is_of_last(&self, which: Which, taken: TakenMessage) -> bool
@@ -339,12 +339,12 @@ impl ProcessCopies {
 }
 
 /// What a node sends that a request came to.
-fn repeating(node: u8, arrival: Arrival) -> Step
-    ensures { told_by result ≡ Some (sent_at node (map Replying (sent_again arrival))) }
+fn repeating(node: u8, arrival: Arrival) -> StepOutcome
+    ensures { step_sendings result ≡ Some (sent_at node (map Replying (sent_again arrival))) }
 {
     match arrival {
-        Arrival::Waits | Arrival::Dropped => Step::Quiet,
-        Arrival::Again(reply) => Step::Sends(Sending::new(node, Message::Replying(reply))),
+        Arrival::Waits | Arrival::Dropped => StepOutcome::Quiet,
+        Arrival::Again(reply) => StepOutcome::Sends(Sending::new(node, Message::Replying(reply))),
     }
 }
 

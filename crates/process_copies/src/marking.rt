@@ -1,7 +1,7 @@
 ghost use Rattle.std.specs.Prelude.{◌≡◌, ◌++◌, OnOk};
 ghost use Rattle.world_semantics.specs.declared.role.Role.TheVariants.{Watching};
 ghost use Rattle.world_semantics.specs.World.{copy_of, other_of};
-ghost use Rattle.world_semantics.specs.Rules.{after_takeover, is_watching, marked_pair, stopped_pair, taken_over, taker, takes_over, told_again, told_at_mark};
+ghost use Rattle.world_semantics.specs.Rules.{after_takeover, is_watching, pair_at_down, stopped_pair, taken_over, taker, takes_over, told_again, told_at_down};
 ghost use Rattle.world_semantics.specs.Shares.{closed_by};
 ghost use Rattle.number_ranges.specs.HasRoom.{CopyHasRoom};
 ghost use Rattle.process_copies.specs.Receiving.{placed_with};
@@ -23,8 +23,8 @@ impl ProcessCopies {
     ) -> Result<(), NoMemory>
         requires watching { (k : Which) → (copy_of k self.old.pair).role ≡ Watching
             → CopyHasRoom (copy_of k self.old.pair) }
-        ensures process { OnOk result (self.new ≡ record self.old { pair = marked_pair node processor self.old.pair }) }
-        ensures told { OnOk result (told.new ≡ told.old ++ told_at_mark node processor self.old.pair) }
+        ensures process { OnOk result (self.new ≡ record self.old { pair = pair_at_down node processor self.old.pair }) }
+        ensures told { OnOk result (told.new ≡ told.old ++ told_at_down node processor self.old.pair) }
         ensures site { self.new.site ≡ self.old.site }
         ensures number { self.new.number ≡ self.old.number }
     {

@@ -4,7 +4,7 @@ ghost use Rattle.world_semantics.specs.World.{copy_of, may_pass};
 ghost use Rattle.gd_words.specs.Ranges.{HasNext};
 ghost use Rattle.number_ranges.specs.HasRoom.{CopyHasRoom, PairHasRoom};
 ghost use Rattle.world_semantics.specs.Records as happened;
-ghost use Rattle.node_copies.specs.Seen.{told_by};
+ghost use Rattle.node_copies.specs.Seen.{step_sendings};
 ghost use Rattle.process_copies.specs.Acting.{HasStepped, step_by_act};
 ghost use Rattle.process_copies.specs.Seen.{placed_after, records_after, sent_by};
 ghost use Rattle.world_semantics.specs.Running.{mark_step, own_of, passing_step, sending_step, step_as, step_at, step_of, step_of_copy};
@@ -12,7 +12,7 @@ ghost use Rattle.world_semantics.specs.Running.{mark_step, own_of, passing_step,
 use crate::copies::ProcessCopies;
 use gd_words::NoMemory;
 use logs::Shared;
-use node_copies::{Marks, Records, Step};
+use node_copies::{Downs, Records, StepOutcome};
 use process_semantics::Point;
 use sendings::{Message, Sending};
 use std::alloc::Global;
@@ -23,12 +23,12 @@ impl ProcessCopies {
     pub fn run(
         &mut self,
         alloc: Global,
-        marks: &Marks,
+        marks: &Downs,
         records: &mut Records,
-    ) -> Result<Step, NoMemory>
+    ) -> Result<StepOutcome, NoMemory>
         requires room { PairHasRoom self.old.pair }
         requires shown { HasNext (length records.old.shown) }
-        ensures told { IfOk result (λ step. told_by step ≡ sent_by (step_of self.old.site self.old.number self.old.pair marks.now records.old)) }
+        ensures told { IfOk result (λ step. step_sendings step ≡ sent_by (step_of self.old.site self.old.number self.old.pair marks.now records.old)) }
         ensures process { OnOk result (self.new ≡ placed_after self.old (step_of self.old.site self.old.number self.old.pair marks.now records.old)) }
         ensures records { OnOk result (records.new ≡ records_after records.old (step_of self.old.site self.old.number self.old.pair marks.now records.old)) }
         ensures site { self.new.site ≡ self.old.site }
@@ -41,9 +41,9 @@ impl ProcessCopies {
     fn run_either(
         &mut self,
         alloc: Global,
-        marks: &Marks,
+        marks: &Downs,
         records: &mut Records,
-    ) -> Result<Step, NoMemory>
+    ) -> Result<StepOutcome, NoMemory>
         requires room { PairHasRoom self.old.pair }
         requires shown { HasNext (length records.old.shown) }
         ensures stepped { IfOk result (λ step. HasStepped (step_of self.old.site self.old.number self.old.pair marks.now records.old)
@@ -52,12 +52,12 @@ impl ProcessCopies {
         ensures number { self.new.number ≡ self.old.number }
     {
         match self.run_copy(alloc, Which::First, marks, records)? {
-            Step::Impossible => {
+            StepOutcome::Impossible => {
                 let step = self.run_copy(alloc, Which::Second, marks, records)?;
                 Ok(step)
             }
-            Step::Quiet => Ok(Step::Quiet),
-            Step::Sends(sending) => Ok(Step::Sends(sending)),
+            StepOutcome::Quiet => Ok(StepOutcome::Quiet),
+            StepOutcome::Sends(sending) => Ok(StepOutcome::Sends(sending)),
         }
     }
 
@@ -65,9 +65,9 @@ impl ProcessCopies {
         &mut self,
         alloc: Global,
         which: Which,
-        marks: &Marks,
+        marks: &Downs,
         records: &mut Records,
-    ) -> Result<Step, NoMemory>
+    ) -> Result<StepOutcome, NoMemory>
         requires room { PairHasRoom self.old.pair }
         requires shown { HasNext (length records.old.shown) }
         ensures stepped { IfOk result (λ step. HasStepped (step_of_copy self.old.site self.old.number self.old.pair marks.now records.old which)
@@ -84,10 +84,10 @@ impl ProcessCopies {
         &mut self,
         alloc: Global,
         which: Which,
-        marks: &Marks,
+        marks: &Downs,
         records: &mut Records,
         role: Role,
-    ) -> Result<Step, NoMemory>
+    ) -> Result<StepOutcome, NoMemory>
         requires room { CopyHasRoom (copy_of which self.old.pair) }
         requires shown { HasNext (length records.old.shown) }
         ensures stepped { IfOk result (λ step. HasStepped (step_as self.old.site self.old.number which self.old.pair marks.now records.old role)
@@ -105,7 +105,7 @@ impl ProcessCopies {
                 };
                 Ok(step)
             }
-            Role::Watching | Role::Gone => Ok(Step::Impossible),
+            Role::Watching | Role::Gone => Ok(StepOutcome::Impossible),
         }
     }
 
@@ -113,10 +113,10 @@ impl ProcessCopies {
         &mut self,
         alloc: Global,
         which: Which,
-        marks: &Marks,
+        marks: &Downs,
         records: &mut Records,
         stands: Point,
-    ) -> Result<Step, NoMemory>
+    ) -> Result<StepOutcome, NoMemory>
         requires point { point (copy_of which self.old.pair).core.state ≡ stands }
         requires room { CopyHasRoom (copy_of which self.old.pair) }
         requires shown { HasNext (length records.old.shown) }
@@ -126,7 +126,7 @@ impl ProcessCopies {
         ensures number { self.new.number ≡ self.old.number }
     {
         match stands {
-            Point::Mark => {
+            Point::AtCheckpoint => {
                 let free = self.may_pass(which, marks);
                 let sent = self.sent(which);
                 let step = self.run_mark(alloc, which, records, free, sent)?;
@@ -140,7 +140,7 @@ impl ProcessCopies {
     }
 
     /// An act of a copy at a point where it stands.
-    fn act(&mut self, which: Which, records: &mut Records, stands: Point) -> Result<Step, NoMemory>
+    fn act(&mut self, which: Which, records: &mut Records, stands: Point) -> Result<StepOutcome, NoMemory>
         requires point { point (copy_of which self.old.pair).core.state ≡ stands }
         requires room { CopyHasRoom (copy_of which self.old.pair) }
         requires shown { HasNext (length records.old.shown) }
@@ -161,7 +161,7 @@ impl ProcessCopies {
         }
     }
 
-    fn act_first(&mut self, records: &mut Records, stands: Point) -> Result<Step, NoMemory>
+    fn act_first(&mut self, records: &mut Records, stands: Point) -> Result<StepOutcome, NoMemory>
         requires point { point self.old.pair.first.core.state ≡ stands }
         requires room { CopyHasRoom self.old.pair.first }
         requires shown { HasNext (length records.old.shown) }
@@ -178,7 +178,7 @@ impl ProcessCopies {
         Ok(step)
     }
 
-    fn act_second(&mut self, records: &mut Records, stands: Point) -> Result<Step, NoMemory>
+    fn act_second(&mut self, records: &mut Records, stands: Point) -> Result<StepOutcome, NoMemory>
         requires point { point self.old.pair.second.core.state ≡ stands }
         requires room { CopyHasRoom self.old.pair.second }
         requires shown { HasNext (length records.old.shown) }
@@ -195,7 +195,7 @@ impl ProcessCopies {
         Ok(step)
     }
 
-    /// At a mark, which a copy may pass or not, and whose checkpoint it has sent or not.
+    /// At a checkpoint, which a copy may pass or not, and whose checkpoint it has sent or not.
     fn run_mark(
         &mut self,
         alloc: Global,
@@ -203,7 +203,7 @@ impl ProcessCopies {
         records: &mut Records,
         free: bool,
         sent: bool,
-    ) -> Result<Step, NoMemory>
+    ) -> Result<StepOutcome, NoMemory>
         requires point { point (copy_of which self.old.pair).core.state ≡ Point.Mark }
         requires room { CopyHasRoom (copy_of which self.old.pair) }
         ensures stepped { IfOk result (λ step. HasStepped (mark_step self.old.number which self.old.pair records.old free sent)
@@ -216,14 +216,14 @@ impl ProcessCopies {
             return Ok(step);
         }
         if sent {
-            return Ok(Step::Impossible);
+            return Ok(StepOutcome::Impossible);
         }
         let step = self.send(alloc, which)?;
         Ok(step)
     }
 
-    /// A copy passes its mark.
-    fn pass(&mut self, which: Which, records: &mut Records) -> Result<Step, NoMemory>
+    /// A copy passes its checkpoint.
+    fn pass(&mut self, which: Which, records: &mut Records) -> Result<StepOutcome, NoMemory>
         requires { point (copy_of which self.old.pair).core.state ≡ Point.Mark }
         ensures stepped { IfOk result (λ step. HasStepped (Some (passing_step self.old.number which self.old.pair records.old))
             step self.old self.new records.old records.new) }
@@ -235,11 +235,11 @@ impl ProcessCopies {
             Which::First => self.first.pass(number, records)?,
             Which::Second => self.second.pass(number, records)?,
         }
-        Ok(Step::Quiet)
+        Ok(StepOutcome::Quiet)
     }
 
-    /// A copy sends the checkpoint of its mark.
-    fn send(&mut self, alloc: Global, which: Which) -> Result<Step, NoMemory>
+    /// A copy sends its checkpoint.
+    fn send(&mut self, alloc: Global, which: Which) -> Result<StepOutcome, NoMemory>
         requires point { point (copy_of which self.old.pair).core.state ≡ Point.Mark }
         requires room { CopyHasRoom (copy_of which self.old.pair) }
         ensures stepped { (records : happened.Records) → IfOk result (λ step. HasStepped (Some (sending_step self.old.number which self.old.pair records))
@@ -256,6 +256,6 @@ impl ProcessCopies {
         let message = Shared::new(alloc, message)?;
         let kept = message.share()?;
         self.checkpoints.add(kept)?;
-        Ok(Step::Sends(Sending::new(node, Message::Checkpointing(message))))
+        Ok(StepOutcome::Sends(Sending::new(node, Message::Checkpointing(message))))
     }
 }

@@ -4,12 +4,12 @@ ghost use Rattle.world_semantics.specs.Records as happened;
 ghost use Rattle.world_semantics.specs.Running.{mark_step, own_of, step_as, step_at, step_of, step_of_copy};
 
 use crate::copies::ProcessCopies;
-use node_copies::Marks;
+use node_copies::Downs;
 use process_semantics::Point;
 use world_semantics::{Role, Which};
 
 impl ProcessCopies {
-    /// Whether a copy has sent the checkpoint of its mark.
+    /// Whether a copy has sent its checkpoint.
     pub(crate) fn sent(&self, which: Which) -> bool
         ensures { result ≡ (copy_of which self.now.pair).sent }
     {
@@ -19,8 +19,8 @@ impl ProcessCopies {
         }
     }
 
-    /// Whether a copy may go on after its mark.
-    pub(crate) fn may_pass(&self, which: Which, marks: &Marks) -> bool
+    /// Whether a copy may go on after its checkpoint.
+    pub(crate) fn may_pass(&self, which: Which, marks: &Downs) -> bool
         ensures { result ≡ may_pass marks.now which self.now.pair }
     {
         match which {
@@ -38,7 +38,7 @@ impl ProcessCopies {
 
 impl ProcessCopies {
     /// Whether the process can make a step.
-    pub fn can_run(&self, marks: &Marks) -> bool
+    pub fn can_run(&self, marks: &Downs) -> bool
         ensures { (records : happened.Records) → result ≡ is_some (step_of self.now.site self.now.number self.now.pair marks.now records) }
     {
         if self.can_run_copy(Which::First, marks) {
@@ -47,14 +47,14 @@ impl ProcessCopies {
         self.can_run_copy(Which::Second, marks)
     }
 
-    fn can_run_copy(&self, which: Which, marks: &Marks) -> bool
+    fn can_run_copy(&self, which: Which, marks: &Downs) -> bool
         ensures { (records : happened.Records) → result ≡ is_some (step_of_copy self.now.site self.now.number self.now.pair marks.now records which) }
     {
         let role = self.role(which);
         self.can_run_as(which, marks, role)
     }
 
-    fn can_run_as(&self, which: Which, marks: &Marks, role: Role) -> bool
+    fn can_run_as(&self, which: Which, marks: &Downs, role: Role) -> bool
         ensures { (records : happened.Records) → result ≡ is_some (step_as self.now.site self.now.number which self.now.pair marks.now records role) }
     {
         match role {
@@ -66,11 +66,11 @@ impl ProcessCopies {
         }
     }
 
-    fn can_run_at(&self, which: Which, marks: &Marks, stands: Point) -> bool
+    fn can_run_at(&self, which: Which, marks: &Downs, stands: Point) -> bool
         ensures { (records : happened.Records) → result ≡ is_some (step_at self.now.site self.now.number which self.now.pair marks.now records stands) }
     {
         match stands {
-            Point::Mark => {
+            Point::AtCheckpoint => {
                 let free = self.may_pass(which, marks);
                 let sent = self.sent(which);
                 can_go_on(free, sent)
@@ -89,7 +89,7 @@ impl ProcessCopies {
     }
 }
 
-/// Whether a copy at its mark can go on, which may pass or not, and has sent its checkpoint or not.
+/// Whether a copy at its checkpoint can go on, which may pass or not, and has sent its checkpoint or not.
 fn can_go_on(free: bool, sent: bool) -> bool
     ensures { (number : ℕ) (k : Which) (pair : Pair) (records : happened.Records) → result ≡ is_some (mark_step number k pair records free sent) }
 {

@@ -1,7 +1,7 @@
 ghost use Rattle.std.specs.Prelude.{◌≡◌, pos, negsuc, true, false, [], ◌∷◌, replicate, Some, None};
 ghost use Rattle.process_semantics.specs.declared.point.Point.TheVariants as point;
 ghost use Rattle.process_semantics.specs.Image.{image_of, restored};
-ghost use Rattle.process_semantics.specs.Process.{Serves, after_mark};
+ghost use Rattle.process_semantics.specs.Process.{Serves, after_checkpoint};
 ghost use Rattle.process_semantics.specs.Disc.{disc_start};
 ghost use Rattle.process_semantics.specs.State.{Run, Test, Last};
 ghost use Rattle.process_guards.specs.Nested.{marks, gives, repeats, stops, main_at, called_at, calling, busy, running, fresh, ended, disc_at};
@@ -37,7 +37,7 @@ pub fn a_mark_is_passed_and_an_end_has_no_frames()
     ensures mark { image_of (0 ∷ []) (running (called_at (Run marks ∷ Run gives ∷ []) ∷ calling ∷ []))
         ≡ pos 2 ∷ pos 1 ∷ pos 6 ∷ pos 2 ∷ pos 0 ∷ pos 2 ∷ pos 5 ∷ negsuc 0 ∷ pos 1 ∷ pos 0 ∷ pos 7 ∷ [] }
     ensures mark_restored { restored fresh true (pos 2 ∷ pos 1 ∷ pos 6 ∷ pos 2 ∷ pos 0 ∷ pos 2 ∷ pos 5 ∷ negsuc 0 ∷ pos 1 ∷ pos 0 ∷ pos 7 ∷ [])
-        ≡ Some (after_mark (running (called_at (Run marks ∷ Run gives ∷ []) ∷ calling ∷ []))) }
+        ≡ Some (after_checkpoint (running (called_at (Run marks ∷ Run gives ∷ []) ∷ calling ∷ []))) }
     ensures end { image_of (0 ∷ []) ended ≡ pos 0 ∷ pos 1 ∷ pos 0 ∷ pos 7 ∷ [] }
     ensures end_restored { restored fresh false (pos 0 ∷ pos 1 ∷ pos 0 ∷ pos 7 ∷ []) ≡ Some ended }
 {}
@@ -57,10 +57,10 @@ pub fn other_words_restore_nothing()
     ensures twice { restored fresh true (pos 1 ∷ pos 1 ∷ pos 8 ∷ pos 2 ∷ pos 2 ∷ pos 0 ∷ pos 7 ∷ pos 0 ∷ pos 7 ∷ []) ≡ None }
 {}
 
-/// A disc's image has the request in hand, the last write's number in two words, the high half first, and the reply. At Mark it is of the disc at Device.
+/// A disc's image has the request in hand, the last write's number in two words, the high half first, and the reply. At a checkpoint it is of the disc at Device.
 pub fn a_disc_is_imaged()
     ensures take { image_of [] (disc_at point.Take None None) ≡ pos 0 ∷ pos 2 ∷ negsuc 25535 ∷ pos 0 ∷ [] }
-    ensures mark { image_of [] (disc_at point.Mark (Some (pos 1 ∷ pos 0 ∷ [])) None) ≡ pos 2 ∷ pos 1 ∷ pos 0 ∷ pos 2 ∷ negsuc 25535 ∷ pos 0 ∷ [] }
+    ensures mark { image_of [] (disc_at point.AtCheckpoint (Some (pos 1 ∷ pos 0 ∷ [])) None) ≡ pos 2 ∷ pos 1 ∷ pos 0 ∷ pos 2 ∷ negsuc 25535 ∷ pos 0 ∷ [] }
     ensures device { image_of [] (disc_at point.Device (Some (pos 1 ∷ pos 0 ∷ [])) None) ≡ pos 2 ∷ pos 1 ∷ pos 0 ∷ pos 2 ∷ negsuc 25535 ∷ pos 0 ∷ [] }
     ensures answer { image_of [] (disc_at point.Answer (Some (pos 9 ∷ [])) (Some (pos 1 ∷ []))) ≡ pos 1 ∷ pos 9 ∷ pos 2 ∷ negsuc 25535 ∷ pos 1 ∷ pos 1 ∷ [] }
     ensures empty { image_of [] (disc_at point.Device (Some []) None) ≡ pos 0 ∷ pos 2 ∷ negsuc 25535 ∷ pos 0 ∷ [] }

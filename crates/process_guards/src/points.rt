@@ -1,7 +1,7 @@
 ghost use Rattle.std.specs.Prelude.{◌≡◌, pos, negsuc, true, [], ◌∷◌};
 ghost use Rattle.tal_tree.specs.declared.statement.What.{ReadUpdate, Reply, WriteRead, Checkpoint, Assign, Stop};
 ghost use Rattle.tal_tree.specs.declared.expression.Variable.TheVariants.{Simple};
-ghost use Rattle.process_semantics.specs.declared.point.Point.TheVariants.{Inner, Take, Ask, Await, Answer, Mark, Ended};
+ghost use Rattle.process_semantics.specs.declared.point.Point.TheVariants.{Inner, Take, Ask, Await, Answer, AtCheckpoint, Ended};
 ghost use Rattle.process_semantics.specs.Points.{point_of};
 ghost use Rattle.process_guards.specs.States.{code, word, at_statement, in_hand, over};
 
@@ -29,9 +29,9 @@ pub fn an_ask_is_awaited()
     ensures too_many_back { point_of code (at_statement (WriteRead 0 1 (word (pos 1)) (word (pos 17)) (Simple 0))) ≡ Inner }
 {}
 
-/// CHECKPOINT is a mark, and an ended process stands nowhere else.
+/// CHECKPOINT stands at the point of checkpoints, and an ended process stands nowhere else.
 pub fn a_checkpoint_is_a_mark()
-    ensures mark { point_of code (at_statement (Checkpoint [] [])) ≡ Mark }
+    ensures mark { point_of code (at_statement (Checkpoint [] [])) ≡ AtCheckpoint }
     ensures ended { point_of code (over (pos 1)) ≡ Ended }
     ensures stop { point_of code (at_statement Stop) ≡ Inner }
 {}

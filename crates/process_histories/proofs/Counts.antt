@@ -45,7 +45,7 @@ none-awaited s file away = by (process.point s) away
     by point.Take away = refl
     by point.Ask away = refl
     by point.Answer away = refl
-    by point.Mark away = refl
+    by point.AtCheckpoint away = refl
     by point.Device away = refl
     by point.Ended away = refl
 
@@ -68,7 +68,7 @@ module _ {site : Site} {number : ℕ} {spec : ProcessSpec} where
       omega (arith, asked-count regular done file, before, after)
   asked-count regular (one_more {before = core} done (marks at)) file =
       let before : one_if (awaits_on core.state file) ≡ 0 = rw at refl in
-      let after = none-awaited (process.after_mark core.state) file (calm-away _ (marked-calm core.state (done-steady regular done) at)) in
+      let after = none-awaited (process.after_checkpoint core.state) file (calm-away _ (marked-calm core.state (done-steady regular done) at)) in
       omega (arith, asked-count regular done file, before, after)
   asked-count regular (one_more {before = core} done (takes {words = words} block at there)) file =
       let before : one_if (awaits_on core.state file) ≡ 0 = rw at refl in

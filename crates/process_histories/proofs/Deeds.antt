@@ -7,14 +7,14 @@ use Rattle.process_semantics.specs.declared.point.Point.{Point}
 use Rattle.process_semantics.specs.declared.point.Point.TheVariants as point
 use Rattle.process_semantics.specs.Process as process
 use Rattle.plain_semantics.specs.Openers.{openers_of}
-use Rattle.world_semantics.specs.Core.{Core, Deed, Went, Marked, Took, Asked, Got, Answered, Acted, Advances, goes, marks, takes, asks, gets, answers, acts}
+use Rattle.world_semantics.specs.Core.{Core, Deed, Went, Checkpointed, Took, Asked, Got, Answered, Acted, Advances, goes, marks, takes, asks, gets, answers, acts}
 use Rattle.world_semantics.proofs.Lists.{some-same}
 use Rattle.process_histories.specs.Histories.{HasDone, nothing_done, one_more}
 
 -- the point at which a deed is done
 abbrev pub point_of : Deed → Point
 point_of Went = point.Inner
-point_of Marked = point.Mark
+point_of Checkpointed = point.AtCheckpoint
 point_of (Took place words) = point.Take
 point_of (Asked file words) = point.Ask
 point_of (Got file words) = point.Await

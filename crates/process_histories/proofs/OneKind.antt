@@ -22,7 +22,7 @@ inner-kind : (s : ProcessState) → kind_of (process.after_inner s) ≡ kind_of 
 inner-kind (Runs program s) = refl
 inner-kind (Serves sectors s) = refl
 
-marked-kind : (s : ProcessState) → kind_of (process.after_mark s) ≡ kind_of s
+marked-kind : (s : ProcessState) → kind_of (process.after_checkpoint s) ≡ kind_of s
 marked-kind (Runs program s) = refl
 marked-kind (Serves sectors s) = refl
 

@@ -73,7 +73,7 @@ pub answered-calm : (s : ProcessState) → IsSteady s → process.point s ≡ po
 answered-calm (Runs program s) is at = (is.0, answered-awake program s at is.1)
 answered-calm (Serves sectors s) is at = (λ same. cc, λ same. cc)
 
-pub marked-calm : (s : ProcessState) → IsSteady s → process.point s ≡ point.Mark → IsCalm (process.after_mark s)
+pub marked-calm : (s : ProcessState) → IsSteady s → process.point s ≡ point.AtCheckpoint → IsCalm (process.after_checkpoint s)
 marked-calm (Runs program s) is at = (is.0, marked-awake program s at is.1)
 marked-calm (Serves sectors s) is at = (λ same. cc, λ same. cc)
 

@@ -18,7 +18,7 @@ use Rattle.process_semantics.specs.Process.{ProcessState, Runs, Serves}
 use Rattle.disc_device.specs.declared.stored.Stored.{Stored}
 use Rattle.disc_device.specs.Sectors.{blank, is_of_write, is_written}
 use Rattle.checkpoint_image.specs.Behaving.{last_write_of}
-use Rattle.world_semantics.specs.Core.{Core, Deed, Went, Marked, Took, Asked, Got, Answered, Acted, goes, marks, takes, asks, gets, answers, acts}
+use Rattle.world_semantics.specs.Core.{Core, Deed, Went, Checkpointed, Took, Asked, Got, Answered, Acted, goes, marks, takes, asks, gets, answers, acts}
 use Rattle.world_semantics.specs.World.{device_at_boot}
 use Rattle.world_semantics.proofs.Lists.{some-same}
 use Rattle.process_histories.specs.Devices.{after_call, sectors_after, writes_in}
@@ -89,7 +89,7 @@ inner-last : (s : ProcessState) → last_write_of (process.after_inner s) ≡ la
 inner-last (Runs program s) = refl
 inner-last (Serves sectors s) = refl
 
-marked-last : (s : ProcessState) → last_write_of (process.after_mark s) ≡ last_write_of s
+marked-last : (s : ProcessState) → last_write_of (process.after_checkpoint s) ≡ last_write_of s
 marked-last (Runs program s) = refl
 marked-last (Serves sectors s) = refl
 
@@ -144,7 +144,7 @@ first-blank (kind.Pair program) sector stored there = absurd (cc)
 device-length : (what : Kind) (deeds : List Deed) → length (sectors_after what deeds) ≡ length (device_at_boot what)
 device-length what [] = refl
 device-length what (Went ∷ deeds) = device-length what deeds
-device-length what (Marked ∷ deeds) = device-length what deeds
+device-length what (Checkpointed ∷ deeds) = device-length what deeds
 device-length what (Took place words ∷ deeds) = device-length what deeds
 device-length what (Asked file words ∷ deeds) = device-length what deeds
 device-length what (Got file words ∷ deeds) = device-length what deeds

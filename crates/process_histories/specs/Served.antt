@@ -6,7 +6,7 @@ use Rattle.tal_tree.specs.declared.site.ProcessSpec.{ProcessSpec}
 use Rattle.tal_tree.specs.declared.site.Site.{Site}
 use Rattle.process_semantics.specs.Disc.{disc_start}
 use Rattle.process_semantics.specs.Process.{Serves}
-use Rattle.world_semantics.specs.Core.{Core, Deed, Marked, Took, Answered, Acted}
+use Rattle.world_semantics.specs.Core.{Core, Deed, Checkpointed, Took, Answered, Acted}
 
 -- a disc of two sectors
 abbrev pub disc : ProcessSpec
@@ -27,7 +27,7 @@ sector_with word = word ∷ replicate 7 (pos 0)
 -- what the disc does for the request
 abbrev pub one_write : List Deed
 one_write =
-    Answered 0 (pos 0 ∷ []) ∷ Acted (Write 1 (sector_with (pos 5)) 1) (sector_with (pos 0)) ∷ Marked ∷ Took 0 (pos 2 ∷ pos 1 ∷ pos 5 ∷ []) ∷ []
+    Answered 0 (pos 0 ∷ []) ∷ Acted (Write 1 (sector_with (pos 5)) 1) (sector_with (pos 0)) ∷ Checkpointed ∷ Took 0 (pos 2 ∷ pos 1 ∷ pos 5 ∷ []) ∷ []
 
 -- what it is then
 abbrev pub after_one : Core

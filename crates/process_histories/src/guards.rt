@@ -11,7 +11,7 @@ ghost use Rattle.process_histories.specs.Words.{taken_from, answered_to, request
 ghost use Rattle.process_histories.specs.Devices.{sectors_after, FoundWhatStood, writes_in};
 ghost use Rattle.process_histories.specs.Served.{disc, disc_site, sector_with, one_write, after_one};
 
-/// A disc takes a request, stands at its mark, writes and answers, and keeps the reply. It can't leave out its mark.
+/// A disc takes a request, stands at its checkpoint, writes and answers, and keeps the reply. It can't leave out its checkpoint.
 pub fn a_disc_serves_a_request()
     ensures begins { HasDone disc_site 0 disc [] (core_at_boot disc_site 0 disc) }
     ensures serves { HasDone disc_site 0 disc one_write after_one }

@@ -19,7 +19,7 @@ pub data AtCall (program : Program) (s : ProgramState) : What-F What Statement �
       → AtCall program s (What-F.WriteRead file buffer send room got) point.Ask
   at_await : (file buffer : ℕ) (send room : Expr) (got : Variable) → s.awaits ≡ true → AtCall program s (What-F.WriteRead file buffer send room got) point.Await
   at_reply : (buffer : ℕ) (count : Expr) → s.in_hand ≡ true → AtCall program s (What-F.Reply buffer count) point.Answer
-  at_checkpoint : (items files : List ℕ) → AtCall program s (What-F.Checkpoint items files) point.Mark
+  at_checkpoint : (items files : List ℕ) → AtCall program s (What-F.Checkpoint items files) point.AtCheckpoint
 
 at-call : (program : Program) (s : ProgramState) (what : What-F What Statement) → AtCall program s what (point_in program s what)
 at-call program s (What-F.ReadUpdate buffer most got) = by s.in_hand refl (count_of program s buffer most) refl

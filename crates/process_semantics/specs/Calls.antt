@@ -71,6 +71,6 @@ answer_of program s = in_next [] (answer_in program s) s.frames
 abbrev pub after_answered : ProgramState → ProgramState
 after_answered s = with_hand false (done s)
 
--- the step at Mark
-abbrev pub after_mark : ProgramState → ProgramState
-after_mark s = done s
+-- the step at a checkpoint
+abbrev pub after_checkpoint : ProgramState → ProgramState
+after_checkpoint s = done s

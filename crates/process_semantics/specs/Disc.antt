@@ -1,11 +1,11 @@
--- Disc processes. For each request a disc goes through the points Take, Mark, Device and Answer in turn.
+-- Disc processes. For each request a disc goes through the points Take, AtCheckpoint, Device and Answer in turn.
 use Rattle.std.specs.Prelude.{ℕ, ◌+◌, ◌-◌, ◌==◌, ℤ, pos, negsuc, ◌&&◌, if◌then◌else◌, nat_lt, nat_le, List, [], ◌∷◌, ◌++◌, length, replicate, Option, Some, None}
 use Rattle.std.specs.Option.{unwrap_or}
 use Rattle.std.specs.Ordering.{int_eq}
 use Rattle.gd_words.specs.declared.device.DeviceCall.{DeviceCall}
 use Rattle.gd_words.specs.declared.device.DeviceCall.TheVariants.{Nothing, Read, Write}
 use Rattle.process_semantics.specs.declared.disc.DiscState.{DiscState}
-use Rattle.process_semantics.specs.declared.point.Point.TheVariants.{Take, Answer, Mark, Device}
+use Rattle.process_semantics.specs.declared.point.Point.TheVariants.{Take, Answer, AtCheckpoint, Device}
 
 -- a disc at its beginning
 abbrev pub disc_start : DiscState
@@ -53,11 +53,11 @@ last_write_after last _ = last
 
 -- the step at Take: the request is in hand
 abbrev pub disc_took : DiscState → List ℤ → DiscState
-disc_took s words = record s { label = Mark; request = Some words }
+disc_took s words = record s { label = AtCheckpoint; request = Some words }
 
--- the step at Mark
-abbrev pub disc_marked : DiscState → DiscState
-disc_marked s = record s { label = Device }
+-- the step at AtCheckpoint
+abbrev pub disc_checkpointed : DiscState → DiscState
+disc_checkpointed s = record s { label = Device }
 
 -- the step at Device: the reply is ready, and a write has used its number
 abbrev pub disc_done : ℕ → DiscState → List ℤ → DiscState

@@ -11,8 +11,8 @@ use Rattle.tal_tree.specs.declared.statement.Statement.{Statement}
 use Rattle.tal_tree.specs.declared.statement.What.{What, What-F}
 use Rattle.process_semantics.specs.declared.disc.DiscState.{DiscState}
 use Rattle.process_semantics.specs.declared.point.Point.{Point}
-use Rattle.process_semantics.specs.declared.point.Point.TheVariants.{Take, Answer, Mark, Device}
-use Rattle.process_semantics.specs.Process.{ProcessState, Runs, Serves, point, after_mark}
+use Rattle.process_semantics.specs.declared.point.Point.TheVariants.{Take, Answer, AtCheckpoint, Device}
+use Rattle.process_semantics.specs.Process.{ProcessState, Runs, Serves, point, after_checkpoint}
 use Rattle.process_semantics.specs.Rests.{next_number, rest_from}
 use Rattle.process_semantics.specs.State.{Entry, Frame, ProgramState, words_of, in_next, called_by}
 use Rattle.process_semantics.specs.Words.{counted_in, long, counted_if, Front, count_in, words_in, whole, long_in}
@@ -42,10 +42,10 @@ disc_words s = counted_if s.request ++ long s.last_write ++ counted_if s.reply
 
 -- the state that an image is of, at this point
 abbrev pub imaged_at : ProcessState → Point → ProcessState
-imaged_at s Mark = after_mark s
+imaged_at s AtCheckpoint = after_checkpoint s
 imaged_at s _ = s
 
--- the state that an image is of: at Mark the one after the mark
+-- the state that an image is of: at a checkpoint the one after it
 abbrev pub imaged : ProcessState → ProcessState
 imaged s = imaged_at s (point s)
 
@@ -68,12 +68,12 @@ abbrev pub listed_files_in : What-F What Statement → List ℕ
 listed_files_in (What-F.Checkpoint items files) = files
 listed_files_in _ = []
 
--- the items and the files that a process at Mark names
+-- the items and the files that a process at AtCheckpoint names
 abbrev pub listed_items : ProcessState → List ℕ
 listed_items (Runs code s) = in_next [] listed_items_in s.frames
 listed_items (Serves sectors s) = []
 
--- the files that a process at Mark names
+-- the files that a process at AtCheckpoint names
 abbrev pub listed_files : ProcessState → List ℕ
 listed_files (Runs code s) = in_next [] listed_files_in s.frames
 listed_files (Serves sectors s) = []

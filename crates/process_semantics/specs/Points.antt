@@ -4,7 +4,7 @@ use Rattle.tal_tree.specs.declared.program.Program.{Program}
 use Rattle.tal_tree.specs.declared.statement.Statement.{Statement}
 use Rattle.tal_tree.specs.declared.statement.What.{What, What-F, out-What}
 use Rattle.process_semantics.specs.declared.point.Point.{Point}
-use Rattle.process_semantics.specs.declared.point.Point.TheVariants.{Inner, Take, Ask, Await, Answer, Mark, Ended}
+use Rattle.process_semantics.specs.declared.point.Point.TheVariants.{Inner, Take, Ask, Await, Answer, AtCheckpoint, Ended}
 use Rattle.process_semantics.specs.State.{Entry, ProgramState, next_of, count_of, Run}
 
 -- the point of a call with this count; one that traps is at Inner
@@ -23,7 +23,7 @@ point_in program s (What-F.ReadUpdate buffer most got) = if s.in_hand then Inner
 point_in program s (What-F.WriteRead file buffer send room got) =
     if s.awaits then Await else where_both_good Ask (count_of program s buffer send) (count_of program s buffer room)
 point_in program s (What-F.Reply buffer count) = if s.in_hand then where_good Answer (count_of program s buffer count) else Inner
-point_in program s (What-F.Checkpoint items files) = Mark
+point_in program s (What-F.Checkpoint items files) = AtCheckpoint
 point_in program s (What-F.Assign to value) = Inner
 point_in program s (What-F.AssignCall to procedure arguments) = Inner
 point_in program s (What-F.If test first second) = Inner
@@ -40,6 +40,6 @@ abbrev pub point_at : Program → ProgramState → Option Entry → Point
 point_at program s (Some (Run statement)) = point_in program s (out-What statement.what)
 point_at program s _ = Inner
 
--- READUPDATE is at Take, WRITEREAD at Ask and then at Await, REPLY at Answer and CHECKPOINT at Mark; everything else, and each call that would trap, is at Inner
+-- READUPDATE is at Take, WRITEREAD at Ask and then at Await, REPLY at Answer and CHECKPOINT at AtCheckpoint; everything else, and each call that would trap, is at Inner
 abbrev pub point_of : Program → ProgramState → Point
 point_of program s = if s.ended then Ended else point_at program s (next_of s.frames)

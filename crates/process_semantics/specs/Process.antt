@@ -73,10 +73,10 @@ abbrev pub after_answered : ProcessState → ProcessState
 after_answered (Runs code s) = Runs code (calls.after_answered s)
 after_answered (Serves sectors s) = Serves sectors (disc.disc_answered s)
 
--- the step at Mark
-abbrev pub after_mark : ProcessState → ProcessState
-after_mark (Runs code s) = Runs code (calls.after_mark s)
-after_mark (Serves sectors s) = Serves sectors (disc.disc_marked s)
+-- the step at a checkpoint
+abbrev pub after_checkpoint : ProcessState → ProcessState
+after_checkpoint (Runs code s) = Runs code (calls.after_checkpoint s)
+after_checkpoint (Serves sectors s) = Serves sectors (disc.disc_checkpointed s)
 
 -- what is done to the device at Device
 abbrev pub call_of : ProcessState → DeviceCall

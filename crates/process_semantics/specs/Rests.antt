@@ -7,15 +7,15 @@ use Rattle.tal_tree.specs.declared.statement.What.{What, out-What, Assign, Assig
 use Rattle.process_semantics.specs.State.{Entry, Run, Test, Last}
 
 -- the number of an entry: a FOR's test has the one after its first assignment
-abbrev pub number_of : Entry → ℕ
-number_of (Run statement) = statement.number
-number_of (Test statement) = statement.number + 1
-number_of (Last statement) = last_of (out-What statement.what)
+abbrev pub entry_number : Entry → ℕ
+entry_number (Run statement) = statement.number
+entry_number (Test statement) = statement.number + 1
+entry_number (Last statement) = last_of (out-What statement.what)
 
 -- the number of the entry that comes next, 0 at a procedure's end
 abbrev pub next_number : List Entry → ℕ
 next_number [] = 0
-next_number (entry ∷ rest) = number_of entry
+next_number (entry ∷ rest) = entry_number entry
 
 -- What remains from each entry on
 

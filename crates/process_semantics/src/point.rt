@@ -12,7 +12,7 @@ pub enum Point {
     /// The reply to the request in hand is to be given.
     Answer,
     /// A checkpoint.
-    Mark,
+    AtCheckpoint,
     /// An act on the disc device.
     Device,
     /// There is no next step.

@@ -35,7 +35,7 @@ pub data Deed : Type 0 where
   -- REPLY answers: its buffer, and how many words it sends
   Answers : ℕ → Expr → Deed
   -- CHECKPOINT: the items and the files that it names
-  Marks : List ℕ → List ℕ → Deed
+  Checkpoints : List ℕ → List ℕ → Deed
 
 -- what is done at a statement, where these entries stand after it
 abbrev pub deed_run : List Entry → Statement → What-F What Statement → Deed
@@ -49,7 +49,7 @@ deed_run after statement (What-F.Return value) = Returns value
 deed_run after statement (What-F.ReadUpdate buffer most got) = Takes buffer most got
 deed_run after statement (What-F.Reply buffer count) = Answers buffer count
 deed_run after statement (What-F.WriteRead file buffer send room got) = Asks file buffer send room got
-deed_run after statement (What-F.Checkpoint items files) = Marks items files
+deed_run after statement (What-F.Checkpoint items files) = Checkpoints items files
 deed_run after statement What-F.CheckMonitor = Passes
 deed_run after statement (What-F.Open file) = Passes
 deed_run after statement What-F.Stop = Stops

@@ -10,7 +10,7 @@ use Rattle.process_semantics.specs.State.{Entry, Frame, ProgramState, memory_of,
 use Rattle.process_semantics.specs.Steps.{entered, assigned, result_of, values_of}
 use Rattle.process_semantics.specs.declared.point.Point.{Point}
 use Rattle.process_semantics.specs.declared.point.Point.TheVariants as point
-use Rattle.program_deeds.specs.Deed.{Deed, Assigns, Tests, Enters, Returns, Passes, Stops, Takes, Asks, Answers, Marks, deed_of}
+use Rattle.program_deeds.specs.Deed.{Deed, Assigns, Tests, Enters, Returns, Passes, Stops, Takes, Asks, Answers, Checkpoints, deed_of}
 
 -- The step at Inner
 
@@ -60,7 +60,7 @@ deed_inner program s Stops = Some (ends s)
 deed_inner program s (Takes buffer most got) = None
 deed_inner program s (Asks file buffer send room got) = None
 deed_inner program s (Answers buffer count) = None
-deed_inner program s (Marks items files) = None
+deed_inner program s (Checkpoints items files) = None
 
 -- The other points
 
@@ -70,7 +70,7 @@ point_by program s (Takes buffer most got) = if s.in_hand then point.Inner else 
 point_by program s (Asks file buffer send room got) =
     if s.awaits then point.Await else where_both_good point.Ask (count_of program s buffer send) (count_of program s buffer room)
 point_by program s (Answers buffer count) = if s.in_hand then where_good point.Answer (count_of program s buffer count) else point.Inner
-point_by program s (Marks items files) = point.Mark
+point_by program s (Checkpoints items files) = point.AtCheckpoint
 point_by program s _ = point.Inner
 
 -- the point of a deed
@@ -102,12 +102,12 @@ abbrev pub deed_answer : Program → ProgramState → Deed → List ℤ
 deed_answer program s (Answers buffer count) = first_words (words_of s.globals buffer) (count_of program s buffer count)
 deed_answer program s _ = []
 
--- the items that a mark names
+-- the items that a checkpoint names
 abbrev pub deed_items : Deed → List ℕ
-deed_items (Marks items files) = items
+deed_items (Checkpoints items files) = items
 deed_items _ = []
 
--- the files that a mark names
+-- the files that a checkpoint names
 abbrev pub deed_files : Deed → List ℕ
-deed_files (Marks items files) = files
+deed_files (Checkpoints items files) = files
 deed_files _ = []

@@ -3,7 +3,7 @@ use thiserror::Error;
 
 /// Why a report isn't replayed. Lines are those of the report, counted from 1.
 #[derive(Clone, Copy, Debug, PartialEq, Eq, Error)]
-pub enum Difference {
+pub enum DifferenceFault {
     #[error("DIFFERS line {0}: the act isn't possible")]
     Impossible(usize),
     #[error("DIFFERS line {0}: the acts have another line there, or none")]
@@ -24,28 +24,28 @@ pub enum Difference {
     NoMemory(NoMemory),
 }
 
-impl From<NoMemory> for Difference {
+impl From<NoMemory> for DifferenceFault {
     ghost use Rattle.std.specs.Prelude.{◌≡◌};
-    ghost use Rattle.replay.specs.declared.difference.Difference.TheVariants as difference;
+    ghost use Rattle.replay.specs.declared.difference.DifferenceFault.TheVariants as difference;
 
     ghost from_gives = { λ memory answered. answered ≡ difference.NoMemory memory };
 
-    fn from(memory: NoMemory) -> Difference {
-        Difference::NoMemory(memory)
+    fn from(memory: NoMemory) -> DifferenceFault {
+        DifferenceFault::NoMemory(memory)
     }
 }
 
-impl Difference {
+impl DifferenceFault {
     /// The status of the program: 1 where the report differs, 2 where the input has another form, 8 where memory ran out.
     pub fn status(self) -> u8 {
         match self {
-            Difference::Impossible(_) | Difference::OtherLine(_) | Difference::ActLeft => 1,
-            Difference::NoInput
-            | Difference::NoReport
-            | Difference::NoDeck
-            | Difference::NoLine(_)
-            | Difference::NoEnd => 2,
-            Difference::NoMemory(_) => 8,
+            DifferenceFault::Impossible(_) | DifferenceFault::OtherLine(_) | DifferenceFault::ActLeft => 1,
+            DifferenceFault::NoInput
+            | DifferenceFault::NoReport
+            | DifferenceFault::NoDeck
+            | DifferenceFault::NoLine(_)
+            | DifferenceFault::NoEnd => 2,
+            DifferenceFault::NoMemory(_) => 8,
         }
     }
 }

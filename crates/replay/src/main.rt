@@ -16,9 +16,9 @@ mod parts;
 mod replayed;
 mod report_line;
 
-use crate::difference::Difference;
+use crate::difference::DifferenceFault;
 use crate::replayed::replay_input;
-use gd_io::{ReadRefusal, StdSource, read_all};
+use gd_io::{SourceFault, StdSource, read_all};
 use std::process::ExitCode;
 
 /// At most this many bytes are read.
@@ -31,8 +31,8 @@ fn main(rt: HostRuntime) -> ExitCode {
     let mut source = StdSource::new(rt.stdin());
     let outcome = match read_all(rt.alloc(), &mut source, MOST_BYTES) {
         Ok(input) => replay_input(rt.alloc(), input.as_slice()),
-        Err(ReadRefusal::NoMemory(memory)) => Err(Difference::NoMemory(memory)),
-        Err(ReadRefusal::Failed | ReadRefusal::TooLong) => Err(Difference::NoInput),
+        Err(SourceFault::NoMemory(memory)) => Err(DifferenceFault::NoMemory(memory)),
+        Err(SourceFault::Failed | SourceFault::TooLong) => Err(DifferenceFault::NoInput),
     };
     let (status, written) = match outcome {
         Ok(acts) => (0, println!(rt; "REPLAYED {acts}")),

@@ -9,7 +9,7 @@ ghost use Rattle.plain_semantics.specs.SiteLimits.{KeepsSiteLimits};
 ghost use Rattle.trace_print.specs.declared.closing.End.TheVariants.{Idle};
 ghost use Rattle.replay.specs.Replays.{GoesOn, IsBegun, IsMade, IsReplayed, Replays, text_of};
 
-use crate::difference::Difference;
+use crate::difference::DifferenceFault;
 use crate::parts::{first_difference, parts_of};
 use crate::report_line::{ReportLine, report_line};
 use deck_lines::next_line;
@@ -34,22 +34,22 @@ pub struct Replay<'a> {
 
 /// Replays the report that follows a deck and the line `REPORT`, and answers how many acts it tells. The input isn't so long
 /// that acts of its lines might write more often than there are numbers of 32 bits.
-pub fn replay_input(alloc: Global, input: &[u8]) -> Result<usize, Difference>
+pub fn replay_input(alloc: Global, input: &[u8]) -> Result<usize, DifferenceFault>
     requires { length input.now < 4294967296 }
     ensures { IfOk result (Replays input.now) }
 {
     let Some((text, report)) = parts_of(input) else {
-        return Err(Difference::NoReport);
+        return Err(DifferenceFault::NoReport);
     };
     match read_deck(alloc, text) {
         Ok(deck) => replay_on(alloc, &deck.site, report),
-        Err(DeckFault::NoMemory(memory)) => Err(Difference::NoMemory(memory)),
-        Err(_) => Err(Difference::NoDeck),
+        Err(DeckFault::NoMemory(memory)) => Err(DifferenceFault::NoMemory(memory)),
+        Err(_) => Err(DifferenceFault::NoDeck),
     }
 }
 
 /// Replays a report of a site, and answers how many acts it tells.
-fn replay_on(alloc: Global, site: &Site, report: &[u8]) -> Result<usize, Difference>
+fn replay_on(alloc: Global, site: &Site, report: &[u8]) -> Result<usize, DifferenceFault>
     requires playable { IsPlayable site.now }
     requires short { length report.now < 4294967296 }
     ensures { IfOk result (λ count. (acts : List Act) × IsReplayed site.now report.now acts × (length acts ≡ count)) }
@@ -57,7 +57,7 @@ fn replay_on(alloc: Global, site: &Site, report: &[u8]) -> Result<usize, Differe
     let mut replay = Replay::start(alloc, site)?;
     replay.read(site, report)?;
     let Some(end) = replay.end else {
-        return Err(Difference::NoEnd);
+        return Err(DifferenceFault::NoEnd);
     };
     replay.compare(alloc, site, report, end)?;
     replay.judge_end(end)?;
@@ -81,7 +81,7 @@ impl<'a> Replay<'a> {
     }
 
     /// Reads the lines of a report and makes the acts that they tell.
-    fn read(&mut self, site: &Site, report: &[u8]) -> Result<(), Difference>
+    fn read(&mut self, site: &Site, report: &[u8]) -> Result<(), DifferenceFault>
         requires limits { KeepsSiteLimits site.now }
         requires made { IsMade self.old }
         requires room { HasRoomFor (length report.now) self.old.plain.state }
@@ -92,7 +92,7 @@ impl<'a> Replay<'a> {
         while let Some((line, after)) = next_line(rest) {
             number += 1;
             let Some(told) = report_line(site, line) else {
-                return Err(Difference::NoLine(number));
+                return Err(DifferenceFault::NoLine(number));
             };
             self.go_on(told, number)?;
             rest = after;
@@ -100,7 +100,7 @@ impl<'a> Replay<'a> {
         Ok(())
     }
 
-    fn go_on(&mut self, told: ReportLine, number: usize) -> Result<(), Difference>
+    fn go_on(&mut self, told: ReportLine, number: usize) -> Result<(), DifferenceFault>
         requires made { IsMade self.old }
         requires room { HasRoomFor 1 self.old.plain.state }
         ensures made { OnOk result (GoesOn self.old self.new) }
@@ -120,7 +120,7 @@ impl<'a> Replay<'a> {
         }
     }
 
-    fn make(&mut self, act: Act, number: usize) -> Result<(), Difference>
+    fn make(&mut self, act: Act, number: usize) -> Result<(), DifferenceFault>
         requires made { IsMade self.old }
         requires room { HasRoomFor 1 self.old.plain.state }
         ensures made { OnOk result (GoesOn self.old self.new) }
@@ -131,7 +131,7 @@ impl<'a> Replay<'a> {
                 self.keep(act, shown)?;
                 Ok(())
             }
-            Err(ActFault::NotPossible) => Err(Difference::Impossible(number)),
+            Err(ActFault::NotPossible) => Err(DifferenceFault::Impossible(number)),
         }
     }
 
@@ -148,7 +148,7 @@ impl<'a> Replay<'a> {
     }
 
     /// Compares a report with the one of these acts.
-    fn compare(&self, alloc: Global, site: &Site, report: &[u8], end: End) -> Result<(), Difference>
+    fn compare(&self, alloc: Global, site: &Site, report: &[u8], end: End) -> Result<(), DifferenceFault>
         requires { KeepsSiteLimits site.now }
         ensures { OnOk result (report.now ≡ text_of site.now self.now end) }
     {
@@ -166,12 +166,12 @@ impl<'a> Replay<'a> {
         );
         match written {
             Ok(()) => compared(report, sink.bytes()),
-            Err(WriteFault) => Err(Difference::OtherLine(first_difference(report, sink.bytes()))),
+            Err(WriteFault) => Err(DifferenceFault::OtherLine(first_difference(report, sink.bytes()))),
         }
     }
 
     /// Whether no act is left where the report tells that the run ended idle.
-    fn judge_end(&self, end: End) -> Result<(), Difference>
+    fn judge_end(&self, end: End) -> Result<(), DifferenceFault>
         ensures { OnOk result (end ≡ Idle → IsStill self.now.plain.site self.now.plain.state) }
     {
         match end {
@@ -179,7 +179,7 @@ impl<'a> Replay<'a> {
                 if self.plain.none_left() {
                     Ok(())
                 } else {
-                    Err(Difference::ActLeft)
+                    Err(DifferenceFault::ActLeft)
                 }
             }
             _ => Ok(()),
@@ -187,12 +187,12 @@ impl<'a> Replay<'a> {
     }
 }
 
-fn compared(report: &[u8], expected: &[u8]) -> Result<(), Difference>
+fn compared(report: &[u8], expected: &[u8]) -> Result<(), DifferenceFault>
     ensures { OnOk result (report.now ≡ expected.now) }
 {
     if report == expected {
         Ok(())
     } else {
-        Err(Difference::OtherLine(first_difference(report, expected)))
+        Err(DifferenceFault::OtherLine(first_difference(report, expected)))
     }
 }

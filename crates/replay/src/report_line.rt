@@ -2,7 +2,7 @@
 ghost use Rattle.plain_semantics.specs.SiteLimits.{KeepsSiteLimits};
 
 use crate::names::{opener_named, process_named, terminal_named};
-use deck_lines::{next_word, number_of, one_word, two_words};
+use deck_lines::{next_word, written_number, one_word, two_words};
 use tal_tree::{Act, Site};
 use trace_print::End;
 
@@ -40,7 +40,7 @@ fn stop_of(rest: &[u8]) -> Option<ReportLine> {
 }
 
 fn processor_of(word: &[u8]) -> Option<u8> {
-    let number = number_of(word)?;
+    let number = written_number(word)?;
     u8::try_from(number).ok()
 }
 

@@ -1,7 +1,7 @@
 ghost use Rattle.std.specs.Prelude.{◌≡◌, [], ◌∷◌, ◌++◌, codes, ℕ, List};
 ghost use Rattle.std.specs.Fmt.{decimal};
 ghost use Rattle.path_semantics.specs.declared.reason.Reason.TheVariants.{Data, SyncBlock, Input, Depth};
-ghost use Rattle.path_semantics.specs.declared.reason.Refusal.TheVariants.{TooDeep, TooLarge, Broken};
+ghost use Rattle.path_semantics.specs.declared.reason.RefusalFault.TheVariants.{TooDeep, TooLarge, Broken};
 ghost use Rattle.trace_print.specs.VerdictText.{accepted_text, refusal_text, refused_line, step_line};
 ghost use Rattle.report_guards.specs.Sites.{site};
 

@@ -1,5 +1,5 @@
 ghost use Rattle.std.specs.Prelude.{◌≡◌, Some, None, pos, [], ◌∷◌};
-ghost use Rattle.checkpoint_image.specs.declared.receive.Standing.TheVariants.{Next, InHand, Kept, Old, Ahead};
+ghost use Rattle.checkpoint_image.specs.declared.receive.RequestStanding.TheVariants.{Next, InHand, Kept, Old, Ahead};
 ghost use Rattle.checkpoint_image.specs.Receive.{after_answering, after_taking, standing_at};
 ghost use Rattle.request_guards.specs.Tables.{deep, fresh, held, reply, shallow, table, table_in_hand};
 

@@ -2,10 +2,10 @@
 use Rattle.std.proofs.Common.{inl, inr, [], ◌∷◌, Some, None, refl}
 use Rattle.schedule.specs.declared.event.Event.TheVariants as event
 use Rattle.schedule.specs.declared.line.Line.TheVariants.{One}
-use Rattle.player.specs.declared.standing.Standing.TheVariants as standing
+use Rattle.player.specs.declared.standing.LinePlace.TheVariants as standing
 use Rattle.world_semantics.specs.Examples.{disc_site}
-use Rattle.message_wires.specs.Play.{whole_at_boot}
-use Rattle.schedule_runs.specs.Runs.{Plan, Plays, plays_none, plays_on, RunsOut, RunsToStop}
+use Rattle.message_wires.specs.Play.{machine_at_boot}
+use Rattle.schedule_runs.specs.Runs.{Plan, PlaysSchedule, plays_none, plays_on, RunsOut, RunsToStop}
 use Rattle.run_guards.specs.Played.{both_stop, disc_after, skipped_first, stop_of_first}
 
 -- a run that can't be done
@@ -29,10 +29,10 @@ enter_plan = record {
   agenda = record { standing = standing.Event (event.Enter 0) 0; lines = []; stop = None; held_back = None };
 }
 
-skipped : Plays disc_site skipped_first stop_of_first (event.Run 0 ∷ []) run_plan.agenda (whole_at_boot disc_site)
+skipped : PlaysSchedule disc_site skipped_first stop_of_first (event.Run 0 ∷ []) run_plan.agenda (machine_at_boot disc_site)
 skipped = plays_on {events = []} run_plan plays_none refl (inr (refl, refl))
 
-stopped : Plays disc_site skipped_first stop_of_first (event.Run 0 ∷ event.Fail 0 ∷ []) stop_plan.agenda (disc_after (event.Run 0 ∷ event.Fail 0 ∷ []))
+stopped : PlaysSchedule disc_site skipped_first stop_of_first (event.Run 0 ∷ event.Fail 0 ∷ []) stop_plan.agenda (disc_after (event.Run 0 ∷ event.Fail 0 ∷ []))
 stopped = plays_on {events = event.Run 0 ∷ []} stop_plan skipped refl (inl refl)
 
 pub entered : RunsOut disc_site skipped_first stop_of_first (event.Run 0 ∷ event.Fail 0 ∷ event.Enter 0 ∷ [])

@@ -6,10 +6,10 @@ use Rattle.schedule.specs.declared.event.Counts.{Counts}
 use Rattle.schedule.specs.declared.line.Line.{Line}
 use Rattle.schedule.specs.declared.line.Line.TheVariants.{One, Many}
 use Rattle.player.specs.declared.standing.Sizes.{Sizes}
-use Rattle.player.specs.declared.stop.Stop.{Stop}
+use Rattle.player.specs.declared.stop.ProcessorStop.{ProcessorStop}
 use Rattle.player.specs.Played.{idle, processes}
 use Rattle.tal_tree.specs.declared.act.Shown.{Shown}
-use Rattle.message_wires.specs.Play.{Whole}
+use Rattle.message_wires.specs.Play.{MachineState}
 use Rattle.message_wires.specs.Wires.{Sent}
 use Rattle.schedule_runs.specs.Runs.{Agenda, Plan, agenda_of, upcoming}
 
@@ -29,11 +29,11 @@ events_from sizes before agenda (counts ∷ more) =
     ++ events_from sizes (before + 1) (agenda_after agenda (upcoming sizes before counts agenda)) more
 
 -- on a site of two processors, one process and two terminals
-abbrev pub events_of : List Line → Option Stop → List Counts → List Event
+abbrev pub events_of : List Line → Option ProcessorStop → List Counts → List Event
 events_of lines stop counts = events_from (processes 1) 0 (agenda_of lines stop) counts
 
 -- the stop of processor 1 before the event that so many precede
-abbrev pub stop : ℕ → Option Stop
+abbrev pub stop : ℕ → Option ProcessorStop
 stop after = Some (record { processor = 1; after = after })
 
 -- lines that ask for three events
@@ -41,12 +41,12 @@ abbrev pub three : List Line
 three = Many (event.Enter 0) 2 ∷ One (event.Run 0) ∷ []
 
 -- the events of these lines, with a stop
-abbrev pub three_with : Option Stop → List Event
+abbrev pub three_with : Option ProcessorStop → List Event
 three_with stop = events_of three stop (replicate 9 idle)
 
 -- a state with these packets on its bus, and one in which this was shown, the newest first
-abbrev pub with_bus : List Sent → Whole → Whole
+abbrev pub with_bus : List Sent → MachineState → MachineState
 with_bus bus s = record s { wires = record s.wires { bus = bus } }
 
-abbrev pub showing : List Shown → Whole → Whole
+abbrev pub showing : List Shown → MachineState → MachineState
 showing shown s = record s { world = record s.world { shown = shown } }

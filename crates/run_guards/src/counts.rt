@@ -4,7 +4,7 @@ ghost use Rattle.schedule.specs.declared.line.Line.TheVariants.{One};
 ghost use Rattle.tal_tree.specs.declared.act.Shown.TheVariants.{Reply, Write};
 ghost use Rattle.world_semantics.specs.Examples.{bank_site, disc_site};
 ghost use Rattle.message_wires.specs.Idle.{is_idle};
-ghost use Rattle.message_wires.specs.Play.{Whole};
+ghost use Rattle.message_wires.specs.Play.{MachineState};
 ghost use Rattle.message_wires.specs.Wires.{Sent};
 ghost use Rattle.schedule_runs.specs.Runs.{RunsOut, RunsToStop, counts_of, sizes_of};
 ghost use Rattle.run_guards.specs.Asked.{showing, with_bus};
@@ -13,11 +13,11 @@ ghost use Rattle.run_guards.specs.Played.{both_stop, disc_after, skipped_first, 
 /// What is counted before an event: the packets, which are all on bus X and none an alive one; the writes and the replies that were shown; and whether the machine
 /// is idle.
 pub fn what_is_there_is_counted()
-    ensures packets { (s : Whole) (a b : Sent) → ((counts_of (with_bus (a ∷ b ∷ []) s)).x ≡ 2) × ((counts_of (with_bus (a ∷ b ∷ []) s)).y ≡ 0) }
-    ensures alive { (s : Whole) → (counts_of s).alive ≡ false }
-    ensures shown { (s : Whole) (words : List ℤ) → ((counts_of (showing (Reply 0 2 words ∷ Write 0 3 words ∷ Reply 0 1 words ∷ []) s)).writes ≡ 1)
+    ensures packets { (s : MachineState) (a b : Sent) → ((counts_of (with_bus (a ∷ b ∷ []) s)).x ≡ 2) × ((counts_of (with_bus (a ∷ b ∷ []) s)).y ≡ 0) }
+    ensures alive { (s : MachineState) → (counts_of s).alive ≡ false }
+    ensures shown { (s : MachineState) (words : List ℤ) → ((counts_of (showing (Reply 0 2 words ∷ Write 0 3 words ∷ Reply 0 1 words ∷ []) s)).writes ≡ 1)
         × ((counts_of (showing (Reply 0 2 words ∷ Write 0 3 words ∷ Reply 0 1 words ∷ []) s)).replies ≡ 2) }
-    ensures idle { (s : Whole) → (counts_of s).idle ≡ is_idle s }
+    ensures idle { (s : MachineState) → (counts_of s).idle ≡ is_idle s }
     ensures sizes { sizes_of bank_site ≡ record { processors = 4; processes = 2; terminals = 1 } }
 {}
 

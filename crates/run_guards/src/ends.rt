@@ -2,9 +2,9 @@ ghost use Rattle.std.specs.Prelude.{◌≡◌, ◌<◌, ◌+◌, ℕ, List, Opti
 ghost use Rattle.tal_tree.specs.declared.site.Site.{Site};
 ghost use Rattle.schedule.specs.declared.event.Event.{Event};
 ghost use Rattle.schedule.specs.declared.line.Line.{Line};
-ghost use Rattle.player.specs.declared.stop.Stop.{Stop};
+ghost use Rattle.player.specs.declared.stop.ProcessorStop.{ProcessorStop};
 ghost use Rattle.message_wires.specs.Idle.{is_idle};
-ghost use Rattle.message_wires.specs.Play.{Whole};
+ghost use Rattle.message_wires.specs.Play.{MachineState};
 ghost use Rattle.pair_machine.specs.Seen.{closed_state};
 ghost use Rattle.schedule_runs.specs.Ends.{EndsAs, IsRunOf};
 ghost use Rattle.schedule_runs.specs.Runs.{RunsOut, RunsToStop};
@@ -14,18 +14,18 @@ ghost use Rattle.schedule_runs.specs.declared.ran.Ran.{Ran};
 /// A run that is over asked for the events that it played: where nothing is left to do it ended idle and was closed, and else it was cut. One that ends before
 /// a second stop asked for that one too.
 pub fn a_run_ends_as_it_says()
-    ensures idle { (site : Site) (lines : List Line) (stop : Option Stop) (events : List Event) (s left : Whole) (asked : ℕ) → EndsAs site lines stop events s left asked Idle
+    ensures idle { (site : Site) (lines : List Line) (stop : Option ProcessorStop) (events : List Event) (s left : MachineState) (asked : ℕ) → EndsAs site lines stop events s left asked Idle
         → RunsOut site lines stop events s × (is_idle s ≡ true) × (left ≡ closed_state s) × (asked ≡ length events) }
-    ensures cut { (site : Site) (lines : List Line) (stop : Option Stop) (events : List Event) (s left : Whole) (asked : ℕ) → EndsAs site lines stop events s left asked Cut
+    ensures cut { (site : Site) (lines : List Line) (stop : Option ProcessorStop) (events : List Event) (s left : MachineState) (asked : ℕ) → EndsAs site lines stop events s left asked Cut
         → RunsOut site lines stop events s × (is_idle s ≡ false) × (left ≡ s) × (asked ≡ length events) }
-    ensures second { (site : Site) (lines : List Line) (stop : Option Stop) (events : List Event) (s left : Whole) (asked processor : ℕ)
+    ensures second { (site : Site) (lines : List Line) (stop : Option ProcessorStop) (events : List Event) (s left : MachineState) (asked processor : ℕ)
         → EndsAs site lines stop events s left asked (Second processor)
         → RunsToStop site lines stop events s processor × (left ≡ s) × (asked ≡ length events + 1) }
 {}
 
 /// A run has few events, and its machine is whole.
 pub fn a_run_is_short_and_whole()
-    ensures { (site : Site) (lines : List Line) (stop : Option Stop) (ran : Ran) → IsRunOf site lines stop ran
-        → (events : List Event) × (length events < 4294967295) × (ran.machine.is_broken ≡ false) × (s : Whole)
+    ensures { (site : Site) (lines : List Line) (stop : Option ProcessorStop) (ran : Ran) → IsRunOf site lines stop ran
+        → (events : List Event) × (length events < 4294967295) × (ran.machine.is_broken ≡ false) × (s : MachineState)
         × EndsAs site lines stop events s ran.machine.state ran.asked ran.ending }
 {}

@@ -2,7 +2,7 @@
 use Rattle.std.proofs.Common.{◌≡◌, ℕ, Bool, List, Option, ap, ◌∙◌}
 use Rattle.accepted_decks.specs.Left.{KeepsPossibleActs}
 use Rattle.deck_reader.specs.declared.deck.Deck.{Deck}
-use Rattle.player.specs.declared.stop.Stop.{Stop}
+use Rattle.player.specs.declared.stop.ProcessorStop.{ProcessorStop}
 use Rattle.schedule_runs.specs.Ends.{IsRunOf}
 use Rattle.shown_sectors.specs.Sectors.{sectors_after}
 use Rattle.shown_sectors.specs.declared.sectors.SectorWords.{SectorWords}
@@ -19,7 +19,7 @@ use Rattle.runner.specs.Written.{text_telling, told_acts}
 use Rattle.runner.specs.declared.due.Report.{Report}
 use Rattle.runner.specs.declared.task.Telling.TheVariants.{Lines, Counts}
 
-pub reported : (deck : Deck) (stop : Option Stop) (report : Report) → report.site ≡ deck.site → IsRunOf deck.site deck.lines stop report.run.ran
+pub reported : (deck : Deck) (stop : Option ProcessorStop) (report : Report) → report.site ≡ deck.site → IsRunOf deck.site deck.lines stop report.run.ran
     → KeepsPossibleActs deck.site report.run.ran → report.sectors ≡ sectors_after deck.site (shown_in report.run)
     → report.stopped ≡ stopped_from 0 report.run.ran.machine.state.world.stopped → IsReportOf deck stop report
 reported deck stop report site run keeps sectors stopped = record {

@@ -11,14 +11,14 @@ use Rattle.deck_reader.specs.Decks.{Decks}
 use Rattle.deck_reader.specs.Refusals.{IsRefusalOf}
 use Rattle.deck_reader.specs.declared.deck.Deck.{Deck}
 use Rattle.load_deck.specs.LoadText.{load_text}
-use Rattle.player.specs.declared.stop.Stop.{Stop}
+use Rattle.player.specs.declared.stop.ProcessorStop.{ProcessorStop}
 use Rattle.plain_semantics.specs.Machine.{IsPossible, IsNoneLeft, shown_by}
 use Rattle.schedule_runs.specs.Ends.{IsRunOf}
 use Rattle.schedule_runs.specs.declared.ran.Ending.TheVariants.{Idle}
 use Rattle.schedule_sweeps.specs.Sweeps.{IsSweepOf}
 use Rattle.shown_sectors.specs.Sectors.{sectors_after}
 use Rattle.verdicts.specs.Refused.{AreAccepted, IsFirstRefused}
-use Rattle.runner.specs.RunEnds.{acts_in, shown_in}
+use Rattle.runner.specs.RunEnds.{acts_of_run, shown_in}
 use Rattle.runner.specs.Stopped.{stopped_from}
 use Rattle.runner.specs.Tasks.{can_stop, load_task}
 use Rattle.runner.specs.declared.due.Due.{Due}
@@ -36,17 +36,17 @@ IsSpelt deck = (bytes : List ℕ) × Decks bytes deck
 -- the run of a deck, after Bartlett's paper: it is a run of the schedule, with the stop of the words, on the machine of copies; the acts that it keeps are
 -- possible on the machine of single unfailing processes; what it shows, in order, is what they show there; where it ended idle no act is possible after
 -- them; the sectors are those that what is shown leaves written; and the processors that have stopped are those of its world at the end
-pub record IsReportOf (deck : Deck) (stop : Option Stop) (report : Report) : Type 0 where
+pub record IsReportOf (deck : Deck) (stop : Option ProcessorStop) (report : Report) : Type 0 where
   pub site : report.site ≡ deck.site
   pub run : IsRunOf deck.site deck.lines stop report.run.ran
-  pub possible : IsPossible deck.site (acts_in report.run)
-  pub shown : shown_in report.run ≡ shown_by deck.site (acts_in report.run)
-  pub none : report.run.ran.ending ≡ Idle → IsNoneLeft deck.site (acts_in report.run)
+  pub possible : IsPossible deck.site (acts_of_run report.run)
+  pub shown : shown_in report.run ≡ shown_by deck.site (acts_of_run report.run)
+  pub none : report.run.ran.ending ≡ Idle → IsNoneLeft deck.site (acts_of_run report.run)
   pub sectors : report.sectors ≡ sectors_after deck.site (shown_in report.run)
   pub stopped : report.stopped ≡ stopped_from 0 report.run.ran.machine.state.world.stopped
 
 -- what is due of a deck that is run: the report of its run, which is to tell so of it
-abbrev pub IsDueOfRun : Deck → Option Stop → Telling → Due → Type 0
+abbrev pub IsDueOfRun : Deck → Option ProcessorStop → Telling → Due → Type 0
 IsDueOfRun deck stop tells (due.Report report) = IsReportOf deck stop report × (report.tells ≡ tells)
 IsDueOfRun deck stop tells (due.NoMemory _) = Unit {0}
 IsDueOfRun deck stop tells _ = ⊥

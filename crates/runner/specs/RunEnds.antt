@@ -14,8 +14,8 @@ use Rattle.runner.specs.declared.outcome.Status.{Status}
 use Rattle.runner.specs.declared.outcome.Status.TheVariants as status
 
 -- the acts that the run keeps, in order
-abbrev pub acts_in : RunEnd → List Act
-acts_in run = acts_of run.ran.machine.state.world
+abbrev pub acts_of_run : RunEnd → List Act
+acts_of_run run = acts_of run.ran.machine.state.world
 
 -- what was shown in it, in order
 abbrev pub shown_in : RunEnd → List Shown

@@ -9,7 +9,7 @@ use Rattle.trace_print.specs.FaultLine.{fault_line, IsOfDeck}
 use Rattle.trace_print.specs.ReportText.{load_report_text, report_text}
 use Rattle.trace_print.specs.RowLine.{sweep_text}
 use Rattle.trace_print.specs.VerdictText.{accepted_text, refusal_text}
-use Rattle.runner.specs.RunEnds.{acts_in, end_of, load_counts, shown_in, status_of_run}
+use Rattle.runner.specs.RunEnds.{acts_of_run, end_of, load_counts, shown_in, status_of_run}
 use Rattle.runner.specs.declared.due.Due.{Due}
 use Rattle.runner.specs.declared.due.Due.TheVariants as due
 use Rattle.runner.specs.declared.due.Report.{Report}
@@ -22,7 +22,7 @@ use Rattle.runner.specs.declared.task.Telling.TheVariants as telling
 
 -- the acts that are told of a run: all that were kept, where they are asked for
 abbrev pub told_acts : Bool → RunEnd → List Act
-told_acts acts run = if acts then acts_in run else []
+told_acts acts run = if acts then acts_of_run run else []
 
 -- the report of a run, by what it tells
 abbrev pub text_telling : Telling → Report → List ℕ

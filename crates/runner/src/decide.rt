@@ -19,11 +19,11 @@ use accepted_decks::{
 };
 use command_words::{Command, asked_by};
 use deck_reader::{Deck, read_deck};
-use gd_io::{ReadRefusal, Source, read_all};
+use gd_io::{SourceFault, Source, read_all};
 use gd_words::NoMemory;
 use load_deck::load_text;
 use logs::Shared;
-use player::Stop;
+use player::ProcessorStop;
 use schedule_runs::run;
 use shown_sectors::sectors_after;
 use std::alloc::Global;
@@ -88,9 +88,9 @@ fn due_of_source<S: Source>(alloc: Global, task: Task, source: &mut S) -> Due
 {
     match read_all(alloc, source, MOST_BYTES) {
         Ok(bytes) => due_of_bytes(alloc, task, bytes.as_slice()),
-        Err(ReadRefusal::Failed) => Due::ReadFault,
-        Err(ReadRefusal::TooLong) => Due::DeckRefused(DeckFault::TooLong),
-        Err(ReadRefusal::NoMemory(memory)) => Due::NoMemory(memory),
+        Err(SourceFault::Failed) => Due::ReadFault,
+        Err(SourceFault::TooLong) => Due::DeckRefused(DeckFault::TooLong),
+        Err(SourceFault::NoMemory(memory)) => Due::NoMemory(memory),
     }
 }
 
@@ -167,7 +167,7 @@ fn due_of_sweep(alloc: Global, deck: Deck, runs: u32) -> Due
     }
 }
 
-fn due_of_run(alloc: Global, deck: Deck, stop: Option<Stop>, tells: Telling) -> Due
+fn due_of_run(alloc: Global, deck: Deck, stop: Option<ProcessorStop>, tells: Telling) -> Due
     requires spelt { IsSpelt deck }
     requires accepted { AreAccepted deck.site.processes }
     ensures due { IsDueOfRun deck stop tells result }
@@ -183,7 +183,7 @@ fn due_of_run(alloc: Global, deck: Deck, stop: Option<Stop>, tells: Telling) -> 
 fn report_of(
     alloc: Global,
     deck: Deck,
-    stop: Option<Stop>,
+    stop: Option<ProcessorStop>,
     tells: Telling,
 ) -> Result<Report, NoMemory>
     requires spelt { IsSpelt deck }

@@ -1,7 +1,7 @@
 ghost use Rattle.std.specs.Prelude.{◌≡◌, Ok, map, string_bytes};
 ghost use Rattle.gd_io.specs.Puts.{Puts};
 ghost use Rattle.runner.specs.Ends.{Ends};
-ghost use Rattle.runner.specs.Numbers.{number_of};
+ghost use Rattle.runner.specs.Numbers.{status_number};
 ghost use Rattle.runner.specs.RunEnds.{end_of};
 ghost use Rattle.runner.specs.Written.{text_of, text_of_run, text_telling, told_acts, run_of, outcome_of, CanBeWritten};
 ghost use Rattle.runner.specs.declared.outcome.Outcome.{Outcome};
@@ -29,7 +29,7 @@ pub fn exit_number<S: Source, K: Sink>(
 ) -> u8
     ensures { (outcome : Outcome)
         × Ends S.left S.faults S.sure K.held K.faults K.sure (map string_bytes words.entry.now) source.old source.new sink.old sink.new outcome
-        × (result ≡ number_of outcome.status) }
+        × (result ≡ status_number outcome.status) }
 {
     command(alloc, words, source, sink).status.number()
 }

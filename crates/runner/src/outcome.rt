@@ -1,9 +1,9 @@
-ghost use Rattle.runner.specs.Numbers.{number_of};
-ghost use Rattle.runner.specs.RunEnds.{acts_in, load_counts, shown_in, status_of_run};
+ghost use Rattle.runner.specs.Numbers.{status_number};
+ghost use Rattle.runner.specs.RunEnds.{acts_of_run, load_counts, shown_in, status_of_run};
 ghost use Rattle.std.specs.Prelude.{◌≡◌};
 
 use gd_words::NoMemory;
-use path_semantics::Refusal;
+use path_semantics::RefusalFault;
 use schedule_runs::{Ending, Ran};
 use tal_tree::{Act, DeckFault, Shown};
 use trace_print::LoadCounts;
@@ -34,7 +34,7 @@ pub enum Status {
     /// The bytes aren't a deck.
     DeckRefused(DeckFault),
     /// The program of the process at this place in the deck isn't accepted, and those before it are.
-    Refused { process: u8, refusal: Refusal },
+    Refused { process: u8, refusal: RefusalFault },
     /// The schedule was over, and something was left to do.
     Cut,
     /// This second processor would have stopped.
@@ -47,7 +47,7 @@ pub enum Status {
 impl Status {
     /// The number with which the program ends.
     pub fn number(&self) -> u8
-        ensures { result ≡ number_of self.now }
+        ensures { result ≡ status_number self.now }
     {
         match self {
             Status::Done => 0,
@@ -75,7 +75,7 @@ pub struct RunEnd {
 impl RunEnd {
     /// The acts that the run keeps, in order.
     pub fn acts(&self) -> &[Act]
-        ensures { result.now ≡ acts_in self.now }
+        ensures { result.now ≡ acts_of_run self.now }
     {
         self.ran.machine.acts()
     }

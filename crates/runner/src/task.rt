@@ -1,7 +1,7 @@
 ghost use Rattle.std.specs.Prelude.{◌≡◌};
 ghost use Rattle.runner.specs.Tasks.{can_stop, load_task};
 
-use player::Stop;
+use player::ProcessorStop;
 use tal_tree::Site;
 
 /// What the report of a run tells of it.
@@ -18,7 +18,7 @@ pub enum Telling {
 pub enum Task {
     /// To judge its programs, and, where all are accepted, to run its schedule, with this stop beside those of the schedule, and to
     /// tell of the run.
-    Run { tells: Telling, stop: Option<Stop> },
+    Run { tells: Telling, stop: Option<ProcessorStop> },
     /// To judge its programs.
     Check,
     /// To judge its programs, and, where all are accepted, to run its schedule so many times for each of its processors, with a stop of

@@ -6,7 +6,7 @@ ghost use Rattle.command_words.specs.declared.asked.Command.TheVariants as comma
 ghost use Rattle.deck_reader.specs.Refusals.{IsRefusalOf};
 ghost use Rattle.deck_reader.specs.declared.deck.Deck.{Deck};
 ghost use Rattle.gd_io.specs.Faults.{HasRisen};
-ghost use Rattle.player.specs.declared.stop.Stop.{Stop};
+ghost use Rattle.player.specs.declared.stop.ProcessorStop.{ProcessorStop};
 ghost use Rattle.trace_print.specs.FaultLine.{IsOfDeck};
 ghost use Rattle.verdicts.specs.Refused.{AreAccepted, IsFirstRefused};
 ghost use Rattle.load_deck.specs.LoadText.{load_text};
@@ -46,13 +46,13 @@ pub fn a_report_is_of_an_accepted_deck()
     ensures verdict { (deck : Deck) (site : Site) → IsDueOfPrograms Check deck (due.Accepted site) → AreAccepted deck.site.processes }
     ensures site { (deck : Deck) (site : Site) → IsDueOfAccepted Check deck (due.Accepted site) → due.Accepted site ≡ due.Accepted deck.site }
     ensures report { (deck : Deck) (task : Task) (report : Report) → IsDueOfPrograms task deck (due.Report report) → AreAccepted deck.site.processes }
-    ensures run { (deck : Deck) (stop : Option Stop) (tells : Telling) (report : Report) → IsDueOfRun deck stop tells (due.Report report) → IsReportOf deck stop report }
-    ensures tells { (deck : Deck) (stop : Option Stop) (tells : Telling) (report : Report) → IsDueOfRun deck stop tells (due.Report report) → report.tells ≡ tells }
+    ensures run { (deck : Deck) (stop : Option ProcessorStop) (tells : Telling) (report : Report) → IsDueOfRun deck stop tells (due.Report report) → IsReportOf deck stop report }
+    ensures tells { (deck : Deck) (stop : Option ProcessorStop) (tells : Telling) (report : Report) → IsDueOfRun deck stop tells (due.Report report) → report.tells ≡ tells }
 {}
 
 /// A run is of the deck that is read, with the acts and the stop that the words ask for; a load is of its own deck, and reads none.
 pub fn a_command_reads_its_deck()
-    ensures run { (stop : Option Stop) (left : Option (List ℕ)) (before now : ℕ) (decided : Due) → IsDueOfCommand (command.Run true stop) left before now decided
+    ensures run { (stop : Option ProcessorStop) (left : Option (List ℕ)) (before now : ℕ) (decided : Due) → IsDueOfCommand (command.Run true stop) left before now decided
         → IsDueOfSource (Run (Lines true) stop) left before now decided }
     ensures check { (left : Option (List ℕ)) (before now : ℕ) (decided : Due) → IsDueOfCommand command.Check left before now decided
         → IsDueOfSource Check left before now decided }

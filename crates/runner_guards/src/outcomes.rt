@@ -2,7 +2,7 @@ ghost use Rattle.std.specs.Prelude.{◌≡◌, ℕ, [], ⊤, List, Ok, Err, Some
 ghost use Rattle.gd_words.specs.Memory.{no_memory};
 ghost use Rattle.tal_tree.specs.declared.fault.DeckFault.{DeckFault};
 ghost use Rattle.tal_tree.specs.declared.site.Site.{Site};
-ghost use Rattle.path_semantics.specs.declared.reason.Refusal.{Refusal};
+ghost use Rattle.path_semantics.specs.declared.reason.RefusalFault.{RefusalFault};
 ghost use Rattle.gd_io.specs.declared.writing.WriteFault.{WriteFault};
 ghost use Rattle.trace_print.specs.EndLine.{usage_line};
 ghost use Rattle.trace_print.specs.FaultLine.{fault_line};

@@ -2,8 +2,8 @@ ghost use Rattle.std.specs.Prelude.{◌≡◌, ◌∷◌, [], ℕ, Some, None, t
 ghost use Rattle.gd_words.specs.Memory.{no_memory};
 ghost use Rattle.tal_tree.specs.declared.fault.DeckFault.{DeckFault};
 ghost use Rattle.tal_tree.specs.declared.site.Site.{Site};
-ghost use Rattle.path_semantics.specs.declared.reason.Refusal.{Refusal};
-ghost use Rattle.runner.specs.Numbers.{number_of};
+ghost use Rattle.path_semantics.specs.declared.reason.RefusalFault.{RefusalFault};
+ghost use Rattle.runner.specs.Numbers.{status_number};
 ghost use Rattle.runner.specs.Stopped.{stopped_from};
 ghost use Rattle.runner.specs.Tasks.{can_stop, load_task};
 ghost use Rattle.runner.specs.declared.outcome.Status.TheVariants as status;
@@ -13,15 +13,15 @@ ghost use Rattle.runner.specs.declared.task.Telling.TheVariants.{Counts};
 
 /// The program ends with the number of its status.
 pub fn a_status_has_its_number()
-    ensures done { number_of status.Done ≡ 0 }
-    ensures usage { number_of status.Usage ≡ 1 }
-    ensures deck_refused { (fault : DeckFault) → number_of (status.DeckRefused fault) ≡ 2 }
-    ensures refused { (process : ℕ) (refusal : Refusal) → number_of (status.Refused process refusal) ≡ 3 }
-    ensures cut { number_of status.Cut ≡ 4 }
-    ensures second_stop { (processor : ℕ) → number_of (status.SecondStop processor) ≡ 5 }
-    ensures read_fault { number_of status.ReadFault ≡ 6 }
-    ensures write_fault { number_of status.WriteFault ≡ 7 }
-    ensures no_memory { number_of (status.NoMemory no_memory) ≡ 8 }
+    ensures done { status_number status.Done ≡ 0 }
+    ensures usage { status_number status.Usage ≡ 1 }
+    ensures deck_refused { (fault : DeckFault) → status_number (status.DeckRefused fault) ≡ 2 }
+    ensures refused { (process : ℕ) (refusal : RefusalFault) → status_number (status.Refused process refusal) ≡ 3 }
+    ensures cut { status_number status.Cut ≡ 4 }
+    ensures second_stop { (processor : ℕ) → status_number (status.SecondStop processor) ≡ 5 }
+    ensures read_fault { status_number status.ReadFault ≡ 6 }
+    ensures write_fault { status_number status.WriteFault ≡ 7 }
+    ensures no_memory { status_number (status.NoMemory no_memory) ≡ 8 }
 {}
 
 /// The processors that have stopped are told by their numbers, rising.

@@ -1,5 +1,5 @@
 ghost use Rattle.std.specs.Prelude.{◌≡◌, ◌∷◌, [], ℕ, Bool, Some, None, true, false, Option};
-ghost use Rattle.player.specs.declared.stop.Stop.{Stop};
+ghost use Rattle.player.specs.declared.stop.ProcessorStop.{ProcessorStop};
 ghost use Rattle.tal_tree.specs.declared.act.Act.{Act};
 ghost use Rattle.tal_tree.specs.declared.act.Shown.{Shown};
 ghost use Rattle.tal_tree.specs.declared.act.Shown.TheVariants.{Reply, Write};
@@ -8,7 +8,7 @@ ghost use Rattle.trace_print.specs.declared.closing.End.TheVariants as end;
 ghost use Rattle.command_words.specs.declared.asked.Command.TheVariants as command;
 ghost use Rattle.schedule_runs.specs.declared.ran.Ending.TheVariants.{Idle, Cut, Second};
 ghost use Rattle.runner.specs.Decided.{reads_deck};
-ghost use Rattle.runner.specs.RunEnds.{acts_in, end_of, load_counts, shown_in, status_of_run};
+ghost use Rattle.runner.specs.RunEnds.{acts_of_run, end_of, load_counts, shown_in, status_of_run};
 ghost use Rattle.runner.specs.Written.{text_of_run, told_acts};
 ghost use Rattle.runner.specs.declared.due.Report.{Report};
 ghost use Rattle.runner.specs.declared.outcome.RunEnd.{RunEnd};
@@ -19,8 +19,8 @@ ghost use Rattle.runner_guards.specs.Reports.{keeping, showing};
 /// What a run kept and showed is told the oldest first, its acts only where they are asked for; of a load it is counted.
 pub fn what_a_run_did_is_told_in_order()
     ensures shown { (run : RunEnd) (a b : Shown) → shown_in (showing (a ∷ b ∷ []) run) ≡ b ∷ a ∷ [] }
-    ensures kept { (run : RunEnd) (a b : Act) → acts_in (keeping (a ∷ b ∷ []) run) ≡ b ∷ a ∷ [] }
-    ensures asked_for { (run : RunEnd) → told_acts true run ≡ acts_in run }
+    ensures kept { (run : RunEnd) (a b : Act) → acts_of_run (keeping (a ∷ b ∷ []) run) ≡ b ∷ a ∷ [] }
+    ensures asked_for { (run : RunEnd) → told_acts true run ≡ acts_of_run run }
     ensures not_asked_for { (run : RunEnd) → told_acts false run ≡ [] }
     ensures counted { (run : RunEnd) → load_counts 50 (showing (Reply 0 2 [] ∷ Write 0 3 [] ∷ Reply 0 1 [] ∷ []) run) ≡ record { requests = 50; writes = 1; replies = 2 } }
 {}
@@ -42,7 +42,7 @@ pub fn a_report_is_by_what_it_tells()
 
 /// A deck is read to run, check or sweep it, and not for a load or for words that are no command.
 pub fn a_deck_is_read_for_what_needs_it()
-    ensures run { (acts : Bool) (stop : Option Stop) → reads_deck (Some (command.Run acts stop)) ≡ true }
+    ensures run { (acts : Bool) (stop : Option ProcessorStop) → reads_deck (Some (command.Run acts stop)) ≡ true }
     ensures check { reads_deck (Some command.Check) ≡ true }
     ensures sweep { (runs : ℕ) → reads_deck (Some (command.Sweep runs)) ≡ true }
     ensures load { (requests : ℕ) → reads_deck (Some (command.Load requests)) ≡ false }

@@ -4,9 +4,9 @@ use Rattle.tal_tree.specs.declared.site.Site.{Site}
 use Rattle.schedule.specs.declared.event.Event.{Event}
 use Rattle.schedule.specs.declared.line.Line.{Line}
 use Rattle.schedule.specs.declared.line.Line.TheVariants.{One, Many, Drain, Mix, Mute, Until}
-use Rattle.player.specs.declared.stop.Stop.{Stop}
-use Rattle.message_wires.specs.Play.{Whole}
-use Rattle.schedule_runs.specs.Runs.{Agenda, Plays}
+use Rattle.player.specs.declared.stop.ProcessorStop.{ProcessorStop}
+use Rattle.message_wires.specs.Play.{MachineState}
+use Rattle.schedule_runs.specs.Runs.{Agenda, PlaysSchedule}
 use Rattle.deck_reader.specs.Limits.{IsWithinDeckLimits}
 use Rattle.deck_reader.specs.Schedules.{singles_in, singles_of, rounds_in, rounds_of}
 use Rattle.deck_reader.specs.declared.deck.Deck.{Deck}
@@ -31,14 +31,14 @@ lines-are round (line ∷ lines) =
     let sum : (rounds_in line + rounds_of lines) * round ≡ rounds_in line * round + rounds_of lines * round = add-mul (rounds_in line) (rounds_of lines) round in
     omega (arith, one, rest, sum)
 
-one-stop : (stop : Option Stop) → stops_of_words stop ≤ 1
+one-stop : (stop : Option ProcessorStop) → stops_of_words stop ≤ 1
 one-stop None = omega arith
 one-stop (Some stop) = omega arith
 
 round-few : (site : Site) → site.processors ≤ 16 → length site.processes ≤ 16 → length site.terminals ≤ 16 → most_in_round site ≤ 8273
 round-few site processors processes terminals = omega (arith, processors, processes, terminals)
 
-pub deck-asks : (deck : Deck) (stop : Option Stop) → IsWithinDeckLimits deck → most_events deck.site deck.lines stop ≤ 828300001
+pub deck-asks : (deck : Deck) (stop : Option ProcessorStop) → IsWithinDeckLimits deck → most_events deck.site deck.lines stop ≤ 828300001
 deck-asks deck stop within =
     let sum = lines-are (most_in_round deck.site) deck.lines in
     let round = round-few deck.site within.site.most_processors within.site.processes within.site.terminals in
@@ -47,8 +47,8 @@ deck-asks deck stop within =
     let one = one-stop stop in
     omega (arith, sum, rounds, singles, one)
 
-pub deck-few : (deck : Deck) (stop : Option Stop) (events : List Event) (agenda : Agenda) (s : Whole) → IsWithinDeckLimits deck
-    → Plays deck.site deck.lines stop events agenda s → length events ≤ 828300001
+pub deck-few : (deck : Deck) (stop : Option ProcessorStop) (events : List Event) (agenda : Agenda) (s : MachineState) → IsWithinDeckLimits deck
+    → PlaysSchedule deck.site deck.lines stop events agenda s → length events ≤ 828300001
 deck-few deck stop events agenda s within plays =
     let played = so-many deck.site deck.lines stop events agenda s plays in
     let most = deck-asks deck stop within in

@@ -9,12 +9,12 @@ use Rattle.world_semantics.specs.Running.{Done, run_done}
 use Rattle.world_semantics.specs.World.{is_running}
 use Rattle.computed_changes.specs.Entered.{enter_done}
 use Rattle.computed_changes.specs.Handed.{handed_done}
-use Rattle.computed_changes.specs.Stopped.{stop_done, marked_done}
+use Rattle.computed_changes.specs.Stopped.{stop_done, down_done}
 use Rattle.letters.specs.Routes.{Letter, letters_of}
 use Rattle.letters.specs.Again.{sent_again}
 use Rattle.machine_states.specs.States.{Played, Makes, Skips, WouldStop}
-use Rattle.message_wires.specs.Wires.{Sent, Wires, has_room, put_on, posted, all_posted, paid, paid_between, without_packet, is_due, put_again}
-use Rattle.message_wires.specs.Play.{Whole, after_done, made_by, after_any, handed, comes_in, deliver_played, lose_played, repeat_played, has_stopped, fail_played, marked_by, marks_from, ticked, tick_played, packet_at, play}
+use Rattle.message_wires.specs.Wires.{Sent, Wires, has_room, put_on, wires_after_post, wires_after_posts, paid, paid_between, without_packet, is_due, put_again}
+use Rattle.message_wires.specs.Play.{MachineState, after_done, made_by, after_any, state_after_handing, comes_in, deliver_played, lose_played, repeat_played, has_stopped, fail_played, noted_by, notes_from, state_after_tick, tick_played, packet_at, play}
 use Rattle.message_wires.specs.Runs.{IsPlayed, played_none, played_more, skipped}
 use Rattle.schedule_runs.specs.Runs.{IsPlay}
 
@@ -28,9 +28,9 @@ put-few packet bus few = by (has_room bus) refl
     by true is = let low = ltb-true (length bus) 4096 is in let sum = length-append bus (packet ∷ []) in omega (arith, low, sum)
     by false is = few
 
-posted-few : (letters : List Letter) (wires : Wires) → IsFew wires.bus → IsFew (all_posted letters wires).bus
+posted-few : (letters : List Letter) (wires : Wires) → IsFew wires.bus → IsFew (wires_after_posts letters wires).bus
 posted-few [] wires few = few
-posted-few (letter ∷ letters) wires few = posted-few letters (posted letter wires) (put-few _ wires.bus few)
+posted-few (letter ∷ letters) wires few = posted-few letters (wires_after_post letter wires) (put-few _ wires.bus few)
 
 take-few : (k : ℕ) (xs : List Sent) → length (take k xs ++ drop (suc k) xs) ≤ length xs
 take-few zero [] = omega arith
@@ -54,53 +54,53 @@ IsFewPlayed (Makes next) = IsFew next.wires.bus
 IsFewPlayed Skips = Unit {0}
 IsFewPlayed (WouldStop processor) = Unit {0}
 
-made-few : (s : Whole) (done : Option Done) → IsFew s.wires.bus → IsFewPlayed (made_by s done)
+made-few : (s : MachineState) (done : Option Done) → IsFew s.wires.bus → IsFewPlayed (made_by s done)
 made-few s None few = tt
 made-few s (Some done) few = posted-few (letters_of s.site done.world done.sendings) s.wires few
 
-any-few : (s : Whole) (done : Option Done) → IsFew s.wires.bus → IsFew (after_any s done).wires.bus
+any-few : (s : MachineState) (done : Option Done) → IsFew s.wires.bus → IsFew (after_any s done).wires.bus
 any-few s None few = few
 any-few s (Some done) few = posted-few (letters_of s.site done.world done.sendings) s.wires few
 
-deliver-few : (k : ℕ) (s : Whole) (packet : Option Sent) → IsFew s.wires.bus → IsFewPlayed (deliver_played k s packet)
+deliver-few : (k : ℕ) (s : MachineState) (packet : Option Sent) → IsFew s.wires.bus → IsFewPlayed (deliver_played k s packet)
 deliver-few k s None few = tt
 deliver-few k s (Some packet) few = by (comes_in (record s { wires = without_packet k s.wires }) packet.letter)
   where
     by : (test : Bool)
-        → IsFew (if test then handed packet (record s { wires = without_packet k s.wires }) else record s { wires = without_packet k s.wires }).wires.bus
+        → IsFew (if test then state_after_handing packet (record s { wires = without_packet k s.wires }) else record s { wires = without_packet k s.wires }).wires.bus
     by true =
         any-few (record s { wires = paid packet.number (without_packet k s.wires) })
         (handed_done s.site packet.letter.receiver packet.letter.message s.world) (remove-few s.wires.bus k few)
     by false = remove-few s.wires.bus k few
 
-lose-few : (k : ℕ) (s : Whole) (packet : Option Sent) → IsFew s.wires.bus → IsFewPlayed (lose_played k s packet)
+lose-few : (k : ℕ) (s : MachineState) (packet : Option Sent) → IsFew s.wires.bus → IsFewPlayed (lose_played k s packet)
 lose-few k s None few = tt
 lose-few k s (Some packet) few = remove-few s.wires.bus k few
 
-repeat-few : (s : Whole) (packet : Option Sent) → IsFew s.wires.bus → IsFewPlayed (repeat_played s packet)
+repeat-few : (s : MachineState) (packet : Option Sent) → IsFew s.wires.bus → IsFewPlayed (repeat_played s packet)
 repeat-few s None few = tt
 repeat-few s (Some packet) few = put-few packet s.wires.bus few
 
-marked-few : (node processor : ℕ) (s : Whole) (done : Option Done) → IsFew s.wires.bus → IsFew (marked_by node processor s done).wires.bus
+marked-few : (node processor : ℕ) (s : MachineState) (done : Option Done) → IsFew s.wires.bus → IsFew (noted_by node processor s done).wires.bus
 marked-few node processor s None few = few
 marked-few node processor s (Some done) few =
     posted-few (letters_of s.site done.world (done.sendings ++ sent_again s.site s.world done.world node processor)) (paid_between node processor s.wires) few
 
-marks-few : (node processor left : ℕ) (s : Whole) → IsFew s.wires.bus → IsFew (marks_from node processor left s).wires.bus
+marks-few : (node processor left : ℕ) (s : MachineState) → IsFew s.wires.bus → IsFew (notes_from node processor left s).wires.bus
 marks-few node processor zero s few = few
 marks-few node processor (suc left) s few =
-    marks-few node (processor + 1) left _ (marked-few node processor s (marked_done node processor s.world) few)
+    marks-few node (processor + 1) left _ (marked-few node processor s (down_done node processor s.world) few)
 
-tick-few : (node : ℕ) (s : Whole) → IsFew s.wires.bus → IsFewPlayed (tick_played node s)
+tick-few : (node : ℕ) (s : MachineState) → IsFew s.wires.bus → IsFewPlayed (tick_played node s)
 tick-few node s few = by (is_running s.world.stopped node)
   where
-    by : (test : Bool) → IsFewPlayed (if test then Makes (ticked node (marks_from node 0 (length s.world.stopped) s)) else Skips)
+    by : (test : Bool) → IsFewPlayed (if test then Makes (state_after_tick node (notes_from node 0 (length s.world.stopped) s)) else Skips)
     by true =
-        let after = marks_from node 0 (length s.world.stopped) s in
+        let after = notes_from node 0 (length s.world.stopped) s in
         again-few after.world.stopped node after.wires.owed after.wires.bus (marks-few node 0 (length s.world.stopped) s few)
     by false = tt
 
-fail-few : (processor : ℕ) (s : Whole) (done : Option Done) → IsFew s.wires.bus → IsFewPlayed (fail_played processor s done)
+fail-few : (processor : ℕ) (s : MachineState) (done : Option Done) → IsFew s.wires.bus → IsFewPlayed (fail_played processor s done)
 fail-few processor s None few = tt
 fail-few processor s (Some done) few = by (has_stopped s.world.stopped)
   where
@@ -108,7 +108,7 @@ fail-few processor s (Some done) few = by (has_stopped s.world.stopped)
     by true = tt
     by false = posted-few (letters_of s.site done.world done.sendings) s.wires few
 
-play-few : (s : Whole) (event : Event) → IsFew s.wires.bus → IsFewPlayed (play s event)
+play-few : (s : MachineState) (event : Event) → IsFew s.wires.bus → IsFewPlayed (play s event)
 play-few s (Run number) few = made-few s (run_done s.site number s.world) few
 play-few s (Enter number) few = made-few s (enter_done s.site number s.world) few
 play-few s (Deliver y k) few = deliver-few k s (packet_at s y k) few
@@ -118,11 +118,11 @@ play-few s (Tick node) few = tick-few node s few
 play-few s (Fail processor) few = fail-few processor s (stop_done processor s.world) few
 
 -- an event leaves at most 4,096 packets on the bus
-pub bus-few : (s : Whole) (event : Event) (next : Whole) → IsPlay s event next → length s.wires.bus ≤ 4096 → length next.wires.bus ≤ 4096
+pub bus-few : (s : MachineState) (event : Event) (next : MachineState) → IsPlay s event next → length s.wires.bus ≤ 4096 → length next.wires.bus ≤ 4096
 bus-few s event next (inl makes) few = subst IsFewPlayed makes (play-few s event few)
-bus-few s event next (inr skips) few = subst (λ (one : Whole). IsFew one.wires.bus) (sym skips.1) few
+bus-few s event next (inr skips) few = subst (λ (one : MachineState). IsFew one.wires.bus) (sym skips.1) few
 
-pub played-few : (site : Site) (events : List Event) (s : Whole) → IsPlayed site events s → length s.wires.bus ≤ 4096
+pub played-few : (site : Site) (events : List Event) (s : MachineState) → IsPlayed site events s → length s.wires.bus ≤ 4096
 played-few site _ _ played_none = omega arith
 played-few site _ _ (played_more {events = events} {s = s} event before makes) =
     subst IsFewPlayed makes (play-few s event (played-few site events s before))

@@ -6,10 +6,10 @@ use Rattle.schedule.specs.declared.event.Counts.{Counts}
 use Rattle.schedule.specs.declared.line.Line.{Line}
 use Rattle.player.specs.declared.standing.Sizes.{Sizes}
 use Rattle.player.specs.declared.standing.Move.{Move}
-use Rattle.player.specs.declared.stop.Stop.{Stop}
+use Rattle.player.specs.declared.stop.ProcessorStop.{ProcessorStop}
 use Rattle.player.specs.Lines.{begun, next_event}
-use Rattle.message_wires.specs.Play.{Whole}
-use Rattle.schedule_runs.specs.Runs.{sizes_of, counts_of, Agenda, Plan, planned_by, coming, stopped_by, upcoming_after, upcoming, Plays, plays_none, plays_on}
+use Rattle.message_wires.specs.Play.{MachineState}
+use Rattle.schedule_runs.specs.Runs.{sizes_of, counts_of, Agenda, Plan, planned_by, coming, stopped_by, upcoming_after, upcoming, PlaysSchedule, plays_none, plays_on}
 use Rattle.schedule_runs.specs.Lengths.{most_in_lines, stops_of_words, most_events}
 use Rattle.schedule_runs.proofs.Buses.{bus-few}
 use Rattle.schedule_runs.proofs.Turns.{round_of}
@@ -24,19 +24,19 @@ abbrev left_of : Sizes → Agenda → ℕ
 left_of sizes agenda = left_in sizes agenda.standing + most_in_lines (round_of sizes) agenda.lines + stops_of_words agenda.stop + held_back agenda.held_back
 
 -- a plan by the lines takes one of so many; the stop stays, and nothing is held back
-abbrev LinesTake : Sizes → ℕ → Option Stop → Option Plan → Type 0
+abbrev LinesTake : Sizes → ℕ → Option ProcessorStop → Option Plan → Type 0
 LinesTake sizes before stop None = Unit {0}
 LinesTake sizes before stop (Some plan) =
     (left_in sizes plan.agenda.standing + most_in_lines (round_of sizes) plan.agenda.lines + 1 ≤ before) × (plan.agenda.stop ≡ stop)
     × (plan.agenda.held_back ≡ None)
 
-lines-more : (sizes : Sizes) (before more : ℕ) (stop : Option Stop) (plan : Option Plan) → before ≤ more → LinesTake sizes before stop plan
+lines-more : (sizes : Sizes) (before more : ℕ) (stop : Option ProcessorStop) (plan : Option Plan) → before ≤ more → LinesTake sizes before stop plan
     → LinesTake sizes more stop plan
 lines-more sizes before more stop None less takes = tt
 lines-more sizes before more stop (Some plan) less takes = (let one = takes.0 in omega (arith, one, less), takes.1, takes.2)
 
 module _ (sizes : Sizes) (counts : Counts) (few : counts.x ≤ 4096) (none : counts.y ≡ 0) where
-  lines-take : (stop : Option Stop) (lines : List Line) (left : ℕ) (move : Option Move) → MoveTakes sizes left move
+  lines-take : (stop : Option ProcessorStop) (lines : List Line) (left : ℕ) (move : Option Move) → MoveTakes sizes left move
       → LinesTake sizes (left + most_in_lines (round_of sizes) lines) stop (planned_by sizes counts stop lines move)
   lines-take stop lines left (Some move) takes = (omega (arith, takes), refl, refl)
   lines-take stop [] left None takes = tt
@@ -50,7 +50,7 @@ module _ (sizes : Sizes) (counts : Counts) (few : counts.x ≤ 4096) (none : cou
   PlanTakes before None = Unit {0}
   PlanTakes before (Some plan) = left_of sizes plan.agenda + 1 ≤ before
 
-  stop-takes : (before so_far : ℕ) (stop : Option Stop) (plan : Option Plan) → LinesTake sizes before stop plan
+  stop-takes : (before so_far : ℕ) (stop : Option ProcessorStop) (plan : Option Plan) → LinesTake sizes before stop plan
       → PlanTakes (before + stops_of_words stop + 0) (option_map (stopped_by (coming stop so_far)) plan)
   stop-takes before so_far stop None takes = tt
   stop-takes before so_far None (Some plan) takes =
@@ -81,11 +81,11 @@ module _ (sizes : Sizes) (counts : Counts) (few : counts.x ≤ 4096) (none : cou
           (lines-take agenda.stop agenda.lines (left_in sizes agenda.standing) (next_event sizes agenda.standing counts) (next-takes sizes agenda.standing counts few none))
 
 -- what is left of a schedule that is played, with the events before; and its bus has room for its packets
-record IsLeft (site : Site) (lines : List Line) (stop : Option Stop) (events : List Event) (agenda : Agenda) (s : Whole) : Type 0 where
+record IsLeft (site : Site) (lines : List Line) (stop : Option ProcessorStop) (events : List Event) (agenda : Agenda) (s : MachineState) : Type 0 where
   few : length s.wires.bus ≤ 4096
   most : length events + left_of (sizes_of site) agenda ≤ most_events site lines stop
 
-played-left : (site : Site) (lines : List Line) (stop : Option Stop) (events : List Event) (agenda : Agenda) (s : Whole) → Plays site lines stop events agenda s
+played-left : (site : Site) (lines : List Line) (stop : Option ProcessorStop) (events : List Event) (agenda : Agenda) (s : MachineState) → PlaysSchedule site lines stop events agenda s
     → IsLeft site lines stop events agenda s
 played-left site lines stop _ _ _ plays_none = record { few = omega arith; most = omega arith }
 played-left site lines stop _ _ _ (plays_on {events = events} {agenda = agenda} {s = s} {next = next} plan before comes play) =
@@ -96,6 +96,6 @@ played-left site lines stop _ _ _ (plays_on {events = events} {agenda = agenda} 
     let count : length (events ++ plan.event ∷ []) ≡ length events + 1 = length-append events (plan.event ∷ []) in
     record { few = bus-few s plan.event next play left.few; most = omega (arith, most, takes, count) }
 
-pub so-many : (site : Site) (lines : List Line) (stop : Option Stop) (events : List Event) (agenda : Agenda) (s : Whole)
-    → Plays site lines stop events agenda s → length events ≤ most_events site lines stop
+pub so-many : (site : Site) (lines : List Line) (stop : Option ProcessorStop) (events : List Event) (agenda : Agenda) (s : MachineState)
+    → PlaysSchedule site lines stop events agenda s → length events ≤ most_events site lines stop
 so-many site lines stop events agenda s plays = let most = (played-left site lines stop events agenda s plays).most in omega (arith, most)

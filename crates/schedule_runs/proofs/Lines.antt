@@ -9,8 +9,8 @@ use Rattle.player.specs.declared.standing.Place.{Place}
 use Rattle.player.specs.declared.standing.Place.TheVariants as place
 use Rattle.player.specs.declared.standing.MixedPlace.{MixedPlace}
 use Rattle.player.specs.declared.standing.MixedPlace.TheVariants as mixed
-use Rattle.player.specs.declared.standing.Standing.{Standing}
-use Rattle.player.specs.declared.standing.Standing.TheVariants as standing
+use Rattle.player.specs.declared.standing.LinePlace.{LinePlace}
+use Rattle.player.specs.declared.standing.LinePlace.TheVariants as standing
 use Rattle.player.specs.declared.standing.Move.{Move}
 use Rattle.player.specs.Rounds.{next_turn}
 use Rattle.player.specs.Mixes.{next_mixed}
@@ -19,7 +19,7 @@ use Rattle.schedule_runs.specs.Lengths.{most_in_line}
 use Rattle.schedule_runs.proofs.Turns.{round_of, left_at, left_at_mixed, first-turn, later-turn, first-mixed, later-mixed}
 
 -- what is left of a line that stands here
-abbrev pub left_in : Sizes → Standing → ℕ
+abbrev pub left_in : Sizes → LinePlace → ℕ
 left_in sizes standing.Ended = 0
 left_in sizes (standing.Event event left) = left
 left_in sizes (standing.Rounds rule left at) = left * round_of sizes + left_at sizes at
@@ -52,7 +52,7 @@ some-left sizes left before move takes = by (nat_lt 0 left) refl
     by true is = takes (ltb-true 0 left is)
     by false is = tt
 
-proposed-takes : (sizes : Sizes) (x : ℕ) (standing : Standing) → x ≤ 4096 → MoveTakes sizes (left_in sizes standing) (proposed sizes x 0 standing)
+proposed-takes : (sizes : Sizes) (x : ℕ) (standing : LinePlace) → x ≤ 4096 → MoveTakes sizes (left_in sizes standing) (proposed sizes x 0 standing)
 proposed-takes sizes x standing.Ended few = tt
 proposed-takes sizes x (standing.Event event left) few =
     some-left sizes left left (record { event = event; standing = standing.Event event (left - 1) }) (λ some. omega (arith, some))
@@ -86,7 +86,7 @@ proposed-takes sizes x (standing.Mixed left at draws) few = by at
     by (mixed.Ticks node) = later (mixed.Ticks node) (λ is. absurd (cc))
 
 -- the next event of a line takes one of those that are left of it
-pub next-takes : (sizes : Sizes) (standing : Standing) (counts : Counts) → counts.x ≤ 4096 → counts.y ≡ 0
+pub next-takes : (sizes : Sizes) (standing : LinePlace) (counts : Counts) → counts.x ≤ 4096 → counts.y ≡ 0
     → MoveTakes sizes (left_in sizes standing) (next_event sizes standing counts)
 next-takes sizes standing counts few none = by (is_over standing counts) (proposed sizes counts.x counts.y standing)
     (rw none (proposed-takes sizes counts.x standing few))

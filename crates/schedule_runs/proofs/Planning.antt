@@ -7,13 +7,13 @@ use Rattle.schedule.specs.declared.event.Event.TheVariants.{Fail}
 use Rattle.schedule.specs.declared.line.Line.{Line}
 use Rattle.player.specs.declared.standing.Sizes.{Sizes}
 use Rattle.player.specs.declared.standing.Move.{Move}
-use Rattle.player.specs.declared.stop.Stop.{Stop}
+use Rattle.player.specs.declared.stop.ProcessorStop.{ProcessorStop}
 use Rattle.player.specs.Lines.{begun, event_of, next_event, stands_after}
 use Rattle.schedule_runs.specs.Runs.{Plan, planned_by, stopped_by}
 use Rattle.schedule_runs.specs.Seen.{IsBegun, Scheduled, event_in}
 
 -- where the line gives an event, that is the plan
-pub gives-event : (sizes : Sizes) (counts : Counts) (stop : Option Stop) (lines : List Line) (move : Option Move) (event : Event) → event_of move ≡ Some event
+pub gives-event : (sizes : Sizes) (counts : Counts) (stop : Option ProcessorStop) (lines : List Line) (move : Option Move) (event : Event) → event_of move ≡ Some event
     → Some event ≡ event_in (planned_by sizes counts stop lines move)
 gives-event sizes counts stop lines None event e = absurd (cc)
 gives-event sizes counts stop lines (Some move) event e = sym e

@@ -3,11 +3,11 @@ use Rattle.std.specs.Prelude.{◌≡◌, ◌<◌, ℕ, ◌+◌, Bool, true, fals
 use Rattle.tal_tree.specs.declared.site.Site.{Site}
 use Rattle.schedule.specs.declared.event.Event.{Event}
 use Rattle.schedule.specs.declared.line.Line.{Line}
-use Rattle.player.specs.declared.stop.Stop.{Stop}
+use Rattle.player.specs.declared.stop.ProcessorStop.{ProcessorStop}
 use Rattle.message_wires.specs.Idle.{is_idle}
 use Rattle.machine_states.specs.States.{WouldStop}
-use Rattle.message_wires.specs.Play.{Whole, play}
-use Rattle.pair_machine.specs.Seen.{Standing, closed_state}
+use Rattle.message_wires.specs.Play.{MachineState, play}
+use Rattle.pair_machine.specs.Seen.{MachineStanding, closed_state}
 use Rattle.schedule_runs.specs.Runs.{IsPlay, RunsOut, RunsToStop}
 use Rattle.schedule_runs.specs.declared.ran.Ending.{Ending}
 use Rattle.schedule_runs.specs.declared.ran.Ending.TheVariants.{Idle, Cut, Second}
@@ -15,7 +15,7 @@ use Rattle.schedule_runs.specs.declared.ran.Ran.{Ran}
 
 -- the run ended so: idle, and then it was closed; or with something left to do; or before an event that would stop a second processor. The events that it asked
 -- for are those that it played, and the one before which it ended
-abbrev pub EndsAs : Site → List Line → Option Stop → List Event → Whole → Whole → ℕ → Ending → Type 0
+abbrev pub EndsAs : Site → List Line → Option ProcessorStop → List Event → MachineState → MachineState → ℕ → Ending → Type 0
 EndsAs site lines stop events s left asked Idle =
     RunsOut site lines stop events s × (is_idle s ≡ true) × (left ≡ closed_state s) × (asked ≡ length events)
 EndsAs site lines stop events s left asked Cut =
@@ -25,20 +25,20 @@ EndsAs site lines stop events s left asked (Second processor) =
 
 -- what ran is a run of the schedule with the stop on the site: these events were played one after the other, fewer than 4,294,967,295 of them, and led to a
 -- state, with which the run ended as it says
-pub record IsRunOf (site : Site) (lines : List Line) (stop : Option Stop) (ran : Ran) : Type 0 where
+pub record IsRunOf (site : Site) (lines : List Line) (stop : Option ProcessorStop) (ran : Ran) : Type 0 where
   pub events : List Event
-  pub state : Whole
+  pub state : MachineState
   pub few : length events < 4294967295
   pub whole : ran.machine.is_broken ≡ false
   pub ends : EndsAs site lines stop events state ran.machine.state ran.asked ran.ending
 
 -- the end of a run whose events led the machine to where it stands, by whether it is idle there: it is closed then
-abbrev pub IsEndOf : Standing → ℕ → Ran → Bool → Type 0
+abbrev pub IsEndOf : MachineStanding → ℕ → Ran → Bool → Type 0
 IsEndOf before played ran true =
     (ran.ending ≡ Idle) × (ran.machine ≡ record before { state = closed_state before.state }) × (ran.asked ≡ played)
 IsEndOf before played ran false = (ran.ending ≡ Cut) × (ran.machine ≡ before) × (ran.asked ≡ played)
 
 -- an event was played, or it would stop this second processor, and nothing changes
-abbrev pub IsTried : Whole → Event → Whole → Option ℕ → Type 0
+abbrev pub IsTried : MachineState → Event → MachineState → Option ℕ → Type 0
 IsTried s event next None = IsPlay s event next
 IsTried s event next (Some processor) = (play s event ≡ WouldStop processor) × (next ≡ s)

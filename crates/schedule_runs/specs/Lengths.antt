@@ -3,7 +3,7 @@ use Rattle.std.specs.Prelude.{◌<◌, ℕ, ◌+◌, ◌*◌, List, [], ◌∷�
 use Rattle.tal_tree.specs.declared.site.Site.{Site}
 use Rattle.schedule.specs.declared.line.Line.{Line}
 use Rattle.schedule.specs.declared.line.Line.TheVariants.{One, Many, Drain, Mix, Mute, Until}
-use Rattle.player.specs.declared.stop.Stop.{Stop}
+use Rattle.player.specs.declared.stop.ProcessorStop.{ProcessorStop}
 
 -- a round on a site: each terminal enters; each process runs, in a mixed round up to three times; each of the 4,096 packets for which bus X has room is
 -- delivered or lost, in a mixed round repeated before; on bus Y there is none; and each node ticks, that of the terminals too
@@ -24,14 +24,14 @@ most_in_lines round [] = 0
 most_in_lines round (line ∷ lines) = most_in_line round line + most_in_lines round lines
 
 -- the stop of the words, if there is one
-abbrev pub stops_of_words : Option Stop → ℕ
+abbrev pub stops_of_words : Option ProcessorStop → ℕ
 stops_of_words None = 0
 stops_of_words (Some stop) = 1
 
 -- a schedule with a stop on a site
-abbrev pub most_events : Site → List Line → Option Stop → ℕ
+abbrev pub most_events : Site → List Line → Option ProcessorStop → ℕ
 most_events site lines stop = most_in_lines (most_in_round site) lines + stops_of_words stop
 
 -- so few that each of them has a number of 32 bits, and so has the next one after it
-abbrev pub AsksForFewEvents : Site → List Line → Option Stop → Type 0
+abbrev pub AsksForFewEvents : Site → List Line → Option ProcessorStop → Type 0
 AsksForFewEvents site lines stop = most_events site lines stop < 4294967294

@@ -5,12 +5,12 @@ use Rattle.schedule.specs.declared.event.Counts.{Counts}
 use Rattle.schedule.specs.declared.event.Event.{Event}
 use Rattle.schedule.specs.declared.line.Line.{Line}
 use Rattle.player.specs.declared.standing.Sizes.{Sizes}
-use Rattle.player.specs.declared.stop.Stop.{Stop}
+use Rattle.player.specs.declared.stop.ProcessorStop.{ProcessorStop}
 pub use Rattle.agendas.specs.Agendas.{Agenda, Plan, PlaysOn, plays_none, plays_on}
 pub use Rattle.agendas.specs.Agendas.{agenda_of, coming, planned_by, stopped_by, upcoming, upcoming_after}
 use Rattle.machine_states.specs.States.{Makes, Skips, WouldStop}
 use Rattle.message_wires.specs.Idle.{is_idle}
-use Rattle.message_wires.specs.Play.{Whole, play, whole_at_boot}
+use Rattle.message_wires.specs.Play.{MachineState, play, machine_at_boot}
 use Rattle.node_copies.specs.ShownCounts.{replies_in, writes_in}
 
 -- What is counted before an event
@@ -19,7 +19,7 @@ abbrev pub sizes_of : Site → Sizes
 sizes_of site = record { processors = site.processors; processes = length site.processes; terminals = length site.terminals }
 
 -- the counts of a state: all packets are on bus X, and none is an alive one
-abbrev pub counts_of : Whole → Counts
+abbrev pub counts_of : MachineState → Counts
 counts_of s = record {
   x = length s.wires.bus;
   y = 0;
@@ -33,23 +33,23 @@ counts_of s = record {
 -- Runs
 
 -- an event is played: it makes the next state, or is skipped
-abbrev pub IsPlay : Whole → Event → Whole → Type 0
+abbrev pub IsPlay : MachineState → Event → MachineState → Type 0
 IsPlay s event next = (play s event ≡ Makes next) ⊎ ((play s event ≡ Skips) × (next ≡ s))
 
 -- these events of a schedule with a stop were played on the site one after the other, each as it came, and lead to a state and to where the schedule stands
-abbrev pub Plays : Site → List Line → Option Stop → List Event → Agenda → Whole → Type 0
-Plays site lines stop = PlaysOn (sizes_of site) counts_of IsPlay (whole_at_boot site) lines stop
+abbrev pub PlaysSchedule : Site → List Line → Option ProcessorStop → List Event → Agenda → MachineState → Type 0
+PlaysSchedule site lines stop = PlaysOn (sizes_of site) counts_of IsPlay (machine_at_boot site) lines stop
 
 -- a run of a schedule played these events, with this state at its end: the schedule is over
-pub record RunsOut (site : Site) (lines : List Line) (stop : Option Stop) (events : List Event) (s : Whole) : Type 0 where
+pub record RunsOut (site : Site) (lines : List Line) (stop : Option ProcessorStop) (events : List Event) (s : MachineState) : Type 0 where
   pub agenda : Agenda
-  pub played : Plays site lines stop events agenda s
+  pub played : PlaysSchedule site lines stop events agenda s
   pub over : upcoming (sizes_of site) (length events) (counts_of s) agenda ≡ None
 
 -- or it ends before an event that would stop a second processor
-pub record RunsToStop (site : Site) (lines : List Line) (stop : Option Stop) (events : List Event) (s : Whole) (processor : ℕ) : Type 0 where
+pub record RunsToStop (site : Site) (lines : List Line) (stop : Option ProcessorStop) (events : List Event) (s : MachineState) (processor : ℕ) : Type 0 where
   pub agenda : Agenda
   pub plan : Plan
-  pub played : Plays site lines stop events agenda s
+  pub played : PlaysSchedule site lines stop events agenda s
   pub comes : upcoming (sizes_of site) (length events) (counts_of s) agenda ≡ Some plan
   pub would : play s plan.event ≡ WouldStop processor

@@ -4,8 +4,8 @@ ghost use Rattle.player.specs.Lines.{event_of, next_event, stands_after};
 ghost use Rattle.schedule_runs.specs.Runs.{agenda_of, coming, counts_of, planned_by, stopped_by, upcoming};
 ghost use Rattle.schedule_runs.specs.Seen.{IsBegun, event_in};
 
-use pair_machine::Pairs;
-use player::{Player, Sizes, Stop};
+use pair_machine::PairMachine;
+use player::{Player, Sizes, ProcessorStop};
 use schedule::{Counts, Event, Line};
 use std::marker::Model;
 
@@ -15,7 +15,7 @@ use std::marker::Model;
 pub struct Schedule<'a> {
     player: Player,
     lines: &'a [Line],
-    stop: Option<Stop>,
+    stop: Option<ProcessorStop>,
     held_back: Option<Event>,
 }
 
@@ -36,7 +36,7 @@ impl<'a> Model for Schedule<'a> {
 
 impl<'a> Schedule<'a> {
     /// A schedule at its beginning, for a site of these sizes.
-    pub fn new(sizes: Sizes, lines: &'a [Line], stop: Option<Stop>) -> Schedule<'a>
+    pub fn new(sizes: Sizes, lines: &'a [Line], stop: Option<ProcessorStop>) -> Schedule<'a>
         ensures { result ≡ record { sizes = sizes; agenda = agenda_of lines.now stop } }
     {
         Schedule {
@@ -48,7 +48,7 @@ impl<'a> Schedule<'a> {
     }
 
     /// The next event, that so many precede; none where the schedule is over.
-    pub fn next(&mut self, before: u32, machine: &Pairs) -> Option<Event>
+    pub fn next(&mut self, before: u32, machine: &PairMachine) -> Option<Event>
         ensures event { result ≡ event_in (upcoming self.old.sizes before (counts_of machine.now.state) self.old.agenda) }
         ensures agenda { IfSome (upcoming self.old.sizes before (counts_of machine.now.state) self.old.agenda) (λ plan. self.new ≡ record self.old { agenda = plan.agenda }) }
     {
@@ -62,7 +62,7 @@ impl<'a> Schedule<'a> {
     }
 
     /// The next event of the lines, or the stop that comes before it.
-    fn next_or_stop(&mut self, before: u32, machine: &Pairs) -> Option<Event>
+    fn next_or_stop(&mut self, before: u32, machine: &PairMachine) -> Option<Event>
         requires { self.old.agenda.held_back ≡ None }
         ensures event { result ≡ event_in (option_map (stopped_by (coming self.old.agenda.stop before)) (planned_by self.old.sizes (counts_of machine.now.state) self.old.agenda.stop self.old.agenda.lines (next_event self.old.sizes self.old.agenda.standing (counts_of machine.now.state)))) }
         ensures agenda { IfSome (option_map (stopped_by (coming self.old.agenda.stop before)) (planned_by self.old.sizes (counts_of machine.now.state) self.old.agenda.stop self.old.agenda.lines (next_event self.old.sizes self.old.agenda.standing (counts_of machine.now.state)))) (λ plan. self.new ≡ record self.old { agenda = plan.agenda }) }
@@ -103,7 +103,7 @@ impl<'a> Schedule<'a> {
     }
 
     /// The next event of the lines.
-    fn planned(&mut self, machine: &Pairs) -> Option<Event>
+    fn planned(&mut self, machine: &PairMachine) -> Option<Event>
         requires { self.old.agenda.held_back ≡ None }
         ensures event { result ≡ event_in (planned_by self.old.sizes (counts_of machine.now.state) self.old.agenda.stop self.old.agenda.lines (next_event self.old.sizes self.old.agenda.standing (counts_of machine.now.state))) }
         ensures agenda { IfSome (planned_by self.old.sizes (counts_of machine.now.state) self.old.agenda.stop self.old.agenda.lines (next_event self.old.sizes self.old.agenda.standing (counts_of machine.now.state))) (λ plan. self.new ≡ record self.old { agenda = plan.agenda }) }
@@ -133,7 +133,7 @@ impl<'a> Schedule<'a> {
     }
 
     /// The next event of the line at which the schedule stands.
-    fn next_of_line(&mut self, machine: &Pairs) -> Option<Event>
+    fn next_of_line(&mut self, machine: &PairMachine) -> Option<Event>
         ensures event { result ≡ event_of (next_event self.old.sizes self.old.agenda.standing (counts_of machine.now.state)) }
         ensures agenda { self.new ≡ record self.old { agenda = record self.old.agenda { standing = stands_after (next_event self.old.sizes self.old.agenda.standing (counts_of machine.now.state)) } } }
     {

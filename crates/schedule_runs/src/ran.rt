@@ -1,4 +1,4 @@
-use pair_machine::Pairs;
+use pair_machine::PairMachine;
 
 /// How a run ended: idle, with something left to do, or before an event that would have stopped this second processor.
 #[derive(Clone, Copy, PartialEq, Eq)]
@@ -11,7 +11,7 @@ pub enum Ending {
 /// A run that was made: the machine as the run left it, closed where it is idle; how many events were asked for; and how it ended.
 #[derive(Drop)]
 pub struct Ran {
-    pub machine: Pairs,
+    pub machine: PairMachine,
     pub asked: u64,
     pub ending: Ending,
 }

@@ -12,8 +12,8 @@ use crate::ran::{Ending, Ran};
 use gd_words::NoMemory;
 use logs::Shared;
 use machine_states::Effect;
-use pair_machine::Pairs;
-use player::{Sizes, Stop};
+use pair_machine::PairMachine;
+use player::{Sizes, ProcessorStop};
 use schedule::{Event, Line};
 use std::alloc::Global;
 use tal_tree::Site;
@@ -23,13 +23,13 @@ pub fn run(
     alloc: Global,
     site: &Shared<Site>,
     lines: &[Line],
-    stop: Option<Stop>,
+    stop: Option<ProcessorStop>,
 ) -> Result<Ran, NoMemory>
     requires startable { IsStartable site.now }
     requires few { AsksForFewEvents site.now lines.now stop }
     ensures { IfOk result (λ ran. IsRunOf site.now lines.now stop ran) }
 {
-    let mut machine = Pairs::boot(alloc, site)?;
+    let mut machine = PairMachine::boot(alloc, site)?;
     let mut schedule = Schedule::new(sizes_of(site.get()), lines, stop);
     let mut played: u32 = 0;
     while let Some(event) = schedule.next(played, &machine) {
@@ -61,7 +61,7 @@ fn sizes_of(site: &Site) -> Sizes
 }
 
 /// Plays an event. Answers the second processor that it would stop, and then nothing changes.
-fn tried(machine: &mut Pairs, event: Event) -> Result<Option<u8>, NoMemory>
+fn tried(machine: &mut PairMachine, event: Event) -> Result<Option<u8>, NoMemory>
     requires room { HasRoom machine.old.state }
     requires letters { HasRoomForLetters machine.old.state }
     requires openers { OpenersAreThere machine.old.state }
@@ -76,7 +76,7 @@ fn tried(machine: &mut Pairs, event: Event) -> Result<Option<u8>, NoMemory>
 }
 
 /// The end of a run that is over.
-fn ended(machine: Pairs, played: u32) -> Result<Ran, NoMemory>
+fn ended(machine: PairMachine, played: u32) -> Result<Ran, NoMemory>
     ensures { IfOk result (λ ran. IsEndOf machine played ran (is_idle machine.state)) }
 {
     let mut machine = machine;

@@ -1,6 +1,6 @@
 -- What a sweep of a schedule counts. Our own rule.
 use Rattle.std.specs.Prelude.{◌≡◌, ℕ, ◌+◌, List, [], ◌∷◌, length, Some}
-use Rattle.player.specs.declared.stop.Stop.{Stop}
+use Rattle.player.specs.declared.stop.ProcessorStop.{ProcessorStop}
 use Rattle.run_table.specs.Counts.{row_of}
 use Rattle.run_table.specs.declared.rows.Row.{Row}
 use Rattle.run_table.specs.declared.rows.RunKind.{RunKind}
@@ -20,7 +20,7 @@ kind_of Cut = kind.Cut
 kind_of (Second processor) = kind.Second
 
 -- a run of the schedule with this stop is of this kind
-abbrev pub IsKindOf : Site → List Line → Stop → RunKind → Type 0
+abbrev pub IsKindOf : Site → List Line → ProcessorStop → RunKind → Type 0
 IsKindOf site lines stop how = (ran : Ran) × IsRunOf site lines (Some stop) ran × (how ≡ kind_of ran.ending)
 
 -- the kinds of the runs with a stop of the processor after 0, 1, 2 and more events, the last first

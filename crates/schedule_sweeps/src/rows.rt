@@ -1,12 +1,12 @@
 ghost use Rattle.std.specs.Prelude.{◌≡◌, ◌≤◌, IfOk, Some};
-ghost use Rattle.player.specs.declared.stop.Stop.{Stop};
+ghost use Rattle.player.specs.declared.stop.ProcessorStop.{ProcessorStop};
 ghost use Rattle.process_copies.specs.Starting.{IsStartable};
 ghost use Rattle.schedule_runs.specs.Lengths.{AsksForFewEvents};
 ghost use Rattle.schedule_sweeps.specs.Sweeps.{IsKindOf, IsRowOf, IsSweepOf, kind_of};
 
 use gd_words::NoMemory;
 use logs::Shared;
-use player::Stop;
+use player::ProcessorStop;
 use run_table::{ProcessorRow, Row, RunKind, Table};
 use schedule::Line;
 use schedule_runs::{Ending, run};
@@ -23,7 +23,7 @@ pub fn sweep(
 ) -> Result<Table, NoMemory>
     requires startable { IsStartable site.now }
     requires few { site.now.processors ≤ 16 }
-    requires asks { (stop : Stop) → AsksForFewEvents site.now lines.now (Some stop) }
+    requires asks { (stop : ProcessorStop) → AsksForFewEvents site.now lines.now (Some stop) }
     ensures { IfOk result (IsSweepOf site.now lines.now runs) }
 {
     let mut table = Table::new();
@@ -43,12 +43,12 @@ fn row_of(
     runs: u32,
 ) -> Result<Row, NoMemory>
     requires startable { IsStartable site.now }
-    requires asks { (stop : Stop) → AsksForFewEvents site.now lines.now (Some stop) }
+    requires asks { (stop : ProcessorStop) → AsksForFewEvents site.now lines.now (Some stop) }
     ensures { IfOk result (IsRowOf site.now lines.now processor runs) }
 {
     let mut row = Row::new();
     for after in 0..runs {
-        let kind = kind_of_run(alloc, site, lines, Stop { processor, after })?;
+        let kind = kind_of_run(alloc, site, lines, ProcessorStop { processor, after })?;
         row.add(kind);
     }
     Ok(row)
@@ -59,7 +59,7 @@ fn kind_of_run(
     alloc: Global,
     site: &Shared<Site>,
     lines: &[Line],
-    stop: Stop,
+    stop: ProcessorStop,
 ) -> Result<RunKind, NoMemory>
     requires startable { IsStartable site.now }
     requires asks { AsksForFewEvents site.now lines.now (Some stop) }

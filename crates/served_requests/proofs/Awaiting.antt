@@ -14,7 +14,7 @@ use Rattle.world_semantics.specs.declared.role.Role.TheVariants.{Acting}
 use Rattle.world_semantics.specs.declared.which.Which.{Which}
 use Rattle.world_semantics.specs.declared.which.Which.TheVariants.{First, Second}
 use Rattle.world_semantics.specs.Core.{Core, Deed, Advances, gets, next_on}
-use Rattle.world_semantics.specs.World.{Copy, Pair, Terminal, Mark, World, terminal_node, copy_of, with_copy}
+use Rattle.world_semantics.specs.World.{Copy, Pair, Terminal, Down, World, terminal_node, copy_of, with_copy}
 use Rattle.world_semantics.specs.Messages.{Message, Asking, Replying, Sending, sent_at, Cause, Handing}
 use Rattle.world_semantics.specs.Own.{Around, around, Causes, by_inner, by_take, by_ask, by_answer, by_device, by_write, by_reply}
 use Rattle.world_semantics.specs.Passes.{Passes, by_send, by_pass_again, by_pass, by_apply, by_acknowledge}
@@ -23,12 +23,12 @@ use Rattle.world_semantics.proofs.Lists.{some-same, Changed, is_new, is_same, ch
 use Rattle.world_semantics.proofs.Reached.{one-acts}
 use Rattle.process_histories.proofs.Steady.{calm-away, got-calm}
 use Rattle.plain_histories.proofs.Openers.{opener-one}
-use Rattle.headline.specs.Fit.{IsFit}
-use Rattle.headline.proofs.Kept.{IsGood}
+use Rattle.takeover_laws.specs.Fit.{IsFit}
+use Rattle.takeover_laws.proofs.Kept.{IsGood}
 use Rattle.awaited_requests.specs.Awaited.{IsAwaited, by_copy, by_terminal}
 use Rattle.awaited_requests.specs.Served.{request_of}
-use Rattle.sent_letters.specs.Known.{WatchersAreCalm}
-use Rattle.sent_letters.proofs.Calm.{not-both}
+use Rattle.letter_laws.specs.Known.{WatchersAreCalm}
+use Rattle.letter_laws.proofs.Calm.{not-both}
 use Rattle.served_requests.proofs.Turned.{change-turned}
 use Rattle.served_requests.proofs.Turns.{steady, Turns, is_quiet, has_asked, has_taken, has_answered, has_heard, has_heard_early, has_taken_over}
 
@@ -42,7 +42,7 @@ pub data WasAwaited (site : Site) (w : World) (sendings : List Sending) (asker :
 same-reply : {node at : ℕ} {one other : Reply} → Handing node (Replying one) ≡ Handing at (Replying other) → one ≡ other
 same-reply same = cc
 
-passes-no-reply : {number at : ℕ} {marks : List Mark} {kept after : List Act} {pair next : Pair} {cause : Cause} {sendings : List Sending} {reply : Reply}
+passes-no-reply : {number at : ℕ} {marks : List Down} {kept after : List Act} {pair next : Pair} {cause : Cause} {sendings : List Sending} {reply : Reply}
     → Passes number marks kept pair cause sendings next after → cause ≡ Handing at (Replying reply) → ⊥
 passes-no-reply (by_send k role at unsent unmarked) same = cc
 passes-no-reply (by_pass_again k role at may less) same = cc

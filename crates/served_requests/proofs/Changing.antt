@@ -8,22 +8,22 @@ use Rattle.tal_tree.specs.declared.site.Who.{Who}
 use Rattle.plain_semantics.specs.declared.slot.Opener.{Opener}
 use Rattle.plain_semantics.specs.Openers.{opener_of}
 use Rattle.world_semantics.specs.declared.which.Which.{Which}
-use Rattle.world_semantics.specs.Messages.{Asking, Replying, Sending, Cause, Handing, Marking}
+use Rattle.world_semantics.specs.Messages.{Asking, Replying, Sending, Cause, Handing, NotingDown}
 use Rattle.world_semantics.specs.Rules.{Change}
 use Rattle.world_semantics.specs.World.{Copy, Pair, World, copy_of}
 use Rattle.world_semantics.proofs.Growing.{change-grows}
 use Rattle.world_semantics.proofs.Lists.{some-same}
-use Rattle.headline.specs.Fit.{IsFit}
-use Rattle.headline.specs.Invariant.{IsAsked}
-use Rattle.headline.proofs.Kept.{IsGood}
+use Rattle.takeover_laws.specs.Fit.{IsFit}
+use Rattle.takeover_laws.specs.Invariant.{IsAsked}
+use Rattle.takeover_laws.proofs.Kept.{IsGood}
 use Rattle.computed_changes.specs.Laws.{IsSent}
 use Rattle.letters.specs.Posts.{Post, after_change}
 use Rattle.letters.specs.Routes.{Letter, route_of, home_of, letters_of}
 use Rattle.awaited_requests.specs.Awaited.{IsAwaited}
 use Rattle.awaited_requests.specs.Seats.{AreSeated}
 use Rattle.awaited_requests.specs.Served.{reply_of, request_of, IsServed, route_stopped, is_owed, is_seen, AreServed}
-use Rattle.sent_letters.specs.Known.{IsKnown}
-use Rattle.sent_letters.proofs.Known.{WasSentTo}
+use Rattle.letter_laws.specs.Known.{IsKnown}
+use Rattle.letter_laws.proofs.Known.{WasSentTo}
 use Rattle.served_requests.proofs.Awaiting.{WasAwaited, was_awaited, is_asked, awaited-before, come-none}
 use Rattle.served_requests.proofs.Coming.{come-seen}
 use Rattle.served_requests.proofs.Numbers.{asked-low, awaited-low, early-low}
@@ -39,7 +39,7 @@ AreLeft post cause rest = (letter : Letter) → IsAmong letter post.owed → IsA
 module _ (site : Site) (fit : IsFit site) (events : ℕ) (post : Post) (good : IsGood site events post.world) (seated : AreSeated site post.world)
     (known : IsKnown site post) (served : AreServed site post) where
   module _ (next : World) (cause : Cause) (sendings : List Sending) (rest : List Letter) (change : Change site post.world cause sendings next)
-      (unmarked : (node processor : ℕ) → cause ≡ Marking node processor → ⊥) (sent : WasSentTo post cause) (left : AreLeft post cause rest) where
+      (unmarked : (node processor : ℕ) → cause ≡ NotingDown node processor → ⊥) (sent : WasSentTo post cause) (left : AreLeft post cause rest) where
     abbrev After : Post
     After = after_change site sendings next (record post { owed = rest })
 
@@ -118,7 +118,7 @@ module _ (site : Site) (fit : IsFit site) (events : ℕ) (post : Post) (good : I
 
   -- a change but a mark leaves what is awaited served
   pub change-served : (next : World) (cause : Cause) (sendings : List Sending) (rest : List Letter) → Change site post.world cause sendings next
-      → ((node processor : ℕ) → cause ≡ Marking node processor → ⊥) → WasSentTo post cause → AreLeft post cause rest
+      → ((node processor : ℕ) → cause ≡ NotingDown node processor → ⊥) → WasSentTo post cause → AreLeft post cause rest
       → AreServed site (after_change site sendings next (record post { owed = rest }))
   change-served next cause sendings rest change unmarked sent left asker one n opener now opens there awaited =
       by (awaited-before site fit events post.world good known.honest.calm change awaited)

@@ -7,26 +7,26 @@ use Rattle.tal_tree.specs.declared.site.Site.{Site}
 use Rattle.tal_tree.specs.declared.site.Who.{Who}
 use Rattle.plain_semantics.specs.declared.slot.Opener.{Opener}
 use Rattle.plain_semantics.specs.Openers.{opener_of}
-use Rattle.checkpoint_image.specs.declared.receive.Standing.TheVariants.{Kept}
+use Rattle.checkpoint_image.specs.declared.receive.RequestStanding.TheVariants.{Kept}
 use Rattle.checkpoint_image.specs.Receive.{standing, standing_at, is_waiting, repeated, waits, came}
 use Rattle.world_semantics.specs.declared.role.Role.TheVariants.{Acting, Watching}
 use Rattle.world_semantics.specs.declared.which.Which.{Which}
 use Rattle.world_semantics.specs.declared.which.Which.TheVariants.{First, Second}
 use Rattle.world_semantics.specs.Core.{Core, Deed}
-use Rattle.world_semantics.specs.World.{Copy, Pair, Mark, World, copy_of, with_copy}
+use Rattle.world_semantics.specs.World.{Copy, Pair, Down, World, copy_of, with_copy}
 use Rattle.world_semantics.specs.Messages.{Message, Asking, Replying, Sending, sent_at, Cause, Handing}
 use Rattle.world_semantics.specs.Own.{Around, Causes, by_inner, by_take, by_ask, by_answer, by_device, by_write, by_reply}
 use Rattle.world_semantics.specs.Passes.{Passes, by_send, by_pass_again, by_pass, by_apply, by_acknowledge}
 use Rattle.world_semantics.specs.Rules.{Change, by_own, by_checkpoint, by_request, by_early_request, by_enter, by_print, by_stop, by_mark}
 use Rattle.world_semantics.proofs.Lists.{set-there}
-use Rattle.headline.specs.Fit.{IsFit}
-use Rattle.headline.proofs.Kept.{IsGood}
+use Rattle.takeover_laws.specs.Fit.{IsFit}
+use Rattle.takeover_laws.proofs.Kept.{IsGood}
 use Rattle.letters.specs.Posts.{Post}
 use Rattle.letters.specs.Routes.{Letter}
 use Rattle.awaited_requests.specs.Awaited.{IsAwaited}
 use Rattle.awaited_requests.specs.Served.{request_of, reply_of, HasSeen}
-use Rattle.sent_letters.specs.Known.{IsEarly}
-use Rattle.sent_letters.proofs.Calm.{not-both}
+use Rattle.letter_laws.specs.Known.{IsEarly}
+use Rattle.letter_laws.proofs.Calm.{not-both}
 use Rattle.served_requests.proofs.Numbers.{asked-low, early-low}
 use Rattle.served_requests.proofs.Queues.{waits-now}
 use Rattle.served_requests.proofs.Sending.{map-in, sent-in, IsTold}
@@ -45,7 +45,7 @@ own-no-request (by_device old) same = cc
 own-no-request (by_write new) same = cc
 own-no-request (by_reply among opens last said) same = cc
 
-passes-no-request : {number at : ℕ} {marks : List Mark} {kept after : List Act} {pair next : Pair} {cause : Cause} {sendings : List Sending} {request : Request}
+passes-no-request : {number at : ℕ} {marks : List Down} {kept after : List Act} {pair next : Pair} {cause : Cause} {sendings : List Sending} {request : Request}
     → Passes number marks kept pair cause sendings next after → cause ≡ Handing at (Asking request) → ⊥
 passes-no-request (by_send k role at unsent unmarked) same = cc
 passes-no-request (by_pass_again k role at may less) same = cc

@@ -9,25 +9,25 @@ use Rattle.tal_tree.specs.declared.site.Who.{Who}
 use Rattle.tal_tree.specs.declared.site.Who.TheVariants as who
 use Rattle.plain_semantics.specs.declared.slot.Opener.{Opener}
 use Rattle.plain_semantics.specs.Openers.{opener_of}
-use Rattle.checkpoint_image.specs.declared.receive.Standing.TheVariants.{Kept}
+use Rattle.checkpoint_image.specs.declared.receive.RequestStanding.TheVariants.{Kept}
 use Rattle.checkpoint_image.specs.Receive.{standing_at}
 use Rattle.world_semantics.specs.declared.role.Role.TheVariants.{Acting}
 use Rattle.world_semantics.specs.declared.which.Which.{Which}
-use Rattle.world_semantics.specs.Messages.{Message, Asking, Replying, Sending, Cause, Marking}
+use Rattle.world_semantics.specs.Messages.{Message, Asking, Replying, Sending, Cause, NotingDown}
 use Rattle.world_semantics.specs.Rules.{Change, by_own, by_checkpoint, by_request, by_early_request, by_enter, by_print, by_stop, by_mark}
-use Rattle.world_semantics.specs.World.{Pair, World, has_marked, copy_of}
+use Rattle.world_semantics.specs.World.{Pair, World, has_noted, copy_of}
 use Rattle.world_semantics.proofs.Roles.{both-true}
 use Rattle.plain_histories.proofs.Openers.{opener-is}
-use Rattle.headline.specs.Fit.{IsFit}
-use Rattle.headline.proofs.Changing.{acts_by, causes-one, passes-one}
-use Rattle.headline.proofs.Kept.{IsGood}
+use Rattle.takeover_laws.specs.Fit.{IsFit}
+use Rattle.takeover_laws.proofs.Changing.{acts_by, causes-one, passes-one}
+use Rattle.takeover_laws.proofs.Kept.{IsGood}
 use Rattle.letters.specs.Again.{is_rerouted, is_moved, sent_again}
-use Rattle.letters.specs.Posts.{Post, without_those_between, after_marking}
+use Rattle.letters.specs.Posts.{Post, without_those_between, post_after_down}
 use Rattle.letters.specs.Routes.{Letter, home_of, is_between, letters_of, receiver_of, route_of}
 use Rattle.awaited_requests.specs.Awaited.{IsAwaited, by_copy, by_terminal}
 use Rattle.awaited_requests.specs.Seats.{IsLaidOut, AreSeated}
 use Rattle.awaited_requests.specs.Served.{reply_of, request_of, IsServed, route_stopped, is_owed, is_seen, AreServed}
-use Rattle.sent_letters.specs.Known.{IsKnown}
+use Rattle.letter_laws.specs.Known.{IsKnown}
 use Rattle.served_requests.proofs.Again.{reply-again, copy-again, terminal-again}
 use Rattle.served_requests.proofs.Awaiting.{WasAwaited, was_awaited, is_asked, awaited-before}
 use Rattle.served_requests.proofs.Numbers.{awaited-low, few-kept}
@@ -42,16 +42,16 @@ use Rattle.served_requests.proofs.Turned.{Turned, change-turned}
 -- what a mark is of, and what it leaves
 record IsMark (w next : World) (node processor : ℕ) : Type 0 where
   down : slice_get w.stopped processor ≡ Some true
-  unmarked : has_marked w.marks node processor ≡ false
+  unmarked : has_noted w.marks node processor ≡ false
   marks : next.marks ≡ record { node = node; down = processor } ∷ w.marks
   stopped : next.stopped ≡ w.stopped
   terminals : next.terminals ≡ w.terminals
 
-same-mark : {node at processor other : ℕ} → Marking node processor ≡ Marking at other → (node ≡ at) × (processor ≡ other)
+same-mark : {node at processor other : ℕ} → NotingDown node processor ≡ NotingDown at other → (node ≡ at) × (processor ≡ other)
 same-mark same = (cc, cc)
 
 mark-is : {site : Site} {w next : World} {cause : Cause} {sendings : List Sending} → Change site w cause sendings next → (node processor : ℕ)
-    → cause ≡ Marking node processor
+    → cause ≡ NotingDown node processor
     → IsMark w next node processor
 mark-is {w = w} (by_mark at other stopped runs new) node processor same =
     let is = same-mark same in
@@ -72,17 +72,17 @@ mark-is (by_stop other runs) node processor same = absurd (cc)
 
 module _ (site : Site) (fit : IsFit site) (out : IsLaidOut site) (events later : ℕ) (post : Post) (good : IsGood site events post.world) (seated : AreSeated site post.world)
     (known : IsKnown site post) (served : AreServed site post) (node processor : ℕ) (sendings : List Sending) (next : World)
-    (change : Change site post.world (Marking node processor) sendings next) (after : IsGood site later next) where
+    (change : Change site post.world (NotingDown node processor) sendings next) (after : IsGood site later next) where
   abbrev Sent : List Sending
   Sent = sendings ++ sent_again site post.world next node processor
 
   abbrev After : Post
-  After = after_marking site node processor sendings next post
+  After = post_after_down site node processor sendings next post
 
   is : IsMark post.world next node processor
   is = mark-is change node processor refl
 
-  turned : (number : ℕ) (now : Pair) → slice_get next.processes number ≡ Some now → Turned site post.world (Marking node processor) sendings number now
+  turned : (number : ℕ) (now : Pair) → slice_get next.processes number ≡ Some now → Turned site post.world (NotingDown node processor) sendings number now
   turned = change-turned site fit events post.world good known.honest.calm change
 
   -- Letters
@@ -122,7 +122,7 @@ module _ (site : Site) (fit : IsFit site) (out : IsLaidOut site) (events later :
   rerouted : (number : ℕ) (before : Pair) → slice_get post.world.processes number ≡ Some before → processor ≡ before.first.processor
       → is_rerouted post.world node processor number ≡ true
   rerouted number before there same =
-      let new : has_marked post.world.marks node before.first.processor ≡ false = subst (λ p. has_marked post.world.marks node p ≡ false) same is.unmarked in
+      let new : has_noted post.world.marks node before.first.processor ≡ false = subst (λ p. has_noted post.world.marks node p ≡ false) same is.unmarked in
       rw (there, new, eq-eqb before.first.processor processor (sym same)) refl
 
   -- another node finds an opener where it did, and so does this one, unless the opener is found elsewhere
@@ -187,7 +187,7 @@ module _ (site : Site) (fit : IsFit site) (out : IsLaidOut site) (events later :
 
     leaves : (pair now : Pair) (k : Which) → slice_get post.world.processes opener.server ≡ Some pair → slice_get next.processes opener.server ≡ Some now
         → (copy_of k now).processor ≡ (copy_of k pair).processor
-        → LeavesTold post After asker one opener n (Marking node processor) sendings (copy_of k pair) (copy_of k now)
+        → LeavesTold post After asker one opener n (NotingDown node processor) sendings (copy_of k pair) (copy_of k now)
     leaves pair now k there there_now seat = record {
       carried = λ words acted acts kept was. carried pair now k words there there_now seat acted acts kept was;
       told = λ words among. told (copy_of k pair).processor words (among-left _ sendings (sent_again site post.world next node processor) among);
@@ -225,7 +225,7 @@ module _ (site : Site) (fit : IsFit site) (out : IsLaidOut site) (events later :
   pub mark-served : AreServed site After
   mark-served asker one n opener now opens there awaited = by (awaited-before site fit events post.world good known.honest.calm change awaited)
     where
-      was : Turned site post.world (Marking node processor) sendings opener.server now
+      was : Turned site post.world (NotingDown node processor) sendings opener.server now
       was = turned opener.server now there
 
       still : IsAwaited site post.world asker one n → (node == asker && processor == was.before.first.processor) ≡ false
@@ -239,7 +239,7 @@ module _ (site : Site) (fit : IsFit site) (out : IsLaidOut site) (events later :
       ]
       still old other (is_seen k at has) =
           is_seen k ((was.goes k).0 ∙ at ∙ sym (route-stays asker was.before now (λ k. (was.goes k).0) other))
-          (turn-seen site post After asker one opener n (Marking node processor) sendings (copy_of k was.before) (copy_of k now) (was.goes k).0
+          (turn-seen site post After asker one opener n (NotingDown node processor) sendings (copy_of k was.before) (copy_of k now) (was.goes k).0
           (leaves asker one n opener opens old was.before now k was.there there (was.goes k).0) (was.goes k).1 has)
 
       either : IsAwaited site post.world asker one n → (test : Bool) → (node == asker && processor == was.before.first.processor) ≡ test

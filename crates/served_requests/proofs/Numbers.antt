@@ -24,12 +24,12 @@ use Rattle.plain_histories.specs.Ledgers.{requests_of}
 use Rattle.plain_histories.proofs.Entries.{entry-most}
 use Rattle.plain_histories.proofs.Openers.{opener-one}
 use Rattle.plain_histories.proofs.Possible.{booked-ran}
-use Rattle.headline.specs.Fit.{IsFit}
-use Rattle.headline.specs.Invariant.{IsAsked}
-use Rattle.headline.proofs.Kept.{IsGood}
+use Rattle.takeover_laws.specs.Fit.{IsFit}
+use Rattle.takeover_laws.specs.Invariant.{IsAsked}
+use Rattle.takeover_laws.proofs.Kept.{IsGood}
 use Rattle.awaited_requests.specs.Awaited.{IsAwaited, by_copy, by_terminal}
-use Rattle.sent_letters.specs.Known.{IsEarly}
-use Rattle.sent_letters.proofs.Awaited.{acting-done}
+use Rattle.letter_laws.specs.Known.{IsEarly}
+use Rattle.letter_laws.proofs.Awaited.{acting-done}
 use Rattle.served_requests.proofs.Standings.{stands-low}
 use Rattle.awaited_requests.proofs.Awaited.{slot-counts, awaited-stands}
 use Rattle.awaited_requests.proofs.Leads.{copy-takes}

@@ -3,23 +3,23 @@ use Rattle.std.proofs.Common.{◌≡◌, inl, inr, ℕ, ◌+◌, ◌<◌, List, 
 use Rattle.tal_tree.specs.declared.site.Site.{Site}
 use Rattle.tal_tree.specs.declared.site.Who.{Who}
 use Rattle.schedule.specs.declared.event.Event.{Event}
-use Rattle.world_semantics.specs.Messages.{Message, Sending, Cause, Handing, Stopping, Marking}
+use Rattle.world_semantics.specs.Messages.{Message, Sending, Cause, Handing, Stopping, NotingDown}
 use Rattle.world_semantics.specs.Rules.{Change}
 use Rattle.world_semantics.specs.World.{World, boot}
-use Rattle.headline.specs.Fit.{IsFit}
-use Rattle.headline.proofs.Kept.{IsGood, change-good}
+use Rattle.takeover_laws.specs.Fit.{IsFit}
+use Rattle.takeover_laws.proofs.Kept.{IsGood, change-good}
 use Rattle.letters.specs.Idle.{OneStops}
-use Rattle.letters.specs.Posts.{Post, post_at_boot, after_change, after_marking, MakesMarks, no_mark, one_mark, Plays, plays_run, plays_no_run, plays_enter, plays_no_enter, plays_nothing, plays_hand, plays_drop, plays_again, plays_mark, plays_loss, plays_repeat, plays_no_tick, plays_tick, plays_tick_stop, plays_fail, plays_no_fail}
+use Rattle.letters.specs.Posts.{Post, post_at_boot, after_change, post_after_down, NotesLetters, no_mark, one_mark, PlaysEvent, plays_run, plays_no_run, plays_enter, plays_no_enter, plays_nothing, plays_hand, plays_drop, plays_again, plays_mark, plays_loss, plays_repeat, plays_no_tick, plays_tick, plays_tick_stop, plays_fail, plays_no_fail}
 use Rattle.letters.proofs.Owed.{taken-there}
 use Rattle.awaited_requests.specs.Awaited.{IsAwaited, by_copy, by_terminal}
 use Rattle.awaited_requests.specs.Seats.{IsLaidOut, AreSeated}
 use Rattle.awaited_requests.specs.Served.{AreServed}
 use Rattle.awaited_requests.proofs.Seats.{seats-change}
-use Rattle.sent_letters.specs.Known.{IsKnown}
-use Rattle.sent_letters.proofs.Calm.{begins-resting}
-use Rattle.sent_letters.proofs.Entered.{begins-even}
-use Rattle.sent_letters.proofs.Given.{one-before}
-use Rattle.sent_letters.proofs.Known.{WasSentTo, known-stop, known-mark}
+use Rattle.letter_laws.specs.Known.{IsKnown}
+use Rattle.letter_laws.proofs.Calm.{begins-resting}
+use Rattle.letter_laws.proofs.Entered.{begins-even}
+use Rattle.letter_laws.proofs.Given.{one-before}
+use Rattle.letter_laws.proofs.Known.{WasSentTo, known-stop, known-mark}
 use Rattle.served_requests.proofs.Changing.{change-served}
 use Rattle.served_requests.proofs.Dropping.{taken-or, drop-served}
 use Rattle.served_requests.proofs.Marking.{mark-served}
@@ -28,7 +28,7 @@ same-letter : {node at : ℕ} {one other : Message} → Handing node one ≡ Han
 same-letter same = (cc, cc)
 
 -- marks stop nothing
-marks-one : {site : Site} {node : ℕ} {post next : Post} → MakesMarks site node post next → OneStops next.world → OneStops post.world
+marks-one : {site : Site} {node : ℕ} {post next : Post} → NotesLetters site node post next → OneStops next.world → OneStops post.world
 marks-one no_mark one = one
 marks-one {post = post} (one_mark {sendings = sendings} {next = w} processor change more) one = one-before post.world w _ sendings change (marks-one more one)
 
@@ -38,7 +38,7 @@ module _ (site : Site) (fit : IsFit site) (out : IsLaidOut site) where
   -- a change by which all that was owed stays so
   added-served : (events : ℕ) (post : Post) (next : World) (cause : Cause) (sendings : List Sending) → IsGood site events post.world
       → AreSeated site post.world → IsKnown site post
-      → AreServed site post → Change site post.world cause sendings next → ((node processor : ℕ) → cause ≡ Marking node processor → ⊥) → WasSentTo post cause
+      → AreServed site post → Change site post.world cause sendings next → ((node processor : ℕ) → cause ≡ NotingDown node processor → ⊥) → WasSentTo post cause
       → AreServed site (after_change site sendings next post)
   added-served events post next cause sendings good seated known served change unmarked sent =
       change-served site fit events post good seated known served next cause sendings post.owed change unmarked sent (λ letter among. inl among)
@@ -52,22 +52,22 @@ module _ (site : Site) (fit : IsFit site) (out : IsLaidOut site) where
 
   marks-served : (node events : ℕ) (post next : Post) → events < 4294967295 → IsGood site events post.world → AreSeated site post.world
       → OneStops next.world → IsKnown site post
-      → AreServed site post → MakesMarks site node post next → AreServed site next
+      → AreServed site post → NotesLetters site node post next → AreServed site next
   marks-served node events post next few good seated one known served no_mark = served
   marks-served node events post next few good seated one known served (one_mark {sendings = sendings} {next = w} processor change more) =
-      let after = change-good site fit events post.world w (Marking node processor) sendings few good change in
-      marks-served node (events + 0) (after_marking site node processor sendings w post) next (omega (arith, few)) after
-      (seats-change post.world w (Marking node processor) sendings change good.roles seated) one
+      let after = change-good site fit events post.world w (NotingDown node processor) sendings few good change in
+      marks-served node (events + 0) (post_after_down site node processor sendings w post) next (omega (arith, few)) after
+      (seats-change post.world w (NotingDown node processor) sendings change good.roles seated) one
       (known-mark site fit events (events + 0) post w node processor sendings good after seated (marks-one more one) known change)
       (mark-served site fit out events (events + 0) post good seated known served node processor sendings w change after) more
 
   -- what is played leaves what is awaited served
   pub plays-served : (events : ℕ) (post next : Post) (event : Event) → events < 4294967295 → IsGood site events post.world → AreSeated site post.world
       → OneStops next.world
-      → IsKnown site post → AreServed site post → Plays site post event next → AreServed site next
+      → IsKnown site post → AreServed site post → PlaysEvent site post event next → AreServed site next
   plays-served events post next event few good seated one known served plays = of plays one
     where
-      of : {event : Event} {next : Post} → Plays site post event next → OneStops next.world → AreServed site next
+      of : {event : Event} {next : Post} → PlaysEvent site post event next → OneStops next.world → AreServed site next
       of (plays_run {sendings = sendings} {next = w} change) one =
           added-served events post w _ sendings good seated known served change (λ node other same. cc) (λ node request same. absurd (cc))
       of (plays_no_run idle) one = served
@@ -86,7 +86,7 @@ module _ (site : Site) (fit : IsFit site) (out : IsLaidOut site) where
           (λ node request same. (letter, among, (same-letter same).0, (same-letter same).1))
       of (plays_mark {sendings = sendings} {next = w} node processor change) one =
           mark-served site fit out events (events + 0) post good seated known served node processor sendings w change
-          (change-good site fit events post.world w (Marking node processor) sendings few good change)
+          (change-good site fit events post.world w (NotingDown node processor) sendings few good change)
       of plays_loss one = served
       of plays_repeat one = served
       of plays_no_tick one = served

@@ -6,9 +6,9 @@ use Rattle.tal_tree.specs.declared.site.Who.{Who}
 use Rattle.tal_tree.specs.declared.site.Who.TheVariants as who
 use Rattle.world_semantics.specs.declared.which.Which.{Which}
 use Rattle.world_semantics.specs.declared.which.Which.TheVariants.{First, Second}
-use Rattle.world_semantics.specs.Messages.{Sending, Cause, Marking}
+use Rattle.world_semantics.specs.Messages.{Sending, Cause, NotingDown}
 use Rattle.world_semantics.specs.Rules.{Change, by_own, by_checkpoint, by_request, by_early_request, by_enter, by_print, by_stop, by_mark}
-use Rattle.world_semantics.specs.World.{Pair, Mark, World, is_running, has_marked, copy_of}
+use Rattle.world_semantics.specs.World.{Pair, Down, World, is_running, has_noted, copy_of}
 use Rattle.letters.specs.Routes.{route_of, route_to, home_of}
 use Rattle.awaited_requests.specs.Seats.{IsSeated}
 
@@ -16,18 +16,18 @@ use Rattle.awaited_requests.specs.Seats.{IsSeated}
 abbrev pub SameSeats : Pair → Pair → Type 0
 SameSeats before now = (k : Which) → (copy_of k now).processor ≡ (copy_of k before).processor
 
-pub route-same : (marks : List Mark) (node : ℕ) (before now : Pair) → SameSeats before now → route_of marks node now ≡ route_of marks node before
+pub route-same : (marks : List Down) (node : ℕ) (before now : Pair) → SameSeats before now → route_of marks node now ≡ route_of marks node before
 route-same marks node before now same = rw (same First, same Second) refl
 
 -- a route leads to one of the two copies
-pub route-where : (marks : List Mark) (node : ℕ) (pair : Pair) → (k : Which) × ((copy_of k pair).processor ≡ route_of marks node pair)
-route-where marks node pair = by (has_marked marks node pair.first.processor)
+pub route-where : (marks : List Down) (node : ℕ) (pair : Pair) → (k : Which) × ((copy_of k pair).processor ≡ route_of marks node pair)
+route-where marks node pair = by (has_noted marks node pair.first.processor)
   where
     by : (marked : Bool) → (k : Which) × ((copy_of k pair).processor ≡ (if marked then pair.second.processor else pair.first.processor))
     by true = (Second, refl)
     by false = (First, refl)
 
-pub seat-within : {stopped : List Bool} {marks : List Mark} {pair : Pair} (k : Which) → IsSeated stopped marks pair
+pub seat-within : {stopped : List Bool} {marks : List Down} {pair : Pair} (k : Which) → IsSeated stopped marks pair
     → (copy_of k pair).processor < length stopped
 seat-within First seated = seated.first
 seat-within Second seated = seated.second
@@ -46,7 +46,7 @@ rests-stopped stopped processor is = rw is refl
 
 -- a change that isn't a mark makes none
 pub marks-stay : {site : Site} {w next : World} {cause : Cause} {sendings : List Sending} → Change site w cause sendings next
-    → ((node processor : ℕ) → cause ≡ Marking node processor → ⊥) → next.marks ≡ w.marks
+    → ((node processor : ℕ) → cause ≡ NotingDown node processor → ⊥) → next.marks ≡ w.marks
 marks-stay (by_own number k pair there role causes advances enters) unmarked = refl
 marks-stay (by_checkpoint number pair there passes) unmarked = refl
 marks-stay (by_request request k pair among there role) unmarked = refl

@@ -7,7 +7,7 @@ use Rattle.world_semantics.specs.declared.role.Role.TheVariants.{Acting}
 use Rattle.world_semantics.specs.declared.which.Which.{Which}
 use Rattle.world_semantics.specs.World.{Pair, World, copy_of}
 use Rattle.world_semantics.proofs.Reached.{gone-is}
-use Rattle.headline.proofs.Kept.{IsGood}
+use Rattle.takeover_laws.proofs.Kept.{IsGood}
 use Rattle.awaited_requests.specs.Awaited.{IsAwaited, by_copy, by_terminal}
 use Rattle.awaited_requests.specs.Seats.{IsLaidOut, AreSeated}
 

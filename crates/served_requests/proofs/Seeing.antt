@@ -8,14 +8,14 @@ use Rattle.tal_tree.specs.declared.site.Who.{Who}
 use Rattle.plain_semantics.specs.declared.slot.Opener.{Opener}
 use Rattle.checkpoint_image.specs.declared.receive.OpenerBlock.{OpenerBlock}
 use Rattle.checkpoint_image.specs.declared.receive.ReceiveBlock.{ReceiveBlock}
-use Rattle.checkpoint_image.specs.declared.receive.Standing.TheVariants.{Next, Kept}
+use Rattle.checkpoint_image.specs.declared.receive.RequestStanding.TheVariants.{Next, Kept}
 use Rattle.checkpoint_image.specs.Receive.{standing, standing_at, is_waiting, repeated}
 use Rattle.world_semantics.specs.declared.role.Role.TheVariants.{Acting, Watching}
 use Rattle.world_semantics.specs.Messages.{Asking, Replying, Sending, Cause, Handing}
 use Rattle.world_semantics.specs.World.{Copy}
 use Rattle.letters.specs.Posts.{Post}
 use Rattle.awaited_requests.specs.Served.{WaitsFor, reply_of, HasSeen}
-use Rattle.sent_letters.proofs.Calm.{not-both}
+use Rattle.letter_laws.proofs.Calm.{not-both}
 use Rattle.served_requests.proofs.Queues.{filter-in, waits-still, came-still, chosen-leaves}
 use Rattle.served_requests.proofs.Sending.{IsTold}
 use Rattle.served_requests.proofs.Standings.{next-is, took-next, took-kept, answered-next, answered-kept}

@@ -5,14 +5,14 @@ use Rattle.std.proofs.lemmas.Bool.Decides.{eqb_tells}
 use Rattle.std.proofs.lemmas.List.{reverse-append, take-append-drop}
 use Rattle.checkpoint_image.specs.declared.receive.OpenerBlock.{OpenerBlock}
 use Rattle.checkpoint_image.specs.declared.receive.ReceiveBlock.{ReceiveBlock}
-use Rattle.checkpoint_image.specs.declared.receive.Standing.{Standing}
-use Rattle.checkpoint_image.specs.declared.receive.Standing.TheVariants.{Next, InHand, Kept, Old, Ahead}
+use Rattle.checkpoint_image.specs.declared.receive.RequestStanding.{RequestStanding}
+use Rattle.checkpoint_image.specs.declared.receive.RequestStanding.TheVariants.{Next, InHand, Kept, Old, Ahead}
 use Rattle.checkpoint_image.specs.Receive.{is_place, holds, answered, reply_kept, kept_or_old, standing_in, standing_by, standing_at, after_taking, after_answering, last_ones}
 use Rattle.world_semantics.proofs.Lists.{some-same, Changed, is_new, is_same, changed}
 use Rattle.world_semantics.proofs.Roles.{both-true}
 
 -- why a number stands to a block as it does
-data Stands (held : Bool) (block : OpenerBlock) (n : ℕ) : Standing → Type 0 where
+data Stands (held : Bool) (block : OpenerBlock) (n : ℕ) : RequestStanding → Type 0 where
   as_next : n ≡ block.taken + 1 → Stands held block n Next
   as_ahead : block.taken + 1 < n → Stands held block n Ahead
   as_in_hand : held ≡ true → n ≡ block.taken → Stands held block n InHand
@@ -68,7 +68,7 @@ pub stands-low : (table : ReceiveBlock) (place n : ℕ) (block : OpenerBlock) �
     → n ≤ block.taken + 1
 stands-low table place n block there is = of (standing_in (holds table place) block n) (stands (holds table place) block n) (rw there at is)
   where
-    of : (standing : Standing) → Stands (holds table place) block n standing
+    of : (standing : RequestStanding) → Stands (holds table place) block n standing
         → (standing ≡ Next) ⊎ (standing ≡ InHand) ⊎ ((words : List ℤ) × (standing ≡ Kept words)) → n ≤ block.taken + 1
     of Next (as_next next) is = omega (arith, next)
     of InHand (as_in_hand held same) is = omega (arith, same)
@@ -102,7 +102,7 @@ kept-is table place n words e = of (slice_get table.openers place) refl e
 kept-at : (table : ReceiveBlock) (place n : ℕ) (words : List ℤ) → IsKept table place n words → standing_at table place n ≡ Kept words
 kept-at table place n words is = rw is.there (in-block (stands (holds table place) is.block n))
   where
-    in-block : {standing : Standing} → Stands (holds table place) is.block n standing → standing ≡ Kept words
+    in-block : {standing : RequestStanding} → Stands (holds table place) is.block n standing → standing ≡ Kept words
     in-block (as_next next) = absurd (let most = is.most in omega (arith, next, most))
     in-block (as_ahead less) = absurd (let most = is.most in omega (arith, less, most))
     in-block (as_in_hand held same) = absurd (let less = is.hand held in omega (arith, same, less))

@@ -10,14 +10,14 @@ use Rattle.world_semantics.specs.declared.role.Role.TheVariants.{Acting, Watchin
 use Rattle.world_semantics.specs.declared.which.Which.{Which}
 use Rattle.world_semantics.specs.declared.which.Which.TheVariants.{First, Second}
 use Rattle.world_semantics.specs.World.{Copy, Pair, World, copy_of, other_of, with_copy}
-use Rattle.world_semantics.specs.Messages.{Replying, Sending, sent_at, Cause, Marking}
-use Rattle.world_semantics.specs.Rules.{Change, by_own, by_checkpoint, by_request, by_early_request, by_enter, by_print, by_stop, by_mark, stopped_copy, stopped_pair, taken_over, taker, told_at_mark, marked_pair, after_marking}
+use Rattle.world_semantics.specs.Messages.{Replying, Sending, sent_at, Cause, NotingDown}
+use Rattle.world_semantics.specs.Rules.{Change, by_own, by_checkpoint, by_request, by_early_request, by_enter, by_print, by_stop, by_mark, stopped_copy, stopped_pair, taken_over, taker, told_at_down, pair_at_down, pair_after_down}
 use Rattle.world_semantics.proofs.Becoming.{entered-same, was-role}
 use Rattle.world_semantics.proofs.Lists.{Changed, is_new, is_same, changed, mapped}
 use Rattle.world_semantics.proofs.Roles.{taker-is}
-use Rattle.headline.specs.Fit.{IsFit}
-use Rattle.headline.proofs.Kept.{IsGood}
-use Rattle.sent_letters.specs.Known.{WatchersAreCalm}
+use Rattle.takeover_laws.specs.Fit.{IsFit}
+use Rattle.takeover_laws.proofs.Kept.{IsGood}
+use Rattle.letter_laws.specs.Known.{WatchersAreCalm}
 use Rattle.served_requests.proofs.Sending.{map-in, sent-in}
 use Rattle.served_requests.proofs.Turns.{IsQuiet, is_quiet, has_heard, has_heard_early, has_taken_over, Goes, like, each, enters-seat, own-turns, passes-turn}
 
@@ -70,16 +70,16 @@ module _ (site : Site) (fit : IsFit site) (events : ℕ) (w : World) (good : IsG
   stop-goes processor number pair Second = (refl, is_quiet (stop-quiet processor pair.second))
 
   mark-goes : (node processor number : ℕ) (pair : Pair) → slice_get w.processes number ≡ Some pair → (k : Which)
-      → Goes site number (Marking node processor) (flat_map (told_at_mark node processor) w.processes) pair k (copy_of k (marked_pair node processor pair))
+      → Goes site number (NotingDown node processor) (flat_map (told_at_down node processor) w.processes) pair k (copy_of k (pair_at_down node processor pair))
   mark-goes node processor number pair there = by (taker node processor pair) refl
     where
       Here : Which → Copy → Type 0
-      Here = Goes site number (Marking node processor) (flat_map (told_at_mark node processor) w.processes) pair
+      Here = Goes site number (NotingDown node processor) (flat_map (told_at_down node processor) w.processes) pair
 
       still : (j : Which) → Here j (copy_of j pair)
       still j = (refl, is_quiet (like (copy_of j pair) (copy_of j pair) refl refl refl))
 
-      by : (who : Option Which) → taker node processor pair ≡ who → (k : Which) → Here k (copy_of k (after_marking who pair))
+      by : (who : Option Which) → taker node processor pair ≡ who → (k : Which) → Here k (copy_of k (pair_after_down who pair))
       by None is = still
       by (Some k) is =
           let freed : Copy = record (copy_of (other_of k) pair) { held = [] } in
@@ -89,9 +89,9 @@ module _ (site : Site) (fit : IsFit site) (events : ℕ) (w : World) (good : IsG
           (refl, has_taken_over role refl (calm number pair k there role) refl refl told) (others First) (others Second)
         where
           told : (reply : Reply) → IsAmong reply (all_repeated (copy_of k pair).core.receive (copy_of k pair).waiting)
-              → IsAmong (record { node = (copy_of k pair).processor; message = Replying reply }) (flat_map (told_at_mark node processor) w.processes)
+              → IsAmong (record { node = (copy_of k pair).processor; message = Replying reply }) (flat_map (told_at_down node processor) w.processes)
           told reply among =
-              among-given (told_at_mark node processor) pair (record { node = (copy_of k pair).processor; message = Replying reply }) w.processes
+              among-given (told_at_down node processor) pair (record { node = (copy_of k pair).processor; message = Replying reply }) w.processes
               (among-at w.processes number pair there)
               (rw is (sent-in (copy_of k pair).processor (Replying reply) (map Replying (all_repeated (copy_of k pair).core.receive (copy_of k pair).waiting))
               (map-in Replying reply (all_repeated (copy_of k pair).core.receive (copy_of k pair).waiting) among)))
@@ -124,4 +124,4 @@ module _ (site : Site) (fit : IsFit site) (events : ℕ) (w : World) (good : IsG
   change-turned (by_enter number terminal opener there even next opens) = same-turned
   change-turned (by_print number terminal reply there odd among opens is) = same-turned
   change-turned (by_stop processor runs) = map-turned (stopped_pair processor) (λ number pair there. stop-goes processor number pair)
-  change-turned (by_mark node processor stopped runs unmarked) = map-turned (marked_pair node processor) (mark-goes node processor)
+  change-turned (by_mark node processor stopped runs unmarked) = map-turned (pair_at_down node processor) (mark-goes node processor)

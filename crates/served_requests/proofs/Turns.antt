@@ -21,16 +21,16 @@ use Rattle.world_semantics.specs.World.{Copy, Pair, World, copy_of, other_of, wi
 use Rattle.world_semantics.specs.Kept.{Enters, holds_on, repeats, begins, keeps, own_acts}
 use Rattle.world_semantics.specs.Messages.{Message, Asking, Replying, Sending, sent_at, Cause, Handing}
 use Rattle.world_semantics.specs.Own.{Around, around, Causes, by_inner, by_take, by_ask, by_answer, by_device, by_write, by_reply, asked_on}
-use Rattle.world_semantics.specs.Passes.{Passes, by_send, by_pass_again, by_pass, by_apply, by_acknowledge, checkpoint_of, taken_of, after_sending, after_mark, kept_at_mark}
+use Rattle.world_semantics.specs.Passes.{Passes, by_send, by_pass_again, by_pass, by_apply, by_acknowledge, checkpoint_of, taken_of, after_sending, copy_at_checkpoint, kept_at_checkpoint}
 use Rattle.world_semantics.proofs.Lists.{some-same}
 use Rattle.process_histories.proofs.Counts.{take-free}
 use Rattle.process_histories.proofs.Steady.{IsSteady, IsCalm, done-steady, calm-away, inner-calm, took-calm, asked-same, got-calm, answered-calm, marked-calm, device-calm}
-use Rattle.headline.specs.Fit.{IsFit}
-use Rattle.headline.proofs.Kept.{IsGood}
+use Rattle.takeover_laws.specs.Fit.{IsFit}
+use Rattle.takeover_laws.proofs.Kept.{IsGood}
 use Rattle.awaited_requests.specs.Served.{request_of}
-use Rattle.sent_letters.specs.Known.{WatchersAreCalm}
-use Rattle.sent_letters.proofs.Awaited.{acting-done, asked-next}
-use Rattle.sent_letters.proofs.Calm.{not-both}
+use Rattle.letter_laws.specs.Known.{WatchersAreCalm}
+use Rattle.letter_laws.proofs.Awaited.{acting-done, asked-next}
+use Rattle.letter_laws.proofs.Calm.{not-both}
 
 -- a change bears on no request at a copy: if that watches afterwards, it did before; if it acts it did, with the same table, and as the same core if it awaits;
 -- and the same requests wait
@@ -168,8 +168,8 @@ module _ (site : Site) (fit : IsFit site) (events : ℕ) (w : World) (good : IsG
       still j = (refl, is_quiet (like (copy_of j pair) (copy_of j pair) refl refl refl))
 
       marked : {cause : Cause} {sendings : List Sending} (k : Which) (position : ℕ) (held : List Act) → (copy_of k pair).role ≡ Acting
-          → process.point (copy_of k pair).core.state ≡ point.Mark
-          → Goes site number cause sendings pair k (record (after_mark (copy_of k pair)) { position = position; held = held })
+          → process.point (copy_of k pair).core.state ≡ point.AtCheckpoint
+          → Goes site number cause sendings pair k (record (copy_at_checkpoint (copy_of k pair)) { position = position; held = held })
       marked k position held role at = (
         refl,
         is_quiet (record {
@@ -188,14 +188,14 @@ module _ (site : Site) (fit : IsFit site) (events : ℕ) (w : World) (good : IsG
           (record pair { checkpoints = checkpoint_of number (copy_of k pair) ∷ pair.checkpoints })
           (refl, is_quiet (like (copy_of k pair) (after_sending (copy_of k pair)) refl refl refl)) (still First) (still Second)
       go {cause = cause} {sendings = sendings} (by_pass_again k role at may less) =
-          each (Goes site number cause sendings pair) k (record (after_mark (copy_of k pair)) { position = (copy_of k pair).position + 1 }) pair
+          each (Goes site number cause sendings pair) k (record (copy_at_checkpoint (copy_of k pair)) { position = (copy_of k pair).position + 1 }) pair
           (marked k _ _ role at) (still First) (still Second)
       go {cause = cause} {sendings = sendings} (by_pass k role at may most) =
           each (Goes site number cause sendings pair) k
-          (record (after_mark (copy_of k pair)) { position = own_acts number (kept_at_mark number (copy_of k pair) w.kept); held = [] }) pair
+          (record (copy_at_checkpoint (copy_of k pair)) { position = own_acts number (kept_at_checkpoint number (copy_of k pair) w.kept); held = [] }) pair
           (marked k _ _ role at) (still First) (still Second)
       go {cause = cause} {sendings = sendings} (by_apply k message applied role among era is put) =
-          let base : Pair = record pair { base = own_acts number (kept_at_mark number (copy_of (other_of k) pair) w.kept); takens = taken_of message ∷ pair.takens } in
+          let base : Pair = record pair { base = own_acts number (kept_at_checkpoint number (copy_of (other_of k) pair) w.kept); takens = taken_of message ∷ pair.takens } in
           let freed : Copy = record (copy_of (other_of k) pair) { position = own_acts number ((copy_of (other_of k) pair).held ++ w.kept); held = [] } in
           let others = each (Goes site number cause sendings pair) (other_of k) freed base
           (refl, is_quiet (like (copy_of (other_of k) pair) freed refl refl refl)) (still First) (still Second) in

@@ -11,9 +11,9 @@ use Rattle.schedule.specs.declared.line.Line.TheVariants.{One, Many, Drain, Mix,
 use Rattle.player.specs.declared.standing.Move.{Move}
 use Rattle.player.specs.declared.standing.Rule.TheVariants as rule
 use Rattle.player.specs.declared.standing.Sizes.{Sizes}
-use Rattle.player.specs.declared.standing.Standing.{Standing}
-use Rattle.player.specs.declared.standing.Standing.TheVariants as standing
-use Rattle.player.specs.declared.stop.Stop.{Stop}
+use Rattle.player.specs.declared.standing.LinePlace.{LinePlace}
+use Rattle.player.specs.declared.standing.LinePlace.TheVariants as standing
+use Rattle.player.specs.declared.stop.ProcessorStop.{ProcessorStop}
 use Rattle.player.specs.Lines.{begun, decided, decided_move, is_before, is_before_mixed, is_over, moved, moved_mixed, muted, next_event, proposed, spared}
 use Rattle.player.specs.Rounds.{next_turn}
 use Rattle.player.specs.Mixes.{next_mixed}
@@ -22,7 +22,7 @@ use Rattle.single_stops.specs.StopsAsked.{stops_in, stops_of, stops_of_lines, st
 use Rattle.single_stops.proofs.Turns.{mixed-calm, turn-calm}
 
 -- the stops that are left of a line
-abbrev stops_left : Standing → ℕ
+abbrev stops_left : LinePlace → ℕ
 stops_left (standing.Event event left) = stops_in event left
 stops_left _ = 0
 
@@ -76,7 +76,7 @@ spared-stops counts (event.Repeat y k) = refl
 spared-stops counts (event.Tick node) = refl
 spared-stops counts (event.Fail processor) = refl
 
-decided-stops : (at : Standing) (counts : Counts) (event : Event) → stops_in (decided at counts event) 1 ≡ stops_in event 1
+decided-stops : (at : LinePlace) (counts : Counts) (event : Event) → stops_in (decided at counts event) 1 ≡ stops_in event 1
 decided-stops (standing.Rounds (rule.Mute node) left place) counts event = muted-stops node counts event
 decided-stops (standing.Mixed left place draws) counts event = spared-stops counts event
 decided-stops (standing.Rounds rule.Drain left place) counts event = refl
@@ -97,7 +97,7 @@ paid-where : (most : ℕ) (test : Bool) (move : Move) → (test ≡ true → IsP
 paid-where most true move paid = paid refl
 paid-where most false move paid = tt
 
-proposed-paid : (sizes : Sizes) (x y : ℕ) (at : Standing) → IsPaidMove (stops_left at) (proposed sizes x y at)
+proposed-paid : (sizes : Sizes) (x y : ℕ) (at : LinePlace) → IsPaidMove (stops_left at) (proposed sizes x y at)
 proposed-paid sizes x y standing.Ended = tt
 proposed-paid sizes x y (standing.Event event left) =
     paid-where (stops_in event left) (nat_lt 0 left) (record { event = event; standing = standing.Event event (left - 1) })
@@ -121,11 +121,11 @@ proposed-paid sizes x y (standing.Mixed left place draws) = by (is_before_mixed 
     by true = paid-where 0 (nat_lt 0 left) (moved_mixed (left - 1) (next_mixed sizes x y place draws)) (λ some. none (left - 1))
     by false = none left
 
-decided-paid : (most : ℕ) (at : Standing) (counts : Counts) (move : Option Move) → IsPaidMove most move → IsPaidMove most (option_map (decided_move at counts) move)
+decided-paid : (most : ℕ) (at : LinePlace) (counts : Counts) (move : Option Move) → IsPaidMove most move → IsPaidMove most (option_map (decided_move at counts) move)
 decided-paid most at counts None paid = tt
 decided-paid most at counts (Some move) paid = let same = decided-stops at counts move.event in omega (arith, same, paid)
 
-next-paid : (sizes : Sizes) (at : Standing) (counts : Counts) → IsPaidMove (stops_left at) (next_event sizes at counts)
+next-paid : (sizes : Sizes) (at : LinePlace) (counts : Counts) → IsPaidMove (stops_left at) (next_event sizes at counts)
 next-paid sizes at counts = by (is_over at counts)
   where
     by : (over : Bool) → IsPaidMove (stops_left at) (if over then None else option_map (decided_move at counts) (proposed sizes counts.x counts.y at))
@@ -135,15 +135,15 @@ next-paid sizes at counts = by (is_over at counts)
 -- Schedules
 
 -- of so many stops the plan takes its own and leaves the schedule enough; the stop of the words is still to come
-abbrev IsPaidPlan : ℕ → Option Stop → Option Plan → Type 0
+abbrev IsPaidPlan : ℕ → Option ProcessorStop → Option Plan → Type 0
 IsPaidPlan most stop None = Unit {0}
 IsPaidPlan most stop (Some plan) = (stops_in plan.event 1 + to_come plan.agenda ≤ most) × (plan.agenda.stop ≡ stop)
 
-paid-more : (few most : ℕ) (stop : Option Stop) (plan : Option Plan) → few ≤ most → IsPaidPlan few stop plan → IsPaidPlan most stop plan
+paid-more : (few most : ℕ) (stop : Option ProcessorStop) (plan : Option Plan) → few ≤ most → IsPaidPlan few stop plan → IsPaidPlan most stop plan
 paid-more few most stop None more paid = tt
 paid-more few most stop (Some plan) more paid = let within = paid.0 in (omega (arith, within, more), paid.1)
 
-planned-paid : (sizes : Sizes) (counts : Counts) (stop : Option Stop) (most : ℕ) (lines : List Line) (move : Option Move) → IsPaidMove most move
+planned-paid : (sizes : Sizes) (counts : Counts) (stop : Option ProcessorStop) (most : ℕ) (lines : List Line) (move : Option Move) → IsPaidMove most move
     → IsPaidPlan (most + stops_of_lines lines + stops_of_words stop) stop (planned_by sizes counts stop lines move)
 planned-paid sizes counts stop most lines (Some move) paid = (omega (arith, paid), refl)
 planned-paid sizes counts stop most [] None paid = tt
@@ -158,7 +158,7 @@ abbrev pub IsPaid : ℕ → Option Plan → Type 0
 IsPaid most None = Unit {0}
 IsPaid most (Some plan) = stops_in plan.event 1 + to_come plan.agenda ≤ most
 
-stopped-paid : (most before : ℕ) (stop : Option Stop) (plan : Option Plan) → IsPaidPlan most stop plan → IsPaid most (option_map (stopped_by (coming stop before)) plan)
+stopped-paid : (most before : ℕ) (stop : Option ProcessorStop) (plan : Option Plan) → IsPaidPlan most stop plan → IsPaid most (option_map (stopped_by (coming stop before)) plan)
 stopped-paid most before stop None paid = tt
 stopped-paid most before None (Some plan) paid = paid.0
 stopped-paid most before (Some stop) (Some plan) paid = by (stop.after == before)

@@ -4,10 +4,10 @@ use Rattle.tal_tree.specs.declared.site.Site.{Site}
 use Rattle.schedule.specs.declared.event.Event.{Event}
 use Rattle.schedule.specs.declared.event.Event.TheVariants as event
 use Rattle.schedule.specs.declared.line.Line.{Line}
-use Rattle.player.specs.declared.stop.Stop.{Stop}
-use Rattle.message_wires.specs.Play.{Whole, has_stopped}
+use Rattle.player.specs.declared.stop.ProcessorStop.{ProcessorStop}
+use Rattle.message_wires.specs.Play.{MachineState, has_stopped}
 use Rattle.schedule_runs.specs.Ends.{EndsAs, IsRunOf}
-use Rattle.schedule_runs.specs.Runs.{Agenda, IsPlay, Plan, Plays, RunsToStop, counts_of, plays_none, plays_on, sizes_of}
+use Rattle.schedule_runs.specs.Runs.{Agenda, IsPlay, Plan, PlaysSchedule, RunsToStop, counts_of, plays_none, plays_on, sizes_of}
 use Rattle.schedule_runs.specs.declared.ran.Ending.{Ending}
 use Rattle.schedule_runs.specs.declared.ran.Ending.TheVariants.{Second}
 use Rattle.schedule_runs.specs.declared.ran.Ran.{Ran}
@@ -16,7 +16,7 @@ use Rattle.single_stops.proofs.Calm.{calm-kept, would-stop}
 use Rattle.single_stops.proofs.Costs.{IsPaid, to_come, upcoming-paid}
 
 -- at most one stop is still to come, and none where a processor has stopped
-record IsSingle (agenda : Agenda) (s : Whole) : Type 0 where
+record IsSingle (agenda : Agenda) (s : MachineState) : Type 0 where
   few : to_come agenda ≤ 1
   none : has_stopped s.world.stopped ≡ true → to_come agenda ≡ 0
 
@@ -37,7 +37,7 @@ stop-or-calm (event.Repeat y k) = inl refl
 stop-or-calm (event.Tick node) = inl refl
 
 -- after an event that is paid
-single-on : (agenda : Agenda) (s next : Whole) (plan : Plan) → IsSingle agenda s → IsPaid (to_come agenda) (Some plan) → IsPlay s plan.event next
+single-on : (agenda : Agenda) (s next : MachineState) (plan : Plan) → IsSingle agenda s → IsPaid (to_come agenda) (Some plan) → IsPlay s plan.event next
     → IsSingle plan.agenda next
 single-on agenda s next plan single paid play = by (stop-or-calm plan.event)
   where
@@ -52,15 +52,15 @@ single-on agenda s next plan single paid play = by (stop-or-calm plan.event)
               omega (arith, none, paid);
         }
 
-played-single : (site : Site) (lines : List Line) (stop : Option Stop) → stops_asked lines stop ≤ 1 → (events : List Event) (agenda : Agenda) (s : Whole)
-    → Plays site lines stop events agenda s → IsSingle agenda s
+played-single : (site : Site) (lines : List Line) (stop : Option ProcessorStop) → stops_asked lines stop ≤ 1 → (events : List Event) (agenda : Agenda) (s : MachineState)
+    → PlaysSchedule site lines stop events agenda s → IsSingle agenda s
 played-single site lines stop few _ _ _ plays_none =
     record { few = omega (arith, few); none = λ stopped. absurd (not-both _ (none-at-first site.processors) stopped) }
 played-single site lines stop few _ _ _ (plays_on {events = events} {agenda = agenda} {s = s} {next = next} plan before comes play) =
     single-on agenda s next plan (played-single site lines stop few events agenda s before)
     (subst (IsPaid (to_come agenda)) comes (upcoming-paid (sizes_of site) (length events) (counts_of s) agenda)) play
 
-no-second : (site : Site) (lines : List Line) (stop : Option Stop) → stops_asked lines stop ≤ 1 → (events : List Event) (s : Whole) (processor : ℕ)
+no-second : (site : Site) (lines : List Line) (stop : Option ProcessorStop) → stops_asked lines stop ≤ 1 → (events : List Event) (s : MachineState) (processor : ℕ)
     → RunsToStop site lines stop events s processor → ⊥
 no-second site lines stop few events s processor runs =
     let single = played-single site lines stop few events runs.agenda s runs.played in
@@ -70,7 +70,7 @@ no-second site lines stop few events s processor runs =
     let paid = subst (IsPaid (to_come runs.agenda)) runs.comes (upcoming-paid (sizes_of site) (length events) (counts_of s) runs.agenda) in
     omega (arith, none, one, paid)
 
-pub never-second : (site : Site) (lines : List Line) (stop : Option Stop) (ran : Ran) (processor : ℕ) → stops_asked lines stop ≤ 1
+pub never-second : (site : Site) (lines : List Line) (stop : Option ProcessorStop) (ran : Ran) (processor : ℕ) → stops_asked lines stop ≤ 1
     → IsRunOf site lines stop ran → ran.ending ≡ Second processor → ⊥
 never-second site lines stop ran processor few run ended =
     let ends = subst (λ (ending : Ending). EndsAs site lines stop run.events run.state ran.machine.state ran.asked ending) ended run.ends in

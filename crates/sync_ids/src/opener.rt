@@ -5,7 +5,7 @@ ghost use Rattle.checkpoint_image.specs.Receive.{answered, last_ones, reply_kept
 ghost use Rattle.sync_ids.specs.Openers.{block_of, depth_of, untaken_of, with_block};
 ghost use Rattle.sync_ids.specs.Tables.{is_of_depth};
 
-use checkpoint_image::{OpenerBlock, Standing};
+use checkpoint_image::{OpenerBlock, RequestStanding};
 use circular_buffer::HeapCircularBuffer;
 use gd_words::{List, NoMemory, Words};
 use std::alloc::Global;
@@ -27,21 +27,21 @@ impl Opener {
     }
 
     /// How a number stands to it, where its request is in hand or not.
-    pub fn standing(&self, held: bool, number: u32) -> Standing
+    pub fn standing(&self, held: bool, number: u32) -> RequestStanding
         ensures { result ≡ standing_in held (block_of self.now) number }
     {
         if number > self.taken {
             if number - self.taken == 1 {
-                Standing::Next
+                RequestStanding::Next
             } else {
-                Standing::Ahead
+                RequestStanding::Ahead
             }
         } else if held && number == self.taken {
-            Standing::InHand
+            RequestStanding::InHand
         } else {
             match self.reply(self.answered(held), number) {
-                Some(words) => Standing::Kept(words),
-                None => Standing::Old,
+                Some(words) => RequestStanding::Kept(words),
+                None => RequestStanding::Old,
             }
         }
     }

@@ -6,7 +6,7 @@ ghost use Rattle.sync_ids.specs.Openers.{block_of, depth_of, untaken_of};
 ghost use Rattle.sync_ids.specs.Tables.{IsDepth, IsSound, are_of_depths, can_hold, fits, last_taken, nothing_taken};
 
 use crate::opener::Opener;
-use checkpoint_image::{OpenerBlock, ReceiveBlock, Standing};
+use checkpoint_image::{OpenerBlock, ReceiveBlock, RequestStanding};
 use gd_words::{List, NoMemory, Words};
 use std::alloc::Global;
 use std::marker::Model;
@@ -47,7 +47,7 @@ impl Receive {
     }
 
     /// How a number of an opener stands to what is remembered.
-    pub fn standing(&self, opener: u16, number: u32) -> Standing
+    pub fn standing(&self, opener: u16, number: u32) -> RequestStanding
         requires { opener < length self.now.depths }
         ensures { result ≡ standing_at self.now.table opener number }
     {

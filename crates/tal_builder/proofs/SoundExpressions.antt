@@ -6,9 +6,9 @@ use Rattle.tal_tokens.specs.declared.token.Token.{Token}
 use Rattle.tal_tokens.specs.declared.token.Token.TheVariants as tok
 use Rattle.tal_syntax.specs.Grammar as g
 use Rattle.tal_syntax.specs.Nesting.{nest_expr, nest_ors, nest_both, nest_ands, nest_neg, nest_compared, nest_sum, nest_terms, nest_product, nest_factors, nest_factor, nest_spot, nest_index}
-use Rattle.tal_builder.specs.declared.mark.Mark.TheVariants as mark
+use Rattle.tal_builder.specs.declared.plain_token.PlainToken.TheVariants as mark
 use Rattle.tal_builder.specs.First.{rel_of, sign_of, scale_of, name_of}
-use Rattle.tal_builder.specs.Marks.{mark_of}
+use Rattle.tal_builder.specs.PlainTokens.{plain_of}
 use Rattle.tal_builder.specs.Parse.{Found, ors_by, expr_by, ands_by, both_by, compared_after, compared_by, relation_by, neg_by, terms_by, sum_by, factors_by, product_by, index_after, index_by, spot_by, factor_by, factor_in, neg_in, expr_in, factor_at, product_at, sum_at, neg_at, both_at, expr_at, spot_at}
 use Rattle.tal_builder.proofs.Told.{Told, Reads, Within, Below, and_then, mapped, weaker, below, stands, chain}
 use Rattle.tal_builder.proofs.SoundTokens.{mark_is, name_is, rel_is, sign_is, scale_is}
@@ -53,7 +53,7 @@ module _ (r : ℕ) where
 
   ands_is : (neg : List Token → Found g.Neg) → Reads g.of_neg (Within nest_neg r) neg → Reads g.of_ands (Within nest_ands r) (ands_by neg)
   ands_is neg known ks =
-      chain g.no_ands g.more_ands (mark_of mark.And) neg (λ s us. tok.And s ∷ us) g.of_neg g.of_ands (Within nest_neg r) (Within nest_ands r)
+      chain g.no_ands g.more_ands (plain_of mark.And) neg (λ s us. tok.And s ∷ us) g.of_neg g.of_ands (Within nest_neg r) (Within nest_ands r)
       (record { starts = λ us. refl; fits = λ n m ls l a. a; goes_on = λ s x r us. refl; fits_on = λ s x f p q n m ls l a. (stands n r m l, p n m (nest_ands n f ls) l (q n m ls l a)); signs = mark_is mark.And; parts = known }) (length ks) ks
 
   both_is : (neg : List Token → Found g.Neg) → Reads g.of_neg (Within nest_neg r) neg → Reads g.of_both (Within nest_both r) (both_by neg)
@@ -63,7 +63,7 @@ module _ (r : ℕ) where
 
   ors_is : (both : List Token → Found g.Both) → Reads g.of_both (Within nest_both r) both → Reads g.of_ors (Within nest_ors r) (ors_by both)
   ors_is both known ks =
-      chain g.no_ors g.more_ors (mark_of mark.Or) both (λ s us. tok.Or s ∷ us) g.of_both g.of_ors (Within nest_both r) (Within nest_ors r)
+      chain g.no_ors g.more_ors (plain_of mark.Or) both (λ s us. tok.Or s ∷ us) g.of_both g.of_ors (Within nest_both r) (Within nest_ors r)
       (record { starts = λ us. refl; fits = λ n m ls l a. a; goes_on = λ s x r us. refl; fits_on = λ s x f p q n m ls l a. (stands n r m l, p n m (nest_ors n f ls) l (q n m ls l a)); signs = mark_is mark.Or; parts = known }) (length ks) ks
 
   expr_is_by : (both : List Token → Found g.Both) → Reads g.of_both (Within nest_both r) both → Reads g.of_expr (Within nest_expr r) (expr_by both)
@@ -75,14 +75,14 @@ module _ (r : ℕ) where
       → Told o (λ p. tok.OpenIndex p.0 ∷ p.1 ≡ ks) → Told (index_after expr ks o) (λ p. (g.of_index p.0 p.1 ≡ ks) × Within nest_index r p.0)
   index_after_is expr deeper ks None h = record { told = (refl, λ n m ls l a. a) }
   index_after_is expr deeper ks (Some (start, us)) h =
-      and_then (expr us) _ (deeper us) (λ e p. mapped (mark_of mark.CloseIndex e.1) _ (mark_is mark.CloseIndex e.1) (λ c q. (
+      and_then (expr us) _ (deeper us) (λ e p. mapped (plain_of mark.CloseIndex e.1) _ (mark_is mark.CloseIndex e.1) (λ c q. (
         ap (λ ts. tok.OpenIndex start ∷ g.of_expr e.0 ts) q ∙ ap (λ ts. tok.OpenIndex start ∷ ts) p.0 ∙ h.told,
         λ n m ls l a. ((p.1 n m l).0, (p.1 n m l).1 (suc n ∷ ls) ((p.1 n m l).0, a)),
       )))
 
   spot_is_by : (expr : List Token → Found g.Expr) → Reads g.of_expr (Below nest_expr r) expr → Reads g.of_spot (Within nest_spot r) (spot_by expr)
   spot_is_by expr deeper ks =
-      and_then (name_of ks) _ (name_is ks) (λ w p. mapped (index_by expr w.1) _ (index_after_is expr deeper w.1 (mark_of mark.OpenIndex w.1) (mark_is mark.OpenIndex w.1)) (λ i q.
+      and_then (name_of ks) _ (name_is ks) (λ w p. mapped (index_by expr w.1) _ (index_after_is expr deeper w.1 (plain_of mark.OpenIndex w.1) (mark_is mark.OpenIndex w.1)) (λ i q.
       (ap (λ ts. tok.Name w.0.0 w.0.1 ∷ ts) q.0 ∙ p, λ n m ls l a. (stands n r m l, q.1 n m ls l a))))
 
   read_is : (expr : List Token → Found g.Expr) → Reads g.of_expr (Below nest_expr r) expr → (ks : List Token)
@@ -95,7 +95,7 @@ module _ (r : ℕ) where
       mapped (inner ks) _ (known ks) (λ f p. (ap (λ ts. tok.Minus at ∷ ts) p.0, λ n m ls l a. ((p.1 n m l).0, (p.1 n m l).1 ls a)))
   factor_is_by inner known expr deeper (tok.Number at v ∷ ks) = record { told = (refl, λ n m ls l a. (stands n r m l, a)) }
   factor_is_by inner known expr deeper (tok.Open start ∷ ks) =
-      and_then (expr ks) _ (deeper ks) (λ e p. mapped (mark_of mark.Close e.1) _ (mark_is mark.Close e.1) (λ c q. (
+      and_then (expr ks) _ (deeper ks) (λ e p. mapped (plain_of mark.Close e.1) _ (mark_is mark.Close e.1) (λ c q. (
         ap (λ ts. tok.Open start ∷ g.of_expr e.0 ts) q ∙ ap (λ ts. tok.Open start ∷ ts) p.0,
         λ n m ls l a. ((p.1 n m l).0, (p.1 n m l).1 (suc n ∷ ls) ((p.1 n m l).0, a)),
       )))

@@ -3,13 +3,13 @@ use Rattle.std.proofs.Common.{◌≡◌, List, [], ◌∷◌, refl, ap}
 use Rattle.tal_tokens.specs.declared.token.Token.{Token}
 use Rattle.tal_tokens.specs.declared.token.Token.TheVariants as tok
 use Rattle.tal_syntax.specs.Grammar as g
-use Rattle.tal_builder.specs.declared.mark.Mark.{Mark}
-use Rattle.tal_builder.specs.declared.mark.Mark.TheVariants as mark
+use Rattle.tal_builder.specs.declared.plain_token.PlainToken.{PlainToken}
+use Rattle.tal_builder.specs.declared.plain_token.PlainToken.TheVariants as mark
 use Rattle.tal_builder.specs.First.{name_of, called_of, rel_of, sign_of, scale_of}
-use Rattle.tal_builder.specs.Marks.{of_mark, place_of, mark_of}
+use Rattle.tal_builder.specs.PlainTokens.{token_of_plain, place_of, plain_of}
 use Rattle.tal_builder.proofs.Told.{Told, mapped}
 
-place_is : (m : Mark) (k : Token) → Told (place_of m k) (λ at. of_mark m at ≡ k)
+place_is : (m : PlainToken) (k : Token) → Told (place_of m k) (λ at. token_of_plain m at ≡ k)
 place_is mark.And (tok.And at) = record { told = refl }
 place_is mark.Begin (tok.Begin at) = record { told = refl }
 place_is mark.Do (tok.Do at) = record { told = refl }
@@ -35,7 +35,7 @@ place_is mark.Colon (tok.Colon at) = record { told = refl }
 place_is mark.Finish (tok.Finish at) = record { told = refl }
 place_is _ _ = record { told = tt }
 
-pub mark_is : (m : Mark) (ks : List Token) → Told (mark_of m ks) (λ r. of_mark m r.0 ∷ r.1 ≡ ks)
+pub mark_is : (m : PlainToken) (ks : List Token) → Told (plain_of m ks) (λ r. token_of_plain m r.0 ∷ r.1 ≡ ks)
 mark_is m [] = record { told = tt }
 mark_is m (k ∷ ks) = mapped (place_of m k) _ (place_is m k) (λ at e. ap (λ k. k ∷ ks) e)
 

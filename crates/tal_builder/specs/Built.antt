@@ -7,8 +7,8 @@ use Rattle.tal_syntax.specs.Grammar as g
 use Rattle.tal_syntax.specs.Nesting.{nest_text}
 use Rattle.tal_syntax.specs.Expected.{AllAtMost}
 use Rattle.tal_syntax.specs.Seen.{seen_text}
-use Rattle.tal_builder.specs.declared.stop.Stop.{Stop}
-use Rattle.tal_builder.specs.declared.stop.Stop.TheVariants as stop
+use Rattle.tal_builder.specs.declared.stop.BuildFault.{BuildFault}
+use Rattle.tal_builder.specs.declared.stop.BuildFault.TheVariants as stop
 
 -- the tokens are those of the syntax, in which each ELSE belongs to the nearest IF, and none of them stands deeper than
 -- allowed: 33 levels, that of a procedure's own statements counted
@@ -16,6 +16,6 @@ abbrev pub IsSyntax : List Token → g.Text → Type 0
 IsSyntax ks t = g.IsText t × (g.of_text t ≡ ks) × AllAtMost 33 (nest_text t)
 
 -- the syntax of the tokens is built, or where there is memory they have none
-abbrev pub Built : List Token → Result Text Stop → Type 0
+abbrev pub Built : List Token → Result Text BuildFault → Type 0
 Built ks (Ok t) = IsSyntax ks (seen_text t)
 Built ks (Err e) = (e ≡ stop.NoMemory no_memory → ⊥) → (t : g.Text) → IsSyntax ks t → ⊥

@@ -1,5 +1,5 @@
 pub mod Built
 pub mod First
-pub mod Marks
+pub mod PlainTokens
 pub mod Outcome
 pub mod Parse

@@ -5,11 +5,11 @@ ghost use Rattle.tal_syntax.specs.Seen.{seen_expr, seen_ors, seen_both, seen_and
 
 use crate::expression_parts::{
     add_both, add_factor, add_neg, add_term, alone_of, both_of, compared_of, expr_of, minus_of,
-    negated_of, number_of, parens_of, product_of, read_of, spot_of, sum_of,
+    negated_of, number_factor, parens_of, product_of, read_of, spot_of, sum_of,
 };
 use crate::first::{name_first, rel_first, scale_first, sign_first};
-use crate::mark::{Mark, expect, optional};
-use crate::stop::Stop;
+use crate::plain_token::{PlainToken, expect, optional};
+use crate::stop::BuildFault;
 use gd_words::{Boxed, List};
 use std::alloc::Global;
 use tal_syntax::{
@@ -19,7 +19,7 @@ use tal_tokens::{At, Token};
 
 /// `both { OR both }`, in which so many levels may be opened.
 #[cycle(expression)]
-pub fn expr(alloc: Global, room: u8, tokens: &[Token]) -> Result<(Boxed<Expr>, &[Token]), Stop>
+pub fn expr(alloc: Global, room: u8, tokens: &[Token]) -> Result<(Boxed<Expr>, &[Token]), BuildFault>
     ensures { Tells (λ r. (seen_expr r.0, r.1.now)) result (expr_at room tokens.now) }
 {
     let (first, after) = both(alloc, room, tokens)?;
@@ -30,13 +30,13 @@ pub fn expr(alloc: Global, room: u8, tokens: &[Token]) -> Result<(Boxed<Expr>, &
 
 /// `{ OR both }`
 #[cycle(expression)]
-fn more_boths(alloc: Global, room: u8, tokens: &[Token]) -> Result<(List<NextBoth>, &[Token]), Stop>
+fn more_boths(alloc: Global, room: u8, tokens: &[Token]) -> Result<(List<NextBoth>, &[Token]), BuildFault>
     ensures { Tells (λ r. (seen_ors r.0, r.1.now)) result (ors_by (both_at room) tokens.now) }
 {
     let mut all = List::new(alloc);
     let mut rest = tokens;
     for _turn in 0..tokens.len() {
-        let Some((or, after)) = optional(Mark::Or, rest) else {
+        let Some((or, after)) = optional(PlainToken::Or, rest) else {
             return Ok((all, rest));
         };
         let (both, after) = both(alloc, room, after)?;
@@ -48,7 +48,7 @@ fn more_boths(alloc: Global, room: u8, tokens: &[Token]) -> Result<(List<NextBot
 
 /// `neg { AND neg }`
 #[cycle(expression)]
-fn both(alloc: Global, room: u8, tokens: &[Token]) -> Result<(Boxed<Both>, &[Token]), Stop>
+fn both(alloc: Global, room: u8, tokens: &[Token]) -> Result<(Boxed<Both>, &[Token]), BuildFault>
     ensures { Tells (λ r. (seen_both r.0, r.1.now)) result (both_at room tokens.now) }
 {
     let (first, after) = neg(alloc, room, tokens)?;
@@ -59,13 +59,13 @@ fn both(alloc: Global, room: u8, tokens: &[Token]) -> Result<(Boxed<Both>, &[Tok
 
 /// `{ AND neg }`
 #[cycle(expression)]
-fn more_negs(alloc: Global, room: u8, tokens: &[Token]) -> Result<(List<NextNeg>, &[Token]), Stop>
+fn more_negs(alloc: Global, room: u8, tokens: &[Token]) -> Result<(List<NextNeg>, &[Token]), BuildFault>
     ensures { Tells (λ r. (seen_ands r.0, r.1.now)) result (ands_by (neg_at room) tokens.now) }
 {
     let mut all = List::new(alloc);
     let mut rest = tokens;
     for _turn in 0..tokens.len() {
-        let Some((and, after)) = optional(Mark::And, rest) else {
+        let Some((and, after)) = optional(PlainToken::And, rest) else {
             return Ok((all, rest));
         };
         let (neg, after) = neg(alloc, room, after)?;
@@ -77,7 +77,7 @@ fn more_negs(alloc: Global, room: u8, tokens: &[Token]) -> Result<(List<NextNeg>
 
 /// `NOT neg | sum compared`
 #[cycle(expression)]
-fn neg(alloc: Global, room: u8, tokens: &[Token]) -> Result<(Boxed<Neg>, &[Token]), Stop>
+fn neg(alloc: Global, room: u8, tokens: &[Token]) -> Result<(Boxed<Neg>, &[Token]), BuildFault>
     ensures { Tells (λ r. (seen_neg r.0, r.1.now)) result (neg_at room tokens.now) }
 {
     match tokens {
@@ -93,7 +93,7 @@ fn negation(
     room: u8,
     at: At,
     tokens: &[Token],
-) -> Result<(Boxed<Neg>, &[Token]), Stop>
+) -> Result<(Boxed<Neg>, &[Token]), BuildFault>
     ensures { Tells (λ r. (seen_neg r.0, r.1.now)) result (negated_by (neg_in room) at tokens.now) }
 {
     let (inner, rest) = neg_within(alloc, room, tokens)?;
@@ -103,7 +103,7 @@ fn negation(
 
 /// `sum compared`
 #[cycle(expression)]
-fn relation(alloc: Global, room: u8, tokens: &[Token]) -> Result<(Boxed<Neg>, &[Token]), Stop>
+fn relation(alloc: Global, room: u8, tokens: &[Token]) -> Result<(Boxed<Neg>, &[Token]), BuildFault>
     ensures { Tells (λ r. (seen_neg r.0, r.1.now)) result (relation_by (sum_at room) tokens.now) }
 {
     let (left, after) = sum(alloc, room, tokens)?;
@@ -117,7 +117,7 @@ fn compared(
     room: u8,
     left: Boxed<Sum>,
     tokens: &[Token],
-) -> Result<(Boxed<Neg>, &[Token]), Stop>
+) -> Result<(Boxed<Neg>, &[Token]), BuildFault>
     ensures { Tells (λ r. (seen_neg r.0, r.1.now)) result (compared_to (sum_at room) (seen_sum left) tokens.now) }
 {
     let Some((rel, after)) = rel_first(tokens) else {
@@ -131,7 +131,7 @@ fn compared(
 
 /// `product { sign product }`
 #[cycle(expression)]
-fn sum(alloc: Global, room: u8, tokens: &[Token]) -> Result<(Boxed<Sum>, &[Token]), Stop>
+fn sum(alloc: Global, room: u8, tokens: &[Token]) -> Result<(Boxed<Sum>, &[Token]), BuildFault>
     ensures { Tells (λ r. (seen_sum r.0, r.1.now)) result (sum_at room tokens.now) }
 {
     let (first, after) = product(alloc, room, tokens)?;
@@ -142,7 +142,7 @@ fn sum(alloc: Global, room: u8, tokens: &[Token]) -> Result<(Boxed<Sum>, &[Token
 
 /// `{ sign product }`
 #[cycle(expression)]
-fn more_terms(alloc: Global, room: u8, tokens: &[Token]) -> Result<(List<Term>, &[Token]), Stop>
+fn more_terms(alloc: Global, room: u8, tokens: &[Token]) -> Result<(List<Term>, &[Token]), BuildFault>
     ensures { Tells (λ r. (seen_terms r.0, r.1.now)) result (terms_by (product_at room) tokens.now) }
 {
     let mut all = List::new(alloc);
@@ -160,7 +160,7 @@ fn more_terms(alloc: Global, room: u8, tokens: &[Token]) -> Result<(List<Term>, 
 
 /// `factor { scale factor }`
 #[cycle(expression)]
-fn product(alloc: Global, room: u8, tokens: &[Token]) -> Result<(Boxed<Product>, &[Token]), Stop>
+fn product(alloc: Global, room: u8, tokens: &[Token]) -> Result<(Boxed<Product>, &[Token]), BuildFault>
     ensures { Tells (λ r. (seen_product r.0, r.1.now)) result (product_at room tokens.now) }
 {
     let (first, after) = factor(alloc, room, tokens)?;
@@ -175,7 +175,7 @@ fn more_factors(
     alloc: Global,
     room: u8,
     tokens: &[Token],
-) -> Result<(List<NextFactor>, &[Token]), Stop>
+) -> Result<(List<NextFactor>, &[Token]), BuildFault>
     ensures { Tells (λ r. (seen_factors r.0, r.1.now)) result (factors_by (factor_at room) tokens.now) }
 {
     let mut all = List::new(alloc);
@@ -193,13 +193,13 @@ fn more_factors(
 
 /// `"-" factor | number | spot | "(" expr ")"`
 #[cycle(expression)]
-fn factor(alloc: Global, room: u8, tokens: &[Token]) -> Result<(Boxed<Factor>, &[Token]), Stop>
+fn factor(alloc: Global, room: u8, tokens: &[Token]) -> Result<(Boxed<Factor>, &[Token]), BuildFault>
     ensures { Tells (λ r. (seen_factor r.0, r.1.now)) result (factor_at room tokens.now) }
 {
     match tokens {
         [Token::Minus(at), rest @ ..] => negative(alloc, room, *at, rest),
         [Token::Number(at, value), rest @ ..] => {
-            let factor = number_of(alloc, *at, *value)?;
+            let factor = number_factor(alloc, *at, *value)?;
             Ok((factor, rest))
         }
         [Token::Open(start), rest @ ..] => parens(alloc, room, *start, rest),
@@ -218,7 +218,7 @@ fn negative(
     room: u8,
     at: At,
     tokens: &[Token],
-) -> Result<(Boxed<Factor>, &[Token]), Stop>
+) -> Result<(Boxed<Factor>, &[Token]), BuildFault>
     ensures { Tells (λ r. (seen_factor r.0, r.1.now)) result (minus_by (factor_in room) at tokens.now) }
 {
     let (inner, rest) = factor_within(alloc, room, tokens)?;
@@ -233,22 +233,22 @@ fn parens(
     room: u8,
     start: At,
     tokens: &[Token],
-) -> Result<(Boxed<Factor>, &[Token]), Stop>
+) -> Result<(Boxed<Factor>, &[Token]), BuildFault>
     ensures { Tells (λ r. (seen_factor r.0, r.1.now)) result (parens_by (expr_in room) start tokens.now) }
 {
     let (inner, after) = expr_within(alloc, room, tokens)?;
-    let (close, rest) = expect(Mark::Close, after)?;
+    let (close, rest) = expect(PlainToken::Close, after)?;
     let factor = parens_of(alloc, start, inner, close)?;
     Ok((factor, rest))
 }
 
 /// `name index`
 #[cycle(expression)]
-pub fn spot(alloc: Global, room: u8, tokens: &[Token]) -> Result<(Boxed<Spot>, &[Token]), Stop>
+pub fn spot(alloc: Global, room: u8, tokens: &[Token]) -> Result<(Boxed<Spot>, &[Token]), BuildFault>
     ensures { Tells (λ r. (seen_spot r.0, r.1.now)) result (spot_at room tokens.now) }
 {
     let Some((named, after)) = name_first(tokens) else {
-        return Err(Stop::NoSyntax);
+        return Err(BuildFault::NoSyntax);
     };
     let (index, rest) = index(alloc, room, after)?;
     let spot = spot_of(alloc, named.at, named.name, index)?;
@@ -257,35 +257,35 @@ pub fn spot(alloc: Global, room: u8, tokens: &[Token]) -> Result<(Boxed<Spot>, &
 
 /// `[ "[" expr "]" ]`
 #[cycle(expression)]
-fn index(alloc: Global, room: u8, tokens: &[Token]) -> Result<(Index, &[Token]), Stop>
+fn index(alloc: Global, room: u8, tokens: &[Token]) -> Result<(Index, &[Token]), BuildFault>
     ensures { Tells (λ r. (seen_index r.0, r.1.now)) result (index_by (expr_in room) tokens.now) }
 {
-    let Some((start, after)) = optional(Mark::OpenIndex, tokens) else {
+    let Some((start, after)) = optional(PlainToken::OpenIndex, tokens) else {
         return Ok((Index::Simple, tokens));
     };
     let (inner, after) = expr_within(alloc, room, after)?;
-    let (close, rest) = expect(Mark::CloseIndex, after)?;
+    let (close, rest) = expect(PlainToken::CloseIndex, after)?;
     Ok((Index::Element(start, inner, close), rest))
 }
 
 /// An expression that opens the first of so many levels.
 #[cycle(expression)]
-fn expr_within(alloc: Global, room: u8, tokens: &[Token]) -> Result<(Boxed<Expr>, &[Token]), Stop>
+fn expr_within(alloc: Global, room: u8, tokens: &[Token]) -> Result<(Boxed<Expr>, &[Token]), BuildFault>
     ensures { Tells (λ r. (seen_expr r.0, r.1.now)) result (expr_in room tokens.now) }
 {
     if room == 0 {
-        return Err(Stop::NoSyntax);
+        return Err(BuildFault::NoSyntax);
     }
     expr(alloc, room - 1, tokens)
 }
 
 /// The operand of a NOT that opens the first of so many levels.
 #[cycle(expression)]
-fn neg_within(alloc: Global, room: u8, tokens: &[Token]) -> Result<(Boxed<Neg>, &[Token]), Stop>
+fn neg_within(alloc: Global, room: u8, tokens: &[Token]) -> Result<(Boxed<Neg>, &[Token]), BuildFault>
     ensures { Tells (λ r. (seen_neg r.0, r.1.now)) result (neg_in room tokens.now) }
 {
     if room == 0 {
-        return Err(Stop::NoSyntax);
+        return Err(BuildFault::NoSyntax);
     }
     neg(alloc, room - 1, tokens)
 }
@@ -296,11 +296,11 @@ fn factor_within(
     alloc: Global,
     room: u8,
     tokens: &[Token],
-) -> Result<(Boxed<Factor>, &[Token]), Stop>
+) -> Result<(Boxed<Factor>, &[Token]), BuildFault>
     ensures { Tells (λ r. (seen_factor r.0, r.1.now)) result (factor_in room tokens.now) }
 {
     if room == 0 {
-        return Err(Stop::NoSyntax);
+        return Err(BuildFault::NoSyntax);
     }
     factor(alloc, room - 1, tokens)
 }

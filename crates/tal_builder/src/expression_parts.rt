@@ -162,7 +162,7 @@ pub fn minus_of(alloc: Global, at: At, inner: Boxed<Factor>) -> Result<Boxed<Fac
 
 /// A number.
 #[inline(never)]
-pub fn number_of(alloc: Global, at: At, value: i16) -> Result<Boxed<Factor>, NoMemory>
+pub fn number_factor(alloc: Global, at: At, value: i16) -> Result<Boxed<Factor>, NoMemory>
     ensures { IfOk result (λ f. seen_factor f ≡ g.number at value) }
 {
     let factor = Boxed::new(alloc, Factor::Number(at, value))?;

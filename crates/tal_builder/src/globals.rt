@@ -4,8 +4,8 @@ ghost use Rattle.tal_builder.specs.Parse.{atom_at, constant_at, bounds_at, item_
 ghost use Rattle.tal_syntax.specs.Seen.{seen_atom, seen_constant, seen_bounds, seen_item, seen_items, seen_literal, seen_literals, seen_globals, seen_lines};
 
 use crate::first::{is_line, name_first};
-use crate::mark::{Mark, expect, optional};
-use crate::stop::Stop;
+use crate::plain_token::{PlainToken, expect, optional};
+use crate::stop::BuildFault;
 use gd_words::List;
 use std::alloc::Global;
 use tal_syntax::{
@@ -28,7 +28,7 @@ fn atom(tokens: &[Token]) -> Option<(Atom, &[Token])>
 fn constant(tokens: &[Token]) -> Option<(Constant, &[Token])>
     ensures { Gives (λ r. (seen_constant r.0, r.1.now)) result (constant_at tokens.now) }
 {
-    match optional(Mark::Minus, tokens) {
+    match optional(PlainToken::Minus, tokens) {
         Some((sign, after)) => match atom(after) {
             Some((atom, rest)) => Some((Constant::Negative(sign, atom), rest)),
             None => None,
@@ -44,19 +44,19 @@ fn constant(tokens: &[Token]) -> Option<(Constant, &[Token])>
 fn bounds(tokens: &[Token]) -> Option<(Bounds, &[Token])>
     ensures { Gives (λ r. (seen_bounds r.0, r.1.now)) result (bounds_at tokens.now) }
 {
-    let Some((start, after)) = optional(Mark::OpenIndex, tokens) else {
+    let Some((start, after)) = optional(PlainToken::OpenIndex, tokens) else {
         return Some((Bounds::Simple, tokens));
     };
     let Some((low, after)) = constant(after) else {
         return None;
     };
-    let Some((colon, after)) = optional(Mark::Colon, after) else {
+    let Some((colon, after)) = optional(PlainToken::Colon, after) else {
         return None;
     };
     let Some((high, after)) = constant(after) else {
         return None;
     };
-    let Some((close, rest)) = optional(Mark::CloseIndex, after) else {
+    let Some((close, rest)) = optional(PlainToken::CloseIndex, after) else {
         return None;
     };
     Some((Bounds::Array(start, low, colon, high, close), rest))
@@ -83,17 +83,17 @@ fn item(tokens: &[Token]) -> Option<(Item, &[Token])>
 }
 
 /// `{ "," item }`
-fn more_items(alloc: Global, tokens: &[Token]) -> Result<(List<NextItem>, &[Token]), Stop>
+fn more_items(alloc: Global, tokens: &[Token]) -> Result<(List<NextItem>, &[Token]), BuildFault>
     ensures { Tells (λ r. (seen_items r.0, r.1.now)) result (items_at tokens.now) }
 {
     let mut all = List::new(alloc);
     let mut rest = tokens;
     for _turn in 0..tokens.len() {
-        let Some((comma, after)) = optional(Mark::Comma, rest) else {
+        let Some((comma, after)) = optional(PlainToken::Comma, rest) else {
             return Ok((all, rest));
         };
         let Some((item, after)) = item(after) else {
-            return Err(Stop::NoSyntax);
+            return Err(BuildFault::NoSyntax);
         };
         all.push(NextItem { comma, item })?;
         rest = after;
@@ -108,7 +108,7 @@ fn literal(tokens: &[Token]) -> Option<(Literal, &[Token])>
     let Some((named, after)) = name_first(tokens) else {
         return None;
     };
-    let Some((equal, after)) = optional(Mark::Equal, after) else {
+    let Some((equal, after)) = optional(PlainToken::Equal, after) else {
         return None;
     };
     let Some((constant, rest)) = constant(after) else {
@@ -124,17 +124,17 @@ fn literal(tokens: &[Token]) -> Option<(Literal, &[Token])>
 }
 
 /// `{ "," literal }`
-fn more_literals(alloc: Global, tokens: &[Token]) -> Result<(List<NextLiteral>, &[Token]), Stop>
+fn more_literals(alloc: Global, tokens: &[Token]) -> Result<(List<NextLiteral>, &[Token]), BuildFault>
     ensures { Tells (λ r. (seen_literals r.0, r.1.now)) result (literals_at tokens.now) }
 {
     let mut all = List::new(alloc);
     let mut rest = tokens;
     for _turn in 0..tokens.len() {
-        let Some((comma, after)) = optional(Mark::Comma, rest) else {
+        let Some((comma, after)) = optional(PlainToken::Comma, rest) else {
             return Ok((all, rest));
         };
         let Some((literal, after)) = literal(after) else {
-            return Err(Stop::NoSyntax);
+            return Err(BuildFault::NoSyntax);
         };
         all.push(NextLiteral { comma, literal })?;
         rest = after;
@@ -143,14 +143,14 @@ fn more_literals(alloc: Global, tokens: &[Token]) -> Result<(List<NextLiteral>, 
 }
 
 /// `item { "," item } ";"`, after INT
-fn int_line(alloc: Global, int: At, tokens: &[Token]) -> Result<(Globals, &[Token]), Stop>
+fn int_line(alloc: Global, int: At, tokens: &[Token]) -> Result<(Globals, &[Token]), BuildFault>
     ensures { Tells (λ r. (seen_globals r.0, r.1.now)) result (int_line_at int tokens.now) }
 {
     let Some((first, after)) = item(tokens) else {
-        return Err(Stop::NoSyntax);
+        return Err(BuildFault::NoSyntax);
     };
     let (more, after) = more_items(alloc, after)?;
-    let (end, rest) = expect(Mark::Semicolon, after)?;
+    let (end, rest) = expect(PlainToken::Semicolon, after)?;
     let line = IntLine {
         int,
         first,
@@ -161,14 +161,14 @@ fn int_line(alloc: Global, int: At, tokens: &[Token]) -> Result<(Globals, &[Toke
 }
 
 /// `literal { "," literal } ";"`, after LITERAL
-fn literal_line(alloc: Global, word: At, tokens: &[Token]) -> Result<(Globals, &[Token]), Stop>
+fn literal_line(alloc: Global, word: At, tokens: &[Token]) -> Result<(Globals, &[Token]), BuildFault>
     ensures { Tells (λ r. (seen_globals r.0, r.1.now)) result (literal_line_at word tokens.now) }
 {
     let Some((first, after)) = literal(tokens) else {
-        return Err(Stop::NoSyntax);
+        return Err(BuildFault::NoSyntax);
     };
     let (more, after) = more_literals(alloc, after)?;
-    let (end, rest) = expect(Mark::Semicolon, after)?;
+    let (end, rest) = expect(PlainToken::Semicolon, after)?;
     let line = LiteralLine {
         word,
         first,
@@ -179,20 +179,20 @@ fn literal_line(alloc: Global, word: At, tokens: &[Token]) -> Result<(Globals, &
 }
 
 /// `INT item { "," item } ";" | LITERAL literal { "," literal } ";"`
-fn line(alloc: Global, tokens: &[Token]) -> Result<(Globals, &[Token]), Stop>
+fn line(alloc: Global, tokens: &[Token]) -> Result<(Globals, &[Token]), BuildFault>
     ensures { Tells (λ r. (seen_globals r.0, r.1.now)) result (line_at tokens.now) }
 {
-    match optional(Mark::Int, tokens) {
+    match optional(PlainToken::Int, tokens) {
         Some((int, after)) => int_line(alloc, int, after),
         None => {
-            let (word, after) = expect(Mark::Literal, tokens)?;
+            let (word, after) = expect(PlainToken::Literal, tokens)?;
             literal_line(alloc, word, after)
         }
     }
 }
 
 /// `{ line }`
-pub fn globals(alloc: Global, tokens: &[Token]) -> Result<(List<Globals>, &[Token]), Stop>
+pub fn globals(alloc: Global, tokens: &[Token]) -> Result<(List<Globals>, &[Token]), BuildFault>
     ensures { Tells (λ r. (seen_lines r.0, r.1.now)) result (lines_at tokens.now) }
 {
     let mut all = List::new(alloc);

@@ -4,25 +4,25 @@ ghost use Rattle.tal_builder.specs.Parse.{names_at, parameters_at, local_at, loc
 ghost use Rattle.tal_syntax.specs.Seen.{seen_names, seen_parameters, seen_local, seen_locals, seen_gives, seen_main, seen_heading};
 
 use crate::first::{is_local, name_first};
-use crate::mark::{Mark, expect, optional};
-use crate::stop::Stop;
+use crate::plain_token::{PlainToken, expect, optional};
+use crate::stop::BuildFault;
 use gd_words::List;
 use std::alloc::Global;
 use tal_syntax::{Gives, Heading, Local, Main, NextName, ParameterList, Parameters};
 use tal_tokens::Token;
 
 /// `{ "," name }`
-fn more_names(alloc: Global, tokens: &[Token]) -> Result<(List<NextName>, &[Token]), Stop>
+fn more_names(alloc: Global, tokens: &[Token]) -> Result<(List<NextName>, &[Token]), BuildFault>
     ensures { Tells (λ r. (seen_names r.0, r.1.now)) result (names_at tokens.now) }
 {
     let mut all = List::new(alloc);
     let mut rest = tokens;
     for _turn in 0..tokens.len() {
-        let Some((comma, after)) = optional(Mark::Comma, rest) else {
+        let Some((comma, after)) = optional(PlainToken::Comma, rest) else {
             return Ok((all, rest));
         };
         let Some((named, after)) = name_first(after) else {
-            return Err(Stop::NoSyntax);
+            return Err(BuildFault::NoSyntax);
         };
         all.push(NextName {
             comma,
@@ -35,17 +35,17 @@ fn more_names(alloc: Global, tokens: &[Token]) -> Result<(List<NextName>, &[Toke
 }
 
 /// `[ "(" name { "," name } ")" ]`
-fn parameters(alloc: Global, tokens: &[Token]) -> Result<(Parameters, &[Token]), Stop>
+fn parameters(alloc: Global, tokens: &[Token]) -> Result<(Parameters, &[Token]), BuildFault>
     ensures { Tells (λ r. (seen_parameters r.0, r.1.now)) result (parameters_at tokens.now) }
 {
-    let Some((start, after)) = optional(Mark::Open, tokens) else {
+    let Some((start, after)) = optional(PlainToken::Open, tokens) else {
         return Ok((Parameters::Absent, tokens));
     };
     let Some((named, after)) = name_first(after) else {
-        return Err(Stop::NoSyntax);
+        return Err(BuildFault::NoSyntax);
     };
     let (more, after) = more_names(alloc, after)?;
-    let (close, rest) = expect(Mark::Close, after)?;
+    let (close, rest) = expect(PlainToken::Close, after)?;
     let list = ParameterList {
         start,
         at: named.at,
@@ -57,15 +57,15 @@ fn parameters(alloc: Global, tokens: &[Token]) -> Result<(Parameters, &[Token]),
 }
 
 /// `INT name { "," name } ";"`
-fn local(alloc: Global, tokens: &[Token]) -> Result<(Local, &[Token]), Stop>
+fn local(alloc: Global, tokens: &[Token]) -> Result<(Local, &[Token]), BuildFault>
     ensures { Tells (λ r. (seen_local r.0, r.1.now)) result (local_at tokens.now) }
 {
-    let (int, after) = expect(Mark::Int, tokens)?;
+    let (int, after) = expect(PlainToken::Int, tokens)?;
     let Some((named, after)) = name_first(after) else {
-        return Err(Stop::NoSyntax);
+        return Err(BuildFault::NoSyntax);
     };
     let (more, after) = more_names(alloc, after)?;
-    let (end, rest) = expect(Mark::Semicolon, after)?;
+    let (end, rest) = expect(PlainToken::Semicolon, after)?;
     let local = Local {
         int,
         at: named.at,
@@ -77,7 +77,7 @@ fn local(alloc: Global, tokens: &[Token]) -> Result<(Local, &[Token]), Stop>
 }
 
 /// `{ local }`
-pub fn locals(alloc: Global, tokens: &[Token]) -> Result<(List<Local>, &[Token]), Stop>
+pub fn locals(alloc: Global, tokens: &[Token]) -> Result<(List<Local>, &[Token]), BuildFault>
     ensures { Tells (λ r. (seen_locals r.0, r.1.now)) result (locals_at tokens.now) }
 {
     let mut all = List::new(alloc);
@@ -97,7 +97,7 @@ pub fn locals(alloc: Global, tokens: &[Token]) -> Result<(List<Local>, &[Token])
 fn gives(tokens: &[Token]) -> (Gives, &[Token])
     ensures { gives_at tokens.now ≡ Some (seen_gives result.0, result.1.now) }
 {
-    match optional(Mark::Int, tokens) {
+    match optional(PlainToken::Int, tokens) {
         Some((int, rest)) => (Gives::Int(int), rest),
         None => (Gives::Nothing, tokens),
     }
@@ -107,24 +107,24 @@ fn gives(tokens: &[Token]) -> (Gives, &[Token])
 fn main(tokens: &[Token]) -> (Main, &[Token])
     ensures { main_at tokens.now ≡ Some (seen_main result.0, result.1.now) }
 {
-    match optional(Mark::Main, tokens) {
+    match optional(PlainToken::Main, tokens) {
         Some((word, rest)) => (Main::Word(word), rest),
         None => (Main::Absent, tokens),
     }
 }
 
 /// `gives PROC name parameters main ";"`
-pub fn heading(alloc: Global, tokens: &[Token]) -> Result<(Heading, &[Token]), Stop>
+pub fn heading(alloc: Global, tokens: &[Token]) -> Result<(Heading, &[Token]), BuildFault>
     ensures { Tells (λ r. (seen_heading r.0, r.1.now)) result (heading_at tokens.now) }
 {
     let (gives, after) = gives(tokens);
-    let (proc_at, after) = expect(Mark::Proc, after)?;
+    let (proc_at, after) = expect(PlainToken::Proc, after)?;
     let Some((named, after)) = name_first(after) else {
-        return Err(Stop::NoSyntax);
+        return Err(BuildFault::NoSyntax);
     };
     let (parameters, after) = parameters(alloc, after)?;
     let (main, after) = main(after);
-    let (end, rest) = expect(Mark::Semicolon, after)?;
+    let (end, rest) = expect(PlainToken::Semicolon, after)?;
     let heading = Heading {
         gives,
         proc_at,

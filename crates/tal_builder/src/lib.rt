@@ -9,12 +9,12 @@ mod expression_parts;
 mod first;
 mod globals;
 mod heading;
-mod mark;
+mod plain_token;
 mod simple;
 mod statement;
 mod statement_parts;
 pub mod stop;
 pub mod text;
 
-pub use stop::Stop;
+pub use stop::BuildFault;
 pub use text::build;

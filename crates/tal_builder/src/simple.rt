@@ -6,8 +6,8 @@ ghost use Rattle.tal_syntax.specs.Seen.{seen_argument, seen_further, seen_argume
 
 use crate::expression::{expr, spot};
 use crate::first::{called_first, is_value, name_first, string_first};
-use crate::mark::{Mark, expect, optional};
-use crate::stop::Stop;
+use crate::plain_token::{PlainToken, expect, optional};
+use crate::stop::BuildFault;
 use gd_words::{Boxed, Ident, List, NoMemory};
 use std::alloc::Global;
 use tal_syntax::{
@@ -25,7 +25,7 @@ struct ValueList {
 }
 
 /// `expr | string`
-fn argument(alloc: Global, room: u8, tokens: &[Token]) -> Result<(Argument, &[Token]), Stop>
+fn argument(alloc: Global, room: u8, tokens: &[Token]) -> Result<(Argument, &[Token]), BuildFault>
     ensures { Tells (λ r. (seen_argument r.0, r.1.now)) result (argument_at room tokens.now) }
 {
     match string_first(tokens) {
@@ -42,13 +42,13 @@ fn more_arguments(
     alloc: Global,
     room: u8,
     tokens: &[Token],
-) -> Result<(List<NextArgument>, &[Token]), Stop>
+) -> Result<(List<NextArgument>, &[Token]), BuildFault>
     ensures { Tells (λ r. (seen_further r.0, r.1.now)) result (further_at room tokens.now) }
 {
     let mut all = List::new(alloc);
     let mut rest = tokens;
     for _turn in 0..tokens.len() {
-        let Some((comma, after)) = optional(Mark::Comma, rest) else {
+        let Some((comma, after)) = optional(PlainToken::Comma, rest) else {
             return Ok((all, rest));
         };
         let (argument, after) = argument(alloc, room, after)?;
@@ -64,12 +64,12 @@ fn listed(
     room: u8,
     start: At,
     tokens: &[Token],
-) -> Result<(Arguments, &[Token]), Stop>
+) -> Result<(Arguments, &[Token]), BuildFault>
     ensures { Tells (λ r. (seen_arguments r.0, r.1.now)) result (listed_at room start tokens.now) }
 {
     let (first, after) = argument(alloc, room, tokens)?;
     let (more, after) = more_arguments(alloc, room, after)?;
-    let (close, rest) = expect(Mark::Close, after)?;
+    let (close, rest) = expect(PlainToken::Close, after)?;
     let list = ArgumentList {
         start,
         first,
@@ -80,14 +80,14 @@ fn listed(
 }
 
 /// `[ "(" argument { "," argument } ")" ]`, which opens a level
-fn arguments(alloc: Global, room: u8, tokens: &[Token]) -> Result<(Arguments, &[Token]), Stop>
+fn arguments(alloc: Global, room: u8, tokens: &[Token]) -> Result<(Arguments, &[Token]), BuildFault>
     ensures { Tells (λ r. (seen_arguments r.0, r.1.now)) result (arguments_at room tokens.now) }
 {
-    let Some((start, after)) = optional(Mark::Open, tokens) else {
+    let Some((start, after)) = optional(PlainToken::Open, tokens) else {
         return Ok((Arguments::Absent, tokens));
     };
     if room == 0 {
-        return Err(Stop::NoSyntax);
+        return Err(BuildFault::NoSyntax);
     }
     listed(alloc, room - 1, start, after)
 }
@@ -99,11 +99,11 @@ pub fn call(
     room: u8,
     head: At,
     tokens: &[Token],
-) -> Result<(Boxed<Statement>, &[Token]), Stop>
+) -> Result<(Boxed<Statement>, &[Token]), BuildFault>
     ensures { Tells (λ r. (seen_statement r.0, r.1.now)) result (call_at room head tokens.now) }
 {
     let Some((named, after)) = name_first(tokens) else {
-        return Err(Stop::NoSyntax);
+        return Err(BuildFault::NoSyntax);
     };
     let (arguments, rest) = arguments(alloc, room, after)?;
     let call = Call {
@@ -118,7 +118,7 @@ pub fn call(
 }
 
 /// `[ expr ]`
-fn answer(alloc: Global, room: u8, tokens: &[Token]) -> Result<(Answer, &[Token]), Stop>
+fn answer(alloc: Global, room: u8, tokens: &[Token]) -> Result<(Answer, &[Token]), BuildFault>
     ensures { Tells (λ r. (seen_answer r.0, r.1.now)) result (answer_at room tokens.now) }
 {
     if is_value(tokens) {
@@ -136,7 +136,7 @@ pub fn return_of(
     room: u8,
     head: At,
     tokens: &[Token],
-) -> Result<(Boxed<Statement>, &[Token]), Stop>
+) -> Result<(Boxed<Statement>, &[Token]), BuildFault>
     ensures { Tells (λ r. (seen_statement r.0, r.1.now)) result (return_at room head tokens.now) }
 {
     let (answer, rest) = answer(alloc, room, tokens)?;
@@ -150,13 +150,13 @@ fn more_values(
     alloc: Global,
     room: u8,
     tokens: &[Token],
-) -> Result<(List<NextValue>, &[Token]), Stop>
+) -> Result<(List<NextValue>, &[Token]), BuildFault>
     ensures { Tells (λ r. (seen_values r.0, r.1.now)) result (values_at room tokens.now) }
 {
     let mut all = List::new(alloc);
     let mut rest = tokens;
     for _turn in 0..tokens.len() {
-        let Some((comma, after)) = optional(Mark::Comma, rest) else {
+        let Some((comma, after)) = optional(PlainToken::Comma, rest) else {
             return Ok((all, rest));
         };
         let (value, after) = expr(alloc, room, after)?;
@@ -168,12 +168,12 @@ fn more_values(
 }
 
 /// `expr { "," expr } ")"`, after `(`
-fn value_list(alloc: Global, room: u8, tokens: &[Token]) -> Result<(ValueList, &[Token]), Stop>
+fn value_list(alloc: Global, room: u8, tokens: &[Token]) -> Result<(ValueList, &[Token]), BuildFault>
     ensures { Tells (λ r. ((seen_expr r.0.first, seen_values r.0.more, r.0.close), r.1.now)) result (value_list_at room tokens.now) }
 {
     let (first, after) = expr(alloc, room, tokens)?;
     let (more, after) = more_values(alloc, room, after)?;
-    let (close, rest) = expect(Mark::Close, after)?;
+    let (close, rest) = expect(PlainToken::Close, after)?;
     Ok((ValueList { first, more, close }, rest))
 }
 
@@ -182,11 +182,11 @@ fn value_list_within(
     alloc: Global,
     room: u8,
     tokens: &[Token],
-) -> Result<(ValueList, &[Token]), Stop>
+) -> Result<(ValueList, &[Token]), BuildFault>
     ensures { Tells (λ r. ((seen_expr r.0.first, seen_values r.0.more, r.0.close), r.1.now)) result (value_list_in room tokens.now) }
 {
     if room == 0 {
-        return Err(Stop::NoSyntax);
+        return Err(BuildFault::NoSyntax);
     }
     value_list(alloc, room - 1, tokens)
 }
@@ -246,7 +246,7 @@ fn right_side(
     target: Boxed<Spot>,
     at: At,
     tokens: &[Token],
-) -> Result<(Boxed<Statement>, &[Token]), Stop>
+) -> Result<(Boxed<Statement>, &[Token]), BuildFault>
     ensures { Tells (λ r. (seen_statement r.0, r.1.now)) result (right_at room (seen_spot target) at tokens.now) }
 {
     let Some((name_at, name, start, after)) = called_first(tokens) else {
@@ -265,10 +265,10 @@ pub fn assignment(
     alloc: Global,
     room: u8,
     tokens: &[Token],
-) -> Result<(Boxed<Statement>, &[Token]), Stop>
+) -> Result<(Boxed<Statement>, &[Token]), BuildFault>
     ensures { Tells (λ r. (seen_statement r.0, r.1.now)) result (assign_at room tokens.now) }
 {
     let (target, after) = spot(alloc, room, tokens)?;
-    let (at, after) = expect(Mark::Assign, after)?;
+    let (at, after) = expect(PlainToken::Assign, after)?;
     right_side(alloc, room, target, at, after)
 }

@@ -5,12 +5,12 @@ ghost use Rattle.tal_syntax.specs.Seen.{seen_statement, seen_otherwise, seen_row
 
 use crate::expression::expr;
 use crate::first::{is_begun, name_first};
-use crate::mark::{Mark, expect, optional};
+use crate::plain_token::{PlainToken, expect, optional};
 use crate::simple::{assignment, call, return_of};
 use crate::statement_parts::{
     add_statement, block_of, for_head_of, for_of, if_of, nothing_of, test_of, while_of,
 };
-use crate::stop::Stop;
+use crate::stop::BuildFault;
 use gd_words::{Boxed, List};
 use std::alloc::Global;
 use tal_syntax::{Next, Otherwise, Statement};
@@ -22,7 +22,7 @@ pub fn statement(
     alloc: Global,
     room: u8,
     tokens: &[Token],
-) -> Result<(Boxed<Statement>, &[Token]), Stop>
+) -> Result<(Boxed<Statement>, &[Token]), BuildFault>
     ensures { Tells (λ r. (seen_statement r.0, r.1.now)) result (statement_at room tokens.now) }
 {
     if !is_begun(tokens) {
@@ -30,20 +30,20 @@ pub fn statement(
         return Ok((statement, tokens));
     }
     if room == 0 {
-        return Err(Stop::NoSyntax);
+        return Err(BuildFault::NoSyntax);
     }
     begun(alloc, room - 1, tokens)
 }
 
 /// `{ ";" statement }`
 #[cycle(statement)]
-pub fn row(alloc: Global, room: u8, tokens: &[Token]) -> Result<(List<Next>, &[Token]), Stop>
+pub fn row(alloc: Global, room: u8, tokens: &[Token]) -> Result<(List<Next>, &[Token]), BuildFault>
     ensures { Tells (λ r. (seen_row r.0, r.1.now)) result (row_at room tokens.now) }
 {
     let mut all = List::new(alloc);
     let mut rest = tokens;
     for _turn in 0..tokens.len() {
-        let Some((semicolon, after)) = optional(Mark::Semicolon, rest) else {
+        let Some((semicolon, after)) = optional(PlainToken::Semicolon, rest) else {
             return Ok((all, rest));
         };
         let (statement, after) = statement(alloc, room, after)?;
@@ -55,7 +55,7 @@ pub fn row(alloc: Global, room: u8, tokens: &[Token]) -> Result<(List<Next>, &[T
 
 /// A statement that isn't empty, in which so many levels may be opened.
 #[cycle(statement)]
-fn begun(alloc: Global, room: u8, tokens: &[Token]) -> Result<(Boxed<Statement>, &[Token]), Stop>
+fn begun(alloc: Global, room: u8, tokens: &[Token]) -> Result<(Boxed<Statement>, &[Token]), BuildFault>
     ensures { Tells (λ r. (seen_statement r.0, r.1.now)) result (begun_by (statement_at room) room tokens.now) }
 {
     match tokens {
@@ -76,22 +76,22 @@ fn block(
     room: u8,
     begin: At,
     tokens: &[Token],
-) -> Result<(Boxed<Statement>, &[Token]), Stop>
+) -> Result<(Boxed<Statement>, &[Token]), BuildFault>
     ensures { Tells (λ r. (seen_statement r.0, r.1.now)) result (block_by (statement_at room) begin tokens.now) }
 {
     let (first, after) = statement(alloc, room, tokens)?;
     let (more, after) = row(alloc, room, after)?;
-    let (end, rest) = expect(Mark::End, after)?;
+    let (end, rest) = expect(PlainToken::End, after)?;
     let statement = block_of(alloc, begin, first, more, end)?;
     Ok((statement, rest))
 }
 
 /// `[ ELSE statement ]`
 #[cycle(statement)]
-fn otherwise(alloc: Global, room: u8, tokens: &[Token]) -> Result<(Otherwise, &[Token]), Stop>
+fn otherwise(alloc: Global, room: u8, tokens: &[Token]) -> Result<(Otherwise, &[Token]), BuildFault>
     ensures { Tells (λ r. (seen_otherwise r.0, r.1.now)) result (otherwise_by (statement_at room) tokens.now) }
 {
-    let Some((at, after)) = optional(Mark::Else, tokens) else {
+    let Some((at, after)) = optional(PlainToken::Else, tokens) else {
         return Ok((Otherwise::Absent, tokens));
     };
     let (inner, rest) = statement(alloc, room, after)?;
@@ -105,11 +105,11 @@ fn if_then(
     room: u8,
     head: At,
     tokens: &[Token],
-) -> Result<(Boxed<Statement>, &[Token]), Stop>
+) -> Result<(Boxed<Statement>, &[Token]), BuildFault>
     ensures { Tells (λ r. (seen_statement r.0, r.1.now)) result (if_by (statement_at room) room head tokens.now) }
 {
     let (test, after) = expr(alloc, room, tokens)?;
-    let (end, after) = expect(Mark::Then, after)?;
+    let (end, after) = expect(PlainToken::Then, after)?;
     let (inner, after) = statement(alloc, room, after)?;
     let (otherwise, rest) = otherwise(alloc, room, after)?;
     let test = test_of(alloc, head, test, end)?;
@@ -124,11 +124,11 @@ fn while_loop(
     room: u8,
     head: At,
     tokens: &[Token],
-) -> Result<(Boxed<Statement>, &[Token]), Stop>
+) -> Result<(Boxed<Statement>, &[Token]), BuildFault>
     ensures { Tells (λ r. (seen_statement r.0, r.1.now)) result (while_by (statement_at room) room head tokens.now) }
 {
     let (test, after) = expr(alloc, room, tokens)?;
-    let (end, after) = expect(Mark::Do, after)?;
+    let (end, after) = expect(PlainToken::Do, after)?;
     let (inner, rest) = statement(alloc, room, after)?;
     let test = test_of(alloc, head, test, end)?;
     let statement = while_of(alloc, test, inner)?;
@@ -142,17 +142,17 @@ fn for_loop(
     room: u8,
     head: At,
     tokens: &[Token],
-) -> Result<(Boxed<Statement>, &[Token]), Stop>
+) -> Result<(Boxed<Statement>, &[Token]), BuildFault>
     ensures { Tells (λ r. (seen_statement r.0, r.1.now)) result (for_by (statement_at room) room head tokens.now) }
 {
     let Some((named, after)) = name_first(tokens) else {
-        return Err(Stop::NoSyntax);
+        return Err(BuildFault::NoSyntax);
     };
-    let (set_at, after) = expect(Mark::Assign, after)?;
+    let (set_at, after) = expect(PlainToken::Assign, after)?;
     let (from, after) = expr(alloc, room, after)?;
-    let (to_at, after) = expect(Mark::To, after)?;
+    let (to_at, after) = expect(PlainToken::To, after)?;
     let (to, after) = expr(alloc, room, after)?;
-    let (do_at, after) = expect(Mark::Do, after)?;
+    let (do_at, after) = expect(PlainToken::Do, after)?;
     let (inner, rest) = statement(alloc, room, after)?;
     let counted = for_head_of(alloc, head, named, set_at, from, to_at, to, do_at)?;
     let statement = for_of(alloc, counted, inner)?;

@@ -8,9 +8,9 @@ ghost use Rattle.tal_syntax.specs.Seen.{seen_procedure, seen_procedures, seen_te
 use crate::first::is_heading;
 use crate::globals::globals;
 use crate::heading::{heading, locals};
-use crate::mark::{Mark, expect};
+use crate::plain_token::{PlainToken, expect};
 use crate::statement::{row, statement};
-use crate::stop::Stop;
+use crate::stop::BuildFault;
 use gd_words::List as Items;
 use std::alloc::Global;
 use tal_syntax::{Procedure, Text};
@@ -20,18 +20,18 @@ use tal_tokens::Token;
 const LEVELS: u8 = 33;
 
 /// `heading { local } BEGIN { local } statement { ";" statement } END ";"`
-fn procedure(alloc: Global, tokens: &[Token]) -> Result<(Procedure, &[Token]), Stop>
+fn procedure(alloc: Global, tokens: &[Token]) -> Result<(Procedure, &[Token]), BuildFault>
     ensures { Tells (λ r. (seen_procedure r.0, r.1.now)) result (procedure_at tokens.now) }
 {
     let (heading, after) = heading(alloc, tokens)?;
     let (outer, after) = locals(alloc, after)?;
-    let (begin, after) = expect(Mark::Begin, after)?;
+    let (begin, after) = expect(PlainToken::Begin, after)?;
     let (inner, after) = locals(alloc, after)?;
     let (first, after) = statement(alloc, LEVELS, after)?;
     let first = first.into_inner();
     let (more, after) = row(alloc, LEVELS, after)?;
-    let (end, after) = expect(Mark::End, after)?;
-    let (last, rest) = expect(Mark::Semicolon, after)?;
+    let (end, after) = expect(PlainToken::End, after)?;
+    let (last, rest) = expect(PlainToken::Semicolon, after)?;
     let procedure = Procedure {
         heading,
         outer,
@@ -46,7 +46,7 @@ fn procedure(alloc: Global, tokens: &[Token]) -> Result<(Procedure, &[Token]), S
 }
 
 /// `{ procedure }`
-fn procedures(alloc: Global, tokens: &[Token]) -> Result<(Items<Procedure>, &[Token]), Stop>
+fn procedures(alloc: Global, tokens: &[Token]) -> Result<(Items<Procedure>, &[Token]), BuildFault>
     ensures { Tells (λ r. (seen_procedures r.0, r.1.now)) result (procedures_at tokens.now) }
 {
     let mut all = Items::new(alloc);
@@ -63,12 +63,12 @@ fn procedures(alloc: Global, tokens: &[Token]) -> Result<(Items<Procedure>, &[To
 }
 
 /// The syntax of a whole text.
-fn whole(alloc: Global, tokens: &[Token]) -> Result<Text, Stop>
+fn whole(alloc: Global, tokens: &[Token]) -> Result<Text, BuildFault>
     ensures { Tells seen_text result (text_at tokens.now) }
 {
     let (globals, after) = globals(alloc, tokens)?;
     let (procedures, after) = procedures(alloc, after)?;
-    let (finish, rest) = expect(Mark::Finish, after)?;
+    let (finish, rest) = expect(PlainToken::Finish, after)?;
     if rest.is_empty() {
         Ok(Text {
             globals,
@@ -76,12 +76,12 @@ fn whole(alloc: Global, tokens: &[Token]) -> Result<Text, Stop>
             finish,
         })
     } else {
-        Err(Stop::NoSyntax)
+        Err(BuildFault::NoSyntax)
     }
 }
 
 /// The syntax of the tokens of a whole text.
-pub fn build(alloc: Global, tokens: &[Token]) -> Result<Text, Stop>
+pub fn build(alloc: Global, tokens: &[Token]) -> Result<Text, BuildFault>
     ensures { Built tokens.now result }
 {
     whole(alloc, tokens)

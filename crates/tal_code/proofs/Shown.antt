@@ -10,8 +10,8 @@ use Rattle.tal_tree.specs.declared.expression.Spot.TheVariants as spot
 use Rattle.tal_values.specs.Value.{Memory, value_of, truth_of, both, holds, result_of, and_of, or_of}
 use Rattle.tal_values.proofs.TruthSteps.{truth-not}
 use Rattle.tal_values.proofs.ValueSteps.{value-read, value-minus, value-two}
-use Rattle.tal_code.specs.declared.step.Step.{Step}
-use Rattle.tal_code.specs.declared.step.Step.TheVariants as step
+use Rattle.tal_code.specs.declared.step.Instruction.{Instruction}
+use Rattle.tal_code.specs.declared.step.Instruction.TheVariants as step
 use Rattle.tal_code.specs.Words.{WordStack, first_word, as_word, truth_word, compared_word, not_word, and_word, or_word, element_word, operand_expr, words_after, words_after_all}
 use Rattle.tal_code.specs.Parts.{Part, Lacking, Valued, Tested, PartStack, Shows, first_part, two_part, minus_part, element_part, truth_part, compared_part, not_part, and_part, or_part, parts_after, parts_after_all}
 
@@ -118,7 +118,7 @@ or-shown m (Tested c) (Tested d) x y left right =
 below-top : (m : Memory) (parts : PartStack) (words : WordStack) → ShowsAll m parts words → Shows m (first_part parts.below) (first_word words.below)
 below-top m parts words shown = first-shown m parts.below words.below shown.below
 
-step-shows : (m : Memory) (s : Step) (parts : PartStack) (words : WordStack) → ShowsAll m parts words
+step-shows : (m : Memory) (s : Instruction) (parts : PartStack) (words : WordStack) → ShowsAll m parts words
     → ShowsAll m (parts_after s parts) (words_after m s words)
 step-shows m (step.Load o) parts words shown = record { top = refl; below = (shown.top, shown.below) }
 step-shows m (step.With op o) parts words shown = record {
@@ -151,7 +151,7 @@ step-shows m step.Or parts words shown = record {
 }
 
 -- steps keep the words those of the parts
-pub all-shown : (m : Memory) (steps : List Step) (parts : PartStack) (words : WordStack) → ShowsAll m parts words
+pub all-shown : (m : Memory) (steps : List Instruction) (parts : PartStack) (words : WordStack) → ShowsAll m parts words
     → ShowsAll m (parts_after_all steps parts) (words_after_all m steps words)
 all-shown m [] parts words shown = shown
 all-shown m (s ∷ steps) parts words shown = all-shown m steps (parts_after s parts) (words_after m s words) (step-shows m s parts words shown)

@@ -10,8 +10,8 @@ use Rattle.tal_tree.specs.declared.expression.Cond.TheVariants as cond
 use Rattle.tal_values.specs.Value.{Memory, value_of, truth_of}
 use Rattle.tal_values.specs.declared.chain.Junction.{Junction}
 use Rattle.tal_values.specs.declared.chain.Junction.TheVariants as junction
-use Rattle.tal_code.specs.declared.step.Step.{Step}
-use Rattle.tal_code.specs.declared.step.Step.TheVariants as step
+use Rattle.tal_code.specs.declared.step.Instruction.{Instruction}
+use Rattle.tal_code.specs.declared.step.Instruction.TheVariants as step
 use Rattle.tal_code.specs.Words.{as_word, operand_expr}
 
 -- what a word is the value of: nothing that is known, an expression, or a condition
@@ -73,7 +73,7 @@ joined_part junction.And left right = and_part left right
 joined_part junction.Or left right = or_part left right
 
 -- the parts after a step
-abbrev pub parts_after : Step → PartStack → PartStack
+abbrev pub parts_after : Instruction → PartStack → PartStack
 parts_after (step.Load o) s = record { top = Valued (operand_expr o); below = s.top ∷ s.below }
 parts_after (step.With op o) s = record s { top = two_part op s.top (Valued (operand_expr o)) }
 parts_after (step.Two op) s = record { top = two_part op (first_part s.below) s.top; below = drop 1 s.below }
@@ -87,12 +87,12 @@ parts_after step.And s = record { top = and_part (first_part s.below) s.top; bel
 parts_after step.Or s = record { top = or_part (first_part s.below) s.top; below = drop 1 s.below }
 
 -- the parts after steps, one after the other
-abbrev pub parts_after_all : List Step → PartStack → PartStack
+abbrev pub parts_after_all : List Instruction → PartStack → PartStack
 parts_after_all [] s = s
 parts_after_all (step ∷ steps) s = parts_after_all steps (parts_after step s)
 
 -- the parts that code makes from its beginning
-abbrev pub built : List Step → PartStack
+abbrev pub built : List Instruction → PartStack
 built steps = parts_after_all steps nothing
 
 -- a part on top of others

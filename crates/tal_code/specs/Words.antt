@@ -10,8 +10,8 @@ use Rattle.tal_values.specs.declared.memory.Cell.TheVariants as cell
 use Rattle.tal_values.specs.Value.{Memory, value_of, place_of, word_at, both, holds, result_of}
 use Rattle.tal_code.specs.declared.step.Operand.{Operand}
 use Rattle.tal_code.specs.declared.step.Operand.TheVariants as operand
-use Rattle.tal_code.specs.declared.step.Step.{Step}
-use Rattle.tal_code.specs.declared.step.Step.TheVariants as step
+use Rattle.tal_code.specs.declared.step.Instruction.{Instruction}
+use Rattle.tal_code.specs.declared.step.Instruction.TheVariants as step
 
 -- the word on top, and those below it, the uppermost first
 pub record WordStack : Type 0 where
@@ -69,7 +69,7 @@ or_word None right = None
 or_word (Some x) right = if int_eq x (pos 0) then right else Some (pos 1)
 
 -- the words after a step
-abbrev pub words_after : Memory → Step → WordStack → WordStack
+abbrev pub words_after : Memory → Instruction → WordStack → WordStack
 words_after m (step.Load o) s = record { top = value_of m (operand_expr o); below = s.top ∷ s.below }
 words_after m (step.With op o) s = record s { top = both (result_of op) s.top (value_of m (operand_expr o)) }
 words_after m (step.Two op) s = record { top = both (result_of op) (first_word s.below) s.top; below = drop 1 s.below }
@@ -83,12 +83,12 @@ words_after m step.And s = record { top = and_word (first_word s.below) s.top; b
 words_after m step.Or s = record { top = or_word (first_word s.below) s.top; below = drop 1 s.below }
 
 -- the words after steps, one after the other
-abbrev pub words_after_all : Memory → List Step → WordStack → WordStack
+abbrev pub words_after_all : Memory → List Instruction → WordStack → WordStack
 words_after_all m [] s = s
 words_after_all m (step ∷ steps) s = words_after_all m steps (words_after m step s)
 
 -- the word on top after a step that leaves the words below it; none for other steps
-abbrev pub light_word : Memory → Step → Option ℤ → Option (Option ℤ)
+abbrev pub light_word : Memory → Instruction → Option ℤ → Option (Option ℤ)
 light_word m (step.With op o) word = Some (both (result_of op) word (value_of m (operand_expr o)))
 light_word m step.Minus word = Some (option_map (λ x. wrap (neg_ℤ x)) word)
 light_word m (step.Element item) word = Some (element_word m item word)

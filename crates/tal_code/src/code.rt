@@ -2,7 +2,7 @@ ghost use Rattle.std.specs.Prelude.{◌≡◌, ◌≤◌, length, OnOk};
 ghost use Rattle.tal_code.specs.Parts.{Valued, Tested, nothing, built, parts_after, expr_in, cond_in};
 ghost use Rattle.tal_code.specs.Room.{IsLow};
 
-use crate::step::Step;
+use crate::step::Instruction;
 use gd_words::{List, NoMemory};
 use std::alloc::Global;
 use std::marker::Model;
@@ -10,7 +10,7 @@ use std::marker::Model;
 /// The code of an expression.
 #[derive(Drop)]
 pub struct Code {
-    steps: List<Step>,
+    steps: List<Instruction>,
 }
 
 impl Model for Code {
@@ -30,7 +30,7 @@ impl Model for Code {
 }
 
 impl Code {
-    pub(crate) fn steps(&self) -> &[Step]
+    pub(crate) fn steps(&self) -> &[Instruction]
         ensures top { (built result.now).top ≡ Valued self.now }
         ensures low { IsLow result.now }
     {
@@ -41,7 +41,7 @@ impl Code {
 /// The code of a condition.
 #[derive(Drop)]
 pub struct TestCode {
-    steps: List<Step>,
+    steps: List<Instruction>,
 }
 
 impl Model for TestCode {
@@ -61,7 +61,7 @@ impl Model for TestCode {
 }
 
 impl TestCode {
-    pub(crate) fn steps(&self) -> &[Step]
+    pub(crate) fn steps(&self) -> &[Instruction]
         ensures top { (built result.now).top ≡ Tested self.now }
         ensures low { IsLow result.now }
     {
@@ -72,7 +72,7 @@ impl TestCode {
 /// Code that is being made.
 #[derive(Drop)]
 pub(crate) struct Draft {
-    steps: List<Step>,
+    steps: List<Instruction>,
 }
 
 impl Model for Draft {
@@ -101,7 +101,7 @@ impl Draft {
     }
 
     /// Puts a step after the others, where it leaves no more than 80 words below the top.
-    pub(crate) fn push(&mut self, step: Step) -> Result<(), NoMemory>
+    pub(crate) fn push(&mut self, step: Instruction) -> Result<(), NoMemory>
         requires { length (parts_after step self.old).below ≤ 80 }
         ensures { OnOk result (self.new ≡ parts_after step self.old) }
     {

@@ -9,7 +9,7 @@ ghost use Rattle.tal_code.specs.Parts.{Valued, Tested, with_part, two_part, comp
 
 use crate::code::{Code, Draft, TestCode};
 use crate::spot::{Aim, SpotCode};
-use crate::step::{Operand, Step};
+use crate::step::{Operand, Instruction};
 use gd_words::NoMemory;
 use std::alloc::Global;
 use tal_tree::{Cond, Expr, Op, Rel, Spot, Variable};
@@ -60,7 +60,7 @@ pub fn limit_code_of(alloc: Global, variable: Variable, to: &Expr) -> Result<Tes
     ensures { IfOk result (λ code. code ≡ cond.Compare Rel.AtMost (expr.Read (spot_of variable)) to.now) }
 {
     let mut draft = Draft::new(alloc);
-    draft.push(Step::Load(simple_variable(variable)))?;
+    draft.push(Instruction::Load(simple_variable(variable)))?;
     put_compared(alloc, &mut draft, Rel::AtMost, to)?;
     Ok(draft.finish_test())
 }
@@ -70,8 +70,8 @@ pub fn next_code_of(alloc: Global, variable: Variable) -> Result<Code, NoMemory>
     ensures { IfOk result (λ code. code ≡ expr.Two Op.Add (expr.Read (spot_of variable)) (expr.Number (pos 1))) }
 {
     let mut draft = Draft::new(alloc);
-    draft.push(Step::Load(simple_variable(variable)))?;
-    draft.push(Step::With(Op::Add, Operand::Number(1)))?;
+    draft.push(Instruction::Load(simple_variable(variable)))?;
+    draft.push(Instruction::With(Op::Add, Operand::Number(1)))?;
     Ok(draft.finish())
 }
 
@@ -95,11 +95,11 @@ fn put_first(alloc: Global, draft: &mut Draft, first: First<'_>) -> Result<(), N
     ensures { OnOk result (draft.new ≡ with_part (Valued (expr_of first.entry)) draft.old) }
 {
     match first {
-        First::Number(word) => draft.push(Step::Load(Operand::Number(word)))?,
+        First::Number(word) => draft.push(Instruction::Load(Operand::Number(word)))?,
         First::Read(spot) => put_spot(alloc, draft, spot)?,
         First::Minus(inner) => {
             put_expr(alloc, draft, inner)?;
-            draft.push(Step::Minus)?;
+            draft.push(Instruction::Minus)?;
         }
     }
     Ok(())
@@ -111,11 +111,11 @@ fn put_spot(alloc: Global, draft: &mut Draft, spot: &Spot) -> Result<(), NoMemor
     ensures { OnOk result (draft.new ≡ with_part (Valued (expr.Read spot.now)) draft.old) }
 {
     match spot {
-        Spot::Local(place) => draft.push(Step::Load(Operand::Local(*place)))?,
-        Spot::Simple(item) => draft.push(Step::Load(Operand::Simple(*item)))?,
+        Spot::Local(place) => draft.push(Instruction::Load(Operand::Local(*place)))?,
+        Spot::Simple(item) => draft.push(Instruction::Load(Operand::Simple(*item)))?,
         Spot::Element { item, index } => {
             put_expr(alloc, draft, index)?;
-            draft.push(Step::Element(*item))?;
+            draft.push(Instruction::Element(*item))?;
         }
     }
     Ok(())
@@ -127,10 +127,10 @@ fn put_tail(alloc: Global, draft: &mut Draft, tail: Tail<'_>) -> Result<(), NoMe
     ensures { OnOk result (draft.new ≡ record draft.old { top = two_part tail.entry.op draft.old.top (Valued tail.entry.right.now) }) }
 {
     match simple(tail.right) {
-        Some(operand) => draft.push(Step::With(tail.op, operand))?,
+        Some(operand) => draft.push(Instruction::With(tail.op, operand))?,
         None => {
             put_expr(alloc, draft, tail.right)?;
-            draft.push(Step::Two(tail.op))?;
+            draft.push(Instruction::Two(tail.op))?;
         }
     }
     Ok(())
@@ -190,7 +190,7 @@ fn put_test(alloc: Global, draft: &mut Draft, first: Test<'_>) -> Result<(), NoM
     match first {
         Test::Truth(expr) => {
             put_expr(alloc, draft, expr)?;
-            draft.push(Step::Truth)?;
+            draft.push(Instruction::Truth)?;
         }
         Test::Compare { rel, left, right } => {
             put_expr(alloc, draft, left)?;
@@ -198,7 +198,7 @@ fn put_test(alloc: Global, draft: &mut Draft, first: Test<'_>) -> Result<(), NoM
         }
         Test::Not(inner) => {
             put_cond(alloc, draft, inner)?;
-            draft.push(Step::Not)?;
+            draft.push(Instruction::Not)?;
         }
     }
     Ok(())
@@ -209,10 +209,10 @@ fn put_compared(alloc: Global, draft: &mut Draft, rel: Rel, right: &Expr) -> Res
     ensures { OnOk result (draft.new ≡ record draft.old { top = compared_part rel draft.old.top (Valued right.now) }) }
 {
     match simple(right) {
-        Some(operand) => draft.push(Step::CompareWith(rel, operand))?,
+        Some(operand) => draft.push(Instruction::CompareWith(rel, operand))?,
         None => {
             put_expr(alloc, draft, right)?;
-            draft.push(Step::Compare(rel))?;
+            draft.push(Instruction::Compare(rel))?;
         }
     }
     Ok(())
@@ -226,8 +226,8 @@ fn put_link(alloc: Global, draft: &mut Draft, link: Link<'_>) -> Result<(), NoMe
 {
     put_cond(alloc, draft, link.right)?;
     match link.junction {
-        Junction::And => draft.push(Step::And)?,
-        Junction::Or => draft.push(Step::Or)?,
+        Junction::And => draft.push(Instruction::And)?,
+        Junction::Or => draft.push(Instruction::Or)?,
     }
     Ok(())
 }

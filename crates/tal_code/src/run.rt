@@ -5,26 +5,26 @@ ghost use Rattle.tal_code.specs.Parts.{Shows, built};
 ghost use Rattle.tal_code.specs.Room.{IsLow, RoomFrom};
 
 use crate::stack::Stack;
-use crate::step::Step;
+use crate::step::Instruction;
 use crate::work::{light_word, word, work};
 use tal_values::Memory;
 
 /// The word that steps leave on top, from no words on.
-pub fn run(memory: Memory<'_>, steps: &[Step]) -> Option<i16>
+pub fn run(memory: Memory<'_>, steps: &[Instruction]) -> Option<i16>
     requires { IsLow steps.now }
     ensures { Shows (seen memory.entry) (built steps.now).top result }
 {
     match steps.split_first() {
         None => None,
         Some((first, rest)) => match *first {
-            Step::Load(operand) => run_light(memory, word(memory, operand), rest),
+            Instruction::Load(operand) => run_light(memory, word(memory, operand), rest),
             _ => run_all(memory, steps),
         },
     }
 }
 
 // Most code needs no stack, and a stack costs its clearing: so it is made where a step needs it.
-fn run_light(memory: Memory<'_>, first: Option<i16>, steps: &[Step]) -> Option<i16>
+fn run_light(memory: Memory<'_>, first: Option<i16>, steps: &[Instruction]) -> Option<i16>
     requires { RoomFrom 1 steps.now }
     ensures { result ≡ (words_after_all (seen memory.entry) steps.now (one_word first)).top }
 {
@@ -46,7 +46,7 @@ fn run_light(memory: Memory<'_>, first: Option<i16>, steps: &[Step]) -> Option<i
 }
 
 /// Goes on with a stack.
-fn run_deep(memory: Memory<'_>, top: Option<i16>, steps: &[Step]) -> Option<i16>
+fn run_deep(memory: Memory<'_>, top: Option<i16>, steps: &[Instruction]) -> Option<i16>
     requires { RoomFrom 1 steps.now }
     ensures { result ≡ (words_after_all (seen memory.entry) steps.now (one_word top)).top }
 {
@@ -57,7 +57,7 @@ fn run_deep(memory: Memory<'_>, top: Option<i16>, steps: &[Step]) -> Option<i16>
 }
 
 /// Runs steps with a stack, whatever they begin with.
-fn run_all(memory: Memory<'_>, steps: &[Step]) -> Option<i16>
+fn run_all(memory: Memory<'_>, steps: &[Instruction]) -> Option<i16>
     requires { IsLow steps.now }
     ensures { Shows (seen memory.entry) (built steps.now).top result }
 {
@@ -66,7 +66,7 @@ fn run_all(memory: Memory<'_>, steps: &[Step]) -> Option<i16>
     stack.top()
 }
 
-fn go_through(memory: Memory<'_>, steps: &[Step], stack: &mut Stack)
+fn go_through(memory: Memory<'_>, steps: &[Instruction], stack: &mut Stack)
     requires { RoomFrom (length stack.old.below) steps.now }
     ensures { stack.new ≡ words_after_all (seen memory.entry) steps.now stack.old }
 {

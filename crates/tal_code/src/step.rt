@@ -11,7 +11,7 @@ pub enum Operand {
 /// A step of code. It changes the word on top of a stack, and may put one there or take the one below it away. A truth is
 /// the word 1 or 0.
 #[derive(Clone, Copy)]
-pub enum Step {
+pub enum Instruction {
     Load(Operand),
     With(Op, Operand),
     /// The word below the top and the one on top, in this order; so are `Compare`, `And` and `Or`.

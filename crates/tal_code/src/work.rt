@@ -5,39 +5,39 @@ ghost use Rattle.tal_code.specs.Words.{operand_expr, element_word, truth_word, c
 ghost use Rattle.tal_code.specs.Room.{IsRoom};
 
 use crate::stack::Stack;
-use crate::step::{Operand, Step};
+use crate::step::{Operand, Instruction};
 use tal_tree::Rel;
 use tal_values::operators::{applied, element, holds, negated};
 use tal_values::{Cell, Memory};
 
 /// Makes one step of code.
-pub fn work(memory: Memory<'_>, step: Step, stack: &mut Stack)
+pub fn work(memory: Memory<'_>, step: Instruction, stack: &mut Stack)
     requires { IsRoom step (length stack.old.below) }
     ensures { stack.new ≡ words_after (seen memory.entry) step stack.old }
 {
     match step {
-        Step::Load(operand) => stack.push(word(memory, operand)),
-        Step::With(op, operand) => stack.set_top(applied(op, stack.top(), word(memory, operand))),
-        Step::Two(op) => {
+        Instruction::Load(operand) => stack.push(word(memory, operand)),
+        Instruction::With(op, operand) => stack.set_top(applied(op, stack.top(), word(memory, operand))),
+        Instruction::Two(op) => {
             let left = stack.take_below();
             stack.set_top(applied(op, left, stack.top()));
         }
-        Step::Minus => stack.set_top(negated(stack.top())),
-        Step::Element(item) => stack.set_top(element_word(memory, item, stack.top())),
-        Step::Truth => stack.set_top(truth_word(stack.top())),
-        Step::CompareWith(rel, operand) => {
+        Instruction::Minus => stack.set_top(negated(stack.top())),
+        Instruction::Element(item) => stack.set_top(element_word(memory, item, stack.top())),
+        Instruction::Truth => stack.set_top(truth_word(stack.top())),
+        Instruction::CompareWith(rel, operand) => {
             stack.set_top(compared(rel, stack.top(), word(memory, operand)));
         }
-        Step::Compare(rel) => {
+        Instruction::Compare(rel) => {
             let left = stack.take_below();
             stack.set_top(compared(rel, left, stack.top()));
         }
-        Step::Not => stack.set_top(not_word(stack.top())),
-        Step::And => {
+        Instruction::Not => stack.set_top(not_word(stack.top())),
+        Instruction::And => {
             let left = stack.take_below();
             stack.set_top(and_word(left, stack.top()));
         }
-        Step::Or => {
+        Instruction::Or => {
             let left = stack.take_below();
             stack.set_top(or_word(left, stack.top()));
         }
@@ -45,16 +45,16 @@ pub fn work(memory: Memory<'_>, step: Step, stack: &mut Stack)
 }
 
 /// The word on top after a step that needs no stack.
-pub fn light_word(memory: Memory<'_>, step: Step, top: Option<i16>) -> Option<Option<i16>>
+pub fn light_word(memory: Memory<'_>, step: Instruction, top: Option<i16>) -> Option<Option<i16>>
     ensures { result ≡ light_word (seen memory.entry) step top }
 {
     match step {
-        Step::With(op, operand) => Some(applied(op, top, word(memory, operand))),
-        Step::Minus => Some(negated(top)),
-        Step::Element(item) => Some(element_word(memory, item, top)),
-        Step::Truth => Some(truth_word(top)),
-        Step::CompareWith(rel, operand) => Some(compared(rel, top, word(memory, operand))),
-        Step::Not => Some(not_word(top)),
+        Instruction::With(op, operand) => Some(applied(op, top, word(memory, operand))),
+        Instruction::Minus => Some(negated(top)),
+        Instruction::Element(item) => Some(element_word(memory, item, top)),
+        Instruction::Truth => Some(truth_word(top)),
+        Instruction::CompareWith(rel, operand) => Some(compared(rel, top, word(memory, operand))),
+        Instruction::Not => Some(not_word(top)),
         _ => None,
     }
 }

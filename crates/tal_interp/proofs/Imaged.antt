@@ -19,7 +19,7 @@ use Rattle.process_semantics.specs.Rests.{next_number}
 use Rattle.process_semantics.specs.State.{Entry, Frame, ProgramState, count_of}
 use Rattle.process_semantics.specs.declared.point.Point.{Point}
 use Rattle.process_semantics.specs.declared.point.Point.TheVariants as point
-use Rattle.program_deeds.specs.Deed.{Deed, Assigns, Tests, Enters, Returns, Passes, Stops, Takes, Asks, Answers, Marks, deed_of}
+use Rattle.program_deeds.specs.Deed.{Deed, Assigns, Tests, Enters, Returns, Passes, Stops, Takes, Asks, Answers, Checkpoints, deed_of}
 use Rattle.program_deeds.specs.Doing.{point_by}
 use Rattle.program_deeds.proofs.Calls.{point-is}
 use Rattle.whole_states.specs.Whole.{AreFrames}
@@ -28,7 +28,7 @@ use Rattle.tal_interp.specs.Images.{imaged_rest, imaged_frames}
 use Rattle.tal_interp.specs.SeenFrames.{frame_seen, frames_seen}
 use Rattle.tal_interp.specs.declared.frame.Frame.{Frame as Kept}
 
--- At a mark
+-- At a checkpoint
 
 either : (P : Point → Type 0) (b : Bool) (p q : Point) → P p → P q → P (if b then p else q)
 either P true p q first second = first
@@ -54,7 +54,7 @@ module _ (program : Program) (items : List ℕ) (globals : List (List ℤ)) (in_
   by-deed : (frame : Frame) (callers : List Frame) (deed : Deed)
       → HasWords (frame ∷ callers) (record frame { rest = imaged_rest deed frame.rest } ∷ callers)
       (point_by program (state (frame ∷ callers) false) deed)
-  by-deed frame callers (Marks named files) = refl
+  by-deed frame callers (Checkpoints named files) = refl
   by-deed frame callers (Takes buffer most got) =
       either (HasWords (frame ∷ callers) (frame ∷ callers)) in_hand _ _ refl
       (good (HasWords (frame ∷ callers) (frame ∷ callers)) point.Take (count_of program (state (frame ∷ callers) false) buffer most) refl refl)

@@ -3,13 +3,13 @@ use Rattle.std.proofs.Common.{◌≡◌, ◌≤◌, ℤ, Bool, true, false, List
 use Rattle.std.specs.Bool.{OnTrue, OnFalse}
 use Rattle.tal_tree.specs.declared.program.Program.{Program}
 use Rattle.tal_tree.specs.declared.site.Kind.TheVariants.{Pair}
-use Rattle.process_semantics.specs.Calls.{after_answered, after_got, after_mark, after_took}
+use Rattle.process_semantics.specs.Calls.{after_answered, after_got, after_checkpoint, after_took}
 use Rattle.process_semantics.specs.Image.{restored_program}
 use Rattle.process_semantics.specs.Points.{point_of}
 use Rattle.process_semantics.specs.Process.{Runs}
 use Rattle.process_semantics.specs.State.{Execution, ProgramState, start}
 use Rattle.process_semantics.specs.Steps.{inner}
-use Rattle.process_semantics.specs.declared.point.Point.TheVariants.{Take, Await, Answer, Mark}
+use Rattle.process_semantics.specs.declared.point.Point.TheVariants.{Take, Await, Answer, AtCheckpoint}
 use Rattle.whole_states.specs.Processes.{IsWholeProcess}
 use Rattle.whole_states.specs.Whole.{IsWhole}
 use Rattle.whole_states.proofs.Calls.{took-awake}
@@ -45,8 +45,8 @@ module _ (e : Execution) (sound : IsSound e) where
   pub answered-sound : point_of e.program e.state ≡ Answer → IsSound (record e { state = after_answered e.state })
   answered-sound at = keeps _ (stays-whole (Runs e.program (after_answered e.state)) (answered-process (Runs e.program e.state) at whole))
 
-  pub marked-sound : point_of e.program e.state ≡ Mark → IsSound (record e { state = after_mark e.state })
-  marked-sound at = keeps _ (stays-whole (Runs e.program (after_mark e.state)) (marked-process (Runs e.program e.state) at whole))
+  pub marked-sound : point_of e.program e.state ≡ AtCheckpoint → IsSound (record e { state = after_checkpoint e.state })
+  marked-sound at = keeps _ (stays-whole (Runs e.program (after_checkpoint e.state)) (marked-process (Runs e.program e.state) at whole))
 
   pub few-frames : length e.state.frames ≤ length e.program.procedures
   few-frames = frames-few e.program sound.loaded.ordered e.state.frames sound.whole.frames

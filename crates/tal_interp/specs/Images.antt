@@ -6,16 +6,16 @@ use Rattle.tal_tree.specs.declared.program.Program.{Program}
 use Rattle.process_semantics.specs.Image.{frame_in, is_called, item_in, items_in}
 use Rattle.process_semantics.specs.State.{Entry, Frame, called_by}
 use Rattle.process_semantics.specs.Words.{Front, count_in}
-use Rattle.program_deeds.specs.Deed.{Deed, Marks, deed_of}
+use Rattle.program_deeds.specs.Deed.{Deed, Checkpoints, deed_of}
 
 -- Writing
 
--- what remains in an image where this deed comes next: a mark is behind it
+-- what remains in an image where this deed comes next: a checkpoint is behind it
 abbrev pub imaged_rest : Deed → List Entry → List Entry
-imaged_rest (Marks items files) rest = drop 1 rest
+imaged_rest (Checkpoints items files) rest = drop 1 rest
 imaged_rest _ rest = rest
 
--- the frames in an image: a mark that comes next is behind it
+-- the frames in an image: a checkpoint that comes next is behind it
 abbrev pub imaged_frames : List Frame → List Frame
 imaged_frames [] = []
 imaged_frames (frame ∷ callers) = record frame { rest = imaged_rest (deed_of frame.rest) frame.rest } ∷ callers

@@ -1,6 +1,6 @@
 ghost use Rattle.std.specs.Prelude.{◌≡◌, ◌≤◌, drop, length, IfSome};
-ghost use Rattle.process_semantics.specs.declared.point.Point.TheVariants.{Mark};
-ghost use Rattle.process_semantics.specs.Calls.{after_answered, after_asked, after_got, after_mark, after_took, answer_of, asked_file, asked_words, first_words, received};
+ghost use Rattle.process_semantics.specs.declared.point.Point.TheVariants.{AtCheckpoint};
+ghost use Rattle.process_semantics.specs.Calls.{after_answered, after_asked, after_got, after_checkpoint, after_took, answer_of, asked_file, asked_words, first_words, received};
 ghost use Rattle.process_semantics.specs.Changes.{variable_cell};
 ghost use Rattle.process_semantics.specs.Image.{listed_files, listed_items};
 ghost use Rattle.process_semantics.specs.Points.{point_of};
@@ -63,7 +63,7 @@ impl Interpreter {
                 }
                 where_good(Point::Answer, self.count(*buffer, count))
             }
-            Work::Checkpoint(_) => Point::Mark,
+            Work::Checkpoint(_) => Point::AtCheckpoint,
             _ => Point::Inner,
         }
     }
@@ -169,7 +169,7 @@ impl Interpreter {
 
     /// What CHECKPOINT names.
     pub(crate) fn listed(&self) -> &Listed
-        requires { point_of self.now.program self.now.state ≡ Mark }
+        requires { point_of self.now.program self.now.state ≡ AtCheckpoint }
         ensures items { result.now.items ≡ listed_items (Runs self.now.program self.now.state) }
         ensures files { result.now.files ≡ listed_files (Runs self.now.program self.now.state) }
     {
@@ -182,9 +182,9 @@ impl Interpreter {
         }
     }
 
-    /// The step at Mark, which goes on.
+    /// The step at a checkpoint, which goes on.
     pub(crate) fn marked(&mut self)
-        ensures { self.new ≡ record self.old { state = after_mark self.old.state } }
+        ensures { self.new ≡ record self.old { state = after_checkpoint self.old.state } }
     {
         if let Some(node) = self.node() {
             let after = node.after;

@@ -17,7 +17,7 @@ use std::alloc::Global;
 use tal_table::{Table, Work};
 
 impl Interpreter {
-    /// The words of its image with these items: at a mark that of the state after it.
+    /// The words of its image with these items: at a checkpoint that of the state after it.
     pub(crate) fn image(&self, alloc: Global, items: &[u16]) -> Result<List<i16>, NoMemory>
         requires sound { IsSound self.now }
         requires listed { (files : Items ℕ) × AreListed self.now.program items.now files }
@@ -79,7 +79,7 @@ impl Interpreter {
     }
 }
 
-/// The number that comes next in an image, for the procedure that runs: at a mark the one after it.
+/// The number that comes next in an image, for the procedure that runs: at a checkpoint the one after it.
 fn imaged_next(table: &Table, at: u16) -> u16
     ensures next { result ≡ next_number (imaged_rest (deed_of (rest_at (places table.now) at)) (rest_at (places table.now) at)) }
     ensures few { result ≤ 2000 }

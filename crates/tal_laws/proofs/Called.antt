@@ -26,10 +26,10 @@ use Rattle.tal_names.specs.Scopes.{meaning_of}
 use Rattle.tal_names.specs.Systems.{system_of}
 use Rattle.tal_rules.specs.Statements.{stepped, after, statement_faults, else_faults, row_faults, return_faults, right_by, right_named}
 use Rattle.tal_rules.specs.Texts.{body_faults}
-use Rattle.tal_trees.specs.Calls.{procedure_by, meaning_by, call_what, item_by, file_by, value_at, meaning_at, variable_by, items_named, files_named, values_of, values_of_arguments, system_what}
-use Rattle.tal_trees.specs.Expressions.{value_of_expr, cond_of_expr, target_of_spot}
-use Rattle.tal_trees.specs.Programs.{body_statements}
-use Rattle.tal_trees.specs.Statements.{answer_of, assign_by, statements_of, else_statements, row_statements}
+use Rattle.tal_meaning.specs.Calls.{procedure_by, meaning_by, call_what, item_by, file_by, value_at, meaning_at, variable_by, items_named, files_named, values_of, values_of_arguments, system_what}
+use Rattle.tal_meaning.specs.Expressions.{value_of_expr, cond_of_expr, target_of_spot}
+use Rattle.tal_meaning.specs.Programs.{body_statements}
+use Rattle.tal_meaning.specs.Statements.{answer_of, assign_by, statements_of, else_statements, row_statements}
 use Rattle.tal_tree.specs.Named.{IsSpotThere, AllThere}
 use Rattle.tal_tree.specs.Regular.{IsCalled, IsRegularStatement}
 use Rattle.tal_faultless.proofs.Common.Faultless.{no_fault, split, first_nil, refuted}

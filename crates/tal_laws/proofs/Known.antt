@@ -11,7 +11,7 @@ use Rattle.tal_declarations.specs.Headings.{parameters_of, locals_of, does_give,
 use Rattle.tal_names.specs.Names.{Declarations, meaning_in, with_name}
 use Rattle.tal_names.specs.Systems.{system_of}
 use Rattle.tal_rules.specs.Texts.{headed_after, after_procedure, first_progress}
-use Rattle.tal_trees.specs.Programs.{texts_of, tree_of_procedure, trees_of}
+use Rattle.tal_meaning.specs.Programs.{texts_of, tree_of_procedure, trees_of}
 use Rattle.tal_faultless.proofs.Common.Faultless.{split}
 use Rattle.tal_faultless.proofs.Common.Names.{texts_append}
 use Rattle.tal_faultless.proofs.Scopes.Declared.{meaning_with}

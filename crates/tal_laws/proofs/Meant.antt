@@ -19,7 +19,7 @@ use Rattle.tal_declarations.specs.Headings.{locals_of}
 use Rattle.tal_names.specs.Names.{Declarations, meaning_in}
 use Rattle.tal_names.specs.Scopes.{or_else, meaning_of, is_file}
 use Rattle.tal_rules.specs.Texts.{faults, headed_text, files_by, heading_locals_faults, first_progress}
-use Rattle.tal_trees.specs.Programs.{shape_by, items_with, texts_of, parameters_by, trees_of, tree_of}
+use Rattle.tal_meaning.specs.Programs.{shape_by, items_with, texts_of, parameters_by, trees_of, tree_of}
 use Rattle.tal_faultless.proofs.Scopes.Declared.{meaning_there}
 use Rattle.tal_faultless.proofs.Files.FileNames.{IsOpened}
 use Rattle.tal_faultless.proofs.Scopes.GlobalNames.{Means}

@@ -8,7 +8,7 @@ use Rattle.tal_rules.specs.declared.walk.Progress.{Progress}
 use Rattle.tal_declarations.specs.Headings.{locals_of}
 use Rattle.tal_names.specs.Names.{Declarations}
 use Rattle.tal_rules.specs.Texts.{faults, headed_text, files_by, entered, after_procedure, procedure_faults, procedures_faults, first_progress}
-use Rattle.tal_trees.specs.Programs.{tree_of, trees_of, tree_of_procedure, texts_of, parameters_by}
+use Rattle.tal_meaning.specs.Programs.{tree_of, trees_of, tree_of_procedure, texts_of, parameters_by}
 use Rattle.tal_reader.specs.Reads.{Reads}
 use Rattle.tal_faultless.proofs.Common.Faultless.{split}
 use Rattle.tal_faultless.proofs.Scopes.SourceScopes.{scope_in}

@@ -12,7 +12,7 @@ use Rattle.tal_declarations.specs.Globals.{with_lines, nothing_declared}
 use Rattle.tal_declarations.specs.Headings.{heading_of, headings_faults, main_number, with_heading, with_headings}
 use Rattle.tal_names.specs.Names.{Declarations}
 use Rattle.tal_rules.specs.Texts.{faults, headed_after, headed_text, files_by, main_missing, procedure_faults, after_procedure, procedures_faults, first_progress, scope_of, entered}
-use Rattle.tal_trees.specs.Programs.{items_with, tree_of, trees_of, tree_of_procedure, body_statements}
+use Rattle.tal_meaning.specs.Programs.{items_with, tree_of, trees_of, tree_of_procedure, body_statements}
 use Rattle.tal_reader.specs.Reads.{Reads}
 use Rattle.gd_words.specs.Members.{IsAmong}
 use Rattle.tal_faultless.proofs.Common.Faultless.{split, no_fault}

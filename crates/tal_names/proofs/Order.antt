@@ -6,7 +6,7 @@ use Rattle.std.proofs.lemmas.List.Elements.{Contains-append_right}
 use Rattle.std.specs.List.{All}
 use Rattle.std.proofs.lemmas.Bool.Decides.{nat_tests}
 use Rattle.tal_names.specs.declared.fault.RuleFault.{RuleFault}
-use Rattle.tal_names.specs.Faults.{number_of, which_of, below, is_before, least, IsLeast}
+use Rattle.tal_names.specs.Faults.{rule_number, which_of, below, is_before, least, IsLeast}
 
 lt-trans : (a b c : ℕ) → nat_lt c b ≡ false → nat_lt b a ≡ false → nat_lt c a ≡ false
 lt-trans a b c p q = grind (arith, nat_tests)
@@ -24,14 +24,14 @@ before-trans : (f h k : RuleFault) → is_before k h ≡ false → is_before h f
 before-trans f h k =
     below-trans f.place.line h.place.line k.place.line _ _ _
     (below-trans f.place.column h.place.column k.place.column _ _ _
-    (below-trans (number_of f.rule) (number_of h.rule) (number_of k.rule) _ _ _
+    (below-trans (rule_number f.rule) (rule_number h.rule) (rule_number k.rule) _ _ _
     (lt-trans (which_of f.rule) (which_of h.rule) (which_of k.rule))))
 
 before-asym : (f h : RuleFault) → is_before f h ≡ true → is_before h f ≡ false
 before-asym f h =
     below-asym f.place.line h.place.line _ _
     (below-asym f.place.column h.place.column _ _
-    (below-asym (number_of f.rule) (number_of h.rule) _ _
+    (below-asym (rule_number f.rule) (rule_number h.rule) _ _
     (lt-asym (which_of f.rule) (which_of h.rule))))
 
 before-self : (f : RuleFault) → is_before f f ≡ false

@@ -23,14 +23,14 @@ abbrev pub answer_of : RuleFault → TalFault
 answer_of f = answer_by f.rule f.place
 
 -- the faults in the order in which one goes before another at the same place
-abbrev pub number_of : Rule → ℕ
-number_of Unknown = 6
-number_of Twice = 7
-number_of WrongKind = 8
-number_of NotBefore = 9
-number_of Prologue = 10
-number_of (Limit which) = 11
-number_of NoMain = 12
+abbrev pub rule_number : Rule → ℕ
+rule_number Unknown = 6
+rule_number Twice = 7
+rule_number WrongKind = 8
+rule_number NotBefore = 9
+rule_number Prologue = 10
+rule_number (Limit which) = 11
+rule_number NoMain = 12
 
 -- of two limits the lower goes before
 abbrev pub which_of : Rule → ℕ
@@ -46,7 +46,7 @@ abbrev pub is_before : RuleFault → RuleFault → Bool
 is_before f h =
     below f.place.line h.place.line
     (below f.place.column h.place.column
-    (below (number_of f.rule) (number_of h.rule)
+    (below (rule_number f.rule) (rule_number h.rule)
     (nat_lt (which_of f.rule) (which_of h.rule))))
 
 -- the one of a fault so far and another that goes before

@@ -1,13 +1,13 @@
 ghost use Rattle.std.specs.Prelude.{◌≡◌};
-ghost use Rattle.tal_names.specs.Faults.{number_of, which_of, is_before, earlier, least, fault_at, if_so, answer_of};
+ghost use Rattle.tal_names.specs.Faults.{rule_number, which_of, is_before, earlier, least, fault_at, if_so, answer_of};
 
 use crate::fault::{Rule, RuleFault};
 use tal_tokens::At;
 use tal_tree::TalFault;
 
 /// The number by which one of two faults at a place goes before the other.
-fn number_of(rule: Rule) -> u8
-    ensures { result ≡ number_of rule }
+fn rule_number(rule: Rule) -> u8
+    ensures { result ≡ rule_number rule }
 {
     match rule {
         Rule::Unknown => 6,
@@ -42,8 +42,8 @@ fn is_before(fault: RuleFault, other: RuleFault) -> bool
     if place.column != other_place.column {
         return place.column < other_place.column;
     }
-    let number = number_of(fault.rule);
-    let other_number = number_of(other.rule);
+    let number = rule_number(fault.rule);
+    let other_number = rule_number(other.rule);
     if number != other_number {
         return number < other_number;
     }

@@ -7,7 +7,7 @@ use Rattle.tal_tree.specs.declared.place.Place.{Place}
 use Rattle.tal_names.specs.declared.fault.Rule.{Rule}
 use Rattle.tal_names.specs.declared.fault.Rule.TheVariants.{Unknown, Twice, WrongKind, NotBefore, Prologue, Limit, NoMain}
 use Rattle.tal_names.specs.declared.fault.RuleFault.{RuleFault}
-use Rattle.tal_names.specs.Faults.{answer_by, answer_of, number_of, which_of, below, is_before, IsLeast}
+use Rattle.tal_names.specs.Faults.{answer_by, answer_of, rule_number, which_of, below, is_before, IsLeast}
 
 same-by : (a b : ℕ) (r s : Bool) → below a b r ≡ false → below b a s ≡ false → a ≡ b
 same-by a b r s h i = grind (arith, nat_tests)
@@ -18,7 +18,7 @@ rest-by a b r e h = grind (arith, nat_tests)
 no-less : (a b : ℕ) → nat_lt a b ≡ false → nat_lt b a ≡ false → a ≡ b
 no-less a b h i = grind (arith, nat_tests)
 
-same-rule : (r s : Rule) → number_of r ≡ number_of s → which_of r ≡ which_of s → r ≡ s
+same-rule : (r s : Rule) → rule_number r ≡ rule_number s → which_of r ≡ which_of s → r ≡ s
 same-rule Unknown Unknown n w = refl
 same-rule Twice Twice n w = refl
 same-rule WrongKind WrongKind n w = refl
@@ -43,9 +43,9 @@ level f h a b =
     let column : f.place.column ≡ h.place.column = same-by f.place.column h.place.column _ _ a1 b1 in
     let a2 = rest-by f.place.column h.place.column _ column a1 in
     let b2 = rest-by h.place.column f.place.column _ (sym column) b1 in
-    let number : number_of f.rule ≡ number_of h.rule = same-by (number_of f.rule) (number_of h.rule) _ _ a2 b2 in
-    let a3 = rest-by (number_of f.rule) (number_of h.rule) _ number a2 in
-    let b3 = rest-by (number_of h.rule) (number_of f.rule) _ (sym number) b2 in
+    let number : rule_number f.rule ≡ rule_number h.rule = same-by (rule_number f.rule) (rule_number h.rule) _ _ a2 b2 in
+    let a3 = rest-by (rule_number f.rule) (rule_number h.rule) _ number a2 in
+    let b3 = rest-by (rule_number h.rule) (rule_number f.rule) _ (sym number) b2 in
     same-answer f h line column (same-rule f.rule h.rule number (no-less (which_of f.rule) (which_of h.rule) a3 b3))
 
 pub one-answer : (fs : List RuleFault) (f h : RuleFault) → IsLeast f fs → IsLeast h fs → answer_of f ≡ answer_of h

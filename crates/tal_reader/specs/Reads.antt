@@ -12,8 +12,8 @@ use Rattle.tal_tree.specs.declared.program.Program.{Program}
 use Rattle.tal_names.specs.declared.fault.RuleFault.{RuleFault}
 use Rattle.tal_names.specs.Faults.{answer_of, IsLeast}
 use Rattle.tal_rules.specs.Texts.{faults}
-use Rattle.tal_trees.specs.Programs.{tree_of}
-use Rattle.tal_trees.specs.Judged.{Judged}
+use Rattle.tal_meaning.specs.Programs.{tree_of}
+use Rattle.tal_meaning.specs.Judged.{Judged}
 use Rattle.tal_builder.specs.Built.{IsSyntax}
 use Rattle.tal_reader.specs.Places.{place_of}
 

@@ -6,11 +6,11 @@ ghost use Rattle.tal_tree.specs.declared.program.Program.{Program as Tree};
 
 use crate::place::place_of;
 use std::alloc::Global;
-use tal_builder::{Stop, build};
+use tal_builder::{BuildFault, build};
 use tal_recogniser::{Judgement, judge};
 use tal_tokens::{Token, tokens};
 use tal_tree::{Program, TalFault};
-use tal_trees::tree;
+use tal_meaning::tree;
 
 /// The program that a text reads as, or the fault for which it is refused.
 pub fn read_program(alloc: Global, text: &[u8]) -> Result<Program, TalFault>
@@ -37,8 +37,8 @@ fn program_of(alloc: Global, tokens: &[Token]) -> Result<Program, TalFault>
 {
     match build(alloc, tokens) {
         Ok(syntax) => tree(alloc, &syntax),
-        Err(Stop::NoMemory(memory)) => Err(TalFault::NoMemory(memory)),
-        Err(Stop::NoSyntax) => unreachable!(),
+        Err(BuildFault::NoMemory(memory)) => Err(TalFault::NoMemory(memory)),
+        Err(BuildFault::NoSyntax) => unreachable!(),
     }
 }
 

@@ -94,8 +94,8 @@ complete-arguments (g.listed start first more close) ss ks q =
     let m : ℕ = suc (marks ss) in
     let shut : QuitsExpr (tok.Close close ∷ ks) = (((((refl, refl), refl), refl), refl), refl) in
     ap (over (λ ls. m ∷ ls))
-    (complete-argument first (sym.FurtherTail ∷ sym.WantClose ∷ sym.Mark ∷ ss) (g.of_further more (tok.Close close ∷ ks)) (quits-further more (tok.Close close ∷ ks) shut)
-    ∙ ap (over (nest_argument m first)) (complete-further more (sym.WantClose ∷ sym.Mark ∷ ss) (tok.Close close ∷ ks) shut refl))
+    (complete-argument first (sym.FurtherTail ∷ sym.WantClose ∷ sym.LevelEnd ∷ ss) (g.of_further more (tok.Close close ∷ ks)) (quits-further more (tok.Close close ∷ ks) shut)
+    ∙ ap (over (nest_argument m first)) (complete-further more (sym.WantClose ∷ sym.LevelEnd ∷ ss) (tok.Close close ∷ ks) shut refl))
     ∙ ap (over (λ ls. m ∷ nest_argument m first (nest_further m more (m ∷ ls)))) (unmarked arguments_step ss ks q)
 
 pub quits-values : (vs : g.Values) (ks : List Token) → QuitsExpr ks → QuitsExpr (g.of_values vs ks)

@@ -101,7 +101,7 @@ mutual
   complete-neg : (n : g.Neg) (ss : Stack) (ks : List Token) → QuitsNeg ks
       → trace (sym.Neg ∷ ss) (g.of_neg n ks) ≡ over (nest_neg (marks ss) n) (trace ss ks)
   complete-neg (g.negated at n) ss ks q =
-      ap (over (λ ls. suc (marks ss) ∷ ls)) (complete-neg n (sym.Mark ∷ ss) ks q)
+      ap (over (λ ls. suc (marks ss) ∷ ls)) (complete-neg n (sym.LevelEnd ∷ ss) ks q)
       ∙ ap (over (nest_neg (marks ss) (g.negated at n))) (unmarked rel_step ss ks q.1)
   complete-neg (g.relation s c) ss ks q =
       begins s ss (g.of_compared c ks)
@@ -148,13 +148,13 @@ mutual
   complete-factor : (f : g.Factor) (ss : Stack) (ks : List Token) → QuitsFactor ks
       → trace (sym.Factor ∷ ss) (g.of_factor f ks) ≡ over (nest_factor (marks ss) f) (trace ss ks)
   complete-factor (g.minus at f) ss ks q =
-      ap (over (λ ls. suc (marks ss) ∷ ls)) (complete-factor f (sym.Mark ∷ ss) ks q)
+      ap (over (λ ls. suc (marks ss) ∷ ls)) (complete-factor f (sym.LevelEnd ∷ ss) ks q)
       ∙ ap (over (nest_factor (marks ss) (g.minus at f))) (unmarked index_step ss ks q)
   complete-factor (g.number at n) ss ks q = refl
   complete-factor (g.read (g.spot at name i)) ss ks q = ap (over (λ ls. marks ss ∷ ls)) (complete-index i ss ks q)
   complete-factor (g.parens start e close) ss ks q =
       ap (over (λ ls. suc (marks ss) ∷ ls))
-      (complete-expr e (sym.WantClose ∷ sym.Mark ∷ ss) (tok.Close close ∷ ks) (((((refl, refl), refl), refl), refl), refl))
+      (complete-expr e (sym.WantClose ∷ sym.LevelEnd ∷ ss) (tok.Close close ∷ ks) (((((refl, refl), refl), refl), refl), refl))
       ∙ ap (over (λ ls. suc (marks ss) ∷ nest_expr (suc (marks ss)) e (suc (marks ss) ∷ ls))) (unmarked index_step ss ks q)
 
   pub complete-index : (i : g.Index) (ss : Stack) (ks : List Token) → QuitsFactor ks
@@ -162,5 +162,5 @@ mutual
   complete-index g.no_index ss ks q = gives_way sym.IndexTail ss ks q refl
   complete-index (g.index start e close) ss ks q =
       ap (over (λ ls. suc (marks ss) ∷ ls))
-      (complete-expr e (sym.WantCloseIndex ∷ sym.Mark ∷ ss) (tok.CloseIndex close ∷ ks) (((((refl, refl), refl), refl), refl), refl))
+      (complete-expr e (sym.WantCloseIndex ∷ sym.LevelEnd ∷ ss) (tok.CloseIndex close ∷ ks) (((((refl, refl), refl), refl), refl), refl))
       ∙ ap (over (λ ls. suc (marks ss) ∷ nest_expr (suc (marks ss)) e (suc (marks ss) ∷ ls))) (unmarked index_step ss ks q)

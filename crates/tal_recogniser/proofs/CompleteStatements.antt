@@ -37,8 +37,8 @@ opened-else : (s : g.Statement) (o : g.Otherwise) (ks : List Token) → g.IsNear
 opened-else s g.no_else ks n q = opened (g.is_open s) ks q
 opened-else s (g.otherwise at t) ks n q = rw n.0 tt
 
-twice : (ss : Stack) (ks : List Token) → Leaves statement_step ks → trace (sym.Mark ∷ sym.Mark ∷ ss) ks ≡ trace ss ks
-twice ss ks q = unmarked statement_step (sym.Mark ∷ ss) ks q ∙ unmarked statement_step ss ks q
+twice : (ss : Stack) (ks : List Token) → Leaves statement_step ks → trace (sym.LevelEnd ∷ sym.LevelEnd ∷ ss) ks ≡ trace ss ks
+twice ss ks q = unmarked statement_step (sym.LevelEnd ∷ ss) ks q ∙ unmarked statement_step ss ks q
 
 mutual
   pub complete-statement : (s : g.Statement) (ss : Stack) (ks : List Token) → g.IsNearest s → QuitsStatement ks → LeavesOpen (g.is_open s) ks
@@ -47,53 +47,53 @@ mutual
   complete-statement (g.block begin first more end) ss ks n q o =
       let m : ℕ = suc (marks ss) in
       ap (over (λ ls. m ∷ ls))
-      (complete-statement first (sym.RowTail ∷ sym.WantEnd ∷ sym.Mark ∷ ss) (g.of_row more (tok.End end ∷ ks)) n.0 (quits-row more (tok.End end ∷ ks) (quits-end end ks)) (opened-row (g.is_open first) more (tok.End end ∷ ks) (quits-end end ks))
-      ∙ ap (over (nest_statement m first)) (complete-row more (sym.WantEnd ∷ sym.Mark ∷ ss) (tok.End end ∷ ks) n.1 (quits-end end ks)))
+      (complete-statement first (sym.RowTail ∷ sym.WantEnd ∷ sym.LevelEnd ∷ ss) (g.of_row more (tok.End end ∷ ks)) n.0 (quits-row more (tok.End end ∷ ks) (quits-end end ks)) (opened-row (g.is_open first) more (tok.End end ∷ ks) (quits-end end ks))
+      ∙ ap (over (nest_statement m first)) (complete-row more (sym.WantEnd ∷ sym.LevelEnd ∷ ss) (tok.End end ∷ ks) n.1 (quits-end end ks)))
       ∙ ap (over (λ ls. m ∷ nest_statement m first (nest_row m more (m ∷ ls)))) (unmarked statement_step ss ks q.0.1)
   complete-statement (g.if_then head test then_at s e) ss ks n q o =
       let m : ℕ = suc (marks ss) in
       ap (over (λ ls. m ∷ ls))
-      (complete-expr test (sym.WantThen ∷ sym.Statement ∷ sym.ElseTail ∷ sym.Mark ∷ ss) (tok.Then then_at ∷ g.of_statement s (g.of_otherwise e ks)) (((((refl, refl), refl), refl), refl), refl)
+      (complete-expr test (sym.WantThen ∷ sym.Statement ∷ sym.ElseTail ∷ sym.LevelEnd ∷ ss) (tok.Then then_at ∷ g.of_statement s (g.of_otherwise e ks)) (((((refl, refl), refl), refl), refl), refl)
       ∙ ap (over (λ ls. nest_expr m test (m ∷ ls)))
-      (complete-statement s (sym.ElseTail ∷ sym.Mark ∷ ss) (g.of_otherwise e ks) n.0 (quits-otherwise e ks q) (opened-else s e ks n.1 o)
-      ∙ ap (over (nest_statement m s)) (complete-otherwise s e (sym.Mark ∷ ss) ks n.1 q o)))
+      (complete-statement s (sym.ElseTail ∷ sym.LevelEnd ∷ ss) (g.of_otherwise e ks) n.0 (quits-otherwise e ks q) (opened-else s e ks n.1 o)
+      ∙ ap (over (nest_statement m s)) (complete-otherwise s e (sym.LevelEnd ∷ ss) ks n.1 q o)))
       ∙ ap (over (λ ls. m ∷ nest_expr m test (m ∷ nest_statement m s (nest_otherwise m e ls)))) (unmarked statement_step ss ks q.0.1)
   complete-statement (g.while_do head test do_at s) ss ks n q o =
       let m : ℕ = suc (marks ss) in
       ap (over (λ ls. m ∷ ls))
-      (complete-expr test (sym.WantDo ∷ sym.Statement ∷ sym.Mark ∷ ss) (tok.Do do_at ∷ g.of_statement s ks) (((((refl, refl), refl), refl), refl), refl)
-      ∙ ap (over (λ ls. nest_expr m test (m ∷ ls))) (complete-statement s (sym.Mark ∷ ss) ks n q o))
+      (complete-expr test (sym.WantDo ∷ sym.Statement ∷ sym.LevelEnd ∷ ss) (tok.Do do_at ∷ g.of_statement s ks) (((((refl, refl), refl), refl), refl), refl)
+      ∙ ap (over (λ ls. nest_expr m test (m ∷ ls))) (complete-statement s (sym.LevelEnd ∷ ss) ks n q o))
       ∙ ap (over (λ ls. m ∷ nest_expr m test (m ∷ nest_statement m s ls))) (unmarked statement_step ss ks q.0.1)
   complete-statement (g.for_do head at name set_at from to_at to do_at s) ss ks n q o =
       let m : ℕ = suc (marks ss) in
       ap (over (λ ls. m ∷ m ∷ m ∷ ls))
-      (complete-expr from (sym.WantTo ∷ sym.Neg ∷ sym.AndTail ∷ sym.OrTail ∷ sym.WantDo ∷ sym.Statement ∷ sym.Mark ∷ ss) (tok.To to_at ∷ g.of_expr to (tok.Do do_at ∷ g.of_statement s ks)) (((((refl, refl), refl), refl), refl), refl)
+      (complete-expr from (sym.WantTo ∷ sym.Neg ∷ sym.AndTail ∷ sym.OrTail ∷ sym.WantDo ∷ sym.Statement ∷ sym.LevelEnd ∷ ss) (tok.To to_at ∷ g.of_expr to (tok.Do do_at ∷ g.of_statement s ks)) (((((refl, refl), refl), refl), refl), refl)
       ∙ ap (over (λ ls. nest_expr m from (m ∷ ls)))
-      (complete-expr to (sym.WantDo ∷ sym.Statement ∷ sym.Mark ∷ ss) (tok.Do do_at ∷ g.of_statement s ks) (((((refl, refl), refl), refl), refl), refl)
-      ∙ ap (over (λ ls. nest_expr m to (m ∷ ls))) (complete-statement s (sym.Mark ∷ ss) ks n q o)))
+      (complete-expr to (sym.WantDo ∷ sym.Statement ∷ sym.LevelEnd ∷ ss) (tok.Do do_at ∷ g.of_statement s ks) (((((refl, refl), refl), refl), refl), refl)
+      ∙ ap (over (λ ls. nest_expr m to (m ∷ ls))) (complete-statement s (sym.LevelEnd ∷ ss) ks n q o)))
       ∙ ap (over (λ ls. m ∷ m ∷ m ∷ nest_expr m from (m ∷ nest_expr m to (m ∷ nest_statement m s ls)))) (unmarked statement_step ss ks q.0.1)
   complete-statement (g.call head at name a) ss ks n q o =
       let m : ℕ = suc (marks ss) in
-      ap (over (λ ls. m ∷ m ∷ ls)) (complete-arguments a (sym.Mark ∷ ss) ks q.1.0)
+      ap (over (λ ls. m ∷ m ∷ ls)) (complete-arguments a (sym.LevelEnd ∷ ss) ks q.1.0)
       ∙ ap (over (λ ls. m ∷ m ∷ nest_arguments m a ls)) (unmarked statement_step ss ks q.0.1)
   complete-statement (g.return head a) ss ks n q o =
       let m : ℕ = suc (marks ss) in
-      ap (over (λ ls. m ∷ ls)) (complete-answer a (sym.Mark ∷ ss) ks q.0.0.0 q.1.1)
+      ap (over (λ ls. m ∷ ls)) (complete-answer a (sym.LevelEnd ∷ ss) ks q.0.0.0 q.1.1)
       ∙ ap (over (λ ls. m ∷ nest_answer m a ls)) (unmarked statement_step ss ks q.0.1)
   complete-statement (g.assign (g.spot at name i) set_at e) ss ks n q o =
       let m : ℕ = suc (marks ss) in
       ap (over (λ ls. m ∷ ls))
-      (complete-index i (sym.WantAssign ∷ sym.Right ∷ sym.Mark ∷ ss) (tok.Assign set_at ∷ g.of_expr e ks) refl
-      ∙ ap (over (λ ls. nest_index m i (m ∷ ls))) (complete-right e (sym.Mark ∷ ss) ks q.0.0))
+      (complete-index i (sym.WantAssign ∷ sym.Right ∷ sym.LevelEnd ∷ ss) (tok.Assign set_at ∷ g.of_expr e ks) refl
+      ∙ ap (over (λ ls. nest_index m i (m ∷ ls))) (complete-right e (sym.LevelEnd ∷ ss) ks q.0.0))
       ∙ ap (over (λ ls. m ∷ nest_index m i (m ∷ nest_expr m e ls))) (unmarked statement_step ss ks q.0.1)
   complete-statement (g.assign_call (g.spot at name i) set_at name_at callee start first more close) ss ks n q o =
       let m : ℕ = suc (marks ss) in
       let shut : QuitsExpr (tok.Close close ∷ ks) = (((((refl, refl), refl), refl), refl), refl) in
       ap (over (λ ls. m ∷ ls))
-      (complete-index i (sym.WantAssign ∷ sym.Right ∷ sym.Mark ∷ ss) (tok.Assign set_at ∷ tok.Name name_at callee ∷ tok.Open start ∷ g.of_expr first (g.of_values more (tok.Close close ∷ ks))) refl
+      (complete-index i (sym.WantAssign ∷ sym.Right ∷ sym.LevelEnd ∷ ss) (tok.Assign set_at ∷ tok.Name name_at callee ∷ tok.Open start ∷ g.of_expr first (g.of_values more (tok.Close close ∷ ks))) refl
       ∙ ap (over (λ ls. nest_index m i (m ∷ m ∷ suc m ∷ ls)))
-      (complete-expr first (sym.ValuesTail ∷ sym.WantClose ∷ sym.Mark ∷ sym.Mark ∷ ss) (g.of_values more (tok.Close close ∷ ks)) (quits-values more (tok.Close close ∷ ks) shut)
-      ∙ ap (over (nest_expr (suc m) first)) (complete-values more (sym.WantClose ∷ sym.Mark ∷ sym.Mark ∷ ss) (tok.Close close ∷ ks) shut refl)))
+      (complete-expr first (sym.ValuesTail ∷ sym.WantClose ∷ sym.LevelEnd ∷ sym.LevelEnd ∷ ss) (g.of_values more (tok.Close close ∷ ks)) (quits-values more (tok.Close close ∷ ks) shut)
+      ∙ ap (over (nest_expr (suc m) first)) (complete-values more (sym.WantClose ∷ sym.LevelEnd ∷ sym.LevelEnd ∷ ss) (tok.Close close ∷ ks) shut refl)))
       ∙ ap (over (λ ls. m ∷ nest_index m i (m ∷ m ∷ suc m ∷ nest_expr (suc m) first (nest_values (suc m) more (suc m ∷ ls)))))
       (twice ss ks q.0.1)
 

@@ -6,5 +6,5 @@ use Rattle.tal_recogniser.specs.Machine.{marks}
 
 pub few_marks : (ss : Stack) → marks ss ≤ length ss
 few_marks [] = omega arith
-few_marks (sym.Mark ∷ ss) = let h : marks ss ≤ length ss = few_marks ss in omega arith
+few_marks (sym.LevelEnd ∷ ss) = let h : marks ss ≤ length ss = few_marks ss in omega arith
 few_marks (s ∷ ss) = let h : marks ss ≤ length ss = few_marks ss in omega arith

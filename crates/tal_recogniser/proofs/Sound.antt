@@ -12,7 +12,7 @@ use Rattle.tal_recogniser.proofs.SoundDeclarations.{sound-lines, sound-after-int
 use Rattle.tal_recogniser.proofs.SoundWanted.{sound-name, sound-begin, sound-end, sound-then, sound-do, sound-to, sound-proc, sound-assign, sound-equal, sound-close, sound-close-index, sound-semicolon, sound-colon, sound-finish}
 
 pub sound-step : (s : Symbol) (k : Token) (ss : Stack) → Steps s k ss (step s k)
-sound-step sym.Mark k ss = tt
+sound-step sym.LevelEnd k ss = tt
 sound-step sym.Neg k ss = sound-neg k ss
 sound-step sym.OrTail k ss = sound-or k ss
 sound-step sym.AndTail k ss = sound-and k ss

@@ -86,8 +86,8 @@ sound-right-tail (tok.Or at) ss = (tt, λ x. ((going g.no_index g.no_factors g.n
 sound-right-tail _ ss = tt
 
 -- an assignment, of a value or of what a call gives
-assigned : (at : _) (name : _) (ss : Stack) (x : Things (sym.IndexTail ∷ sym.WantAssign ∷ sym.Right ∷ sym.Mark ∷ ss))
-    → Made (sym.Statement ∷ ss) (tok.Name at name ∷ of_things (sym.IndexTail ∷ sym.WantAssign ∷ sym.Right ∷ sym.Mark ∷ ss) x)
+assigned : (at : _) (name : _) (ss : Stack) (x : Things (sym.IndexTail ∷ sym.WantAssign ∷ sym.Right ∷ sym.LevelEnd ∷ ss))
+    → Made (sym.Statement ∷ ss) (tok.Name at name ∷ of_things (sym.IndexTail ∷ sym.WantAssign ∷ sym.Right ∷ sym.LevelEnd ∷ ss) x)
 assigned at name ss (i, (set_at, (shown e, (mark, rest)))) = (((g.assign (g.spot at name i) set_at e, tt), rest), refl)
 assigned at name ss (i, (set_at, (called name_at callee start first more close, (mark, rest)))) =
     (((g.assign_call (g.spot at name i) set_at name_at callee start first more close, tt), rest), refl)

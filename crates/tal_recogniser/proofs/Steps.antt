@@ -38,7 +38,7 @@ gives_way s ss (k ∷ ks) q v =
     ∙ ap (λ b. noted (fed_by None b ss (feed k ss)) (λ ts. trace ts ks)) v
 
 -- the mark of a level that ends
-pub unmarked : (row : Token → Option Stack) (ss : Stack) (ks : List Token) → Leaves row ks → trace (sym.Mark ∷ ss) ks ≡ trace ss ks
+pub unmarked : (row : Token → Option Stack) (ss : Stack) (ks : List Token) → Leaves row ks → trace (sym.LevelEnd ∷ ss) ks ≡ trace ss ks
 unmarked row ss [] q = absurd q
 unmarked row ss (k ∷ ks) q = refl
 

@@ -49,7 +49,7 @@ of_after_int (listing at name b more end ls ps) ks = tok.Name at name ∷ g.of_b
 of_after_int (proceeding from e) ks = g.of_procedures (from g.gives_nothing).0 ks
 
 abbrev pub Thing : Symbol → Type 0
-Thing sym.Mark = Unit {0}
+Thing sym.LevelEnd = Unit {0}
 Thing sym.Neg = g.Neg
 Thing sym.OrTail = g.Ors
 Thing sym.AndTail = g.Ands
@@ -96,7 +96,7 @@ Thing sym.WantColon = At
 Thing sym.WantFinish = At
 
 abbrev pub of_thing : (s : Symbol) → Thing s → List Token → List Token
-of_thing sym.Mark x ks = ks
+of_thing sym.LevelEnd x ks = ks
 of_thing sym.Neg x ks = g.of_neg x ks
 of_thing sym.OrTail x ks = g.of_ors x ks
 of_thing sym.AndTail x ks = g.of_ands x ks
@@ -176,7 +176,7 @@ a_neg = g.relation (g.sum (g.product a_factor g.no_factors) g.no_terms) g.alone
 
 -- a thing for each symbol, the empty one where it needs no token
 pub closing : (s : Symbol) → Thing s
-closing sym.Mark = tt
+closing sym.LevelEnd = tt
 closing sym.Neg = a_neg
 closing sym.OrTail = g.no_ors
 closing sym.AndTail = g.no_ands
@@ -233,7 +233,7 @@ IsGone false = ⊥
 -- what needs no token is closed by none
 pub closed : (s : Symbol) → IsGone (vanishes s) → (ks : List Token) → of_thing s (closing s) ks ≡ ks
 unfolding closing
-closed sym.Mark v ks = refl
+closed sym.LevelEnd v ks = refl
 closed sym.OrTail v ks = refl
 closed sym.AndTail v ks = refl
 closed sym.RelTail v ks = refl

@@ -19,14 +19,14 @@ behind ss None = None
 behind ss (Some ts) = Some (ts ++ ss)
 
 abbrev pub factor_step : Token → Option Stack
-factor_step (tok.Minus at) = Some (sym.Factor ∷ sym.Mark ∷ [])
+factor_step (tok.Minus at) = Some (sym.Factor ∷ sym.LevelEnd ∷ [])
 factor_step (tok.Number at n) = Some []
 factor_step (tok.Name at name) = Some (sym.IndexTail ∷ [])
-factor_step (tok.Open at) = Some (expr_on (sym.WantClose ∷ sym.Mark ∷ []))
+factor_step (tok.Open at) = Some (expr_on (sym.WantClose ∷ sym.LevelEnd ∷ []))
 factor_step _ = None
 
 abbrev pub index_step : Token → Option Stack
-index_step (tok.OpenIndex at) = Some (expr_on (sym.WantCloseIndex ∷ sym.Mark ∷ []))
+index_step (tok.OpenIndex at) = Some (expr_on (sym.WantCloseIndex ∷ sym.LevelEnd ∷ []))
 index_step _ = None
 
 abbrev pub times_step : Token → Option Stack
@@ -50,7 +50,7 @@ rel_step (tok.AtLeast at) = Some (sym.Factor ∷ sym.TimesTail ∷ sym.TermTail 
 rel_step _ = None
 
 abbrev pub neg_step : Token → Option Stack
-neg_step (tok.Not at) = Some (sym.Neg ∷ sym.Mark ∷ [])
+neg_step (tok.Not at) = Some (sym.Neg ∷ sym.LevelEnd ∷ [])
 neg_step k = behind (sym.TimesTail ∷ sym.TermTail ∷ sym.RelTail ∷ []) (factor_step k)
 
 abbrev pub and_step : Token → Option Stack

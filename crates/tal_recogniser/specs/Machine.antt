@@ -10,7 +10,7 @@ use Rattle.tal_recogniser.specs.WantedTable.{wanted_step}
 
 -- what stands in a symbol's place after a token
 abbrev pub step : Symbol → Token → Option Stack
-step sym.Mark k = None
+step sym.LevelEnd k = None
 step sym.Neg k = neg_step k
 step sym.OrTail k = or_step k
 step sym.AndTail k = and_step k
@@ -45,7 +45,7 @@ step s k = wanted_step s k
 
 -- what needs no token
 abbrev pub vanishes : Symbol → Bool
-vanishes sym.Mark = true
+vanishes sym.LevelEnd = true
 vanishes sym.OrTail = true
 vanishes sym.AndTail = true
 vanishes sym.RelTail = true
@@ -84,7 +84,7 @@ feed k (s ∷ ss) = fed_by (step s k) (vanishes s) ss (feed k ss)
 -- how many levels stand open
 abbrev pub marks : Stack → ℕ
 marks [] = 0
-marks (sym.Mark ∷ ss) = suc (marks ss)
+marks (sym.LevelEnd ∷ ss) = suc (marks ss)
 marks (s ∷ ss) = marks ss
 
 -- what is still to come after tokens, and the levels that stand open after each

@@ -16,7 +16,7 @@ further_step (tok.Comma at) = Some (sym.Argument ∷ sym.FurtherTail ∷ [])
 further_step _ = None
 
 abbrev pub arguments_step : Token → Option Stack
-arguments_step (tok.Open at) = Some (sym.Argument ∷ sym.FurtherTail ∷ sym.WantClose ∷ sym.Mark ∷ [])
+arguments_step (tok.Open at) = Some (sym.Argument ∷ sym.FurtherTail ∷ sym.WantClose ∷ sym.LevelEnd ∷ [])
 arguments_step _ = None
 
 abbrev pub values_step : Token → Option Stack
@@ -33,9 +33,9 @@ right_step k = behind (sym.AndTail ∷ sym.OrTail ∷ []) (neg_step k)
 
 -- after that name: the list of a call, or what goes on with an expression
 abbrev pub right_tail_step : Token → Option Stack
-right_tail_step (tok.Open at) = Some (expr_on (sym.ValuesTail ∷ sym.WantClose ∷ sym.Mark ∷ []))
+right_tail_step (tok.Open at) = Some (expr_on (sym.ValuesTail ∷ sym.WantClose ∷ sym.LevelEnd ∷ []))
 right_tail_step (tok.OpenIndex at) =
-    Some (expr_on (sym.WantCloseIndex ∷ sym.Mark ∷ sym.TimesTail ∷ sym.TermTail ∷ sym.RelTail ∷ sym.AndTail ∷ sym.OrTail ∷ []))
+    Some (expr_on (sym.WantCloseIndex ∷ sym.LevelEnd ∷ sym.TimesTail ∷ sym.TermTail ∷ sym.RelTail ∷ sym.AndTail ∷ sym.OrTail ∷ []))
 right_tail_step (tok.Star at) = Some (sym.Factor ∷ sym.TimesTail ∷ sym.TermTail ∷ sym.RelTail ∷ sym.AndTail ∷ sym.OrTail ∷ [])
 right_tail_step (tok.Slash at) = Some (sym.Factor ∷ sym.TimesTail ∷ sym.TermTail ∷ sym.RelTail ∷ sym.AndTail ∷ sym.OrTail ∷ [])
 right_tail_step (tok.Plus at) = Some (sym.Factor ∷ sym.TimesTail ∷ sym.TermTail ∷ sym.RelTail ∷ sym.AndTail ∷ sym.OrTail ∷ [])
@@ -51,14 +51,14 @@ right_tail_step (tok.Or at) = Some (expr_on [])
 right_tail_step _ = None
 
 abbrev pub statement_step : Token → Option Stack
-statement_step (tok.Begin at) = Some (sym.Statement ∷ sym.RowTail ∷ sym.WantEnd ∷ sym.Mark ∷ [])
-statement_step (tok.If at) = Some (expr_on (sym.WantThen ∷ sym.Statement ∷ sym.ElseTail ∷ sym.Mark ∷ []))
-statement_step (tok.While at) = Some (expr_on (sym.WantDo ∷ sym.Statement ∷ sym.Mark ∷ []))
+statement_step (tok.Begin at) = Some (sym.Statement ∷ sym.RowTail ∷ sym.WantEnd ∷ sym.LevelEnd ∷ [])
+statement_step (tok.If at) = Some (expr_on (sym.WantThen ∷ sym.Statement ∷ sym.ElseTail ∷ sym.LevelEnd ∷ []))
+statement_step (tok.While at) = Some (expr_on (sym.WantDo ∷ sym.Statement ∷ sym.LevelEnd ∷ []))
 statement_step (tok.For at) =
-    Some (sym.WantName ∷ sym.WantAssign ∷ expr_on (sym.WantTo ∷ expr_on (sym.WantDo ∷ sym.Statement ∷ sym.Mark ∷ [])))
-statement_step (tok.Call at) = Some (sym.WantName ∷ sym.ArgumentsTail ∷ sym.Mark ∷ [])
-statement_step (tok.Return at) = Some (sym.Answer ∷ sym.Mark ∷ [])
-statement_step (tok.Name at name) = Some (sym.IndexTail ∷ sym.WantAssign ∷ sym.Right ∷ sym.Mark ∷ [])
+    Some (sym.WantName ∷ sym.WantAssign ∷ expr_on (sym.WantTo ∷ expr_on (sym.WantDo ∷ sym.Statement ∷ sym.LevelEnd ∷ [])))
+statement_step (tok.Call at) = Some (sym.WantName ∷ sym.ArgumentsTail ∷ sym.LevelEnd ∷ [])
+statement_step (tok.Return at) = Some (sym.Answer ∷ sym.LevelEnd ∷ [])
+statement_step (tok.Name at name) = Some (sym.IndexTail ∷ sym.WantAssign ∷ sym.Right ∷ sym.LevelEnd ∷ [])
 statement_step _ = None
 
 -- the ELSE of the nearest IF, which stands on top

@@ -9,7 +9,7 @@ pub fn factor_row(token: &Token) -> Option<&'static [Symbol]>
     ensures { MatchOption result (factor_step token.now ≡ None) (λ r. factor_step token.now ≡ Some r.now) }
 {
     match token {
-        Token::Minus(_) => Some(&[Symbol::Factor, Symbol::Mark]),
+        Token::Minus(_) => Some(&[Symbol::Factor, Symbol::LevelEnd]),
         Token::Number(_, _) => Some(&[]),
         Token::Name(_, _) => Some(&[Symbol::IndexTail]),
         Token::Open(_) => Some(&[
@@ -17,7 +17,7 @@ pub fn factor_row(token: &Token) -> Option<&'static [Symbol]>
             Symbol::AndTail,
             Symbol::OrTail,
             Symbol::WantClose,
-            Symbol::Mark,
+            Symbol::LevelEnd,
         ]),
         _ => None,
     }
@@ -33,7 +33,7 @@ pub fn index_row(token: &Token) -> Option<&'static [Symbol]>
             Symbol::AndTail,
             Symbol::OrTail,
             Symbol::WantCloseIndex,
-            Symbol::Mark,
+            Symbol::LevelEnd,
         ]),
         _ => None,
     }
@@ -83,10 +83,10 @@ pub fn neg_row(token: &Token) -> Option<&'static [Symbol]>
     ensures { MatchOption result (neg_step token.now ≡ None) (λ r. neg_step token.now ≡ Some r.now) }
 {
     match token {
-        Token::Not(_) => Some(&[Symbol::Neg, Symbol::Mark]),
+        Token::Not(_) => Some(&[Symbol::Neg, Symbol::LevelEnd]),
         Token::Minus(_) => Some(&[
             Symbol::Factor,
-            Symbol::Mark,
+            Symbol::LevelEnd,
             Symbol::TimesTail,
             Symbol::TermTail,
             Symbol::RelTail,
@@ -103,7 +103,7 @@ pub fn neg_row(token: &Token) -> Option<&'static [Symbol]>
             Symbol::AndTail,
             Symbol::OrTail,
             Symbol::WantClose,
-            Symbol::Mark,
+            Symbol::LevelEnd,
             Symbol::TimesTail,
             Symbol::TermTail,
             Symbol::RelTail,

@@ -62,7 +62,7 @@ impl Stack {
     {
         self.symbols.push_front(symbol)?;
         let held = self.symbols.len();
-        if symbol == Symbol::Mark {
+        if symbol == Symbol::LevelEnd {
             prove!(self.depth < held);
             self.depth += 1;
         }
@@ -73,7 +73,7 @@ impl Stack {
         ensures { MatchOption result ((self.old ≡ []) × (self.new ≡ [])) (λ symbol. self.old ≡ symbol ∷ self.new) }
     {
         let symbol = self.symbols.pop_front()?;
-        if symbol == Symbol::Mark {
+        if symbol == Symbol::LevelEnd {
             self.depth -= 1;
         }
         Some(symbol)

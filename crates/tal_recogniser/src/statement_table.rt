@@ -12,7 +12,7 @@ const IF_ROW: &[Symbol] = &[
     Symbol::WantThen,
     Symbol::Statement,
     Symbol::ElseTail,
-    Symbol::Mark,
+    Symbol::LevelEnd,
 ];
 
 /// `name ":=" expr TO expr DO statement`
@@ -28,7 +28,7 @@ const FOR_ROW: &[Symbol] = &[
     Symbol::OrTail,
     Symbol::WantDo,
     Symbol::Statement,
-    Symbol::Mark,
+    Symbol::LevelEnd,
 ];
 
 /// `expr ")"` and what goes on with an expression
@@ -37,7 +37,7 @@ const PARENS_ROW: &[Symbol] = &[
     Symbol::AndTail,
     Symbol::OrTail,
     Symbol::WantClose,
-    Symbol::Mark,
+    Symbol::LevelEnd,
     Symbol::TimesTail,
     Symbol::TermTail,
     Symbol::RelTail,
@@ -51,7 +51,7 @@ const INDEX_ROW: &[Symbol] = &[
     Symbol::AndTail,
     Symbol::OrTail,
     Symbol::WantCloseIndex,
-    Symbol::Mark,
+    Symbol::LevelEnd,
     Symbol::TimesTail,
     Symbol::TermTail,
     Symbol::RelTail,
@@ -88,7 +88,7 @@ pub fn arguments_row(token: &Token) -> Option<&'static [Symbol]>
             Symbol::Argument,
             Symbol::FurtherTail,
             Symbol::WantClose,
-            Symbol::Mark,
+            Symbol::LevelEnd,
         ]),
         _ => None,
     }
@@ -114,10 +114,10 @@ pub fn answer_row(token: &Token) -> Option<&'static [Symbol]>
     ensures { MatchOption result (answer_step token.now ≡ None) (λ r. answer_step token.now ≡ Some r.now) }
 {
     match token {
-        Token::Not(_) => Some(&[Symbol::Neg, Symbol::Mark, Symbol::AndTail, Symbol::OrTail]),
+        Token::Not(_) => Some(&[Symbol::Neg, Symbol::LevelEnd, Symbol::AndTail, Symbol::OrTail]),
         Token::Minus(_) => Some(&[
             Symbol::Factor,
-            Symbol::Mark,
+            Symbol::LevelEnd,
             Symbol::TimesTail,
             Symbol::TermTail,
             Symbol::RelTail,
@@ -165,7 +165,7 @@ pub fn right_tail_row(token: &Token) -> Option<&'static [Symbol]>
             Symbol::OrTail,
             Symbol::ValuesTail,
             Symbol::WantClose,
-            Symbol::Mark,
+            Symbol::LevelEnd,
         ]),
         Token::OpenIndex(_) => Some(INDEX_ROW),
         Token::Star(_) | Token::Slash(_) | Token::Plus(_) | Token::Minus(_) => Some(&[
@@ -202,7 +202,7 @@ pub fn statement_row(token: &Token) -> Option<&'static [Symbol]>
             Symbol::Statement,
             Symbol::RowTail,
             Symbol::WantEnd,
-            Symbol::Mark,
+            Symbol::LevelEnd,
         ]),
         Token::If(_) => Some(IF_ROW),
         Token::While(_) => Some(&[
@@ -211,16 +211,16 @@ pub fn statement_row(token: &Token) -> Option<&'static [Symbol]>
             Symbol::OrTail,
             Symbol::WantDo,
             Symbol::Statement,
-            Symbol::Mark,
+            Symbol::LevelEnd,
         ]),
         Token::For(_) => Some(FOR_ROW),
-        Token::Call(_) => Some(&[Symbol::WantName, Symbol::ArgumentsTail, Symbol::Mark]),
-        Token::Return(_) => Some(&[Symbol::Answer, Symbol::Mark]),
+        Token::Call(_) => Some(&[Symbol::WantName, Symbol::ArgumentsTail, Symbol::LevelEnd]),
+        Token::Return(_) => Some(&[Symbol::Answer, Symbol::LevelEnd]),
         Token::Name(_, _) => Some(&[
             Symbol::IndexTail,
             Symbol::WantAssign,
             Symbol::Right,
-            Symbol::Mark,
+            Symbol::LevelEnd,
         ]),
         _ => None,
     }

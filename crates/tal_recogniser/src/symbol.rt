@@ -2,7 +2,7 @@
 /// a part after its first token, and single tokens that are wanted.
 #[derive(Clone, Copy, PartialEq, Eq)]
 pub enum Symbol {
-    Mark,
+    LevelEnd,
     Neg,
     OrTail,
     AndTail,

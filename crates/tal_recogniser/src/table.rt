@@ -21,7 +21,7 @@ pub fn row(symbol: Symbol, token: &Token) -> Option<&'static [Symbol]>
     ensures { MatchOption result (step symbol token.now ≡ None) (λ r. step symbol token.now ≡ Some r.now) }
 {
     match symbol {
-        Symbol::Mark => None,
+        Symbol::LevelEnd => None,
         Symbol::Neg => neg_row(token),
         Symbol::OrTail => or_row(token),
         Symbol::AndTail => and_row(token),
@@ -62,7 +62,7 @@ pub fn vanishes(symbol: Symbol) -> bool
 {
     matches!(
         symbol,
-        Symbol::Mark
+        Symbol::LevelEnd
             | Symbol::OrTail
             | Symbol::AndTail
             | Symbol::RelTail

@@ -1,7 +1,7 @@
 -- The deed that a node does, where this remains at each number of its program.
 use Rattle.std.specs.Prelude.{List}
 use Rattle.process_semantics.specs.State.{Entry}
-use Rattle.program_deeds.specs.Deed.{Deed, Assigns, Tests, Enters, Returns, Passes, Stops, Takes, Asks, Answers, Marks}
+use Rattle.program_deeds.specs.Deed.{Deed, Assigns, Tests, Enters, Returns, Passes, Stops, Takes, Asks, Answers, Checkpoints}
 use Rattle.tal_table.specs.Places.{rest_at}
 use Rattle.tal_table.specs.declared.node.Work.{Work}
 use Rattle.tal_table.specs.declared.node.Work.TheVariants as work
@@ -16,4 +16,4 @@ seen places work.Stop = Stops
 seen places (work.ReadUpdate buffer most got) = Takes buffer most got
 seen places (work.WriteRead file buffer send room got) = Asks file buffer send room got
 seen places (work.Reply buffer count) = Answers buffer count
-seen places (work.Checkpoint listed) = Marks listed.items listed.files
+seen places (work.Checkpoint listed) = Checkpoints listed.items listed.files

@@ -4,8 +4,8 @@ use Rattle.std.specs.Fmt.{decimal}
 use Rattle.std.specs.Option.{option_map, unwrap_or}
 use Rattle.path_semantics.specs.declared.reason.Reason.{Reason}
 use Rattle.path_semantics.specs.declared.reason.Reason.TheVariants.{Data, SyncBlock, Input, Depth}
-use Rattle.path_semantics.specs.declared.reason.Refusal.{Refusal}
-use Rattle.path_semantics.specs.declared.reason.Refusal.TheVariants.{TooDeep, TooLarge, Broken, NoMemory}
+use Rattle.path_semantics.specs.declared.reason.RefusalFault.{RefusalFault}
+use Rattle.path_semantics.specs.declared.reason.RefusalFault.TheVariants.{TooDeep, TooLarge, Broken, NoMemory}
 use Rattle.statement_lines.specs.Lines.{line_among}
 use Rattle.tal_tree.specs.declared.site.Kind.{Kind}
 use Rattle.tal_tree.specs.declared.site.Kind.TheVariants as kind
@@ -51,14 +51,14 @@ reason_text site process (SyncBlock file) = codes "SyncBlock " ++ variable_name 
 reason_text site process Input = codes "Input"
 reason_text site process (Depth file) = codes "Depth " ++ variable_name site process file
 
-abbrev pub cause_text : Site → ℕ → Refusal → List ℕ
+abbrev pub cause_text : Site → ℕ → RefusalFault → List ℕ
 cause_text site process TooDeep = codes "TooDeep"
 cause_text site process (TooLarge size) = codes "TooLarge " ++ decimal size
 cause_text site process (Broken reason path) = reason_text site process reason
 cause_text site process (NoMemory _) = []
 
 -- `REFUSED NAME` and the cause
-abbrev pub refused_line : Site → ℕ → Refusal → List ℕ
+abbrev pub refused_line : Site → ℕ → RefusalFault → List ℕ
 refused_line site process refusal = codes "REFUSED " ++ process_name site process ++ codes " " ++ cause_text site process refusal ++ 10 ∷ []
 
 -- `P NUMBER LINE` of a statement of a path, where these are the lines of a program's statements in the order of their numbers, from 1
@@ -69,12 +69,12 @@ abbrev pub step_lines : List ℕ → List ℕ → List ℕ
 step_lines lines path = flat_map (step_line lines) path
 
 -- the path of a refusal, if it has one
-abbrev pub path_of : Refusal → List ℕ
+abbrev pub path_of : RefusalFault → List ℕ
 path_of (Broken reason path) = path
 path_of TooDeep = []
 path_of (TooLarge size) = []
 path_of (NoMemory _) = []
 
 -- where a program is refused: the cause, the path that shows it, and the end
-abbrev pub refusal_text : Site → ℕ → Refusal → List ℕ → List ℕ
+abbrev pub refusal_text : Site → ℕ → RefusalFault → List ℕ → List ℕ
 refusal_text site process refusal lines = refused_line site process refusal ++ step_lines lines (path_of refusal) ++ end_line end.Refused

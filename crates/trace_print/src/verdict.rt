@@ -8,7 +8,7 @@ use crate::closing::{End, write_end};
 use crate::line::Line;
 use crate::shown::process_name;
 use gd_io::{Sink, WriteFault, put_all};
-use path_semantics::{Reason, Refusal};
+use path_semantics::{Reason, RefusalFault};
 use tal_tree::{Kind, ProcessSpec, Site};
 
 /// Writes that every program of a site is accepted: a line for each pair, and the end. It takes no memory.
@@ -54,7 +54,7 @@ pub fn write_refusal<K: Sink>(
     sink: &mut K,
     site: &Site,
     process: u8,
-    refusal: &Refusal,
+    refusal: &RefusalFault,
     lines: &[u32],
 ) -> Result<(), WriteFault>
     ensures { Puts K.held K.faults K.sure sink.old sink.new (refusal_text site.now process refusal.now lines.now) result }
@@ -67,7 +67,7 @@ fn write_cause<K: Sink>(
     sink: &mut K,
     site: &Site,
     process: u8,
-    refusal: &Refusal,
+    refusal: &RefusalFault,
     lines: &[u32],
 ) -> Result<(), WriteFault>
     ensures { Puts K.held K.faults K.sure sink.old sink.new (refused_line site.now process refusal.now ++ step_lines lines.now (path_of refusal.now)) result }
@@ -80,7 +80,7 @@ fn write_refused<K: Sink>(
     sink: &mut K,
     site: &Site,
     process: u8,
-    refusal: &Refusal,
+    refusal: &RefusalFault,
 ) -> Result<(), WriteFault>
     ensures { Puts K.held K.faults K.sure sink.old sink.new (refused_line site.now process refusal.now) result }
 {
@@ -128,18 +128,18 @@ fn line_at(lines: &[u32], number: u16) -> u32
     }
 }
 
-fn path_of(refusal: &Refusal) -> &[u16]
+fn path_of(refusal: &RefusalFault) -> &[u16]
     ensures { result.now ≡ path_of refusal.now }
 {
     match refusal {
-        Refusal::Broken { reason: _, path } => path.as_slice(),
-        Refusal::TooDeep => &[],
-        Refusal::TooLarge(_) => &[],
-        Refusal::NoMemory(_) => &[],
+        RefusalFault::Broken { reason: _, path } => path.as_slice(),
+        RefusalFault::TooDeep => &[],
+        RefusalFault::TooLarge(_) => &[],
+        RefusalFault::NoMemory(_) => &[],
     }
 }
 
-fn refused_line(site: &Site, process: u8, refusal: &Refusal) -> Line
+fn refused_line(site: &Site, process: u8, refusal: &RefusalFault) -> Line
     ensures { result ≡ refused_line site.now process refusal.now }
 {
     let mut line = Line::new();
@@ -151,19 +151,19 @@ fn refused_line(site: &Site, process: u8, refusal: &Refusal) -> Line
     line
 }
 
-fn push_cause(line: &mut Line, site: &Site, process: u8, refusal: &Refusal)
+fn push_cause(line: &mut Line, site: &Site, process: u8, refusal: &RefusalFault)
     requires { length line.old + 41 ≤ 512 }
     ensures text { line.new ≡ line.old ++ cause_text site.now process refusal.now }
     ensures len { length line.new ≤ length line.old + 41 }
 {
     match refusal {
-        Refusal::TooDeep => line.push(b"TooDeep"),
-        Refusal::TooLarge(size) => {
+        RefusalFault::TooDeep => line.push(b"TooDeep"),
+        RefusalFault::TooLarge(size) => {
             line.push(b"TooLarge ");
             line.number(i64::from(*size));
         }
-        Refusal::Broken { reason, path: _ } => push_reason(line, site, process, *reason),
-        Refusal::NoMemory(_) => {}
+        RefusalFault::Broken { reason, path: _ } => push_reason(line, site, process, *reason),
+        RefusalFault::NoMemory(_) => {}
     }
 }
 

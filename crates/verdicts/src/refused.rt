@@ -4,7 +4,7 @@ ghost use Rattle.verdicts.specs.Refused.{AreAccepted, AreJudgeable, IsFirstRefus
 
 use discipline::check;
 use gd_words::{List, NoMemory};
-use path_semantics::Refusal;
+use path_semantics::RefusalFault;
 use statement_lines::lines_of;
 use std::alloc::Global;
 use tal_tree::{Kind, ProcessSpec, Program};
@@ -14,14 +14,14 @@ use tal_tree::{Kind, ProcessSpec, Program};
 #[derive(Drop)]
 pub struct RefusedProgram {
     pub process: u8,
-    pub refusal: Refusal,
+    pub refusal: RefusalFault,
     pub lines: List<u32>,
 }
 
 /// Why a program is refused, and the lines of its statements.
 #[derive(Drop)]
 pub struct Cause {
-    pub refusal: Refusal,
+    pub refusal: RefusalFault,
     pub lines: List<u32>,
 }
 
@@ -66,7 +66,7 @@ fn cause_of_program(alloc: Global, program: &Program) -> Result<Option<Cause>, N
 {
     match check(alloc, program) {
         Ok(()) => Ok(None),
-        Err(Refusal::NoMemory(memory)) => Err(memory),
+        Err(RefusalFault::NoMemory(memory)) => Err(memory),
         Err(refusal) => {
             let lines = lines_of(alloc, program)?;
             Ok(Some(Cause { refusal, lines }))

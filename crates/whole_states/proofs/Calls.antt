@@ -1,4 +1,4 @@
--- A program begins in a whole state, and its steps at Take, Ask, Await, Answer and Mark come to whole states.
+-- A program begins in a whole state, and its steps at Take, Ask, Await, Answer and Checkpoint come to whole states.
 use Rattle.std.proofs.Common.{◌≡◌, ℕ, ℤ, Bool, true, false, List, [], ◌∷◌, Option, Some, None, slice_get, refl, ap, subst, sym, arith}
 use Rattle.tal_tree.specs.Regular.{IsRegular}
 use Rattle.tal_tree.specs.declared.expression.Variable.{Variable}
@@ -7,7 +7,7 @@ use Rattle.tal_tree.specs.declared.program.Program.{Program}
 use Rattle.tal_tree.specs.declared.statement.Statement.{Statement}
 use Rattle.tal_tree.specs.declared.statement.What.{What, What-F, out-What}
 use Rattle.tal_values.specs.Value.{value_of}
-use Rattle.process_semantics.specs.Calls.{received, took_in, got_in, after_took, after_asked, after_got, after_answered, after_mark}
+use Rattle.process_semantics.specs.Calls.{received, took_in, got_in, after_took, after_asked, after_got, after_answered, after_checkpoint}
 use Rattle.process_semantics.specs.Changes.{with_waiting}
 use Rattle.process_semantics.specs.Image.{is_empty}
 use Rattle.process_semantics.specs.Points.{point_of}
@@ -72,5 +72,5 @@ asked-whole program s at is = record {
 pub answered-awake : (program : Program) (s : ProgramState) → point_of program s ≡ point.Answer → IsWhole program s → IsAwake program (after_answered s)
 answered-awake program s at is = hand-awake false (done-awake (awake-at program s point.Answer at (λ same. cc) is))
 
-pub marked-awake : (program : Program) (s : ProgramState) → point_of program s ≡ point.Mark → IsWhole program s → IsAwake program (after_mark s)
-marked-awake program s at is = done-awake (awake-at program s point.Mark at (λ same. cc) is)
+pub marked-awake : (program : Program) (s : ProgramState) → point_of program s ≡ point.AtCheckpoint → IsWhole program s → IsAwake program (after_checkpoint s)
+marked-awake program s at is = done-awake (awake-at program s point.AtCheckpoint at (λ same. cc) is)

@@ -5,10 +5,10 @@ use Rattle.std.specs.Ordering.{int_eq}
 use Rattle.gd_words.specs.Ranges.{HasNext}
 use Rattle.gd_words.specs.declared.device.DeviceCall.{DeviceCall}
 use Rattle.gd_words.specs.declared.device.DeviceCall.TheVariants.{Nothing, Read, Write}
-use Rattle.process_semantics.specs.Disc.{disc_start, disc_took, disc_marked, disc_done, disc_answered, disc_call, call_of, call_at, sector_of, filled, reply_of, last_write_after}
+use Rattle.process_semantics.specs.Disc.{disc_start, disc_took, disc_checkpointed, disc_done, disc_answered, disc_call, call_of, call_at, sector_of, filled, reply_of, last_write_after}
 use Rattle.process_semantics.specs.declared.disc.DiscState.{DiscState}
 use Rattle.process_semantics.specs.declared.point.Point.{Point}
-use Rattle.process_semantics.specs.declared.point.Point.TheVariants.{Take, Answer, Mark, Device}
+use Rattle.process_semantics.specs.declared.point.Point.TheVariants.{Take, Answer, AtCheckpoint, Device}
 use Rattle.whole_states.specs.Processes.{IsDiscAt, IsWholeDisc}
 
 -- what a whole disc has in hand at a point
@@ -26,17 +26,17 @@ take-none (Some request) reply fits = absurd fits
 
 pub took-disc : {s : DiscState} (words : List ℤ) → s.label ≡ Take → length words ≤ 16 → IsWholeDisc s → IsWholeDisc (disc_took s words)
 took-disc {s} words at few is = record {
-  fits = subst (IsDiscAt Mark (Some words)) (sym (take-none s.request s.reply (disc-at Take at is)).1) few;
+  fits = subst (IsDiscAt AtCheckpoint (Some words)) (sym (take-none s.request s.reply (disc-at Take at is)).1) few;
   number = is.number;
 }
 
-mark-device : (request reply : Option (List ℤ)) → IsDiscAt Mark request reply → IsDiscAt Device request reply
+mark-device : (request reply : Option (List ℤ)) → IsDiscAt AtCheckpoint request reply → IsDiscAt Device request reply
 mark-device None reply fits = absurd fits
 mark-device (Some request) None fits = fits
 mark-device (Some request) (Some reply) fits = absurd fits
 
-pub marked-disc : {s : DiscState} → s.label ≡ Mark → IsWholeDisc s → IsWholeDisc (disc_marked s)
-marked-disc {s} at is = record { fits = mark-device s.request s.reply (disc-at Mark at is); number = is.number }
+pub marked-disc : {s : DiscState} → s.label ≡ AtCheckpoint → IsWholeDisc s → IsWholeDisc (disc_checkpointed s)
+marked-disc {s} at is = record { fits = mark-device s.request s.reply (disc-at AtCheckpoint at is); number = is.number }
 
 pub answered-disc : {s : DiscState} → IsWholeDisc s → IsWholeDisc (disc_answered s)
 answered-disc is = record { fits = tt; number = is.number }

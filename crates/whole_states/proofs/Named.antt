@@ -1,4 +1,4 @@
--- What a program lists at Mark it may list, and the file that it asks at Ask is its own.
+-- What a program lists at a checkpoint it may list, and the file that it asks at Ask is its own.
 use Rattle.std.proofs.Common.{◌≡◌, ◌<◌, ℕ, List, [], ◌∷◌, length, refl, subst, sym}
 use Rattle.std.proofs.lemmas.Option.{slice_get_within}
 use Rattle.tal_tree.specs.Named.{IsProcess}

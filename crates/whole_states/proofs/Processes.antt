@@ -66,7 +66,7 @@ pub answered-process : (s : ProcessState) → process.point s ≡ point.Answer �
 answered-process (Runs program s) at is = (is.0, answered-awake program s at is.1)
 answered-process (Serves sectors s) at is = answered-disc is
 
-pub marked-process : (s : ProcessState) → process.point s ≡ point.Mark → IsWholeProcess s → IsAwakeProcess (process.after_mark s)
+pub marked-process : (s : ProcessState) → process.point s ≡ point.AtCheckpoint → IsWholeProcess s → IsAwakeProcess (process.after_checkpoint s)
 marked-process (Runs program s) at is = (is.0, marked-awake program s at is.1)
 marked-process (Serves sectors s) at is = marked-disc at is
 

@@ -5,14 +5,14 @@ use Rattle.tal_tree.specs.declared.site.Kind.{Kind}
 use Rattle.tal_tree.specs.declared.site.Kind.TheVariants as kind
 use Rattle.process_semantics.specs.declared.disc.DiscState.{DiscState}
 use Rattle.process_semantics.specs.declared.point.Point.{Point}
-use Rattle.process_semantics.specs.declared.point.Point.TheVariants.{Take, Answer, Mark, Device}
+use Rattle.process_semantics.specs.declared.point.Point.TheVariants.{Take, Answer, AtCheckpoint, Device}
 use Rattle.process_semantics.specs.Process.{ProcessState, Runs, Serves}
 use Rattle.whole_states.specs.Whole.{IsWhole}
 
--- a disc at Take has neither request nor reply, at Mark and at Device a request, and at Answer a reply too, which isn't empty
+-- a disc at Take has neither request nor reply, at AtCheckpoint and at Device a request, and at Answer a reply too, which isn't empty
 abbrev pub IsDiscAt : Point → Option (List ℤ) → Option (List ℤ) → Type 0
 IsDiscAt Take None None = Unit {0}
-IsDiscAt Mark (Some request) None = length request ≤ 16
+IsDiscAt AtCheckpoint (Some request) None = length request ≤ 16
 IsDiscAt Device (Some request) None = length request ≤ 16
 IsDiscAt Answer (Some request) (Some reply) = (length request ≤ 16) × ((1 ≤ length reply) × (length reply ≤ 16))
 IsDiscAt _ _ _ = ⊥

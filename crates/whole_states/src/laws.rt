@@ -3,9 +3,9 @@ ghost use Rattle.gd_words.specs.Ranges.{HasNext};
 ghost use Rattle.gd_words.specs.Members.{IsAmong};
 ghost use Rattle.tal_tree.specs.declared.site.Kind.{Kind};
 ghost use Rattle.process_semantics.specs.declared.disc.DiscState.{DiscState};
-ghost use Rattle.process_semantics.specs.declared.point.Point.TheVariants.{Take, Ask, Await, Answer, Mark, Device};
+ghost use Rattle.process_semantics.specs.declared.point.Point.TheVariants.{Take, Ask, Await, Answer, AtCheckpoint, Device};
 ghost use Rattle.process_semantics.specs.Image.{listed_items, listed_files};
-ghost use Rattle.process_semantics.specs.Process.{ProcessState, Serves, start_of, point, in_hand, asked_file, after_inner, after_took, after_asked, after_got, after_answered, after_mark, after_device};
+ghost use Rattle.process_semantics.specs.Process.{ProcessState, Serves, start_of, point, in_hand, asked_file, after_inner, after_took, after_asked, after_got, after_answered, after_checkpoint, after_device};
 ghost use Rattle.whole_states.specs.Processes.{IsRegularKind, IsWholeProcess};
 ghost use Rattle.whole_states.specs.Listing.{MayList, files_of};
 
@@ -18,7 +18,7 @@ pub fn states_stay_whole()
     ensures asked { (s : ProcessState) → point s ≡ Ask → IsWholeProcess s → IsWholeProcess (after_asked s) }
     ensures got { (s : ProcessState) (words : List ℤ) → point s ≡ Await → IsWholeProcess s → IsWholeProcess (after_got s words) }
     ensures answered { (s : ProcessState) → point s ≡ Answer → IsWholeProcess s → IsWholeProcess (after_answered s) }
-    ensures marked { (s : ProcessState) → point s ≡ Mark → IsWholeProcess s → IsWholeProcess (after_mark s) }
+    ensures marked { (s : ProcessState) → point s ≡ AtCheckpoint → IsWholeProcess s → IsWholeProcess (after_checkpoint s) }
     ensures device { (s : ProcessState) (found : List ℤ) → point s ≡ Device → length found ≤ 8
         → ((sectors : ℕ) (disc : DiscState) → s ≡ Serves sectors disc → HasNext disc.last_write) → IsWholeProcess s → IsWholeProcess (after_device s found) }
 {}
@@ -32,7 +32,7 @@ pub fn hands_are_known()
     ensures inner { (s : ProcessState) → in_hand (after_inner s) ≡ in_hand s }
     ensures asked { (s : ProcessState) → in_hand (after_asked s) ≡ in_hand s }
     ensures got { (s : ProcessState) (words : List ℤ) → in_hand (after_got s words) ≡ in_hand s }
-    ensures marked { (s : ProcessState) → in_hand (after_mark s) ≡ in_hand s }
+    ensures marked { (s : ProcessState) → in_hand (after_checkpoint s) ≡ in_hand s }
     ensures device { (s : ProcessState) (found : List ℤ) → in_hand (after_device s found) ≡ in_hand s }
 {}
 
@@ -43,11 +43,11 @@ pub fn only_asking_awaits()
     ensures took { (s : ProcessState) (words : List ℤ) → IsWholeProcess s → point s ≡ Take → point (after_took s words) ≡ Await → ⊥ }
     ensures got { (s : ProcessState) (words : List ℤ) → IsWholeProcess s → point s ≡ Await → point (after_got s words) ≡ Await → ⊥ }
     ensures answered { (s : ProcessState) → IsWholeProcess s → point s ≡ Answer → point (after_answered s) ≡ Await → ⊥ }
-    ensures marked { (s : ProcessState) → IsWholeProcess s → point s ≡ Mark → point (after_mark s) ≡ Await → ⊥ }
+    ensures marked { (s : ProcessState) → IsWholeProcess s → point s ≡ AtCheckpoint → point (after_checkpoint s) ≡ Await → ⊥ }
     ensures device { (s : ProcessState) (found : List ℤ) → point s ≡ Device → point (after_device s found) ≡ Await → ⊥ }
 {}
 
-/// What a process lists at Mark it may list, and the files that may be listed and the file that is asked are its own.
+/// What a process lists at a checkpoint it may list, and the files that may be listed and the file that is asked are its own.
 pub fn what_is_named_is_there()
     ensures listed { (s : ProcessState) → IsWholeProcess s → MayList s (listed_items s) (listed_files s) }
     ensures files { (s : ProcessState) (items files : List ℕ) (file : ℕ) → MayList s items files → IsAmong file files → file < files_of s }

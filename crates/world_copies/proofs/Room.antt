@@ -3,7 +3,7 @@ use Rattle.std.proofs.Common.{◌≡◌, ℕ, List, Option, Some, None, slice_ge
 use Rattle.std.specs.Option.{option_map}
 use Rattle.world_semantics.specs.declared.which.Which.{Which}
 use Rattle.world_semantics.specs.declared.which.Which.TheVariants.{First, Second}
-use Rattle.world_semantics.specs.Rules.{after_marking, marked_pair, taker}
+use Rattle.world_semantics.specs.Rules.{pair_after_down, pair_at_down, taker}
 use Rattle.world_semantics.specs.World.{Pair, World}
 use Rattle.world_semantics.proofs.Lists.{map-all, set-all}
 use Rattle.number_ranges.specs.HasRoom.{PairHasRoom, WorldHasRoom}
@@ -19,7 +19,7 @@ placed-room w places k placed pairs there room =
     room.processes k placed.pair
     (ap (λ all. slice_get all k) pairs ∙ pair-at places k ∙ ap (option_map (λ (placed : Placed). placed.pair)) there)
 
-marked-one : (k : Option Which) (pair : Pair) → WatchersHaveRoom pair → WatchersHaveRoom (after_marking k pair)
+marked-one : (k : Option Which) (pair : Pair) → WatchersHaveRoom pair → WatchersHaveRoom (pair_after_down k pair)
 marked-one None pair room k watches = room k watches
 marked-one (Some First) pair room First watches = absurd (cc)
 marked-one (Some First) pair room Second watches =
@@ -31,13 +31,13 @@ marked-one (Some Second) pair room First watches =
 marked-one (Some Second) pair room Second watches = absurd (cc)
 
 -- a mark leaves room to the copies that still watch
-pub marked-room : (node processor : ℕ) (pair : Pair) → WatchersHaveRoom pair → WatchersHaveRoom (marked_pair node processor pair)
+pub marked-room : (node processor : ℕ) (pair : Pair) → WatchersHaveRoom pair → WatchersHaveRoom (pair_at_down node processor pair)
 marked-room node processor pair room = marked-one (taker node processor pair) pair room
 
 -- and all of them
-pub all-marked-room : (node processor : ℕ) (pairs : List Pair) → AllWatchersHaveRoom pairs → AllWatchersHaveRoom (map (marked_pair node processor) pairs)
+pub all-marked-room : (node processor : ℕ) (pairs : List Pair) → AllWatchersHaveRoom pairs → AllWatchersHaveRoom (map (pair_at_down node processor) pairs)
 all-marked-room node processor pairs room =
-    map-all (λ number. WatchersHaveRoom) (marked_pair node processor) pairs (λ number pair there. marked-room node processor pair (room number pair there))
+    map-all (λ number. WatchersHaveRoom) (pair_at_down node processor) pairs (λ number pair there. marked-room node processor pair (room number pair there))
 
 -- the process at a place
 pub watcher-there : (places : List Placed) (k : ℕ) (placed : Placed) → slice_get places k ≡ Some placed → AllWatchersHaveRoom (pairs_in places)

@@ -1,14 +1,14 @@
 ghost use Rattle.std.specs.Prelude.{◌≡◌, length, reverse};
 ghost use Rattle.node_copies.specs.ShownCounts.{replies_in, writes_in};
 ghost use Rattle.world_semantics.specs.Kept.{acts_of};
-ghost use Rattle.world_semantics.specs.World.{has_marked, is_running};
+ghost use Rattle.world_semantics.specs.World.{has_noted, is_running};
 ghost use Rattle.world_copies.specs.Seen.{ArePlaced, pairs_in};
 
 use crate::processors::Processors;
 use crate::terminal::Terminal;
 use gd_words::List;
 use logs::Shared;
-use node_copies::{Address, Marks, Records};
+use node_copies::{Address, Downs, Records};
 use process_copies::ProcessCopies;
 use sendings::is_running;
 use std::alloc::Global;
@@ -23,7 +23,7 @@ pub struct WorldCopies {
     pub(crate) site: Shared<Site>,
     pub(crate) places: List<Option<Address>>,
     pub(crate) stopped: Processors,
-    pub(crate) marks: Marks,
+    pub(crate) marks: Downs,
     pub(crate) processes: Vec<ProcessCopies>,
     pub(crate) terminals: Vec<Terminal>,
     pub(crate) records: Records,
@@ -82,7 +82,7 @@ impl WorldCopies {
     }
 
     /// Which node has marked which processor.
-    pub fn marks(&self) -> &Marks
+    pub fn marks(&self) -> &Downs
         ensures { result.now ≡ self.now.world.marks }
     {
         &self.marks
@@ -90,7 +90,7 @@ impl WorldCopies {
 
     /// Whether a node has marked a processor.
     pub fn has_marked(&self, node: u8, processor: u8) -> bool
-        ensures { result ≡ has_marked self.now.world.marks node processor }
+        ensures { result ≡ has_noted self.now.world.marks node processor }
     {
         self.marks.has(node, processor)
     }

@@ -4,14 +4,14 @@ ghost use Rattle.computed_changes.specs.Entered.{enter_done, enter_where, entere
 ghost use Rattle.gd_words.specs.Ranges.{HasNext};
 ghost use Rattle.number_ranges.specs.HasRoom.{WorldHasRoom};
 ghost use Rattle.plain_semantics.specs.Machine.{next_request};
-ghost use Rattle.node_copies.specs.Seen.{told_by};
+ghost use Rattle.node_copies.specs.Seen.{step_sendings};
 ghost use Rattle.world_copies.specs.SiteWorld.{changed_by};
 ghost use Rattle.world_copies.specs.Told.{sent_in};
 
 use crate::copies::WorldCopies;
 use crate::terminal::Terminal;
 use gd_words::{NoMemory, Request, Words};
-use node_copies::{Address, Step};
+use node_copies::{Address, StepOutcome};
 use sendings::{Message, Sending, TERMINAL_NODE};
 
 /// A request of these words, of this number, to the server where an opener stands.
@@ -28,31 +28,31 @@ fn request_to(opener: Address, number: u32, words: Words) -> Request
 
 impl WorldCopies {
     /// A terminal enters its next request, if it awaits no reply and has one left.
-    pub fn enter(&mut self, terminal: u8) -> Result<Step, NoMemory>
+    pub fn enter(&mut self, terminal: u8) -> Result<StepOutcome, NoMemory>
         requires { WorldHasRoom self.old.world }
-        ensures told { IfOk result (λ step. told_by step ≡ sent_in (enter_done self.old.site terminal self.old.world)) }
+        ensures told { IfOk result (λ step. step_sendings step ≡ sent_in (enter_done self.old.site terminal self.old.world)) }
         ensures state { OnOk result (self.new ≡ changed_by self.old (enter_done self.old.site terminal self.old.world)) }
     {
         let place = usize::from(terminal);
         if place >= self.terminals.len() {
-            return Ok(Step::Impossible);
+            return Ok(StepOutcome::Impossible);
         }
         let before = self.terminals[place];
         if before.entered() != before.printed() {
-            return Ok(Step::Impossible);
+            return Ok(StepOutcome::Impossible);
         }
         let step = self.enter_next(terminal, before)?;
         Ok(step)
     }
 
     /// A terminal that awaits no reply enters its next request, if it has one left.
-    fn enter_next(&mut self, terminal: u8, before: Terminal) -> Result<Step, NoMemory>
+    fn enter_next(&mut self, terminal: u8, before: Terminal) -> Result<StepOutcome, NoMemory>
         requires { HasNext before.entered }
-        ensures told { IfOk result (λ step. told_by step ≡ sent_in (enter_where self.old.site terminal before self.old.world true)) }
+        ensures told { IfOk result (λ step. step_sendings step ≡ sent_in (enter_where self.old.site terminal before self.old.world true)) }
         ensures state { OnOk result (self.new ≡ changed_by self.old (enter_where self.old.site terminal before self.old.world true)) }
     {
         match self.place_of(terminal) {
-            None => Ok(Step::Impossible),
+            None => Ok(StepOutcome::Impossible),
             Some(opener) => {
                 let step = self.enter_to(terminal, before, opener)?;
                 Ok(step)
@@ -65,18 +65,18 @@ impl WorldCopies {
         terminal: u8,
         before: Terminal,
         opener: Address,
-    ) -> Result<Step, NoMemory>
+    ) -> Result<StepOutcome, NoMemory>
         requires { HasNext before.entered }
-        ensures told { IfOk result (λ step. told_by step ≡ sent_in (option_map (entered_done terminal before self.old.world opener)
+        ensures told { IfOk result (λ step. step_sendings step ≡ sent_in (option_map (entered_done terminal before self.old.world opener)
             (next_request self.old.site terminal before.entered))) }
         ensures state { OnOk result (self.new ≡ changed_by self.old (option_map (entered_done terminal before self.old.world opener)
             (next_request self.old.site terminal before.entered))) }
     {
         match self.next_request(terminal, before.entered()) {
-            None => Ok(Step::Impossible),
+            None => Ok(StepOutcome::Impossible),
             Some(words) => {
                 let sending = self.enter_words(terminal, before, opener, words)?;
-                Ok(Step::Sends(sending))
+                Ok(StepOutcome::Sends(sending))
             }
         }
     }

@@ -5,23 +5,23 @@ ghost use Rattle.computed_changes.specs.Laws.{NamesOpener};
 ghost use Rattle.number_ranges.specs.HasRoom.{WorldHasRoom};
 ghost use Rattle.plain_semantics.specs.Openers.{openers_of};
 ghost use Rattle.sendings.specs.Seen.{message_of};
-ghost use Rattle.node_copies.specs.Seen.{told_by};
+ghost use Rattle.node_copies.specs.Seen.{step_sendings};
 ghost use Rattle.world_copies.specs.Room.{NamesItsOpener};
 ghost use Rattle.world_copies.specs.SiteWorld.{changed_by};
 ghost use Rattle.world_copies.specs.Told.{sent_in};
 
 use crate::copies::WorldCopies;
 use gd_words::{NoMemory, Reply};
-use node_copies::Step;
+use node_copies::StepOutcome;
 use sendings::{Message, TERMINAL_NODE};
 use tal_tree::Who;
 
 impl WorldCopies {
     /// A message is handed over at a node.
-    pub fn hand(&mut self, node: u8, message: Message) -> Result<Step, NoMemory>
+    pub fn hand(&mut self, node: u8, message: Message) -> Result<StepOutcome, NoMemory>
         requires opener { NamesItsOpener self.old.site (message_of message) }
         requires room { WorldHasRoom self.old.world }
-        ensures told { IfOk result (λ step. told_by step ≡ sent_in (handed_done self.old.site node (message_of message) self.old.world)) }
+        ensures told { IfOk result (λ step. step_sendings step ≡ sent_in (handed_done self.old.site node (message_of message) self.old.world)) }
         ensures state { OnOk result (self.new ≡ changed_by self.old (handed_done self.old.site node (message_of message) self.old.world)) }
     {
         match message {
@@ -46,15 +46,15 @@ impl WorldCopies {
     }
 
     /// A reply goes to the opener that stands at its place.
-    fn hand_reply(&mut self, node: u8, reply: Reply) -> Result<Step, NoMemory>
+    fn hand_reply(&mut self, node: u8, reply: Reply) -> Result<StepOutcome, NoMemory>
         requires { WorldHasRoom self.old.world }
-        ensures told { IfOk result (λ step. told_by step ≡ sent_in (replied_done self.old.site node reply self.old.world
+        ensures told { IfOk result (λ step. step_sendings step ≡ sent_in (replied_done self.old.site node reply self.old.world
             (option_map (λ one. one.who) (slice_get (openers_of self.old.site reply.process) reply.opener)))) }
         ensures state { OnOk result (self.new ≡ changed_by self.old (replied_done self.old.site node reply self.old.world
             (option_map (λ one. one.who) (slice_get (openers_of self.old.site reply.process) reply.opener)))) }
     {
         match self.opener_at(reply.process, reply.opener) {
-            None => Ok(Step::Impossible),
+            None => Ok(StepOutcome::Impossible),
             Some(opener) => {
                 let step = self.reply_to(node, reply, opener)?;
                 Ok(step)
@@ -62,9 +62,9 @@ impl WorldCopies {
         }
     }
 
-    fn reply_to(&mut self, node: u8, reply: Reply, opener: Who) -> Result<Step, NoMemory>
+    fn reply_to(&mut self, node: u8, reply: Reply, opener: Who) -> Result<StepOutcome, NoMemory>
         requires { WorldHasRoom self.old.world }
-        ensures told { IfOk result (λ step. told_by step ≡ sent_in (replied_to self.old.site node reply self.old.world opener)) }
+        ensures told { IfOk result (λ step. step_sendings step ≡ sent_in (replied_to self.old.site node reply self.old.world opener)) }
         ensures state { OnOk result (self.new ≡ changed_by self.old (replied_to self.old.site node reply self.old.world opener)) }
     {
         match opener {
@@ -74,7 +74,7 @@ impl WorldCopies {
             }
             Who::Terminal(terminal) => {
                 if node != TERMINAL_NODE {
-                    return Ok(Step::Impossible);
+                    return Ok(StepOutcome::Impossible);
                 }
                 let step = self.print(terminal, reply)?;
                 Ok(step)
@@ -83,15 +83,15 @@ impl WorldCopies {
     }
 
     /// A message comes to the process of a number at a node.
-    fn bring(&mut self, number: u8, node: u8, message: Message) -> Result<Step, NoMemory>
+    fn bring(&mut self, number: u8, node: u8, message: Message) -> Result<StepOutcome, NoMemory>
         requires opener { NamesOpener self.old.site number (message_of message) }
         requires room { WorldHasRoom self.old.world }
-        ensures told { IfOk result (λ step. told_by step ≡ sent_in (brought self.old.site number node (message_of message) self.old.world)) }
+        ensures told { IfOk result (λ step. step_sendings step ≡ sent_in (brought self.old.site number node (message_of message) self.old.world)) }
         ensures state { OnOk result (self.new ≡ changed_by self.old (brought self.old.site number node (message_of message) self.old.world)) }
     {
         let place = usize::from(number);
         if place >= self.processes.len() {
-            return Ok(Step::Impossible);
+            return Ok(StepOutcome::Impossible);
         }
         let step = self.processes[place].come_in(node, message, &mut self.records)?;
         Ok(step)

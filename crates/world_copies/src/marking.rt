@@ -1,9 +1,9 @@
 ghost use Rattle.std.specs.Prelude.{◌≡◌, ◌∷◌, ◌++◌, if◌then◌else◌, IfOk, OnOk, Some, None, map};
 ghost use Rattle.std.specs.List.{flat_map};
 ghost use Rattle.tal_tree.specs.declared.site.Site.{Site};
-ghost use Rattle.computed_changes.specs.Stopped.{marked_done, marked_world, may_mark};
+ghost use Rattle.computed_changes.specs.Stopped.{down_done, world_at_down, may_note};
 ghost use Rattle.letters.specs.Again.{sent_again};
-ghost use Rattle.world_semantics.specs.Rules.{marked_pair, told_at_mark};
+ghost use Rattle.world_semantics.specs.Rules.{pair_at_down, told_at_down};
 ghost use Rattle.world_copies.specs.Changes.{changed};
 ghost use Rattle.world_copies.specs.Room.{AllWatchersHaveRoom};
 ghost use Rattle.world_copies.specs.Seen.{ArePlaced, pairs_in};
@@ -16,7 +16,7 @@ use sendings::Sending;
 impl WorldCopies {
     /// Whether a processor has stopped, and a node that runs hasn't marked it.
     pub fn is_to_mark(&self, node: u8, processor: u8) -> bool
-        ensures { marked_done node processor self.now.world ≡ (if result then Some (marked_world node processor self.now.world) else None) }
+        ensures { down_done node processor self.now.world ≡ (if result then Some (world_at_down node processor self.now.world) else None) }
     {
         let place = usize::from(processor);
         if place >= self.stopped.len() {
@@ -29,7 +29,7 @@ impl WorldCopies {
     }
 
     fn may_mark(&self, node: u8, processor: u8) -> bool
-        ensures { result ≡ may_mark node processor self.now.world }
+        ensures { result ≡ may_note node processor self.now.world }
     {
         self.is_running(node) && !self.marks.has(node, processor)
     }
@@ -37,9 +37,9 @@ impl WorldCopies {
     /// A node marks a processor that has stopped. The answer is what takes over tells again, and what the node sends again.
     pub fn mark(&mut self, node: u8, processor: u8) -> Result<List<Sending>, NoMemory>
         requires { AllWatchersHaveRoom self.old.world.processes }
-        ensures told { IfOk result (λ sendings. sendings ≡ (marked_world node processor self.old.world).sendings
-            ++ sent_again self.old.site self.old.world (marked_world node processor self.old.world).world node processor) }
-        ensures state { OnOk result (self.new ≡ record self.old { world = (marked_world node processor self.old.world).world }) }
+        ensures told { IfOk result (λ sendings. sendings ≡ (world_at_down node processor self.old.world).sendings
+            ++ sent_again self.old.site self.old.world (world_at_down node processor self.old.world).world node processor) }
+        ensures state { OnOk result (self.new ≡ record self.old { world = (world_at_down node processor self.old.world).world }) }
     {
         let mut sendings = List::new(self.alloc);
         self.mark_processes(node, processor, &mut sendings)?;
@@ -57,8 +57,8 @@ impl WorldCopies {
     ) -> Result<(), NoMemory>
         requires { AllWatchersHaveRoom self.old.world.processes }
         ensures state { OnOk result (self.new
-            ≡ record self.old { world = record self.old.world { processes = map (marked_pair node processor) self.old.world.processes } }) }
-        ensures told { OnOk result (told.new ≡ told.old ++ flat_map (told_at_mark node processor) self.old.world.processes) }
+            ≡ record self.old { world = record self.old.world { processes = map (pair_at_down node processor) self.old.world.processes } }) }
+        ensures told { OnOk result (told.new ≡ told.old ++ flat_map (told_at_down node processor) self.old.world.processes) }
     {
         mark_all(self.processes.as_mut_slice(), node, processor, told)?;
         Ok(())
@@ -81,8 +81,8 @@ fn mark_all(
     told: &mut List<Sending>,
 ) -> Result<(), NoMemory>
     requires { AllWatchersHaveRoom (pairs_in processes.old) }
-    ensures processes { OnOk result (processes.new ≡ map (changed (marked_pair node processor)) processes.old) }
-    ensures told { OnOk result (told.new ≡ told.old ++ flat_map (told_at_mark node processor) (pairs_in processes.old)) }
+    ensures processes { OnOk result (processes.new ≡ map (changed (pair_at_down node processor)) processes.old) }
+    ensures told { OnOk result (told.new ≡ told.old ++ flat_map (told_at_down node processor) (pairs_in processes.old)) }
     ensures placed { (site : Site) → ArePlaced site processes.old → ArePlaced site processes.new }
 {
     for number in 0..processes.len() {

@@ -5,14 +5,14 @@ ghost use Rattle.plain_semantics.specs.Openers.{openers_of};
 ghost use Rattle.sendings.specs.Seen.{message_of};
 
 use crate::copies::WorldCopies;
-use node_copies::Marks;
+use node_copies::Downs;
 use process_copies::ProcessCopies;
 use sendings::{Message, TERMINAL_NODE};
 use tal_tree::Who;
 use world_semantics::Which;
 
 /// The processor to which a node sends what is for a process, by its marks.
-fn route_of(marks: &Marks, node: u8, process: &ProcessCopies) -> u8
+fn route_of(marks: &Downs, node: u8, process: &ProcessCopies) -> u8
     ensures { result ≡ route_of marks.now node process.now.pair }
 {
     let first = process.processor(Which::First);

@@ -13,7 +13,7 @@ use crate::processors::Processors;
 use crate::terminal::Terminal;
 use gd_words::{List, NoMemory};
 use logs::Shared;
-use node_copies::{Address, Marks, Records};
+use node_copies::{Address, Downs, Records};
 use plain_semantics::opener_of;
 use process_copies::{ProcessCopies, address_of};
 use std::alloc::Global;
@@ -36,7 +36,7 @@ impl WorldCopies {
             site,
             places,
             stopped,
-            marks: Marks::new(alloc),
+            marks: Downs::new(alloc),
             processes,
             terminals,
             records,

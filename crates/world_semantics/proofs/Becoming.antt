@@ -15,14 +15,14 @@ use Rattle.checkpoint_image.specs.Receive.{waits, came}
 use Rattle.world_semantics.specs.Core.{Core, Deed, Advances, put_in}
 use Rattle.world_semantics.specs.World.{Copy, Pair, World, Which, First, Second, copy_of, with_copy}
 use Rattle.world_semantics.specs.Kept.{Enters, holds_on, repeats, begins, keeps}
-use Rattle.world_semantics.specs.Messages.{Message, Asking, Checkpointing, Taking, Sending, Cause, Running, Handing, Stopping, Marking}
+use Rattle.world_semantics.specs.Messages.{Message, Asking, Checkpointing, Taking, Sending, Cause, Running, Handing, Stopping, NotingDown}
 use Rattle.world_semantics.specs.Own.{Around, around, Causes}
-use Rattle.world_semantics.specs.Passes.{Passes, by_send, by_pass_again, by_pass, by_apply, by_acknowledge, checkpoint_of, after_sending, after_mark}
-use Rattle.world_semantics.specs.Rules.{Change, by_own, by_checkpoint, by_request, by_early_request, by_enter, by_print, by_stop, by_mark, stopped_copy, stopped_pair, taken_over, taker, after_marking, marked_pair}
+use Rattle.world_semantics.specs.Passes.{Passes, by_send, by_pass_again, by_pass, by_apply, by_acknowledge, checkpoint_of, after_sending, copy_at_checkpoint}
+use Rattle.world_semantics.specs.Rules.{Change, by_own, by_checkpoint, by_request, by_early_request, by_enter, by_print, by_stop, by_mark, stopped_copy, stopped_pair, taken_over, taker, pair_after_down, pair_at_down}
 use Rattle.world_semantics.proofs.Lists.{some-same, Changed, is_new, is_same, changed, mapped}
 use Rattle.world_semantics.proofs.Roles.{Takes, taker-is}
 
--- what one copy of a process is after a change, where these are the checkpoints that were sent by then: it is as before, acts, sends its checkpoint or passes its mark; it applies a checkpoint, or is told that one was
+-- what one copy of a process is after a change, where these are the checkpoints that were sent by then: it is as before, acts, sends its checkpoint or passes it; it applies a checkpoint, or is told that one was
 -- taken; what it held is kept or dropped; a request comes to it; its processor stops; or it takes over
 pub data Becomes (site : Site) (w : World) (number : ℕ) (pair : Pair) (sent : List ImageMessage) (k : Which) : Cause → Copy → Type 0 where
   stays : {cause : Cause} → Becomes site w number pair sent k cause (copy_of k pair)
@@ -32,10 +32,10 @@ pub data Becomes (site : Site) (w : World) (number : ℕ) (pair : Pair) (sent : 
       → Advances (openers_of site number) (copy_of k pair).core deed core
       → Enters number done w.kept (copy_of k pair) entered kept
       → Becomes site w number pair sent k cause (record entered { core = core; waiting = after.waiting })
-  sends : (copy_of k pair).role ≡ Acting → process.point (copy_of k pair).core.state ≡ point.Mark → IsAmong (checkpoint_of number (copy_of k pair)) sent
+  sends : (copy_of k pair).role ≡ Acting → process.point (copy_of k pair).core.state ≡ point.AtCheckpoint → IsAmong (checkpoint_of number (copy_of k pair)) sent
       → Becomes site w number pair sent k (Running number) (after_sending (copy_of k pair))
   passes : {position : ℕ} {held : List Act} → (copy_of k pair).role ≡ Acting
-      → Becomes site w number pair sent k (Running number) (record (after_mark (copy_of k pair)) { position = position; held = held })
+      → Becomes site w number pair sent k (Running number) (record (copy_at_checkpoint (copy_of k pair)) { position = position; held = held })
   applies : {applied : Core} → (message : ImageMessage) → (copy_of k pair).role ≡ Watching → IsAmong message pair.checkpoints
       → message.era ≡ (copy_of k pair).era → message.number ≡ (copy_of k pair).number + 1 → put_in (copy_of k pair).core message.image ≡ Some applied
       → Becomes site w number pair sent k (Handing (copy_of k pair).processor (Checkpointing message))
@@ -52,7 +52,7 @@ pub data Becomes (site : Site) (w : World) (number : ℕ) (pair : Pair) (sent : 
       (record (copy_of k pair) { waiting = waits (copy_of k pair).waiting request })
   stops : (processor : ℕ) → Becomes site w number pair sent k (Stopping processor) (stopped_copy processor (copy_of k pair))
   takes_over : (node processor : ℕ) → Takes node processor k pair
-      → Becomes site w number pair sent k (Marking node processor) (taken_over pair.base (copy_of k pair))
+      → Becomes site w number pair sent k (NotingDown node processor) (taken_over pair.base (copy_of k pair))
 
 -- what an act leaves of a copy as it was, however the act enters the kept acts
 pub record IsEntered (copy entered : Copy) : Type 0 where
@@ -134,7 +134,7 @@ stop-copies processor pair First = stops processor
 stop-copies processor pair Second = stops processor
 
 mark-copies : {site : Site} {w : World} {number : ℕ} (node processor : ℕ) (pair : Pair) (k : Option Which) → taker node processor pair ≡ k
-    → BothBecome site w number pair (Marking node processor) (after_marking k pair)
+    → BothBecome site w number pair (NotingDown node processor) (pair_after_down k pair)
 mark-copies node processor pair None e j = stays
 mark-copies node processor pair (Some First) e First = takes_over node processor (taker-is node processor pair First e)
 mark-copies node processor pair (Some First) e Second = is_freed
@@ -170,7 +170,7 @@ change-was w next cause sendings (by_early_request request k pair i there r) = s
 change-was w next cause sendings (by_enter n terminal opener t e q o) = same-was
 change-was w next cause sendings (by_print n terminal reply t e i o m) = same-was
 change-was w next cause sendings (by_stop x s) = map-was (stopped_pair x) (λ number pair. stop-copies x pair)
-change-was w next cause sendings (by_mark m x s q n) = map-was (marked_pair m x) (λ number pair. mark-copies m x pair (taker m x pair) refl)
+change-was w next cause sendings (by_mark m x s q n) = map-was (pair_at_down m x) (λ number pair. mark-copies m x pair (taker m x pair) refl)
 
 -- what a copy becomes by a change
 pub change-copy : {site : Site} (w next : World) (cause : Cause) (sendings : List Sending) (number : ℕ) (before after : Pair) (k : Which)

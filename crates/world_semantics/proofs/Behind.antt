@@ -12,11 +12,11 @@ use Rattle.checkpoint_image.specs.declared.message.TakenMessage.{TakenMessage}
 use Rattle.world_semantics.specs.declared.role.Role.{Role}
 use Rattle.world_semantics.specs.declared.role.Role.TheVariants.{Watching, Gone}
 use Rattle.world_semantics.specs.Core.{Core}
-use Rattle.world_semantics.specs.World.{Copy, Pair, Mark, World, has_marked, Which, First, Second, copy_of, other_of, with_copy, may_pass, boot}
+use Rattle.world_semantics.specs.World.{Copy, Pair, Down, World, has_noted, Which, First, Second, copy_of, other_of, with_copy, may_pass, boot}
 use Rattle.world_semantics.specs.Kept.{Enters, holds_on, repeats, begins, keeps}
 use Rattle.world_semantics.specs.Messages.{Sending, Cause}
 use Rattle.world_semantics.specs.Passes.{Passes, by_send, by_pass_again, by_pass, by_apply, by_acknowledge}
-use Rattle.world_semantics.specs.Rules.{Change, by_own, by_checkpoint, by_request, by_early_request, by_enter, by_print, by_stop, by_mark, stopped_pair, taker, after_marking, marked_pair}
+use Rattle.world_semantics.specs.Rules.{Change, by_own, by_checkpoint, by_request, by_early_request, by_enter, by_print, by_stop, by_mark, stopped_pair, taker, pair_after_down, pair_at_down}
 use Rattle.world_semantics.specs.Follows.{IsRun}
 use Rattle.world_semantics.specs.Laws.{KeepsUp}
 use Rattle.world_semantics.proofs.Beginning.{all-begin}
@@ -58,25 +58,25 @@ own-behind Second pair core waiting sectors (keeps e l t) ok = ok
 
 -- Marks
 
-marked-among : (marks : List Mark) (node processor : ℕ) → has_marked marks node processor ≡ true → (mark : Mark) × IsAmong mark marks × (mark.down ≡ processor)
+marked-among : (marks : List Down) (node processor : ℕ) → has_noted marks node processor ≡ true → (mark : Down) × IsAmong mark marks × (mark.down ≡ processor)
 marked-among [] node processor e = absurd (cc)
 marked-among (mark ∷ marks) node processor e = by-test (marked-among marks node processor) (mark.node == node && mark.down == processor) refl e
   where
-    up : (m : Mark) × IsAmong m marks × (m.down ≡ processor) → (m : Mark) × IsAmong m (mark ∷ marks) × (m.down ≡ processor)
+    up : (m : Down) × IsAmong m marks × (m.down ≡ processor) → (m : Down) × IsAmong m (mark ∷ marks) × (m.down ≡ processor)
     up (m, i, same) = (m, inr i, same)
 
-    by-test : (has_marked marks node processor ≡ true → (m : Mark) × IsAmong m marks × (m.down ≡ processor)) → (b : Bool)
-        → (mark.node == node && mark.down == processor) ≡ b → (b || has_marked marks node processor) ≡ true
-        → (m : Mark) × IsAmong m (mark ∷ marks) × (m.down ≡ processor)
+    by-test : (has_noted marks node processor ≡ true → (m : Down) × IsAmong m marks × (m.down ≡ processor)) → (b : Bool)
+        → (mark.node == node && mark.down == processor) ≡ b → (b || has_noted marks node processor) ≡ true
+        → (m : Down) × IsAmong m (mark ∷ marks) × (m.down ≡ processor)
     by-test rest true t e = (mark, inl refl, eqb-true _ _ (both-true (mark.node == node) _ t).1)
     by-test rest false t e = up (rest e)
 
--- a copy beside one that watches passes its mark only where it was told that its checkpoint was taken
-told-to-pass : (marks : List Mark) (stopped : List Bool) (pair : Pair) → ((mark : Mark) → IsAmong mark marks → slice_get stopped mark.down ≡ Some true)
+-- a copy beside one that watches passes its checkpoint only where it was told that its checkpoint was taken
+told-to-pass : (marks : List Down) (stopped : List Bool) (pair : Pair) → ((mark : Down) → IsAmong mark marks → slice_get stopped mark.down ≡ Some true)
     → RolesOf stopped pair → pair.second.role ≡ Watching → may_pass marks First pair ≡ true → pair.first.acknowledged ≡ true
 told-to-pass marks stopped pair are roles watches may = by-test pair.first.acknowledged refl may
   where
-    by-test : (told : Bool) → pair.first.acknowledged ≡ told → (told || has_marked marks pair.first.processor pair.second.processor) ≡ true → told ≡ true
+    by-test : (told : Bool) → pair.first.acknowledged ≡ told → (told || has_noted marks pair.first.processor pair.second.processor) ≡ true → told ≡ true
     by-test true t m = refl
     by-test false t m =
         let mark = marked-among marks pair.first.processor pair.second.processor m in
@@ -149,8 +149,8 @@ told-one message i e n b =
       was_taken = b.was_taken;
     }
 
-passes-behind : {number : ℕ} {marks : List Mark} {kept after : List Act} {pair next : Pair} {cause : Cause} {sendings : List Sending} (stopped : List Bool)
-    → ((mark : Mark) → IsAmong mark marks → slice_get stopped mark.down ≡ Some true) → RolesOf stopped pair
+passes-behind : {number : ℕ} {marks : List Down} {kept after : List Act} {pair next : Pair} {cause : Cause} {sendings : List Sending} (stopped : List Bool)
+    → ((mark : Down) → IsAmong mark marks → slice_get stopped mark.down ≡ Some true) → RolesOf stopped pair
     → Passes number marks kept pair cause sendings next after → BehindOf pair → BehindOf next
 passes-behind {pair = pair} stopped are roles (by_send First r p s m) ok = λ w.
     sent-one-more _ refl
@@ -181,7 +181,7 @@ stop-behind processor pair ok = by-test (pair.second.processor == processor) pai
     by-test false role p w = p w
 
 marking-behind : (stopped : List Bool) (node processor : ℕ) (pair : Pair) (k : Option Which) → taker node processor pair ≡ k → RolesOf stopped pair → BehindOf pair
-    → BehindOf (after_marking k pair)
+    → BehindOf (pair_after_down k pair)
 marking-behind stopped node processor pair None e roles ok = ok
 marking-behind stopped node processor pair (Some First) e roles ok = absurd (roles.first_leads (taker-is node processor pair First e).watching)
 marking-behind stopped node processor pair (Some Second) e roles ok = λ w. absurd (cc)
@@ -209,7 +209,7 @@ pairs-behind w next cause sendings (by_print number terminal reply t f i o n) ok
 pairs-behind w next cause sendings (by_stop x s) ok =
     map-all (λ n. BehindOf) (stopped_pair x) w.processes (λ n pair there. stop-behind x pair (ok.pairs n pair there))
 pairs-behind w next cause sendings (by_mark node x s q n) ok =
-    map-all (λ n. BehindOf) (marked_pair node x) w.processes
+    map-all (λ n. BehindOf) (pair_at_down node x) w.processes
     (λ n pair there. marking-behind w.stopped node x pair (taker node x pair) refl (ok.roles n pair there) (ok.pairs n pair there))
 
 change-behind : {site : Site} (w next : World) (cause : Cause) (sendings : List Sending) → Change site w cause sendings next → AllBehind w → AllBehind next

@@ -8,7 +8,7 @@ use Rattle.schedule.specs.declared.event.Event.{Event}
 use Rattle.world_semantics.specs.declared.role.Role.{Role}
 use Rattle.world_semantics.specs.declared.role.Role.TheVariants.{Acting, Watching, Gone}
 use Rattle.world_semantics.specs.Core.{Core, Deed}
-use Rattle.world_semantics.specs.World.{Pair, Mark, World, Which, First, Second, copy_of, terminal_node}
+use Rattle.world_semantics.specs.World.{Pair, Down, World, Which, First, Second, copy_of, terminal_node}
 use Rattle.world_semantics.specs.Messages.{Message, Sending, Cause, Handing}
 use Rattle.world_semantics.specs.Own.{Around, Causes, by_inner, by_take, by_ask, by_answer, by_device, by_write, by_reply}
 use Rattle.world_semantics.specs.Passes.{Passes, by_send, by_pass_again, by_pass, by_apply, by_acknowledge}
@@ -104,7 +104,7 @@ own-node e (by_device n) = absurd (cc)
 own-node e (by_write n) = absurd (cc)
 own-node e (by_reply i o n u) = (same-handing e).0
 
-passes-node : {number at : ℕ} {marks : List Mark} {kept after : List Act} {pair next : Pair} {cause : Cause} {sendings : List Sending} {message : Message} (stopped : List Bool)
+passes-node : {number at : ℕ} {marks : List Down} {kept after : List Act} {pair next : Pair} {cause : Cause} {sendings : List Sending} {message : Message} (stopped : List Bool)
     → RolesOf stopped pair → cause ≡ Handing at message → Passes number marks kept pair cause sendings next after → slice_get stopped at ≡ Some true → ⊥
 passes-node stopped ok e (by_send k role p s m) stop = cc
 passes-node stopped ok e (by_pass_again k role p m l) stop = cc

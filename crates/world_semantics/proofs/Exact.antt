@@ -12,13 +12,13 @@ use Rattle.process_semantics.specs.Process as process
 use Rattle.plain_semantics.specs.Openers.{openers_of}
 use Rattle.checkpoint_image.specs.declared.message.ImageMessage.{ImageMessage}
 use Rattle.checkpoint_image.specs.declared.message.TakenMessage.{TakenMessage}
-use Rattle.checkpoint_image.specs.declared.receive.Standing.{Standing}
-use Rattle.checkpoint_image.specs.declared.receive.Standing.TheVariants.{Next, InHand, Kept, Old, Ahead}
+use Rattle.checkpoint_image.specs.declared.receive.RequestStanding.{RequestStanding}
+use Rattle.checkpoint_image.specs.declared.receive.RequestStanding.TheVariants.{Next, InHand, Kept, Old, Ahead}
 use Rattle.world_semantics.specs.declared.role.Role.TheVariants.{Acting, Watching}
 use Rattle.checkpoint_image.specs.Receive.{standing, reply_to, repeated_by, repeated}
 use Rattle.world_semantics.specs.Core.{Core, Deed, Advances, gets}
-use Rattle.world_semantics.specs.World.{Copy, Pair, Mark, Terminal, World, Which, copy_of, other_of, terminal_node}
-use Rattle.world_semantics.specs.Messages.{Message, Asking, Replying, Checkpointing, Taking, Sending, sent_at, Cause, Handing, Marking}
+use Rattle.world_semantics.specs.World.{Copy, Pair, Down, Terminal, World, Which, copy_of, other_of, terminal_node}
+use Rattle.world_semantics.specs.Messages.{Message, Asking, Replying, Checkpointing, Taking, Sending, sent_at, Cause, Handing, NotingDown}
 use Rattle.world_semantics.specs.Own.{Around, Causes, by_inner, by_take, by_ask, by_answer, by_device, by_write, by_reply}
 use Rattle.world_semantics.specs.Passes.{Passes, by_send, by_pass_again, by_pass, by_apply, by_acknowledge}
 use Rattle.world_semantics.specs.Rules.{Change, by_own, by_checkpoint, by_request, by_early_request, by_enter, by_print, by_stop, by_mark}
@@ -99,7 +99,7 @@ only-told (becoming.takes_over node processor t) was now = absurd (cc)
 -- a copy takes over for one whose processor its node marks
 abbrev pub TakesOver : Pair → Which → Cause → Copy → Type 0
 TakesOver pair k cause after =
-    (cause ≡ Marking (copy_of k pair).processor (copy_of (other_of k) pair).processor) × HasTakenOver pair.base (copy_of k pair) after
+    (cause ≡ NotingDown (copy_of k pair).processor (copy_of (other_of k) pair).processor) × HasTakenOver pair.base (copy_of k pair) after
 
 pub only-taken-over : {site : Site} {w : World} {number : ℕ} {pair : Pair} {sent : List ImageMessage} {k : Which} {cause : Cause} {after : Copy}
     → Becomes site w number pair sent k cause after → (copy_of k pair).role ≡ Watching → after.role ≡ Acting → TakesOver pair k cause after
@@ -233,7 +233,7 @@ repeats-kept : (w : World) (node : ℕ) (request : Request) (k : Which) (pair : 
     → IsAmong sending (sent_at (copy_of k pair).processor (map Replying (repeated (copy_of k pair).core.receive request))) → SendsKept w node request sending
 repeats-kept w node request k pair there acting here sending i = by-standing (standing (copy_of k pair).core.receive request) refl i
   where
-    by-standing : (s : Standing) → standing (copy_of k pair).core.receive request ≡ s
+    by-standing : (s : RequestStanding) → standing (copy_of k pair).core.receive request ≡ s
         → IsAmong sending (sent_at (copy_of k pair).processor (map Replying (repeated_by request s))) → SendsKept w node request sending
     by-standing (Kept words) e (inl same) =
         (words, record { pair = pair; k = k; there = there; here = here; acting = acting; kept = e }, same ∙ ap (λ n. record { node = n; message = Replying (reply_to request words) }) here)
@@ -256,7 +256,7 @@ not-asking (by_device n) e = cc
 not-asking (by_write n) e = cc
 not-asking (by_reply i o n u) e = cc
 
-passes-no-request : {number at : ℕ} {marks : List Mark} {kept after : List Act} {pair next : Pair} {cause : Cause} {sendings : List Sending} {request : Request}
+passes-no-request : {number at : ℕ} {marks : List Down} {kept after : List Act} {pair next : Pair} {cause : Cause} {sendings : List Sending} {request : Request}
     → Passes number marks kept pair cause sendings next after → cause ≡ Handing at (Asking request) → ⊥
 passes-no-request (by_send k r p s m) e = cc
 passes-no-request (by_pass_again k r p m l) e = cc

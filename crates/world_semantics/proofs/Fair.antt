@@ -17,11 +17,11 @@ use Rattle.checkpoint_image.specs.declared.receive.OpenerBlock.{OpenerBlock}
 use Rattle.checkpoint_image.specs.declared.receive.ReceiveBlock.{ReceiveBlock}
 use Rattle.checkpoint_image.specs.Receive.{after_answering, standing, is_waiting, waits, came, still_waiting}
 use Rattle.world_semantics.specs.Core.{Core, Deed, Took, Answered, Advances, goes, takes, asks, gets, answers, acts, put_in, with_files, after_passing, core_at_boot}
-use Rattle.world_semantics.specs.World.{Copy, Pair, Mark, World, Which, First, Second, copy_of, with_copy}
+use Rattle.world_semantics.specs.World.{Copy, Pair, Down, World, Which, First, Second, copy_of, with_copy}
 use Rattle.world_semantics.specs.Messages.{Message, Sending, Cause}
 use Rattle.world_semantics.specs.Own.{Around, Causes, by_inner, by_take, by_ask, by_answer, by_device, by_write, by_reply}
 use Rattle.world_semantics.specs.Passes.{Passes, by_send, by_pass_again, by_pass, by_apply, by_acknowledge}
-use Rattle.world_semantics.specs.Rules.{Change, by_own, by_checkpoint, by_request, by_early_request, by_enter, by_print, by_stop, by_mark, stopped_pair, taker, after_marking, marked_pair}
+use Rattle.world_semantics.specs.Rules.{Change, by_own, by_checkpoint, by_request, by_early_request, by_enter, by_print, by_stop, by_mark, stopped_pair, taker, pair_after_down, pair_at_down}
 use Rattle.world_semantics.specs.Follows.{IsRun}
 use Rattle.world_semantics.specs.Laws.{HasGrown}
 use Rattle.world_semantics.proofs.Beginning.{all-begin}
@@ -158,7 +158,7 @@ sent-kept : (number : ℕ) (replies : List Reply) (new : ImageMessage) (sent : L
 sent-kept number replies new sent k ok message (inl same) = subst (λ (m : ImageMessage). KeptSent number replies m.image.receive) (sym same) k
 sent-kept number replies new sent k ok message (inr j) = ok message j
 
-passes-fair : {number : ℕ} {marks : List Mark} {kept after : List Act} {pair next : Pair} {cause : Cause} {sendings : List Sending} (replies : List Reply)
+passes-fair : {number : ℕ} {marks : List Down} {kept after : List Act} {pair next : Pair} {cause : Cause} {sendings : List Sending} (replies : List Reply)
     → Passes number marks kept pair cause sendings next after → FairPair number replies pair → FairPair number replies next
 passes-fair {number = n} {pair = p} replies (by_send First r t s m) ok =
     record { first = ok.first; second = ok.second; checkpoints = sent-kept n replies _ p.checkpoints ok.first.core.kept ok.checkpoints }
@@ -197,7 +197,7 @@ waiting-fair number replies Second pair waiting to ok =
 still-to : (number : ℕ) (table : ReceiveBlock) (waiting : List Request) → AreTo number waiting → AreTo number (still_waiting table waiting)
 still-to number table waiting ok request i = ok request (among-filter request (λ r. is_waiting (standing table r)) waiting i).0
 
-marking-fair : (number : ℕ) (replies : List Reply) (k : Option Which) (pair : Pair) → FairPair number replies pair → FairPair number replies (after_marking k pair)
+marking-fair : (number : ℕ) (replies : List Reply) (k : Option Which) (pair : Pair) → FairPair number replies pair → FairPair number replies (pair_after_down k pair)
 marking-fair number replies None pair ok = ok
 marking-fair number replies (Some First) pair ok = record {
   first = record { core = ok.first.core; waiting = still-to number pair.first.core.receive pair.first.waiting ok.first.waiting };
@@ -236,7 +236,7 @@ change-fair w next cause sendings (by_stop x r) ok =
     map-all (λ n p. FairPair n w.replies p) (stopped_pair x) w.processes
     (λ n p there. record { first = (ok n p there).first; second = (ok n p there).second; checkpoints = (ok n p there).checkpoints })
 change-fair w next cause sendings (by_mark m x s r n) ok =
-    map-all (λ n p. FairPair n w.replies p) (marked_pair m x) w.processes (λ n p there. marking-fair n w.replies (taker m x p) p (ok n p there))
+    map-all (λ n p. FairPair n w.replies p) (pair_at_down m x) w.processes (λ n p there. marking-fair n w.replies (taker m x p) p (ok n p there))
 
 -- Beginning
 

@@ -4,7 +4,7 @@ use Rattle.gd_words.specs.Members.{IsAmong}
 use Rattle.tal_tree.specs.declared.act.Act.{Act}
 use Rattle.tal_tree.specs.declared.site.Site.{Site}
 use Rattle.world_semantics.specs.Core.{Core, Deed}
-use Rattle.world_semantics.specs.World.{Copy, Pair, Mark, World}
+use Rattle.world_semantics.specs.World.{Copy, Pair, Down, World}
 use Rattle.world_semantics.specs.Kept.{Enters, holds_on, repeats, begins, keeps}
 use Rattle.world_semantics.specs.Messages.{Message, Sending, Cause}
 use Rattle.world_semantics.specs.Own.{Around, Causes, by_inner, by_take, by_ask, by_answer, by_device, by_write, by_reply}
@@ -57,7 +57,7 @@ enters-grows {kept = kept} (repeats e l) = grown-none kept
 enters-grows {kept = kept} (begins e l t) = grown-none kept
 enters-grows {act = act} {kept = kept} (keeps e l t) = grown-one act kept
 
-pub passes-grow : {number : ℕ} {marks : List Mark} {kept after : List Act} {pair next : Pair} {cause : Cause} {sendings : List Sending}
+pub passes-grow : {number : ℕ} {marks : List Down} {kept after : List Act} {pair next : Pair} {cause : Cause} {sendings : List Sending}
     → Passes number marks kept pair cause sendings next after → HasGrown kept after
 passes-grow {kept = kept} (by_send k r p s m) = grown-none kept
 passes-grow {kept = kept} (by_pass_again k r p m l) = grown-none kept
@@ -125,7 +125,7 @@ growth site = record {
 
 -- only processors that have stopped are marked
 abbrev pub AreStopped : World → Type 0
-AreStopped w = (m : Mark) → IsAmong m w.marks → slice_get w.stopped m.down ≡ Some true
+AreStopped w = (m : Down) → IsAmong m w.marks → slice_get w.stopped m.down ≡ Some true
 
 pub change-marks : {site : Site} (w next : World) (cause : Cause) (sendings : List Sending) → Change site w cause sendings next → AreStopped w → AreStopped next
 change-marks w next cause sendings (by_own number k pair there acts c a e) ok = ok
@@ -137,6 +137,6 @@ change-marks w next cause sendings (by_print number terminal reply t e i o n) ok
 change-marks w next cause sendings (by_stop processor r) ok = λ m i. stop-stays w.stopped processor m.down (ok m i)
 change-marks w next cause sendings (by_mark node processor s r n) ok = added
   where
-    added : (m : Mark) → (m ≡ record { node = node; down = processor }) ⊎ IsAmong m w.marks → slice_get w.stopped m.down ≡ Some true
-    added m (inl same) = ap (λ (x : Mark). slice_get w.stopped x.down) same ∙ s
+    added : (m : Down) → (m ≡ record { node = node; down = processor }) ⊎ IsAmong m w.marks → slice_get w.stopped m.down ≡ Some true
+    added m (inl same) = ap (λ (x : Down). slice_get w.stopped x.down) same ∙ s
     added m (inr i) = ok m i

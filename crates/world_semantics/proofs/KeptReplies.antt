@@ -8,8 +8,8 @@ use Rattle.gd_words.specs.declared.message.Reply.{Reply}
 use Rattle.tal_tree.specs.declared.site.OpenerSpec.{OpenerSpec}
 use Rattle.checkpoint_image.specs.declared.receive.OpenerBlock.{OpenerBlock}
 use Rattle.checkpoint_image.specs.declared.receive.ReceiveBlock.{ReceiveBlock}
-use Rattle.checkpoint_image.specs.declared.receive.Standing.{Standing}
-use Rattle.checkpoint_image.specs.declared.receive.Standing.TheVariants.{Next, InHand, Kept, Old, Ahead}
+use Rattle.checkpoint_image.specs.declared.receive.RequestStanding.{RequestStanding}
+use Rattle.checkpoint_image.specs.declared.receive.RequestStanding.TheVariants.{Next, InHand, Kept, Old, Ahead}
 use Rattle.checkpoint_image.specs.Receive.{is_place, holds, answered, reply_kept, kept_or_old, standing_in, standing_by, standing, after_taking, after_answering, last_ones, repeated_by, repeated}
 use Rattle.world_semantics.specs.Laws.{HasGrown}
 use Rattle.world_semantics.proofs.Lists.{some-same, Changed, is_new, is_same, changed}
@@ -177,7 +177,7 @@ repeated-sent replies table request reply ok i = by-standing (standing table req
         rw same (ok request.opener b.0 b.1 request.number words b.2)
     one words e (inr i) = absurd i
 
-    by-standing : (s : Standing) → standing table request ≡ s → IsAmong reply (repeated_by request s) → IsAmong reply replies
+    by-standing : (s : RequestStanding) → standing table request ≡ s → IsAmong reply (repeated_by request s) → IsAmong reply replies
     by-standing (Kept words) e i = one words e i
     by-standing Next e i = absurd i
     by-standing InHand e i = absurd i

@@ -5,11 +5,11 @@ use Rattle.tal_tree.specs.declared.act.Act.{Act}
 use Rattle.tal_tree.specs.declared.site.Site.{Site}
 use Rattle.disc_device.specs.declared.stored.Stored.{Stored}
 use Rattle.world_semantics.specs.Core.{Core}
-use Rattle.world_semantics.specs.World.{Copy, Pair, Mark, Terminal, World, Which, First, Second, copy_of, with_copy}
+use Rattle.world_semantics.specs.World.{Copy, Pair, Down, Terminal, World, Which, First, Second, copy_of, with_copy}
 use Rattle.world_semantics.specs.Kept.{Enters, holds_on, repeats, begins, keeps}
 use Rattle.world_semantics.specs.Messages.{Sending, Cause}
 use Rattle.world_semantics.specs.Passes.{Passes, by_send, by_pass_again, by_pass, by_apply, by_acknowledge}
-use Rattle.world_semantics.specs.Rules.{Change, by_own, by_checkpoint, by_request, by_early_request, by_enter, by_print, by_stop, by_mark, stopped_pair, taker, after_marking, marked_pair}
+use Rattle.world_semantics.specs.Rules.{Change, by_own, by_checkpoint, by_request, by_early_request, by_enter, by_print, by_stop, by_mark, stopped_pair, taker, pair_after_down, pair_at_down}
 use Rattle.world_semantics.specs.Laws.{IsLater, IsLaterPair, IsLaterTerminal}
 use Rattle.world_semantics.proofs.Lists.{IsThen, set-then, map-then, grown-none, grown-one, grown-both}
 use Rattle.world_semantics.proofs.Runs.{IsKept}
@@ -55,7 +55,7 @@ own-later Second pair core waiting sectors e = pair-by pair _ (later-same _ _ re
 next-number : (before after : Copy) → after.era ≡ before.era → after.number ≡ before.number + 1 → IsLater before after
 next-number before after e n = record { era = omega (arith, e); number = λ _. omega (arith, n) }
 
-passes-later : {number : ℕ} {marks : List Mark} {kept after : List Act} {pair next : Pair} {cause : Cause} {sendings : List Sending}
+passes-later : {number : ℕ} {marks : List Down} {kept after : List Act} {pair next : Pair} {cause : Cause} {sendings : List Sending}
     → Passes number marks kept pair cause sendings next after → IsLaterPair pair next
 passes-later {pair = p} (by_send First r t s m) = record {
   first = next-number p.first _ refl refl;
@@ -98,7 +98,7 @@ stopped-later x p = pair-by p _ (later-same p.first _ refl refl) (later-same p.s
 next-era : (before after : Copy) → after.era ≡ before.era + 1 → IsLater before after
 next-era before after e = record { era = omega (arith, e); number = λ same. absurd (omega (arith, e, same)) }
 
-marking-later : (k : Option Which) (p : Pair) → IsLaterPair p (after_marking k p)
+marking-later : (k : Option Which) (p : Pair) → IsLaterPair p (pair_after_down k p)
 marking-later None p = pair-same p
 marking-later (Some First) p = pair-by p _ (next-era p.first _ refl) (later-same p.second _ refl refl) refl refl
 marking-later (Some Second) p = pair-by p _ (later-same p.first _ refl refl) (next-era p.second _ refl) refl refl
@@ -124,7 +124,7 @@ change-later w next cause sendings (by_enter number terminal opener t e r o) = �
 change-later w next cause sendings (by_print number terminal reply t e i o n) = λ n p there. (p, there, pair-same p)
 change-later w next cause sendings (by_stop x r) = map-then IsLaterPair (stopped_pair x) (stopped-later x) w.processes
 change-later w next cause sendings (by_mark node x s r n) =
-    map-then IsLaterPair (marked_pair node x) (λ p. marking-later (taker node x p) p) w.processes
+    map-then IsLaterPair (pair_at_down node x) (λ p. marking-later (taker node x p) p) w.processes
 
 pub pairs-go-on : (site : Site) → IsKept site PairsGoOn
 pairs-go-on site = record {

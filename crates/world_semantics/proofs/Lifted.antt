@@ -4,7 +4,7 @@ use Rattle.tal_tree.specs.declared.site.Site.{Site}
 use Rattle.process_semantics.specs.declared.point.Point.{Point}
 use Rattle.world_semantics.specs.declared.role.Role.{Role}
 use Rattle.world_semantics.specs.World.{Pair, World, Which, copy_of, with_copy}
-use Rattle.world_semantics.specs.Passes.{after_mark}
+use Rattle.world_semantics.specs.Passes.{copy_at_checkpoint}
 use Rattle.world_semantics.specs.Records.{records_of}
 use Rattle.world_semantics.specs.Shares.{passing_where, share_of, with_share}
 use Rattle.world_semantics.specs.Running.{Done, Own, Stepped, in_world, mark_step, own_step, sending_step, step_as, step_at, step_of_copy}
@@ -21,10 +21,10 @@ own_made number k pair w own = lifted number w (option_map (own_step number k pa
 abbrev pub sent_done : ℕ → Which → Pair → World → Done
 sent_done number k pair w = in_world number w (sending_step number k pair (records_of w))
 
--- a copy passes its mark, which it did already or not
+-- a copy passes its checkpoint, which it did already or not
 abbrev pub passed_done : ℕ → Which → Pair → World → Bool → Done
 passed_done number k pair w again = in_world number w (record {
-  pair = with_copy k (with_share (passing_where number w.kept (share_of (copy_of k pair)) again).share (after_mark (copy_of k pair))) pair;
+  pair = with_copy k (with_share (passing_where number w.kept (share_of (copy_of k pair)) again).share (copy_at_checkpoint (copy_of k pair))) pair;
   records = record (records_of w) { kept = (passing_where number w.kept (share_of (copy_of k pair)) again).kept };
   sendings = [];
 })

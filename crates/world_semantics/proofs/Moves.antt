@@ -21,7 +21,7 @@ use Rattle.checkpoint_image.specs.declared.message.TakenMessage.{TakenMessage}
 use Rattle.world_semantics.specs.declared.role.Role.{Role}
 use Rattle.world_semantics.specs.declared.role.Role.TheVariants.{Acting, Watching, Gone}
 use Rattle.world_semantics.specs.Core.{put_in, next_on, gets}
-use Rattle.world_semantics.specs.World.{Pair, World, is_running, has_marked, Which, copy_of}
+use Rattle.world_semantics.specs.World.{Pair, World, is_running, has_noted, Which, copy_of}
 use Rattle.world_semantics.specs.Messages.{Sending}
 use Rattle.world_semantics.specs.Passes.{by_apply, by_acknowledge}
 use Rattle.world_semantics.specs.Own.{by_reply}
@@ -209,7 +209,7 @@ fail_as site w processor _ e = None
 abbrev tick_as : (site : Site) (w : World) (node processor : ℕ) (stopped : Option Bool) → slice_get w.stopped processor ≡ stopped → Perhaps site w (event.Tick node)
 tick_as site w node processor (Some true) e =
     where_true (is_running w.stopped node) (λ runs.
-    where_false (has_marked w.marks node processor) (λ new.
+    where_false (has_noted w.marks node processor) (λ new.
     Some (record { world = _; sendings = _; follows = ticks runs (marks_one processor (by_mark node processor e runs new) marks_none) })))
 tick_as site w node processor _ e = None
 

@@ -9,8 +9,8 @@ use Rattle.tal_tree.specs.declared.act.Shown.{Shown}
 use Rattle.tal_tree.specs.declared.site.Site.{Site}
 use Rattle.schedule.specs.declared.event.Event.{Event}
 use Rattle.plain_semantics.specs.Machine.{IsPossible, shown_by}
-use Rattle.checkpoint_image.specs.declared.receive.Standing.{Standing}
-use Rattle.checkpoint_image.specs.declared.receive.Standing.TheVariants.{Ahead}
+use Rattle.checkpoint_image.specs.declared.receive.RequestStanding.{RequestStanding}
+use Rattle.checkpoint_image.specs.declared.receive.RequestStanding.TheVariants.{Ahead}
 use Rattle.world_semantics.specs.declared.role.Role.{Role}
 use Rattle.world_semantics.specs.declared.role.Role.TheVariants.{Acting}
 use Rattle.world_semantics.specs.World.{Pair, World, First, Second, boot}
@@ -77,7 +77,7 @@ repeated = can-keep repeat_acts repeat_shown (played bank_site repeat_moves (boo
 record Left : Type 0 where
   pub acts : List Act
   pub roles : List Role
-  pub waits : List (List Standing)
+  pub waits : List (List RequestStanding)
 
 abbrev left_by : World → Left
 left_by w = record {
@@ -90,7 +90,7 @@ abbrev left : {site : Site} {w : World} {events : List Event} → Option (Played
 left None = None
 left (Some p) = Some (left_by p.world)
 
-can-leave : {site : Site} {events : List Event} (acts : List Act) (roles : List Role) (waits : List (List Standing)) (p : Option (Played site (boot site) events))
+can-leave : {site : Site} {events : List Event} (acts : List Act) (roles : List Role) (waits : List (List RequestStanding)) (p : Option (Played site (boot site) events))
     → left p ≡ Some (record { acts = acts; roles = roles; waits = waits }) → CanLeave site events acts roles waits
 can-leave acts roles waits None e = absurd (cc)
 can-leave acts roles waits (Some p) e =

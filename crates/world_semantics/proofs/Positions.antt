@@ -6,12 +6,12 @@ use Rattle.tal_tree.specs.declared.act.Act.TheVariants.{Step, Enter, Print}
 use Rattle.tal_tree.specs.declared.site.Site.{Site}
 use Rattle.disc_device.specs.declared.stored.Stored.{Stored}
 use Rattle.world_semantics.specs.Core.{Core, Deed}
-use Rattle.world_semantics.specs.World.{Copy, Pair, Mark, World, Which, First, Second, copy_of, with_copy, boot}
+use Rattle.world_semantics.specs.World.{Copy, Pair, Down, World, Which, First, Second, copy_of, with_copy, boot}
 use Rattle.world_semantics.specs.Kept.{is_own, own_acts, Enters, holds_on, repeats, begins, keeps}
 use Rattle.world_semantics.specs.Messages.{Message, Sending, Cause}
 use Rattle.world_semantics.specs.Own.{Around, Causes, by_inner, by_take, by_ask, by_answer, by_device, by_write, by_reply}
-use Rattle.world_semantics.specs.Passes.{Passes, by_send, by_pass_again, by_pass, by_apply, by_acknowledge, kept_at_mark}
-use Rattle.world_semantics.specs.Rules.{Change, by_own, by_checkpoint, by_request, by_early_request, by_enter, by_print, by_stop, by_mark, stopped_pair, taker, after_marking, marked_pair}
+use Rattle.world_semantics.specs.Passes.{Passes, by_send, by_pass_again, by_pass, by_apply, by_acknowledge, kept_at_checkpoint}
+use Rattle.world_semantics.specs.Rules.{Change, by_own, by_checkpoint, by_request, by_early_request, by_enter, by_print, by_stop, by_mark, stopped_pair, taker, pair_after_down, pair_at_down}
 use Rattle.world_semantics.specs.Laws.{HasGrown}
 use Rattle.world_semantics.proofs.Beginning.{all-begin}
 use Rattle.world_semantics.proofs.Lists.{set-all, map-all, grown-one, grown-more}
@@ -70,16 +70,16 @@ own-bounds Second pair core waiting sectors {number = n} e o ok =
 
 -- Checkpoints
 
-mark-more : (number : ℕ) (copy : Copy) (kept : List Act) → own_acts number (copy.held ++ kept) ≤ own_acts number (kept_at_mark number copy kept)
+mark-more : (number : ℕ) (copy : Copy) (kept : List Act) → own_acts number (copy.held ++ kept) ≤ own_acts number (kept_at_checkpoint number copy kept)
 mark-more number copy kept = own-grown number (grown-one (Step number) (copy.held ++ kept))
 
-at-mark : (number : ℕ) (copy : Copy) (kept : List Act) → own_acts number kept ≤ own_acts number (kept_at_mark number copy kept)
+at-mark : (number : ℕ) (copy : Copy) (kept : List Act) → own_acts number kept ≤ own_acts number (kept_at_checkpoint number copy kept)
 at-mark number copy kept = own-grown number (grown-more (Step number) copy.held kept)
 
 same-count : (n : ℕ) → n ≤ n
 same-count n = omega arith
 
-passes-bounds : {number : ℕ} {marks : List Mark} {kept after : List Act} {pair next : Pair} {cause : Cause} {sendings : List Sending}
+passes-bounds : {number : ℕ} {marks : List Down} {kept after : List Act} {pair next : Pair} {cause : Cause} {sendings : List Sending}
     → Passes number marks kept pair cause sendings next after → BoundsOf kept number pair → BoundsOf after number next
 passes-bounds (by_send First r p s m) ok = record { first = ok.first; second = ok.second; base = ok.base }
 passes-bounds (by_send Second r p s m) ok = record { first = ok.first; second = ok.second; base = ok.base }
@@ -105,7 +105,7 @@ waiting-bounds : (kept : List Act) (number : ℕ) (k : Which) (pair : Pair) (wai
 waiting-bounds kept number First pair waiting ok = ok
 waiting-bounds kept number Second pair waiting ok = ok
 
-marking-bounds : (kept : List Act) (number : ℕ) (k : Option Which) (pair : Pair) → BoundsOf kept number pair → BoundsOf kept number (after_marking k pair)
+marking-bounds : (kept : List Act) (number : ℕ) (k : Option Which) (pair : Pair) → BoundsOf kept number pair → BoundsOf kept number (pair_after_down k pair)
 marking-bounds kept number None pair ok = ok
 marking-bounds kept number (Some First) pair ok = record { first = ok.base; second = ok.second; base = ok.base }
 marking-bounds kept number (Some Second) pair ok = record { first = ok.first; second = ok.base; base = ok.base }
@@ -125,4 +125,4 @@ change-bounds w next cause sendings (by_enter number terminal opener t e r o) ok
 change-bounds w next cause sendings (by_print number terminal reply t e i o n) ok = all-more w (Print number ∷ w.kept) (grown-one (Print number) w.kept) ok
 change-bounds w next cause sendings (by_stop x r) ok = map-all (BoundsOf w.kept) (stopped_pair x) w.processes ok
 change-bounds w next cause sendings (by_mark node x s r n) ok =
-    map-all (BoundsOf w.kept) (marked_pair node x) w.processes (λ n p there. marking-bounds w.kept n (taker node x p) p (ok n p there))
+    map-all (BoundsOf w.kept) (pair_at_down node x) w.processes (λ n p there. marking-bounds w.kept n (taker node x p) p (ok n p there))

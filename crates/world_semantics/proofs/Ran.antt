@@ -8,7 +8,7 @@ use Rattle.process_semantics.specs.declared.point.Point.TheVariants as point
 use Rattle.process_semantics.specs.Process as process
 use Rattle.world_semantics.specs.declared.role.Role.{Role}
 use Rattle.world_semantics.specs.declared.role.Role.TheVariants.{Acting, Watching, Gone}
-use Rattle.world_semantics.specs.World.{Copy, Pair, Mark, World, Which, First, Second, copy_of, other_of, may_pass, has_marked}
+use Rattle.world_semantics.specs.World.{Copy, Pair, Down, World, Which, First, Second, copy_of, other_of, may_pass, has_noted}
 use Rattle.world_semantics.specs.Kept.{own_acts}
 use Rattle.world_semantics.specs.Core.{Core, Deed}
 use Rattle.world_semantics.specs.Messages.{Message, Sending, sent_at, Cause, Running}
@@ -18,7 +18,7 @@ use Rattle.world_semantics.specs.Rules.{Change, by_own, by_checkpoint, by_reques
 use Rattle.world_semantics.specs.Follows.{IsIdleFor}
 use Rattle.world_semantics.specs.Records.{records_of}
 use Rattle.world_semantics.specs.Running.{Done, Own, Stepped, first_step, own_at, run_done, run_pair, step_of_copy}
-use Rattle.world_semantics.specs.Shares.{after_entering, entering, share_of}
+use Rattle.world_semantics.specs.Shares.{after_entering, share_after_act, share_of}
 use Rattle.world_semantics.proofs.Lifted.{lifted, mark_done, own_done, own_made, passed_done, run_as, run_at, run_copy}
 use Rattle.world_semantics.proofs.Lists.{some-same}
 use Rattle.world_semantics.proofs.Running.{enters-as, enters-only, own-can, own-only}
@@ -34,13 +34,13 @@ either-not true b e = absurd (cc)
 either-not false b e = e
 
 passed-may : (site : Site) (number : ℕ) (k : Which) (pair : Pair) (w : World) → slice_get w.processes number ≡ Some pair → (copy_of k pair).role ≡ Acting
-    → process.point (copy_of k pair).core.state ≡ point.Mark → may_pass w.marks k pair ≡ true
+    → process.point (copy_of k pair).core.state ≡ point.AtCheckpoint → may_pass w.marks k pair ≡ true
     → (again : Bool) → nat_lt (copy_of k pair).position (own_acts number w.kept) ≡ again → MayRun site number w (passed_done number k pair w again)
 passed-may site number k pair w there role p m true e = by_checkpoint number pair there (by_pass_again k role p m (ltb-true _ _ e))
 passed-may site number k pair w there role p m false e = by_checkpoint number pair there (by_pass k role p m (ltb-false _ _ e))
 
 mark-may : (site : Site) (number : ℕ) (k : Which) (pair : Pair) (w : World) → slice_get w.processes number ≡ Some pair → (copy_of k pair).role ≡ Acting
-    → process.point (copy_of k pair).core.state ≡ point.Mark → (free sent : Bool) → may_pass w.marks k pair ≡ free → (copy_of k pair).sent ≡ sent
+    → process.point (copy_of k pair).core.state ≡ point.AtCheckpoint → (free sent : Bool) → may_pass w.marks k pair ≡ free → (copy_of k pair).sent ≡ sent
     → (done : Done) → mark_done number k pair w free sent ≡ Some done → MayRun site number w done
 mark-may site number k pair w there role p true sent m s done e =
     subst (MayRun site number w) (some-same e) (passed-may site number k pair w there role p m (nat_lt (copy_of k pair).position (own_acts number w.kept)) refl)
@@ -60,7 +60,7 @@ own-may site number k pair w there role p stands (Some o) a done e =
 
 at-may : (site : Site) (number : ℕ) (k : Which) (pair : Pair) (w : World) → slice_get w.processes number ≡ Some pair → (copy_of k pair).role ≡ Acting
     → (p : Point) → process.point (copy_of k pair).core.state ≡ p → (done : Done) → run_at site number k pair w p ≡ Some done → MayRun site number w done
-at-may site number k pair w there role point.Mark stands done e =
+at-may site number k pair w there role point.AtCheckpoint stands done e =
     mark-may site number k pair w there role stands (may_pass w.marks k pair) (copy_of k pair).sent refl refl done e
 at-may site number k pair w there role p stands done e = own-may site number k pair w there role p stands _ refl done e
 
@@ -104,14 +104,14 @@ record Ran (site : Site) (number : ℕ) (w : World) (done : Done) : Type 0 where
 
 own-run : (site : Site) (number : ℕ) (k : Which) (pair : Pair) (w : World) (p : Point) (o : Own)
     → own_at site number (copy_of k pair).core (around (copy_of k pair) pair w) p ≡ Some o → run_at site number k pair w p ≡ Some (own_done number k pair w o)
-own-run site number k pair w point.Mark o e = absurd (cc)
+own-run site number k pair w point.AtCheckpoint o e = absurd (cc)
 own-run site number k pair w p o e = ap (own_made number k pair w) e
 
 not-none : {A : Type 0} {o : Option A} {x : A} → o ≡ Some x → o ≡ None → ⊥
 not-none e n = cc
 
-free-or : (marks : List Mark) (k : Which) (pair : Pair) → IsSettled (copy_of k pair) → (copy_of k pair).sent ≡ false
-    → has_marked marks (copy_of k pair).processor (copy_of (other_of k) pair).processor ≡ false → may_pass marks k pair ≡ false
+free-or : (marks : List Down) (k : Which) (pair : Pair) → IsSettled (copy_of k pair) → (copy_of k pair).sent ≡ false
+    → has_noted marks (copy_of k pair).processor (copy_of (other_of k) pair).processor ≡ false → may_pass marks k pair ≡ false
 free-or marks k pair settled s m = rw (settled s, m) refl
 
 mark-some : (number : ℕ) (k : Which) (pair : Pair) (w : World) (free : Bool) → mark_done number k pair w free false ≡ None → ⊥
@@ -144,7 +144,7 @@ own-ran : (site : Site) (number : ℕ) (k : Which) (pair : Pair) (w : World) →
     → (done : Act) (messages : List Message) (after : Around) (core : Core) (next : Copy) (kept : List Act)
     → own_at site number (copy_of k pair).core (around (copy_of k pair) pair w) (process.point (copy_of k pair).core.state)
     ≡ Some (record { done = done; messages = messages; after = after; core = core })
-    → (after_entering number done w.kept (copy_of k pair) ≡ next) × ((entering number done w.kept (share_of (copy_of k pair))).kept ≡ kept)
+    → (after_entering number done w.kept (copy_of k pair) ≡ next) × ((share_after_act number done w.kept (share_of (copy_of k pair))).kept ≡ kept)
     → Ran site number w (record { world = after_own number k pair core next after kept w; sendings = sent_at (copy_of k pair).processor messages })
 own-ran site number k pair w there role done messages after core next kept e s =
     let run = own-run site number k pair w (process.point (copy_of k pair).core.state) _ e in
@@ -170,7 +170,7 @@ own-number r (by_device e) = same-number r
 own-number r (by_write e) = same-number r
 own-number r (by_reply i o m e) = absurd (cc)
 
-pass-number : {number one : ℕ} {marks : List Mark} {kept after : List Act} {pair next : Pair} {cause : Cause} {sendings : List Sending}
+pass-number : {number one : ℕ} {marks : List Down} {kept after : List Act} {pair next : Pair} {cause : Cause} {sendings : List Sending}
     → cause ≡ Running number → Passes one marks kept pair cause sendings next after → one ≡ number
 pass-number r (by_send k role p s m) = same-number r
 pass-number r (by_pass_again k role p m l) = same-number r

@@ -8,11 +8,11 @@ use Rattle.disc_device.specs.declared.stored.Stored.{Stored}
 use Rattle.world_semantics.specs.declared.role.Role.{Role}
 use Rattle.world_semantics.specs.declared.role.Role.TheVariants.{Acting, Watching, Gone}
 use Rattle.world_semantics.specs.Core.{Core}
-use Rattle.world_semantics.specs.World.{Copy, Pair, Mark, World, Which, First, Second, copy_of, other_of, with_copy, boot, is_running, runs_by}
+use Rattle.world_semantics.specs.World.{Copy, Pair, Down, World, Which, First, Second, copy_of, other_of, with_copy, boot, is_running, runs_by}
 use Rattle.world_semantics.specs.Kept.{Enters, holds_on, repeats, begins, keeps}
 use Rattle.world_semantics.specs.Messages.{Sending, Cause}
 use Rattle.world_semantics.specs.Passes.{Passes, by_send, by_pass_again, by_pass, by_apply, by_acknowledge}
-use Rattle.world_semantics.specs.Rules.{Change, by_own, by_checkpoint, by_request, by_early_request, by_enter, by_print, by_stop, by_mark, stopped_pair, is_watching, takes_over, taker, after_marking, marked_pair}
+use Rattle.world_semantics.specs.Rules.{Change, by_own, by_checkpoint, by_request, by_early_request, by_enter, by_print, by_stop, by_mark, stopped_pair, is_watching, takes_over, taker, pair_after_down, pair_at_down}
 use Rattle.world_semantics.proofs.Beginning.{all-begin}
 use Rattle.world_semantics.proofs.Lists.{some-same, set-all, map-all}
 use Rattle.world_semantics.proofs.Growing.{stop-stays}
@@ -65,7 +65,7 @@ own-roles stopped Second pair core waiting sectors (repeats e l) ok = ok
 own-roles stopped Second pair core waiting sectors (begins e l t) ok = ok
 own-roles stopped Second pair core waiting sectors (keeps e l t) ok = ok
 
-passes-roles : {number : ℕ} {marks : List Mark} {kept after : List Act} {pair next : Pair} {cause : Cause} {sendings : List Sending} (stopped : List Bool)
+passes-roles : {number : ℕ} {marks : List Down} {kept after : List Act} {pair next : Pair} {cause : Cause} {sendings : List Sending} (stopped : List Bool)
     → Passes number marks kept pair cause sendings next after → RolesOf stopped pair → RolesOf stopped next
 passes-roles stopped (by_send First r p s m) ok = ok
 passes-roles stopped (by_send Second r p s m) ok = ok
@@ -182,7 +182,7 @@ not-running node (Some true) r s = cc
 not-running node (Some false) r s = cc
 
 mark-roles : (stopped : List Bool) (node processor : ℕ) → slice_get stopped processor ≡ Some true → is_running stopped node ≡ true
-    → (pair : Pair) (k : Option Which) → taker node processor pair ≡ k → RolesOf stopped pair → RolesOf stopped (after_marking k pair)
+    → (pair : Pair) (k : Option Which) → taker node processor pair ≡ k → RolesOf stopped pair → RolesOf stopped (pair_after_down k pair)
 mark-roles stopped node processor s r pair None e ok = ok
 mark-roles stopped node processor s r pair (Some First) e ok = absurd (ok.first_leads (taker-is node processor pair First e).watching)
 mark-roles stopped node processor s r pair (Some Second) e ok =
@@ -212,5 +212,5 @@ change-roles w next cause sendings (by_print number terminal reply t e i o n) ok
 change-roles w next cause sendings (by_stop x r) ok =
     map-all (λ n p. RolesOf (slice_set w.stopped x true) p) (stopped_pair x) w.processes (λ n p there. stop-roles w.stopped x r p (ok n p there))
 change-roles w next cause sendings (by_mark node x s r n) ok =
-    map-all (λ n p. RolesOf w.stopped p) (marked_pair node x) w.processes
+    map-all (λ n p. RolesOf w.stopped p) (pair_at_down node x) w.processes
     (λ n p there. mark-roles w.stopped node x s r p (taker node x p) refl (ok n p there))

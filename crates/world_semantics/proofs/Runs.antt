@@ -5,7 +5,7 @@ use Rattle.schedule.specs.declared.event.Event.{Event}
 use Rattle.world_semantics.specs.World.{World}
 use Rattle.world_semantics.specs.Messages.{Sending, Cause}
 use Rattle.world_semantics.specs.Rules.{Change}
-use Rattle.world_semantics.specs.Follows.{Marks, marks_none, marks_one, Follows, runs, cannot_run, enters, cannot_enter, delivers_none, delivers, delivers_mark, loses, doubles, ticks_none, ticks, ticks_stop, fails, cannot_fail, Leads, stays, goes_on}
+use Rattle.world_semantics.specs.Follows.{NotesDowns, marks_none, marks_one, Follows, runs, cannot_run, enters, cannot_enter, delivers_none, delivers, delivers_mark, loses, doubles, ticks_none, ticks, ticks_stop, fails, cannot_fail, Leads, stays, goes_on}
 
 -- a relation between worlds that holds of a world and itself, goes from one to the next, and holds of each change
 pub record IsKept (site : Site) (R : World → World → Type 0) : Type 0 where
@@ -13,7 +13,7 @@ pub record IsKept (site : Site) (R : World → World → Type 0) : Type 0 where
   pub both : (u v w : World) → R u v → R v w → R u w
   pub change : (w next : World) (cause : Cause) (sendings : List Sending) → Change site w cause sendings next → R w next
 
-marks-keep : {site : Site} {R : World → World → Type 0} → IsKept site R → {node : _} {w end : World} {sendings : List Sending} → Marks site node w sendings end → R w end
+marks-keep : {site : Site} {R : World → World → Type 0} → IsKept site R → {node : _} {w end : World} {sendings : List Sending} → NotesDowns site node w sendings end → R w end
 marks-keep k (marks_none {w = w}) = k.same w
 marks-keep k (marks_one {w = w} {next = next} {end = end} processor c m) = k.both w next end (k.change w next _ _ c) (marks-keep k m)
 

@@ -12,7 +12,7 @@ use Rattle.world_semantics.specs.World.{Copy, Pair, World, Which, First, Second,
 use Rattle.world_semantics.specs.Messages.{Message, Asking, Replying, Checkpointing, Taking, Sending, sent_at, Cause}
 use Rattle.world_semantics.specs.Own.{Around, Causes, by_inner, by_take, by_ask, by_answer, by_device, by_write, by_reply, asked_on}
 use Rattle.world_semantics.specs.Passes.{Passes, by_send, by_pass_again, by_pass, by_apply, by_acknowledge, checkpoint_of, taken_of}
-use Rattle.world_semantics.specs.Rules.{Change, by_own, by_checkpoint, by_request, by_early_request, by_enter, by_print, by_stop, by_mark, told_at_mark, told_by, taker, entered_request}
+use Rattle.world_semantics.specs.Rules.{Change, by_own, by_checkpoint, by_request, by_early_request, by_enter, by_print, by_stop, by_mark, told_at_down, takeover_sendings, taker, entered_request}
 use Rattle.world_semantics.specs.Follows.{IsRun}
 use Rattle.world_semantics.specs.Laws.{WasSent}
 use Rattle.world_semantics.proofs.Lists.{set-there}
@@ -78,7 +78,7 @@ again-sent w number copy ok reply i =
     repeated-sent w.replies copy.core.receive of.item reply (rw (ok.waiting of.item of.among) ok.core.kept) of.within
 
 told-sent : (w next : World) (number : ℕ) (pair : Pair) (k : Option Which) → next.replies ≡ w.replies → ((k : Which) → CopyIsFair number w.replies (copy_of k pair))
-    → (sending : Sending) → IsAmong sending (told_by k pair) → WasSent next sending.message
+    → (sending : Sending) → IsAmong sending (takeover_sendings k pair) → WasSent next sending.message
 told-sent w next number pair None same ok sending i = absurd i
 told-sent w next number pair (Some k) same ok sending i =
     let copy = copy_of k pair in
@@ -104,7 +104,7 @@ change-sends w next cause sendings ok (by_enter {words = words} number terminal 
 change-sends w next cause sendings ok (by_print number terminal reply t f j o n) sending i = absurd i
 change-sends w next cause sendings ok (by_stop x r) sending i = absurd i
 change-sends w next cause sendings ok (by_mark m x s r n) sending i =
-    let of = among-flat_map (told_at_mark m x) w.processes sending i in
+    let of = among-flat_map (told_at_down m x) w.processes sending i in
     told-sent w next of.place of.item (taker m x of.item) refl (λ k. fair-of of.place w.replies k of.item (ok of.place of.item of.there)) sending of.within
 
 pub run-sends : {site : Site} {events : List Event} {w : World} → IsRun site events w → (next : World) (cause : Cause) (sendings : List Sending)

@@ -1,4 +1,4 @@
--- A copy that has sent its checkpoint stands at its mark, and the checkpoint carries what it has.
+-- A copy that has sent its checkpoint stands at it, and the checkpoint carries what it has.
 use Rattle.std.proofs.Common.{◌≡◌, ◌==◌, ℕ, true, false, List, [], Some, slice_get, refl, subst, sym, ◌∙◌}
 use Rattle.gd_words.specs.Members.{IsAmong}
 use Rattle.tal_tree.specs.declared.act.Act.{Act}
@@ -10,7 +10,7 @@ use Rattle.process_semantics.specs.declared.point.Point.TheVariants as point
 use Rattle.process_semantics.specs.Process as process
 use Rattle.checkpoint_image.specs.declared.message.ImageMessage.{ImageMessage}
 use Rattle.world_semantics.specs.declared.role.Role.TheVariants.{Acting, Watching}
-use Rattle.world_semantics.specs.Core.{Core, Deed, Marked, Advances, goes, marks, takes, asks, gets, answers, acts}
+use Rattle.world_semantics.specs.Core.{Core, Deed, Checkpointed, Advances, goes, marks, takes, asks, gets, answers, acts}
 use Rattle.world_semantics.specs.World.{Copy, Pair, World, Which, First, Second, copy_of, pair_at_boot, boot}
 use Rattle.world_semantics.specs.Messages.{Message, Sending, Cause}
 use Rattle.world_semantics.specs.Own.{Around, Causes, by_inner, by_take, by_ask, by_answer, by_device, by_write, by_reply}
@@ -27,7 +27,7 @@ use Rattle.world_semantics.proofs.Becoming.{Becomes, entered-same, was-role, cha
 
 -- what a copy that has sent has, where these are the checkpoints that were sent
 abbrev IsAtMark : ℕ → List ImageMessage → Copy → Type 0
-IsAtMark number sent copy = (process.point copy.core.state ≡ point.Mark) × IsAmong (last_checkpoint number copy) sent
+IsAtMark number sent copy = (process.point copy.core.state ≡ point.AtCheckpoint) × IsAmong (last_checkpoint number copy) sent
 
 pub record HasSent (number : ℕ) (sent : List ImageMessage) (copy : Copy) : Type 0 where
   pub watching : copy.role ≡ Watching → copy.sent ≡ false
@@ -36,8 +36,8 @@ pub record HasSent (number : ℕ) (sent : List ImageMessage) (copy : Copy) : Typ
 among-more : {before after : List ImageMessage} (message : ImageMessage) → HasGrown before after → IsAmong message before → IsAmong message after
 among-more {before = before} message g i = subst (IsAmong message) (sym g.1) (among-right message g.0 before i)
 
--- only the step at the mark is done at a mark
-mark-deed : {openers : List OpenerSpec} {core next : Core} {deed : Deed} → Advances openers core deed next → process.point core.state ≡ point.Mark → deed ≡ Marked
+-- only the step at the checkpoint is done at a checkpoint
+mark-deed : {openers : List OpenerSpec} {core next : Core} {deed : Deed} → Advances openers core deed next → process.point core.state ≡ point.AtCheckpoint → deed ≡ Checkpointed
 mark-deed (goes p) m = absurd (cc)
 mark-deed (marks p) m = refl
 mark-deed (takes block p s) m = absurd (cc)
@@ -47,7 +47,7 @@ mark-deed (answers opener block p h o s w) m = absurd (cc)
 mark-deed (acts p c) m = absurd (cc)
 
 not-marked : {site : Site} {number node : ℕ} {core : Core} {before after : Around} {cause : Cause} {deed : Deed} {done : Act} {messages : List Message}
-    → Causes site number node core before cause deed done messages after → deed ≡ Marked → ⊥
+    → Causes site number node core before cause deed done messages after → deed ≡ Checkpointed → ⊥
 not-marked by_inner e = cc
 not-marked (by_take c) e = cc
 not-marked by_ask e = cc

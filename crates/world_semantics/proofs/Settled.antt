@@ -5,11 +5,11 @@ use Rattle.tal_tree.specs.declared.act.Act.{Act}
 use Rattle.tal_tree.specs.declared.site.Site.{Site}
 use Rattle.disc_device.specs.declared.stored.Stored.{Stored}
 use Rattle.world_semantics.specs.Core.{Core}
-use Rattle.world_semantics.specs.World.{Copy, Pair, Mark, World, Which, First, Second, copy_of, with_copy, boot}
+use Rattle.world_semantics.specs.World.{Copy, Pair, Down, World, Which, First, Second, copy_of, with_copy, boot}
 use Rattle.world_semantics.specs.Kept.{Enters, holds_on, repeats, begins, keeps}
 use Rattle.world_semantics.specs.Messages.{Sending, Cause}
 use Rattle.world_semantics.specs.Passes.{Passes, by_send, by_pass_again, by_pass, by_apply, by_acknowledge}
-use Rattle.world_semantics.specs.Rules.{Change, by_own, by_checkpoint, by_request, by_early_request, by_enter, by_print, by_stop, by_mark, stopped_pair, taker, after_marking, marked_pair}
+use Rattle.world_semantics.specs.Rules.{Change, by_own, by_checkpoint, by_request, by_early_request, by_enter, by_print, by_stop, by_mark, stopped_pair, taker, pair_after_down, pair_at_down}
 use Rattle.world_semantics.proofs.Beginning.{all-begin}
 use Rattle.world_semantics.proofs.Lists.{set-all, map-all}
 use Rattle.world_semantics.proofs.Ran.{IsSettled}
@@ -35,7 +35,7 @@ own-settled : (k : Which) (pair : Pair) (core : Core) (waiting : List Request) (
 own-settled First pair core waiting sectors e ok = record { first = enters-settled core waiting e ok.first; second = ok.second }
 own-settled Second pair core waiting sectors e ok = record { first = ok.first; second = enters-settled core waiting e ok.second }
 
-passes-settled : {number : ℕ} {marks : List Mark} {kept after : List Act} {pair next : Pair} {cause : Cause} {sendings : List Sending}
+passes-settled : {number : ℕ} {marks : List Down} {kept after : List Act} {pair next : Pair} {cause : Cause} {sendings : List Sending}
     → Passes number marks kept pair cause sendings next after → AreSettled pair → AreSettled next
 passes-settled (by_send First r p s m) ok = record { first = λ _. refl; second = ok.second }
 passes-settled (by_send Second r p s m) ok = record { first = ok.first; second = λ _. refl }
@@ -52,7 +52,7 @@ waiting-settled : (k : Which) (pair : Pair) (waiting : List Request) → AreSett
 waiting-settled First pair waiting ok = record { first = ok.first; second = ok.second }
 waiting-settled Second pair waiting ok = record { first = ok.first; second = ok.second }
 
-marking-settled : (k : Option Which) (pair : Pair) → AreSettled pair → AreSettled (after_marking k pair)
+marking-settled : (k : Option Which) (pair : Pair) → AreSettled pair → AreSettled (pair_after_down k pair)
 marking-settled None pair ok = ok
 marking-settled (Some First) pair ok = record { first = ok.first; second = ok.second }
 marking-settled (Some Second) pair ok = record { first = ok.first; second = ok.second }
@@ -72,7 +72,7 @@ change-settled w next cause sendings (by_stop x r) ok =
     map-all (λ n p. AreSettled p) (stopped_pair x) w.processes
     (λ n p there. record { first = (ok n p there).first; second = (ok n p there).second })
 change-settled w next cause sendings (by_mark node x s r n) ok =
-    map-all (λ n p. AreSettled p) (marked_pair node x) w.processes (λ n p there. marking-settled (taker node x p) p (ok n p there))
+    map-all (λ n p. AreSettled p) (pair_at_down node x) w.processes (λ n p there. marking-settled (taker node x p) p (ok n p there))
 
 pub settled-begin : (site : Site) → AllSettled (boot site)
 settled-begin site = all-begin (λ n p. AreSettled p) site (λ number from spec. record { first = λ _. refl; second = λ _. refl })

@@ -10,7 +10,7 @@ use Rattle.plain_semantics.specs.declared.slot.Opener.{Opener}
 use Rattle.plain_semantics.specs.Openers.{opener_of}
 use Rattle.plain_semantics.specs.Machine.{next_request}
 use Rattle.world_semantics.specs.Core.{Core, Deed}
-use Rattle.world_semantics.specs.World.{Pair, Mark, Terminal, World, terminal_node, boot}
+use Rattle.world_semantics.specs.World.{Pair, Down, Terminal, World, terminal_node, boot}
 use Rattle.world_semantics.specs.Messages.{Message, Asking, Sending, sent_at, Cause, Entering}
 use Rattle.world_semantics.specs.Own.{Around, Causes, by_inner, by_take, by_ask, by_answer, by_device, by_write, by_reply}
 use Rattle.world_semantics.specs.Passes.{Passes, by_send, by_pass_again, by_pass, by_apply, by_acknowledge}
@@ -67,7 +67,7 @@ own-enters-none (by_device n) e = cc
 own-enters-none (by_write n) e = cc
 own-enters-none (by_reply i o n u) e = cc
 
-passes-enter-none : {number terminal : ℕ} {marks : List Mark} {kept after : List Act} {pair next : Pair} {cause : Cause} {sendings : List Sending}
+passes-enter-none : {number terminal : ℕ} {marks : List Down} {kept after : List Act} {pair next : Pair} {cause : Cause} {sendings : List Sending}
     → Passes number marks kept pair cause sendings next after → cause ≡ Entering terminal → ⊥
 passes-enter-none (by_send k r p s m) e = cc
 passes-enter-none (by_pass_again k r p m l) e = cc

@@ -39,8 +39,8 @@ next_on core file = unwrap_or (slice_get core.next file) 1
 pub data Deed : Type 0 where
   -- a step inside
   Went : Deed
-  -- the step at a mark
-  Marked : Deed
+  -- the step at a checkpoint
+  Checkpointed : Deed
   -- it took a request of the opener at a place
   Took : (place : ℕ) → (words : List ℤ) → Deed
   -- it asked on a file
@@ -56,9 +56,9 @@ pub data Deed : Type 0 where
 abbrev pub core_going : Core → Core
 core_going core = record core { state = process.after_inner core.state }
 
--- after its mark
+-- after its checkpoint
 abbrev pub after_passing : Core → Core
-after_passing core = record core { state = process.after_mark core.state }
+after_passing core = record core { state = process.after_checkpoint core.state }
 
 -- after a request of these words was taken, of the opener at a place where this block stands: that is noted in the receive table
 abbrev pub core_taken : ℕ → List ℤ → OpenerBlock → Core → Core
@@ -85,7 +85,7 @@ core_acting found core = record core { state = process.after_device core.state f
 -- a deed is possible where the process stands at its point, and leads to the step of its core
 pub data Advances (openers : List OpenerSpec) (core : Core) : Deed → Core → Type 0 where
   goes : process.point core.state ≡ point.Inner → Advances openers core Went (core_going core)
-  marks : process.point core.state ≡ point.Mark → Advances openers core Marked (after_passing core)
+  marks : process.point core.state ≡ point.AtCheckpoint → Advances openers core Checkpointed (after_passing core)
   takes : {place : ℕ} {words : List ℤ} (block : OpenerBlock) → process.point core.state ≡ point.Take → slice_get core.receive.openers place ≡ Some block
       → Advances openers core (Took place words) (core_taken place words block core)
   asks : {file : ℕ} {words : List ℤ} → process.point core.state ≡ point.Ask → file ≡ process.asked_file core.state → words ≡ process.asked_words core.state
@@ -101,7 +101,7 @@ pub data Advances (openers : List OpenerSpec) (core : Core) : Deed → Core → 
 
 -- Checkpoints
 
--- what a checkpoint of a core at Mark carries: the words of its image with the items named there, the next numbers of the files named there, and the
+-- what a checkpoint of a core carries: the words of its image with the items named there, the next numbers of the files named there, and the
 -- receive table
 abbrev pub carried : Core → Image
 carried core = record {

@@ -20,7 +20,7 @@ use Rattle.tal_tree.specs.declared.site.Site.{Site}
 use Rattle.tal_tree.specs.declared.site.Kind.TheVariants as kind
 use Rattle.schedule.specs.declared.event.Event.{Event}
 use Rattle.schedule.specs.declared.event.Event.TheVariants as event
-use Rattle.checkpoint_image.specs.declared.receive.Standing.{Standing}
+use Rattle.checkpoint_image.specs.declared.receive.RequestStanding.{RequestStanding}
 use Rattle.world_semantics.specs.declared.role.Role.{Role}
 use Rattle.checkpoint_image.specs.Receive.{standing}
 use Rattle.world_semantics.specs.World.{Copy, World}
@@ -95,7 +95,7 @@ abbrev pub run : Event
 run = event.Run 0
 
 -- The takeover: a request of 5 is entered, the program comes to READUPDATE, and the request is delivered to both copies. The first one takes it, adds it, and
--- sends its checkpoint, which is delivered, as is that it was taken. It passes its mark and answers, and its processor stops. Both nodes that run mark it, and
+-- sends its checkpoint, which is delivered, as is that it was taken. It passes its checkpoint and answers, and its processor stops. Both nodes that run mark it, and
 -- the second copy takes over. It answers anew, the request comes once more, and its reply, which is sent again, is printed
 
 -- the events of the takeover
@@ -256,7 +256,7 @@ abbrev pub ahead_acts : List Act
 ahead_acts = act.Enter 0 ∷ act.Step 0 ∷ act.Step 0 ∷ act.Step 0 ∷ act.Print 0 ∷ act.Enter 0 ∷ []
 
 -- how what waits at a copy stands to it
-abbrev pub standings : Copy → List Standing
+abbrev pub standings : Copy → List RequestStanding
 standings copy = map (standing copy.core.receive) copy.waiting
 
 -- a run of these events can keep these acts, the oldest first, and shows this, the newest first
@@ -264,7 +264,7 @@ abbrev pub CanKeep : Site → List Event → List Act → List Shown → Type 0
 CanKeep site events acts shown = (w : World) × IsRun site events w × (closed w ≡ acts) × (w.shown ≡ shown)
 
 -- a run of these events can keep these acts, the oldest first, and leave the second copies of the processes in these roles, with what waits at them standing so
-abbrev pub CanLeave : Site → List Event → List Act → List Role → List (List Standing) → Type 0
+abbrev pub CanLeave : Site → List Event → List Act → List Role → List (List RequestStanding) → Type 0
 CanLeave site events acts roles waits =
     (w : World) × IsRun site events w × (closed w ≡ acts) × (map (λ pair. pair.second.role) w.processes ≡ roles)
     × (map (λ pair. standings pair.second) w.processes ≡ waits)

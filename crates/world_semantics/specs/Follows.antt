@@ -4,7 +4,7 @@ use Rattle.tal_tree.specs.declared.site.Site.{Site}
 use Rattle.schedule.specs.declared.event.Event.{Event}
 use Rattle.schedule.specs.declared.event.Event.TheVariants.{Run, Enter, Deliver, Lose, Repeat, Tick, Fail}
 use Rattle.world_semantics.specs.World.{World, boot, is_running}
-use Rattle.world_semantics.specs.Messages.{Message, Sending, Cause, Running, Entering, Handing, Stopping, Marking}
+use Rattle.world_semantics.specs.Messages.{Message, Sending, Cause, Running, Entering, Handing, Stopping, NotingDown}
 use Rattle.world_semantics.specs.Rules.{Change}
 
 -- no change of the world is possible for a cause
@@ -12,10 +12,10 @@ abbrev pub IsIdleFor : Site → World → Cause → Type 0
 IsIdleFor site w cause = (sendings : List Sending) (next : World) → Change site w cause sendings next → ⊥
 
 -- any number of marks that a node makes, one after the other
-pub data Marks (site : Site) (node : ℕ) : World → List Sending → World → Type 0 where
-  marks_none : {w : World} → Marks site node w [] w
-  marks_one : {w next end : World} {sendings more : List Sending} → (processor : ℕ) → Change site w (Marking node processor) sendings next
-      → Marks site node next more end → Marks site node w (sendings ++ more) end
+pub data NotesDowns (site : Site) (node : ℕ) : World → List Sending → World → Type 0 where
+  marks_none : {w : World} → NotesDowns site node w [] w
+  marks_one : {w next end : World} {sendings more : List Sending} → (processor : ℕ) → Change site w (NotingDown node processor) sendings next
+      → NotesDowns site node next more end → NotesDowns site node w (sendings ++ more) end
 
 -- what an event permits: `Run` makes the change for which its process can run, `Enter` that of its terminal, and `Fail` the stop, each where one is possible,
 -- and else nothing; `Deliver` does nothing, hands over one message, or makes one mark; `Lose` and `Repeat` do nothing; and the `Tick` of a node that runs stops
@@ -29,15 +29,15 @@ pub data Follows (site : Site) (w : World) : Event → List Sending → World �
   delivers_none : {y : Bool} {k : ℕ} → Follows site w (Deliver y k) [] w
   delivers : {y : Bool} {k : ℕ} {sendings : List Sending} {next : World} → (node : ℕ) (message : Message)
       → Change site w (Handing node message) sendings next → Follows site w (Deliver y k) sendings next
-  delivers_mark : {y : Bool} {k : ℕ} {sendings : List Sending} {next : World} → (node processor : ℕ) → Change site w (Marking node processor) sendings next
+  delivers_mark : {y : Bool} {k : ℕ} {sendings : List Sending} {next : World} → (node processor : ℕ) → Change site w (NotingDown node processor) sendings next
       → Follows site w (Deliver y k) sendings next
   loses : {y : Bool} {k : ℕ} → Follows site w (Lose y k) [] w
   doubles : {y : Bool} {k : ℕ} → Follows site w (Repeat y k) [] w
   ticks_none : {node : ℕ} → Follows site w (Tick node) [] w
-  ticks : {node : ℕ} {sendings : List Sending} {next : World} → is_running w.stopped node ≡ true → Marks site node w sendings next
+  ticks : {node : ℕ} {sendings : List Sending} {next : World} → is_running w.stopped node ≡ true → NotesDowns site node w sendings next
       → Follows site w (Tick node) sendings next
   ticks_stop : {node : ℕ} {sendings : List Sending} {between next : World} → (processor : ℕ) → is_running w.stopped node ≡ true → processor ≢ node
-      → Change site w (Stopping processor) [] between → Marks site node between sendings next → Follows site w (Tick node) sendings next
+      → Change site w (Stopping processor) [] between → NotesDowns site node between sendings next → Follows site w (Tick node) sendings next
   fails : {processor : ℕ} {next : World} → Change site w (Stopping processor) [] next → Follows site w (Fail processor) [] next
   cannot_fail : {processor : ℕ} → IsIdleFor site w (Stopping processor) → Follows site w (Fail processor) [] w
 

@@ -11,7 +11,7 @@ use Rattle.plain_semantics.specs.Openers.{opener_of}
 use Rattle.plain_semantics.specs.Machine.{next_request}
 use Rattle.checkpoint_image.specs.declared.message.ImageMessage.{ImageMessage}
 use Rattle.checkpoint_image.specs.declared.message.TakenMessage.{TakenMessage}
-use Rattle.checkpoint_image.specs.declared.receive.Standing.TheVariants.{Kept}
+use Rattle.checkpoint_image.specs.declared.receive.RequestStanding.TheVariants.{Kept}
 use Rattle.world_semantics.specs.declared.role.Role.TheVariants.{Acting}
 use Rattle.checkpoint_image.specs.Receive.{standing}
 use Rattle.world_semantics.specs.Core.{next_on, carried, put_in}

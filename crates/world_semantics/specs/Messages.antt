@@ -26,4 +26,4 @@ pub data Cause : Type 0 where
   Entering : (terminal : ℕ) → Cause
   Handing : (node : ℕ) → (message : Message) → Cause
   Stopping : (processor : ℕ) → Cause
-  Marking : (node : ℕ) → (processor : ℕ) → Cause
+  NotingDown : (node : ℕ) → (processor : ℕ) → Cause

@@ -8,9 +8,9 @@ use Rattle.checkpoint_image.specs.declared.message.ImageMessage.{ImageMessage}
 use Rattle.checkpoint_image.specs.declared.message.TakenMessage.{TakenMessage}
 use Rattle.world_semantics.specs.declared.role.Role.TheVariants.{Acting, Watching}
 use Rattle.world_semantics.specs.Core.{Core, after_passing, carried, put_in}
-use Rattle.world_semantics.specs.World.{Copy, Pair, Mark, has_marked, Which, other_of, copy_of, with_copy, may_pass}
+use Rattle.world_semantics.specs.World.{Copy, Pair, Down, has_noted, Which, other_of, copy_of, with_copy, may_pass}
 use Rattle.world_semantics.specs.Kept.{own_acts}
-use Rattle.world_semantics.specs.Shares.{covered, covering, kept_with_mark, share_of, with_share}
+use Rattle.world_semantics.specs.Shares.{covered_count, share_after_cover, kept_with_checkpoint, share_of, with_share}
 use Rattle.world_semantics.specs.Messages.{Checkpointing, Taking, Sending, sent_at, Cause, Running, Handing}
 
 -- the next checkpoint of an era, behind that of a number, which carries what it does of a core
@@ -29,47 +29,47 @@ taken_of message = record { process = message.process; era = message.era; number
 abbrev pub after_sending : Copy → Copy
 after_sending copy = record copy { number = copy.number + 1; sent = true; acknowledged = false }
 
--- the copy after it passed its mark
-abbrev pub after_mark : Copy → Copy
-after_mark copy = record copy { core = after_passing copy.core; sent = false; acknowledged = false }
+-- the copy after it passed its checkpoint
+abbrev pub copy_at_checkpoint : Copy → Copy
+copy_at_checkpoint copy = record copy { core = after_passing copy.core; sent = false; acknowledged = false }
 
--- the kept acts after a copy's held acts and the step at its mark were added
-abbrev pub kept_at_mark : ℕ → Copy → List Act → List Act
-kept_at_mark number copy kept = kept_with_mark number kept (share_of copy)
+-- the kept acts after a copy's held acts and the step at its checkpoint were added
+abbrev pub kept_at_checkpoint : ℕ → Copy → List Act → List Act
+kept_at_checkpoint number copy kept = kept_with_checkpoint number kept (share_of copy)
 
--- the process after one of its copies applied a checkpoint, by which it has this core: the other copy's held acts and its mark are kept, the base is behind
--- them, and the other copy stands before that mark. It is so too where the other copy is gone: what a copy that is gone keeps is all but its role, its
+-- the process after one of its copies applied a checkpoint, by which it has this core: the other copy's held acts and its checkpoint are kept, the base is behind
+-- them, and the other copy stands before that checkpoint. It is so too where the other copy is gone: what a copy that is gone keeps is all but its role, its
 -- position and its held acts
 abbrev pub after_applying : ℕ → Which → ImageMessage → Core → List Act → Pair → Pair
 after_applying number k message applied kept pair =
     with_copy k (record (copy_of k pair) { core = applied; number = message.number })
-    (with_copy (other_of k) (with_share (covering number kept (share_of (copy_of (other_of k) pair))).share (copy_of (other_of k) pair))
-    (record pair { base = covered number kept (share_of (copy_of (other_of k) pair)); takens = taken_of message ∷ pair.takens }))
+    (with_copy (other_of k) (with_share (share_after_cover number kept (share_of (copy_of (other_of k) pair))).share (copy_of (other_of k) pair))
+    (record pair { base = covered_count number kept (share_of (copy_of (other_of k) pair)); takens = taken_of message ∷ pair.takens }))
 
--- how a checkpoint goes from one copy of a process to the other. A copy that acts at a mark sends its checkpoint, unless it did or its node has marked the
+-- how a checkpoint goes from one copy of a process to the other. A copy that acts at a checkpoint sends its checkpoint, unless it did or its node has marked the
 -- other copy's processor; a watching copy applies a sent checkpoint whose era is its own and whose number is the next; a copy that acts is told that the
--- checkpoint which it has sent was taken; and it passes its mark, which it did already, or which is kept now with its held acts before it
-pub data Passes (number : ℕ) (marks : List Mark) (kept : List Act) (pair : Pair) : Cause → List Sending → Pair → List Act → Type 0 where
-  by_send : (k : Which) → (copy_of k pair).role ≡ Acting → process.point (copy_of k pair).core.state ≡ point.Mark → (copy_of k pair).sent ≡ false
-      → has_marked marks (copy_of k pair).processor (copy_of (other_of k) pair).processor ≡ false
+-- checkpoint which it has sent was taken; and it passes its checkpoint, which it did already, or which is kept now with its held acts before it
+pub data Passes (number : ℕ) (marks : List Down) (kept : List Act) (pair : Pair) : Cause → List Sending → Pair → List Act → Type 0 where
+  by_send : (k : Which) → (copy_of k pair).role ≡ Acting → process.point (copy_of k pair).core.state ≡ point.AtCheckpoint → (copy_of k pair).sent ≡ false
+      → has_noted marks (copy_of k pair).processor (copy_of (other_of k) pair).processor ≡ false
       → Passes number marks kept pair (Running number)
       (sent_at (copy_of k pair).processor (Checkpointing (checkpoint_of number (copy_of k pair)) ∷ []))
       (with_copy k (after_sending (copy_of k pair)) (record pair { checkpoints = checkpoint_of number (copy_of k pair) ∷ pair.checkpoints })) kept
-  by_pass_again : (k : Which) → (copy_of k pair).role ≡ Acting → process.point (copy_of k pair).core.state ≡ point.Mark → may_pass marks k pair ≡ true
+  by_pass_again : (k : Which) → (copy_of k pair).role ≡ Acting → process.point (copy_of k pair).core.state ≡ point.AtCheckpoint → may_pass marks k pair ≡ true
       → (copy_of k pair).position < own_acts number kept
       → Passes number marks kept pair (Running number) []
-      (with_copy k (record (after_mark (copy_of k pair)) { position = (copy_of k pair).position + 1 }) pair) kept
-  by_pass : (k : Which) → (copy_of k pair).role ≡ Acting → process.point (copy_of k pair).core.state ≡ point.Mark → may_pass marks k pair ≡ true
+      (with_copy k (record (copy_at_checkpoint (copy_of k pair)) { position = (copy_of k pair).position + 1 }) pair) kept
+  by_pass : (k : Which) → (copy_of k pair).role ≡ Acting → process.point (copy_of k pair).core.state ≡ point.AtCheckpoint → may_pass marks k pair ≡ true
       → own_acts number kept ≤ (copy_of k pair).position
       → Passes number marks kept pair (Running number) []
-      (with_copy k (record (after_mark (copy_of k pair)) { position = own_acts number (kept_at_mark number (copy_of k pair) kept); held = [] }) pair)
-      (kept_at_mark number (copy_of k pair) kept)
+      (with_copy k (record (copy_at_checkpoint (copy_of k pair)) { position = own_acts number (kept_at_checkpoint number (copy_of k pair) kept); held = [] }) pair)
+      (kept_at_checkpoint number (copy_of k pair) kept)
   by_apply : (k : Which) (message : ImageMessage) (applied : Core) → (copy_of k pair).role ≡ Watching → IsAmong message pair.checkpoints
       → message.era ≡ (copy_of k pair).era → message.number ≡ (copy_of k pair).number + 1 → put_in (copy_of k pair).core message.image ≡ Some applied
       → Passes number marks kept pair (Handing (copy_of k pair).processor (Checkpointing message))
       (sent_at (copy_of k pair).processor (Taking (taken_of message) ∷ []))
       (after_applying number k message applied kept pair)
-      (kept_at_mark number (copy_of (other_of k) pair) kept)
+      (kept_at_checkpoint number (copy_of (other_of k) pair) kept)
   by_acknowledge : (k : Which) (taken : TakenMessage) → (copy_of k pair).role ≡ Acting → (copy_of k pair).sent ≡ true → IsAmong taken pair.takens
       → taken.era ≡ (copy_of k pair).era → taken.number ≡ (copy_of k pair).number
       → Passes number marks kept pair (Handing (copy_of k pair).processor (Taking taken)) []

@@ -18,9 +18,9 @@ use Rattle.world_semantics.specs.declared.role.Role.{Role}
 use Rattle.world_semantics.specs.declared.role.Role.TheVariants.{Acting, Watching, Gone}
 use Rattle.checkpoint_image.specs.Receive.{waits, came, repeated, still_waiting, all_repeated}
 use Rattle.world_semantics.specs.Core.{Core, Deed, Advances}
-use Rattle.world_semantics.specs.World.{Copy, Pair, Terminal, World, terminal_node, is_running, has_marked, Which, First, Second, other_of, copy_of, with_copy, with_pair}
+use Rattle.world_semantics.specs.World.{Copy, Pair, Terminal, World, terminal_node, is_running, has_noted, Which, First, Second, other_of, copy_of, with_copy, with_pair}
 use Rattle.world_semantics.specs.Kept.{Enters}
-use Rattle.world_semantics.specs.Messages.{Message, Asking, Replying, Sending, sent_at, Cause, Entering, Handing, Stopping, Marking}
+use Rattle.world_semantics.specs.Messages.{Message, Asking, Replying, Sending, sent_at, Cause, Entering, Handing, Stopping, NotingDown}
 use Rattle.world_semantics.specs.Own.{Around, around, Causes}
 use Rattle.world_semantics.specs.Passes.{Passes}
 use Rattle.world_semantics.specs.Shares.{without_held}
@@ -68,25 +68,25 @@ abbrev pub taker : ℕ → ℕ → Pair → Option Which
 taker node processor pair =
     if takes_over node processor First pair then Some First else if takes_over node processor Second pair then Some Second else None
 
-abbrev pub after_marking : Option Which → Pair → Pair
-after_marking None pair = pair
-after_marking (Some k) pair = after_takeover k pair
+abbrev pub pair_after_down : Option Which → Pair → Pair
+pair_after_down None pair = pair
+pair_after_down (Some k) pair = after_takeover k pair
 
 -- a process after a node marked a processor
-abbrev pub marked_pair : ℕ → ℕ → Pair → Pair
-marked_pair node processor pair = after_marking (taker node processor pair) pair
+abbrev pub pair_at_down : ℕ → ℕ → Pair → Pair
+pair_at_down node processor pair = pair_after_down (taker node processor pair) pair
 
 -- the replies that a copy sends again when it takes over: those kept to its waiting requests
 abbrev pub told_again : Copy → List Sending
 told_again copy = sent_at copy.processor (map Replying (all_repeated copy.core.receive copy.waiting))
 
-abbrev pub told_by : Option Which → Pair → List Sending
-told_by None pair = []
-told_by (Some k) pair = told_again (copy_of k pair)
+abbrev pub takeover_sendings : Option Which → Pair → List Sending
+takeover_sendings None pair = []
+takeover_sendings (Some k) pair = told_again (copy_of k pair)
 
 -- what is sent again when a node marks a processor
-abbrev pub told_at_mark : ℕ → ℕ → Pair → List Sending
-told_at_mark node processor pair = told_by (taker node processor pair) pair
+abbrev pub told_at_down : ℕ → ℕ → Pair → List Sending
+told_at_down node processor pair = takeover_sendings (taker node processor pair) pair
 
 -- Changes
 
@@ -151,9 +151,9 @@ pub data Change (site : Site) (w : World) : Cause → List Sending → World →
   by_stop : (processor : ℕ) → slice_get w.stopped processor ≡ Some false
       → Change site w (Stopping processor) []
       (record w { stopped = slice_set w.stopped processor true; processes = map (stopped_pair processor) w.processes })
-  by_mark : (node processor : ℕ) → slice_get w.stopped processor ≡ Some true → is_running w.stopped node ≡ true → has_marked w.marks node processor ≡ false
-      → Change site w (Marking node processor) (flat_map (told_at_mark node processor) w.processes)
+  by_mark : (node processor : ℕ) → slice_get w.stopped processor ≡ Some true → is_running w.stopped node ≡ true → has_noted w.marks node processor ≡ false
+      → Change site w (NotingDown node processor) (flat_map (told_at_down node processor) w.processes)
       (record w {
         marks = record { node = node; down = processor } ∷ w.marks;
-        processes = map (marked_pair node processor) w.processes;
+        processes = map (pair_at_down node processor) w.processes;
       })

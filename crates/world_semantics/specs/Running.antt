@@ -19,12 +19,12 @@ use Rattle.world_semantics.specs.declared.role.Role.{Role}
 use Rattle.world_semantics.specs.declared.role.Role.TheVariants.{Acting, Watching, Gone}
 use Rattle.checkpoint_image.specs.Receive.{Chosen, chosen}
 use Rattle.world_semantics.specs.Core.{Core, core_acting, core_asked, core_going, core_replied, core_taken}
-use Rattle.world_semantics.specs.World.{Copy, Mark, Pair, World, Which, First, Second, copy_of, with_copy, may_pass, with_pair}
+use Rattle.world_semantics.specs.World.{Copy, Down, Pair, World, Which, First, Second, copy_of, with_copy, may_pass, with_pair}
 use Rattle.world_semantics.specs.Messages.{Message, Asking, Replying, Checkpointing, Sending, sent_at}
 use Rattle.world_semantics.specs.Own.{Around, around_with, asked_on, is_new_write, found_on}
-use Rattle.world_semantics.specs.Passes.{checkpoint_of, after_sending, after_mark}
+use Rattle.world_semantics.specs.Passes.{checkpoint_of, after_sending, copy_at_checkpoint}
 use Rattle.world_semantics.specs.Records.{Records, records_of}
-use Rattle.world_semantics.specs.Shares.{after_entering, entering, passing, share_of, with_share}
+use Rattle.world_semantics.specs.Shares.{after_entering, share_after_act, share_after_pass, share_of, with_share}
 
 -- Changes and steps
 
@@ -137,7 +137,7 @@ own_at site number core before point.Ask =
 own_at site number core before point.Answer = own_answer site number core before core.receive.in_hand
 own_at site number core before point.Device = Some (own_device number core before (process.call_of core.state))
 own_at site number core before point.Await = None
-own_at site number core before point.Mark = None
+own_at site number core before point.AtCheckpoint = None
 own_at site number core before point.Ended = None
 
 -- a copy of a process after an act of its own
@@ -150,7 +150,7 @@ records_acted number kept own copy = record {
   requests = own.after.requests;
   replies = own.after.replies;
   shown = own.after.shown;
-  kept = (entering number own.done kept (share_of copy)).kept;
+  kept = (share_after_act number own.done kept (share_of copy)).kept;
 }
 
 -- the step that an act of a copy's own is
@@ -168,7 +168,7 @@ own_of site number k pair records stands =
 
 -- Marks
 
--- a copy sends the checkpoint of its mark
+-- a copy sends its checkpoint
 abbrev pub sending_step : ℕ → Which → Pair → Records → Stepped
 sending_step number k pair records = record {
   pair =
@@ -177,14 +177,14 @@ sending_step number k pair records = record {
   sendings = sent_at (copy_of k pair).processor (Checkpointing (checkpoint_of number (copy_of k pair)) ∷ []);
 }
 
--- a copy after its mark, which it did already, or which is kept now, and the records then
+-- a copy after its checkpoint, which it did already, or which is kept now, and the records then
 abbrev pub copy_passed : ℕ → Records → Copy → Copy
-copy_passed number records copy = with_share (passing number records.kept (share_of copy)).share (after_mark copy)
+copy_passed number records copy = with_share (share_after_pass number records.kept (share_of copy)).share (copy_at_checkpoint copy)
 
 abbrev pub records_passed : ℕ → Records → Copy → Records
-records_passed number records copy = record records { kept = (passing number records.kept (share_of copy)).kept }
+records_passed number records copy = record records { kept = (share_after_pass number records.kept (share_of copy)).kept }
 
--- a copy passes its mark
+-- a copy passes its checkpoint
 abbrev pub passing_step : ℕ → Which → Pair → Records → Stepped
 passing_step number k pair records = record {
   pair = with_copy k (copy_passed number records (copy_of k pair)) pair;
@@ -192,7 +192,7 @@ passing_step number k pair records = record {
   sendings = [];
 }
 
--- at a mark: it is passed where it may be, and else its checkpoint is sent if it wasn't
+-- at a checkpoint: it is passed where it may be, and else its checkpoint is sent if it wasn't
 abbrev pub mark_step : ℕ → Which → Pair → Records → Bool → Bool → Option Stepped
 mark_step number k pair records true sent = Some (passing_step number k pair records)
 mark_step number k pair records false true = None
@@ -201,17 +201,17 @@ mark_step number k pair records false false = Some (sending_step number k pair r
 -- Runs
 
 -- the step of a copy that acts and stands at this point; none where it can't go on
-abbrev pub step_at : Site → ℕ → Which → Pair → List Mark → Records → Point → Option Stepped
-step_at site number k pair marks records point.Mark = mark_step number k pair records (may_pass marks k pair) (copy_of k pair).sent
+abbrev pub step_at : Site → ℕ → Which → Pair → List Down → Records → Point → Option Stepped
+step_at site number k pair marks records point.AtCheckpoint = mark_step number k pair records (may_pass marks k pair) (copy_of k pair).sent
 step_at site number k pair marks records stands = option_map (own_step number k pair records) (own_of site number k pair records stands)
 
-abbrev pub step_as : Site → ℕ → Which → Pair → List Mark → Records → Role → Option Stepped
+abbrev pub step_as : Site → ℕ → Which → Pair → List Down → Records → Role → Option Stepped
 step_as site number k pair marks records Acting = step_at site number k pair marks records (process.point (copy_of k pair).core.state)
 step_as site number k pair marks records Watching = None
 step_as site number k pair marks records Gone = None
 
 -- the step of one copy; none where it can't make one
-abbrev pub step_of_copy : Site → ℕ → Pair → List Mark → Records → Which → Option Stepped
+abbrev pub step_of_copy : Site → ℕ → Pair → List Down → Records → Which → Option Stepped
 step_of_copy site number pair marks records k = step_as site number k pair marks records (copy_of k pair).role
 
 abbrev pub first_step : Option Stepped → Option Stepped → Option Stepped
@@ -219,7 +219,7 @@ first_step None other = other
 first_step (Some step) other = Some step
 
 -- the step that a process makes where it runs: that of its copy that acts; none where it can't make one
-abbrev pub step_of : Site → ℕ → Pair → List Mark → Records → Option Stepped
+abbrev pub step_of : Site → ℕ → Pair → List Down → Records → Option Stepped
 step_of site number pair marks records =
     first_step (step_of_copy site number pair marks records First) (step_of_copy site number pair marks records Second)
 

@@ -43,56 +43,56 @@ entering_behind number done kept share (first ∷ rest) = record { share = recor
 
 -- how an act of a copy enters the kept acts: behind held acts it is held too; else a copy that is behind the kept acts only comes one further; else a take is
 -- held; else the act is kept
-abbrev pub entering : ℕ → Act → List Act → Share → Sharing
-entering number done kept share = entering_behind number done kept share share.held
+abbrev pub share_after_act : ℕ → Act → List Act → Share → Sharing
+share_after_act number done kept share = entering_behind number done kept share share.held
 
 -- the copy after its act entered them
 abbrev pub after_entering : ℕ → Act → List Act → Copy → Copy
-after_entering number done kept copy = with_share (entering number done kept (share_of copy)).share copy
+after_entering number done kept copy = with_share (share_after_act number done kept (share_of copy)).share copy
 
 -- Marks
 
--- the kept acts after the held acts and the step at the mark were added
-abbrev pub kept_with_mark : ℕ → List Act → Share → List Act
-kept_with_mark number kept share = Step number ∷ (share.held ++ kept)
+-- the kept acts after the held acts and the step at the checkpoint were added
+abbrev pub kept_with_checkpoint : ℕ → List Act → Share → List Act
+kept_with_checkpoint number kept share = Step number ∷ (share.held ++ kept)
 
 abbrev pub passing_where : ℕ → List Act → Share → Bool → Sharing
 passing_where number kept share true = record { share = one_further share; kept = kept }
 passing_where number kept share false =
-    record { share = share_from (own_acts number (kept_with_mark number kept share)); kept = kept_with_mark number kept share }
+    record { share = share_from (own_acts number (kept_with_checkpoint number kept share)); kept = kept_with_checkpoint number kept share }
 
--- a copy passes its mark: which it did already, or which is kept now, with its held acts before it
-abbrev pub passing : ℕ → List Act → Share → Sharing
-passing number kept share = passing_where number kept share (nat_lt share.position (own_acts number kept))
+-- a copy passes its checkpoint: which it did already, or which is kept now, with its held acts before it
+abbrev pub share_after_pass : ℕ → List Act → Share → Sharing
+share_after_pass number kept share = passing_where number kept share (nat_lt share.position (own_acts number kept))
 
--- the other copy applied the checkpoint of this copy's mark: the held acts and the mark are kept, and this copy stands before the mark
-abbrev pub covering : ℕ → List Act → Share → Sharing
-covering number kept share =
-    record { share = share_from (own_acts number (share.held ++ kept)); kept = kept_with_mark number kept share }
+-- the other copy applied this copy's checkpoint: the held acts and the checkpoint are kept, and this copy stands before the checkpoint
+abbrev pub share_after_cover : ℕ → List Act → Share → Sharing
+share_after_cover number kept share =
+    record { share = share_from (own_acts number (share.held ++ kept)); kept = kept_with_checkpoint number kept share }
 
--- how many kept acts of the process that checkpoint covers: the mark is the last of them
-abbrev pub covered : ℕ → List Act → Share → ℕ
-covered number kept share = own_acts number (kept_with_mark number kept share)
+-- how many kept acts of the process that checkpoint covers: the one at the checkpoint is the last of them
+abbrev pub covered_count : ℕ → List Act → Share → ℕ
+covered_count number kept share = own_acts number (kept_with_checkpoint number kept share)
 
 -- Stops and the end
 
 -- the share of a copy whose held acts are dropped
-abbrev pub letting_go : Share → Share
-letting_go share = record share { held = [] }
+abbrev pub share_without_held : Share → Share
+share_without_held share = record share { held = [] }
 
 abbrev pub without_held : Copy → Copy
-without_held copy = with_share (letting_go (share_of copy)) copy
+without_held copy = with_share (share_without_held (share_of copy)) copy
 
 -- the run is closed: what a copy still holds is kept
-abbrev pub closing : List Act → Share → Sharing
-closing kept share = record { share = letting_go share; kept = share.held ++ kept }
+abbrev pub share_at_close : List Act → Share → Sharing
+share_at_close kept share = record { share = share_without_held share; kept = share.held ++ kept }
 
 abbrev pub let_go : Pair → Pair
 let_go pair = record pair { first = without_held pair.first; second = without_held pair.second }
 
 -- the kept acts after both copies of a process closed, and of all processes in the order of the deck
 abbrev pub closed_by : List Act → Pair → List Act
-closed_by kept pair = (closing (closing kept (share_of pair.first)).kept (share_of pair.second)).kept
+closed_by kept pair = (share_at_close (share_at_close kept (share_of pair.first)).kept (share_of pair.second)).kept
 
 abbrev pub closed_by_all : List Act → List Pair → List Act
 closed_by_all kept [] = kept

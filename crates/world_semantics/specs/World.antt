@@ -22,7 +22,7 @@ pub use Rattle.world_semantics.specs.declared.which.Which.TheVariants.{First, Se
 use Rattle.world_semantics.specs.Core.{Core, core_at_boot}
 
 -- a copy of a process: the processor in which it is, its role, its era, the number of the last checkpoint sent or applied in that era, whether it has sent
--- the checkpoint of the mark at which it stands, whether that was acknowledged, its core, and the requests that wait. Its position is how many of the
+-- the checkpoint at which it stands, whether that was acknowledged, its core, and the requests that wait. Its position is how many of the
 -- process's kept acts it has done, and its held acts are those that it did beyond them
 pub record Copy : Type 0 where
   pub processor : ℕ
@@ -52,7 +52,7 @@ pub record Terminal : Type 0 where
   pub printed : ℕ
 
 -- a node has marked a processor as stopped
-pub record Mark : Type 0 where
+pub record Down : Type 0 where
   pub node : ℕ
   pub down : ℕ
 
@@ -60,7 +60,7 @@ pub record Mark : Type 0 where
 -- and the acts that are kept
 pub record World : Type 0 where
   pub stopped : List Bool
-  pub marks : List Mark
+  pub marks : List Down
   pub requests : List Request
   pub replies : List Reply
   pub processes : List Pair
@@ -131,8 +131,8 @@ abbrev pub is_running : List Bool → ℕ → Bool
 is_running stopped node = runs_by node (slice_get stopped node)
 
 -- whether a node has marked a processor
-abbrev pub has_marked : List Mark → ℕ → ℕ → Bool
-has_marked marks node processor = list_any (λ mark. mark.node == node && mark.down == processor) marks
+abbrev pub has_noted : List Down → ℕ → ℕ → Bool
+has_noted marks node processor = list_any (λ mark. mark.node == node && mark.down == processor) marks
 
 abbrev pub other_of : Which → Which
 other_of First = Second
@@ -147,10 +147,10 @@ abbrev pub with_copy : Which → Copy → Pair → Pair
 with_copy First copy pair = record pair { first = copy }
 with_copy Second copy pair = record pair { second = copy }
 
--- whether a copy may go on after its mark: its checkpoint was acknowledged, or its node has marked the other copy's processor
-abbrev pub may_pass : List Mark → Which → Pair → Bool
+-- whether a copy may go on after its checkpoint: its checkpoint was acknowledged, or its node has marked the other copy's processor
+abbrev pub may_pass : List Down → Which → Pair → Bool
 may_pass marks k pair =
-    (copy_of k pair).acknowledged || has_marked marks (copy_of k pair).processor (copy_of (other_of k) pair).processor
+    (copy_of k pair).acknowledged || has_noted marks (copy_of k pair).processor (copy_of (other_of k) pair).processor
 
 -- the world with a process changed
 abbrev pub with_pair : ℕ → Pair → World → World

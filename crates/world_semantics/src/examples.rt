@@ -1,7 +1,7 @@
 ghost use Rattle.std.specs.Prelude.{◌≡◌, pos, [], ◌∷◌, reverse};
 ghost use Rattle.plain_semantics.specs.Machine.{IsPossible, shown_by};
 ghost use Rattle.world_semantics.specs.Examples.{adder_for, disc_site, takeover_events, takeover_acts, takeover_shown, lost_take_events, lost_take_acts, lost_take_shown, disc_events, disc_acts, disc_shown, bank_site, repeat_events, repeat_acts, repeat_shown, echo_site, ahead_events, ahead_acts, CanKeep, CanLeave};
-ghost use Rattle.checkpoint_image.specs.declared.receive.Standing.TheVariants.{Ahead};
+ghost use Rattle.checkpoint_image.specs.declared.receive.RequestStanding.TheVariants.{Ahead};
 ghost use Rattle.world_semantics.specs.declared.role.Role.TheVariants.{Acting};
 
 /// The adder's first copy is lost when it has answered. The second takes over behind the checkpoint and answers anew, and the

@@ -5,7 +5,7 @@ ghost use Rattle.schedule.specs.declared.event.Event.{Event};
 ghost use Rattle.schedule.specs.declared.event.Event.TheVariants.{Run};
 ghost use Rattle.process_semantics.specs.Process.{in_hand};
 ghost use Rattle.world_semantics.specs.declared.role.Role.TheVariants.{Acting, Gone};
-ghost use Rattle.world_semantics.specs.World.{Pair, Mark, Terminal, World, Which, copy_of};
+ghost use Rattle.world_semantics.specs.World.{Pair, Down, Terminal, World, Which, copy_of};
 ghost use Rattle.world_semantics.specs.Kept.{own_acts};
 ghost use Rattle.world_semantics.specs.Follows.{Follows, IsIdleFor, Leads, IsRun};
 ghost use Rattle.world_semantics.specs.Messages.{Message, Cause, Sending, Running, Handing};
@@ -15,12 +15,12 @@ ghost use Rattle.world_semantics.specs.Laws.{IsLater, IsLaterTerminal, HasGrown,
 
 /// In a run only processors that have stopped are marked.
 pub fn marked_have_stopped()
-    ensures { (site : Site) (events : List Event) (w : World) (mark : Mark) → IsRun site events w → IsAmong mark w.marks → slice_get w.stopped mark.down ≡ Some true }
+    ensures { (site : Site) (events : List Event) (w : World) (mark : Down) → IsRun site events w → IsAmong mark w.marks → slice_get w.stopped mark.down ≡ Some true }
 {}
 
 /// Where at most one processor has stopped, all marks of a run name the same one.
 pub fn marks_name_one_processor()
-    ensures { (site : Site) (events : List Event) (w : World) (one other : Mark) → IsRun site events w
+    ensures { (site : Site) (events : List Event) (w : World) (one other : Down) → IsRun site events w
         → ((x y : ℕ) → slice_get w.stopped x ≡ Some true → slice_get w.stopped y ≡ Some true → x ≡ y)
         → IsAmong one w.marks → IsAmong other w.marks → one.down ≡ other.down }
 {}

@@ -7,16 +7,16 @@ ghost use Rattle.tal_tree.specs.declared.act.Shown.{Shown};
 ghost use Rattle.tal_tree.specs.declared.act.Shown.TheVariants as shown;
 ghost use Rattle.tal_tree.specs.declared.site.Site.{Site};
 ghost use Rattle.schedule.specs.declared.event.Event.{Event};
-ghost use Rattle.process_semantics.specs.declared.point.Point.TheVariants.{Mark};
+ghost use Rattle.process_semantics.specs.declared.point.Point.TheVariants.{AtCheckpoint};
 ghost use Rattle.process_semantics.specs.Process.{point, after_got};
 ghost use Rattle.checkpoint_image.specs.declared.message.ImageMessage.{ImageMessage};
 ghost use Rattle.checkpoint_image.specs.declared.message.TakenMessage.{TakenMessage};
-ghost use Rattle.checkpoint_image.specs.declared.receive.Standing.TheVariants.{Next, Ahead};
+ghost use Rattle.checkpoint_image.specs.declared.receive.RequestStanding.TheVariants.{Next, Ahead};
 ghost use Rattle.world_semantics.specs.declared.role.Role.TheVariants.{Acting, Watching};
 ghost use Rattle.world_semantics.specs.World.{Pair, Terminal, World, Which, copy_of, other_of, terminal_node};
 ghost use Rattle.checkpoint_image.specs.Receive.{standing, reply_to};
 ghost use Rattle.world_semantics.specs.Follows.{IsRun};
-ghost use Rattle.world_semantics.specs.Messages.{Asking, Replying, Checkpointing, Taking, Cause, Sending, Entering, Handing, Marking};
+ghost use Rattle.world_semantics.specs.Messages.{Asking, Replying, Checkpointing, Taking, Cause, Sending, Entering, Handing, NotingDown};
 ghost use Rattle.world_semantics.specs.Rules.{Change};
 ghost use Rattle.world_semantics.specs.Laws.{HasStayed, IsNextFor, HasApplied, Acknowledges, KeepsUp, HasTakenOver, last_checkpoint, Awaits, AwaitsAt, KeepsReplyTo, IsNextOf, waiting_of};
 
@@ -43,11 +43,11 @@ pub fn only_a_sent_checkpoint_is_acknowledged()
         → (taken : TakenMessage) × (cause ≡ Handing (copy_of k before).processor (Taking taken)) × IsAmong taken before.takens × Acknowledges (copy_of k before) taken }
 {}
 
-/// In a run a copy that acts and has sent stands at its mark, and its last checkpoint, with all that it has, is among those sent.
+/// In a run a copy that acts and has sent stands at its checkpoint, and that, with all that it has, is among those sent.
 pub fn a_copy_has_sent_what_it_has()
     ensures { (site : Site) (events : List Event) (w : World) (number : ℕ) (pair : Pair) (k : Which) → IsRun site events w → slice_get w.processes number ≡ Some pair
         → (copy_of k pair).role ≡ Acting → (copy_of k pair).sent ≡ true
-        → (point (copy_of k pair).core.state ≡ Mark) × IsAmong (last_checkpoint number (copy_of k pair)) pair.checkpoints }
+        → (point (copy_of k pair).core.state ≡ AtCheckpoint) × IsAmong (last_checkpoint number (copy_of k pair)) pair.checkpoints }
 {}
 
 /// In a run a copy that watches is at most one checkpoint behind the other copy of its process, and has applied what is acknowledged.
@@ -62,7 +62,7 @@ pub fn a_takeover_begins_an_era()
     ensures { (site : Site) (w next : World) (cause : Cause) (sendings : List Sending) (number : ℕ) (before after : Pair) (k : Which)
         → Change site w cause sendings next → slice_get w.processes number ≡ Some before → slice_get next.processes number ≡ Some after
         → (copy_of k before).role ≡ Watching → (copy_of k after).role ≡ Acting
-        → (cause ≡ Marking (copy_of k before).processor (copy_of (other_of k) before).processor)
+        → (cause ≡ NotingDown (copy_of k before).processor (copy_of (other_of k) before).processor)
         × HasTakenOver before.base (copy_of k before) (copy_of k after) }
 {}
 

@@ -3,7 +3,7 @@ use Rattle.std.proofs.Common.{◌≡◌, List, [], ◌∷◌, length, refl, arit
 use Rattle.tal_syntax.specs.Grammar as g
 use Rattle.tal_names.specs.declared.scope.Scope.{Scope}
 use Rattle.tal_rules.specs.Calls.{values_count}
-use Rattle.tal_trees.specs.Calls.{values_of_arguments, values_of}
+use Rattle.tal_meaning.specs.Calls.{values_of_arguments, values_of}
 
 module _ (s : Scope) where
   pub arguments_count : (arguments : List g.Argument) → length (values_of_arguments s arguments) ≡ length arguments

@@ -3,7 +3,7 @@ use Rattle.std.proofs.Common.{◌≡◌, ℕ, true, List, [], ◌∷◌, ◌++�
 use Rattle.std.specs.Cmp.Lexicographic.{bytes_decides}
 use Rattle.tal_names.specs.declared.scope.Named.{Named}
 use Rattle.tal_names.specs.Names.{same}
-use Rattle.tal_trees.specs.Programs.{texts_of}
+use Rattle.tal_meaning.specs.Programs.{texts_of}
 
 -- names are the same where they are equal
 pub same_is : (name other : List ℕ) → same name other ≡ true → name ≡ other

@@ -13,7 +13,7 @@ use Rattle.tal_declarations.specs.Headings.{parameters_of, locals_of, with_local
 use Rattle.tal_names.specs.Names.{Declarations, meaning_in, is_declared}
 use Rattle.tal_names.specs.Systems.{system_of}
 use Rattle.tal_rules.specs.Texts.{locals_by, heading_locals_faults}
-use Rattle.tal_trees.specs.Programs.{parameters_by, texts_of}
+use Rattle.tal_meaning.specs.Programs.{parameters_by, texts_of}
 use Rattle.tal_faultless.proofs.Scopes.Declared.{meaning_with}
 use Rattle.tal_faultless.proofs.Scopes.GlobalNames.{not_taken}
 use Rattle.tal_faultless.proofs.Common.Limits.{limit_is}

@@ -18,8 +18,8 @@ use Rattle.tal_rules.specs.Expressions.{value_faults}
 use Rattle.tal_names.specs.Faults.{fault_at, if_so}
 use Rattle.tal_names.specs.Places.{arguments_of, further_arguments}
 use Rattle.tal_names.specs.Scopes.{meaning_of}
-use Rattle.tal_trees.specs.Calls.{values_of, values_of_arguments}
-use Rattle.tal_trees.specs.Expressions.{value_of_expr}
+use Rattle.tal_meaning.specs.Calls.{values_of, values_of_arguments}
+use Rattle.tal_meaning.specs.Expressions.{value_of_expr}
 use Rattle.tal_pieces.specs.declared.piece.Symbol.TheVariants as sign
 use Rattle.tal_pieces.specs.declared.piece.Piece.{Piece}
 use Rattle.tal_pieces.specs.declared.piece.Piece.TheVariants as piece

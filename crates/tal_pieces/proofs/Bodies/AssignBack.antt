@@ -18,8 +18,8 @@ use Rattle.tal_names.specs.Faults.{fault_at, if_so}
 use Rattle.tal_declarations.specs.Files.{call_files}
 use Rattle.tal_names.specs.Places.{arguments_of, first_of_spot}
 use Rattle.tal_rules.specs.Statements.{stepped, after_call, right_by}
-use Rattle.tal_trees.specs.Calls.{call_what, procedure_by}
-use Rattle.tal_trees.specs.Statements.{assign_by}
+use Rattle.tal_meaning.specs.Calls.{call_what, procedure_by}
+use Rattle.tal_meaning.specs.Statements.{assign_by}
 use Rattle.tal_pieces.specs.declared.piece.Symbol.TheVariants as sign
 use Rattle.tal_pieces.specs.declared.piece.Piece.{Piece}
 use Rattle.tal_pieces.specs.declared.piece.Piece.TheVariants as piece

@@ -21,7 +21,7 @@ use Rattle.tal_names.specs.Names.{Declarations}
 use Rattle.tal_names.specs.Places.{further_arguments}
 use Rattle.tal_names.specs.Scopes.{meaning_of, kind_faults}
 use Rattle.tal_rules.specs.Statements.{stepped}
-use Rattle.tal_trees.specs.Calls.{items_named, files_named, with_item, with_process}
+use Rattle.tal_meaning.specs.Calls.{items_named, files_named, with_item, with_process}
 use Rattle.tal_pieces.specs.declared.piece.Piece.{Piece}
 use Rattle.tal_pieces.specs.declared.piece.Piece.TheVariants as piece
 use Rattle.tal_pieces.specs.Cuts.{AreTokens}

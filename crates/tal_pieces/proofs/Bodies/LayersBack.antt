@@ -15,7 +15,7 @@ use Rattle.tal_names.specs.declared.scope.Scope.{Scope}
 use Rattle.tal_rules.specs.declared.walk.Walk.{Walk}
 use Rattle.tal_declarations.specs.Files.{statement_files}
 use Rattle.tal_rules.specs.Statements.{stepped, after, statement_faults, number_faults}
-use Rattle.tal_trees.specs.Statements.{statements_of}
+use Rattle.tal_meaning.specs.Statements.{statements_of}
 use Rattle.tal_pieces.specs.declared.piece.Keyword.TheVariants as word
 use Rattle.tal_pieces.specs.declared.piece.Symbol.TheVariants as sign
 use Rattle.tal_pieces.specs.declared.piece.Piece.{Piece}

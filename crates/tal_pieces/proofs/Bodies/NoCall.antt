@@ -15,9 +15,9 @@ use Rattle.tal_rules.specs.Expressions.{expr_faults, both_faults, neg_faults, su
 use Rattle.tal_names.specs.Places.{first_of_expr, name_of_expr, name_of_factor, factor_of_expr, factor_of_both, factor_of_neg, factor_of_sum, factor_of_product}
 use Rattle.tal_names.specs.Scopes.{meaning_of, kind_faults}
 use Rattle.tal_rules.specs.Statements.{right_faults, right_named, right_by}
-use Rattle.tal_trees.specs.Calls.{meaning_by}
-use Rattle.tal_trees.specs.Expressions.{target_of_spot, value_of_expr}
-use Rattle.tal_trees.specs.Statements.{assign_by}
+use Rattle.tal_meaning.specs.Calls.{meaning_by}
+use Rattle.tal_meaning.specs.Expressions.{target_of_spot, value_of_expr}
+use Rattle.tal_meaning.specs.Statements.{assign_by}
 use Rattle.std.specs.Option.{option_and_then}
 use Rattle.tal_faultless.proofs.Common.Faultless.{no_fault, first_nil}
 

@@ -24,7 +24,7 @@ use Rattle.tal_declarations.specs.Files as files
 use Rattle.tal_names.specs.Names.{is_declared, meaning_in}
 use Rattle.tal_names.specs.Scopes.{meaning_of, kind_faults}
 use Rattle.tal_rules.specs.Statements.{next_number, next_file, stage_after_monitor, stage_after_open}
-use Rattle.tal_trees.specs.Calls.{file_by}
+use Rattle.tal_meaning.specs.Calls.{file_by}
 use Rattle.tal_pieces.specs.declared.piece.Piece.{Piece}
 use Rattle.tal_pieces.specs.declared.piece.Piece.TheVariants as piece
 use Rattle.tal_pieces.specs.Cuts.{AreTokens}

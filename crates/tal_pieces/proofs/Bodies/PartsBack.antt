@@ -21,9 +21,9 @@ use Rattle.tal_rules.specs.Expressions.{value_faults, spot_faults}
 use Rattle.tal_names.specs.Places.{first_of_sum, name_of_expr}
 use Rattle.tal_names.specs.Scopes.{meaning_of, kind_faults}
 use Rattle.tal_rules.specs.Statements.{right_faults}
-use Rattle.tal_trees.specs.Calls.{meaning_by, variable_by}
-use Rattle.tal_trees.specs.Expressions.{value_of_expr, target_of_spot, target_by}
-use Rattle.tal_trees.specs.Statements.{assign_by}
+use Rattle.tal_meaning.specs.Calls.{meaning_by, variable_by}
+use Rattle.tal_meaning.specs.Expressions.{value_of_expr, target_of_spot, target_by}
+use Rattle.tal_meaning.specs.Statements.{assign_by}
 use Rattle.tal_pieces.specs.declared.piece.Symbol.TheVariants as sign
 use Rattle.tal_pieces.specs.declared.piece.Piece.{Piece}
 use Rattle.tal_pieces.specs.declared.piece.Piece.TheVariants as piece

@@ -12,8 +12,8 @@ use Rattle.tal_rules.specs.declared.walk.Walk.{Walk}
 use Rattle.tal_declarations.specs.Files.{statement_files, row_files}
 use Rattle.tal_rules.specs.Statements.{after, after_row, statement_faults, row_faults}
 use Rattle.tal_rules.specs.Texts.{body_after, body_faults}
-use Rattle.tal_trees.specs.Programs.{body_statements}
-use Rattle.tal_trees.specs.Statements.{statements_of, row_statements}
+use Rattle.tal_meaning.specs.Programs.{body_statements}
+use Rattle.tal_meaning.specs.Statements.{statements_of, row_statements}
 use Rattle.tal_pieces.specs.declared.piece.Piece.{Piece}
 use Rattle.tal_pieces.specs.Cuts.{AreTokens}
 use Rattle.tal_pieces.specs.Printed.Statements.{inner_pieces, more_statements, body_pieces}

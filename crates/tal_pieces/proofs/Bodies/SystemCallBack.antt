@@ -18,7 +18,7 @@ use Rattle.tal_rules.specs.Calls.{system_faults, call_faults}
 use Rattle.tal_declarations.specs.Files.{call_files}
 use Rattle.tal_names.specs.Places.{arguments_of}
 use Rattle.tal_rules.specs.Statements.{after_call}
-use Rattle.tal_trees.specs.Calls.{call_what, system_what}
+use Rattle.tal_meaning.specs.Calls.{call_what, system_what}
 use Rattle.tal_pieces.specs.declared.piece.Piece.{Piece}
 use Rattle.tal_pieces.specs.Cuts.{AreTokens}
 use Rattle.tal_pieces.specs.Printed.Statements.{called}

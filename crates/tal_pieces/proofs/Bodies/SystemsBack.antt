@@ -16,7 +16,7 @@ use Rattle.tal_rules.specs.declared.walk.Walk.{Walk}
 use Rattle.tal_names.specs.declared.system.System.TheVariants as system
 use Rattle.tal_names.specs.Scopes.{kind_faults}
 use Rattle.tal_rules.specs.Statements.{stepped}
-use Rattle.tal_trees.specs.Calls.{item_by, file_by}
+use Rattle.tal_meaning.specs.Calls.{item_by, file_by}
 use Rattle.tal_pieces.specs.declared.piece.Piece.{Piece}
 use Rattle.tal_pieces.specs.declared.rank.ValueRank.TheVariants as value
 use Rattle.tal_pieces.specs.Cuts.{AreTokens}

@@ -16,7 +16,7 @@ use Rattle.tal_declarations.specs.Globals.{lines_faults, with_lines, nothing_dec
 use Rattle.tal_declarations.specs.Headings.{heading_faults, with_heading, locals_of}
 use Rattle.tal_names.specs.Names.{Declarations, meaning_in}
 use Rattle.tal_rules.specs.Texts.{gives_by, has_word_main, heading_locals_faults, locals_by}
-use Rattle.tal_trees.specs.Programs.{items_with, name_by, parameters_by, texts_of, procedure_with}
+use Rattle.tal_meaning.specs.Programs.{items_with, name_by, parameters_by, texts_of, procedure_with}
 use Rattle.tal_pieces.specs.declared.piece.Keyword.TheVariants as word
 use Rattle.tal_pieces.specs.declared.piece.Piece.{Piece}
 use Rattle.tal_pieces.specs.declared.piece.Piece.TheVariants as piece

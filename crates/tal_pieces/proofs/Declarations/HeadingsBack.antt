@@ -18,7 +18,7 @@ use Rattle.tal_declarations.specs.Globals.{is_taken, taken_faults}
 use Rattle.tal_declarations.specs.Headings.{parameters_of, locals_of, with_locals, does_give, main_faults, main_number, heading_faults}
 use Rattle.tal_names.specs.Names.{with_name}
 use Rattle.tal_rules.specs.Texts.{is_main_by}
-use Rattle.tal_trees.specs.Programs.{texts_of, procedure_with}
+use Rattle.tal_meaning.specs.Programs.{texts_of, procedure_with}
 use Rattle.tal_pieces.specs.declared.piece.Keyword.TheVariants as word
 use Rattle.tal_pieces.specs.declared.piece.Symbol.TheVariants as sign
 use Rattle.tal_pieces.specs.declared.piece.Piece.{Piece}

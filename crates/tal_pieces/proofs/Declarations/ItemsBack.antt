@@ -15,7 +15,7 @@ use Rattle.tal_declarations.specs.declared.table.Declared.{Declared}
 use Rattle.tal_rules.specs.Calls.{file_number}
 use Rattle.tal_declarations.specs.Globals.{is_taken, bounds_faults, extent_of, array_by, item_limits, item_faults, with_extent, with_item, lines_faults, with_lines, nothing_declared}
 use Rattle.tal_names.specs.Names.{Declarations, meaning_in}
-use Rattle.tal_trees.specs.Programs.{items_with, shape_by}
+use Rattle.tal_meaning.specs.Programs.{items_with, shape_by}
 use Rattle.tal_pieces.specs.declared.piece.Keyword.TheVariants as word
 use Rattle.tal_pieces.specs.declared.piece.Symbol.TheVariants as sign
 use Rattle.tal_pieces.specs.declared.piece.Piece.{Piece}

@@ -7,7 +7,7 @@ use Rattle.tal_syntax.specs.Expected.{AllAtMost}
 use Rattle.tal_syntax.specs.Nesting.{nest_names, nest_parameters, nest_locals, nest_gives, nest_main}
 use Rattle.tal_declarations.specs.Headings.{names_of, parameters_of, locals_of, does_give}
 use Rattle.tal_rules.specs.Texts.{is_main_by}
-use Rattle.tal_trees.specs.Programs.{texts_of}
+use Rattle.tal_meaning.specs.Programs.{texts_of}
 use Rattle.tal_pieces.specs.declared.piece.Keyword.TheVariants as word
 use Rattle.tal_pieces.specs.declared.piece.Symbol.TheVariants as sign
 use Rattle.tal_pieces.specs.declared.piece.Piece.{Piece}

@@ -8,7 +8,7 @@ use Rattle.tal_names.specs.Faults.{fault_at, if_so}
 use Rattle.tal_declarations.specs.Globals.{is_taken, taken_faults}
 use Rattle.tal_declarations.specs.Headings.{with_local, with_locals, count_faults, parameter_faults, parameters_faults, outer_faults, one_inner_faults, inner_faults, locals_faults}
 use Rattle.tal_names.specs.Names.{Declarations, is_declared}
-use Rattle.tal_trees.specs.Programs.{texts_of}
+use Rattle.tal_meaning.specs.Programs.{texts_of}
 use Rattle.tal_pieces.proofs.Scopes.DeclaredNames.{stays, is_there, fresh_of_free, one_more}
 use Rattle.tal_faultless.proofs.Common.Faultless.{nils, first_nil, second_nil, refuted, silent, three}
 

@@ -23,7 +23,7 @@ use Rattle.tal_declarations.specs.Headings.{locals_of, heading_of}
 use Rattle.tal_names.specs.Names.{Declarations, meaning_in}
 use Rattle.tal_names.specs.Scopes.{or_else, meaning_of}
 use Rattle.tal_rules.specs.Texts.{faults, headed_text, files_by, locals_by, after_procedure, first_progress, heading_locals_faults}
-use Rattle.tal_trees.specs.Programs.{items_with, texts_of, name_by, parameters_by, trees_of, tree_of_procedure, tree_of}
+use Rattle.tal_meaning.specs.Programs.{items_with, texts_of, name_by, parameters_by, trees_of, tree_of_procedure, tree_of}
 use Rattle.tal_pieces.specs.Printed.Names.{item_name, procedure_name, file_name, receive_name}
 use Rattle.tal_tree.specs.Targets.{is_receive, receives}
 use Rattle.tal_pieces.proofs.Scopes.Agreement.{Agreement, is_literal, without_literals}

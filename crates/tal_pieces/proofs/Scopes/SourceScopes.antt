@@ -5,7 +5,7 @@ use Rattle.tal_syntax.specs.Grammar as g
 use Rattle.tal_declarations.specs.Globals.{with_lines, nothing_declared}
 use Rattle.tal_declarations.specs.Headings.{locals_of}
 use Rattle.tal_rules.specs.Texts.{faults, headed_text, files_by, heading_locals_faults}
-use Rattle.tal_trees.specs.Programs.{tree_of, texts_of, parameters_by}
+use Rattle.tal_meaning.specs.Programs.{tree_of, texts_of, parameters_by}
 use Rattle.tal_pieces.proofs.Scopes.Agreement.{Agreement}
 use Rattle.tal_pieces.proofs.Declarations.DeclarationsBack.{FilesAreSimple}
 use Rattle.tal_faultless.proofs.Scopes.SourceScopes.{scope_in}

@@ -14,7 +14,7 @@ use Rattle.tal_names.specs.declared.scope.Scope.{Scope}
 use Rattle.tal_rules.specs.Calls.{named_faults}
 use Rattle.tal_names.specs.Places.{further_arguments, arguments_of}
 use Rattle.tal_names.specs.Scopes.{meaning_of, kind_faults}
-use Rattle.tal_trees.specs.Calls.{value_of_argument, values_of_arguments, values_of, meaning_by, item_by, variable_by, file_by}
+use Rattle.tal_meaning.specs.Calls.{value_of_argument, values_of_arguments, values_of, meaning_by, item_by, variable_by, file_by}
 use Rattle.tal_pieces.specs.declared.rank.ValueRank.TheVariants as value
 use Rattle.tal_pieces.proofs.Values.Depths.{value_depth}
 use Rattle.tal_pieces.specs.Printed.Names.{file_name, receive_name}

@@ -14,7 +14,7 @@ use Rattle.tal_names.specs.Systems.{system_of}
 use Rattle.tal_names.specs.Places.{arguments_of, first_of_spot, name_of_expr}
 use Rattle.tal_rules.specs.Statements.{stepped, after, after_else, after_row, statement_faults, else_faults, row_faults}
 use Rattle.tal_names.specs.Scopes.{meaning_of}
-use Rattle.tal_trees.specs.Statements.{statements_of, else_statements, row_statements}
+use Rattle.tal_meaning.specs.Statements.{statements_of, else_statements, row_statements}
 use Rattle.tal_pieces.proofs.Scopes.Agreement.{Agreement, Extends, OpenedSoFar, printed_scope}
 use Rattle.tal_pieces.proofs.Standing.ArgumentsFit.{low_arguments}
 use Rattle.tal_pieces.proofs.Standing.CallsStand.{call_stand}
@@ -32,7 +32,7 @@ use Rattle.tal_faultless.proofs.Common.Faultless.{split, refuted}
 module _ (p : Program) (locals : List (List ℕ)) (s : Scope) (all : Files) (agreed : Agreement p locals s) (names : SourceNames s)
     (files_are : p.files ≡ all.uses) (names_are : s.files ≡ all.names) where
   -- statements of a text, in a row and in the place of one, and the files after them
-  record Standing (n : ℕ) (w : Walk) (xs : List Statement) (v : Walk) (f : Files) : Type 0 where
+  record BodyStands (n : ℕ) (w : Walk) (xs : List Statement) (v : Walk) (f : Files) : Type 0 where
     row : Row p locals (printed_scope s) all n w xs v
     inner : StandsIn p locals (printed_scope s) all n w xs v
     opened : OpenedSoFar v.files f
@@ -41,12 +41,12 @@ module _ (p : Program) (locals : List (List ℕ)) (s : Scope) (all : Files) (agr
     row : Row p locals (printed_scope s) all n w xs v
     opened : OpenedSoFar v.files f
 
-  single : {n : ℕ} {w : Walk} {x : Statement} {v : Walk} {f : Files} → Stands p locals (printed_scope s) all n w x v → OpenedSoFar v.files f → Standing n w (x ∷ []) v f
+  single : {n : ℕ} {w : Walk} {x : Statement} {v : Walk} {f : Files} → Stands p locals (printed_scope s) all n w x v → OpenedSoFar v.files f → BodyStands n w (x ∷ []) v f
   single x opened = record { row = goes_on x ended; inner = one x; opened = opened }
 
   mutual
     stand : (x : g.Statement) (n : ℕ) (w : Walk) (f : Files) (ls : List ℕ) → OpenedSoFar w.files f → Extends all (statement_files (without_files s) f x)
-        → statement_faults s w x ≡ [] → AllAtMost 33 (nest_statement n x ls) → Standing n w (statements_of s w x) (after s w x) (statement_files (without_files s) f x)
+        → statement_faults s w x ≡ [] → AllAtMost 33 (nest_statement n x ls) → BodyStands n w (statements_of s w x) (after s w x) (statement_files (without_files s) f x)
     stand g.nothing n w f ls so_far more none low = record { row = ended; inner = empty; opened = so_far }
     stand (g.block begin first rest end) n w f ls so_far more none low =
         let parts = split none in
@@ -106,7 +106,7 @@ module _ (p : Program) (locals : List (List ℕ)) (s : Scope) (all : Files) (agr
         (assign_call_stands p locals s agreed names n target name_at name first rest ls target_parts.1 called.1 low)) so_far
 
     else_stands : (o : g.Otherwise) (n : ℕ) (w : Walk) (f : Files) (ls : List ℕ) → OpenedSoFar w.files f → Extends all (else_files (without_files s) f o)
-        → else_faults s w o ≡ [] → AllAtMost 33 (nest_otherwise n o ls) → Standing n w (else_statements s w o) (after_else s w o) (else_files (without_files s) f o)
+        → else_faults s w o ≡ [] → AllAtMost 33 (nest_otherwise n o ls) → BodyStands n w (else_statements s w o) (after_else s w o) (else_files (without_files s) f o)
     else_stands g.no_else n w f ls so_far more none low = record { row = ended; inner = empty; opened = so_far }
     else_stands (g.otherwise at t) n w f ls so_far more none low = stand t n w f ls so_far more none low.1
 

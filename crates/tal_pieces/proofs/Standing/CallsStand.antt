@@ -23,8 +23,8 @@ use Rattle.tal_declarations.specs.Files.{opened, opened_named, call_files}
 use Rattle.tal_names.specs.Places.{first_of_argument, name_of_argument}
 use Rattle.tal_names.specs.Scopes.{meaning_of, kind_faults, is_file}
 use Rattle.tal_rules.specs.Statements.{next_number, next_file, stage_after_open, stage_after_monitor, after_call}
-use Rattle.tal_trees.specs.Calls as trees
-use Rattle.tal_trees.specs.Calls.{meaning_by, call_what}
+use Rattle.tal_meaning.specs.Calls as trees
+use Rattle.tal_meaning.specs.Calls.{meaning_by, call_what}
 use Rattle.tal_pieces.proofs.Scopes.Agreement.{Agreement, Extends, OpenedSoFar, printed_scope}
 use Rattle.tal_pieces.proofs.Standing.ArgumentsFit.{AreLow}
 use Rattle.tal_pieces.proofs.Standing.FilesGrow.{extends_on, opened_grows}

@@ -13,8 +13,8 @@ use Rattle.tal_names.specs.declared.meaning.Need.TheVariants as need
 use Rattle.tal_names.specs.declared.scope.Scope.{Scope}
 use Rattle.tal_rules.specs.Expressions.{spot_faults}
 use Rattle.tal_names.specs.Scopes.{meaning_of, kind_faults}
-use Rattle.tal_trees.specs.Calls.{item_by, variable_by}
-use Rattle.tal_trees.specs.Expressions.{target_by, value_of_expr, cond_of_expr, target_of_spot}
+use Rattle.tal_meaning.specs.Calls.{item_by, variable_by}
+use Rattle.tal_meaning.specs.Expressions.{target_by, value_of_expr, cond_of_expr, target_of_spot}
 use Rattle.tal_pieces.specs.declared.rank.ValueRank.TheVariants as value
 use Rattle.tal_pieces.proofs.Values.Depths.{value_depth}
 use Rattle.tal_pieces.proofs.Values.ReadsBack.{IsNamed}

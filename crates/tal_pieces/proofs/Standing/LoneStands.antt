@@ -20,9 +20,9 @@ use Rattle.tal_rules.specs.Expressions.{spot_faults}
 use Rattle.tal_names.specs.Places.{name_of_argument}
 use Rattle.tal_names.specs.Scopes.{meaning_of}
 use Rattle.tal_rules.specs.Statements.{return_faults, right_by, right_named}
-use Rattle.tal_trees.specs.Calls.{procedure_by, values_of, values_of_arguments, meaning_by, system_what}
-use Rattle.tal_trees.specs.Expressions.{value_of_expr, target_of_spot}
-use Rattle.tal_trees.specs.Statements.{answer_of, assign_by}
+use Rattle.tal_meaning.specs.Calls.{procedure_by, values_of, values_of_arguments, meaning_by, system_what}
+use Rattle.tal_meaning.specs.Expressions.{value_of_expr, target_of_spot}
+use Rattle.tal_meaning.specs.Statements.{answer_of, assign_by}
 use Rattle.tal_pieces.proofs.Scopes.Agreement.{Agreement, printed_scope}
 use Rattle.tal_pieces.proofs.Standing.ArgumentsFit.{AreLow, low_values, values_named, fits_argument, fits_arguments, variable_at, array_at, receive_at, process_at}
 use Rattle.tal_faultless.proofs.Common.ArgumentCounts.{arguments_count, values_length}

@@ -17,7 +17,7 @@ use Rattle.tal_rules.specs.Calls.{checkpoint_faults, named_faults, repeated_faul
 use Rattle.tal_names.specs.Names.{Declarations, same, meaning_in, is_declared, with_name}
 use Rattle.tal_names.specs.Places.{name_of_argument}
 use Rattle.tal_names.specs.Scopes.{meaning_of, kind_faults}
-use Rattle.tal_trees.specs.Calls.{items_named, files_named, with_item, with_process, meaning_by, system_what}
+use Rattle.tal_meaning.specs.Calls.{items_named, files_named, with_item, with_process, meaning_by, system_what}
 use Rattle.tal_pieces.specs.Printed.Names.{file_name}
 use Rattle.tal_pieces.proofs.Scopes.Agreement.{Agreement, printed_scope}
 use Rattle.tal_pieces.proofs.Scopes.DeclaredNames.{appended}

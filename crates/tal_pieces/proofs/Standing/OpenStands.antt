@@ -23,7 +23,7 @@ use Rattle.tal_declarations.specs.Files.{file_by, target_of, depth_of, depth_val
 use Rattle.tal_names.specs.Names.{meaning_in, is_declared}
 use Rattle.tal_names.specs.Scopes.{or_else, meaning_of}
 use Rattle.tal_rules.specs.Statements.{next_number, next_file, stage_after_open}
-use Rattle.tal_trees.specs.Calls as trees
+use Rattle.tal_meaning.specs.Calls as trees
 use Rattle.tal_tree.specs.Targets.{is_receive}
 use Rattle.tal_pieces.proofs.Scopes.Agreement.{Agreement, Extends, OpenedSoFar, is_literal, printed_scope}
 use Rattle.tal_faultless.proofs.Files.FileMeanings.{new_file, file_meaning, OpensFile}

@@ -9,7 +9,7 @@ use Rattle.tal_names.specs.declared.scope.Scope.{Scope}
 use Rattle.tal_rules.specs.declared.walk.Walk.{Walk}
 use Rattle.tal_declarations.specs.Files.{statement_files, row_files}
 use Rattle.tal_rules.specs.Texts.{body_after, body_faults}
-use Rattle.tal_trees.specs.Programs.{body_statements}
+use Rattle.tal_meaning.specs.Programs.{body_statements}
 use Rattle.tal_pieces.proofs.Scopes.Agreement.{Agreement, Extends, OpenedSoFar, printed_scope}
 use Rattle.tal_pieces.proofs.Standing.Stands.{Row}
 use Rattle.tal_faultless.proofs.Scopes.SourceScopes.{without_files}

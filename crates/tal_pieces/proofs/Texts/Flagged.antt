@@ -13,7 +13,7 @@ use Rattle.tal_declarations.specs.Globals.{taken_faults}
 use Rattle.tal_declarations.specs.Headings.{heading_of, heading_faults, headings_faults, main_faults, main_number, with_heading, with_headings, does_give, parameters_of}
 use Rattle.tal_names.specs.Names.{Declarations}
 use Rattle.tal_rules.specs.Texts.{after_procedure, has_word_main}
-use Rattle.tal_trees.specs.Programs.{trees_of, tree_of_procedure}
+use Rattle.tal_meaning.specs.Programs.{trees_of, tree_of_procedure}
 use Rattle.tal_pieces.specs.declared.piece.Piece.{Piece}
 use Rattle.tal_pieces.specs.Printed.Procedures.{procedure_pieces, procedures_pieces, main_pieces}
 use Rattle.tal_faultless.proofs.Common.Faultless.{no_fault, refuted, first_nil, second_nil}

@@ -18,7 +18,7 @@ use Rattle.tal_declarations.specs.Files.{statement_files, row_files}
 use Rattle.tal_declarations.specs.Headings.{heading_of, heading_faults, with_heading, locals_of}
 use Rattle.tal_names.specs.Names.{Declarations}
 use Rattle.tal_rules.specs.Texts.{faults, headed_text, files_by, scope_of, entered, stage_at, next_procedure, has_word_main, name_place, lacks_monitor, heading_locals_faults, body_after, body_faults, procedure_faults, after_procedure, procedure_files}
-use Rattle.tal_trees.specs.Programs.{tree_of, tree_of_procedure, parameters_by, texts_of, body_statements}
+use Rattle.tal_meaning.specs.Programs.{tree_of, tree_of_procedure, parameters_by, texts_of, body_statements}
 use Rattle.tal_pieces.specs.declared.piece.Keyword.TheVariants as word
 use Rattle.tal_pieces.specs.declared.piece.Symbol.TheVariants as sign
 use Rattle.tal_pieces.specs.declared.piece.Piece.{Piece}

@@ -15,7 +15,7 @@ use Rattle.tal_declarations.specs.Files.{statement_files, row_files}
 use Rattle.tal_declarations.specs.Headings.{heading_faults, headings_faults, with_heading, with_headings}
 use Rattle.tal_names.specs.Names.{Declarations}
 use Rattle.tal_rules.specs.Texts.{faults, next_procedure, procedure_faults, procedures_faults, after_procedure, procedure_files, files_from, scope_of}
-use Rattle.tal_trees.specs.Programs.{trees_of}
+use Rattle.tal_meaning.specs.Programs.{trees_of}
 use Rattle.tal_pieces.specs.declared.piece.Piece.{Piece}
 use Rattle.tal_pieces.specs.Cuts.{AreTokens}
 use Rattle.tal_pieces.specs.Unlined.{unlined_procedure}

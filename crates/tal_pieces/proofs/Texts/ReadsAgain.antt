@@ -2,7 +2,7 @@
 use Rattle.std.proofs.Common.{ℕ, List, refl, sym, ap, ◌∙◌, subst}
 use Rattle.std.specs.Prelude.{None}
 use Rattle.tal_tree.specs.declared.program.Program.{Program}
-use Rattle.tal_trees.specs.Programs.{tree_of}
+use Rattle.tal_meaning.specs.Programs.{tree_of}
 use Rattle.tal_reader.specs.Reads.{Reads}
 use Rattle.tal_pieces.specs.Printed.Procedures.{printed}
 use Rattle.tal_pieces.specs.ReadsAgain.{ReadsAgain}

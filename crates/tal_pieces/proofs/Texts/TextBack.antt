@@ -17,7 +17,7 @@ use Rattle.tal_names.specs.declared.scope.Scope.{Scope}
 use Rattle.tal_declarations.specs.Globals.{lines_faults, with_lines, nothing_declared}
 use Rattle.tal_declarations.specs.Headings.{headings_faults, with_headings}
 use Rattle.tal_rules.specs.Texts.{faults, headed_after, headed_text, files_by, files_from, no_files, bodies_faults, main_missing, procedures_faults, first_progress}
-use Rattle.tal_trees.specs.Programs.{tree_of, items_with, program_by, trees_of}
+use Rattle.tal_meaning.specs.Programs.{tree_of, items_with, program_by, trees_of}
 use Rattle.tal_pieces.specs.Cuts.{AreTokens, finished}
 use Rattle.tal_pieces.specs.Printed.Procedures.{printed, items_pieces, procedures_pieces, main_pieces}
 use Rattle.tal_pieces.specs.Unlined.{unlined, unlined_procedure, IsSameButForLines}

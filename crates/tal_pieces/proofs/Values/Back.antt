@@ -22,7 +22,7 @@ use Rattle.tal_names.specs.declared.scope.Scope.{Scope}
 use Rattle.tal_rules.specs.Expressions.{sum_faults, product_faults, terms_faults, factor_faults, factors_faults, wanted_by_terms, wanted_by_factors}
 use Rattle.tal_names.specs.Places.{first_of_product, first_of_factor}
 use Rattle.tal_names.specs.Scopes.{meaning_of, kind_faults}
-use Rattle.tal_trees.specs.Expressions.{op_of_sign, op_of_scale, value_of_terms, value_of_product, value_of_factor, cond_of_sum, cond_of_product, cond_of_factor, read_by}
+use Rattle.tal_meaning.specs.Expressions.{op_of_sign, op_of_scale, value_of_terms, value_of_product, value_of_factor, cond_of_sum, cond_of_product, cond_of_factor, read_by}
 use Rattle.tal_pieces.specs.declared.piece.Symbol.TheVariants as sign
 use Rattle.tal_pieces.specs.declared.piece.Piece.{Piece}
 use Rattle.tal_pieces.specs.declared.piece.Piece.TheVariants as piece

@@ -10,7 +10,7 @@ use Rattle.tal_names.specs.declared.meaning.Wanted.TheVariants.{Value}
 use Rattle.tal_names.specs.declared.scope.Scope.{Scope}
 use Rattle.tal_rules.specs.Expressions.{product_faults, terms_faults, factor_faults, factors_faults}
 use Rattle.tal_names.specs.Places.{first_of_product, first_of_factor}
-use Rattle.tal_trees.specs.Expressions.{op_of_sign, op_of_scale, value_of_terms, value_of_product, value_of_factors, value_of_factor, cond_of_sum, cond_of_product}
+use Rattle.tal_meaning.specs.Expressions.{op_of_sign, op_of_scale, value_of_terms, value_of_product, value_of_factors, value_of_factor, cond_of_sum, cond_of_product}
 use Rattle.tal_faultless.proofs.Common.Faultless.{nils, first_nil, second_nil}
 
 abbrev pub one_term : g.Terms → g.Sign → g.Product → g.Terms

@@ -13,7 +13,7 @@ use Rattle.tal_names.specs.declared.meaning.Meaning.{Meaning}
 use Rattle.tal_names.specs.declared.meaning.Meaning.TheVariants as m
 use Rattle.tal_names.specs.declared.scope.Scope.{Scope}
 use Rattle.tal_names.specs.Scopes.{meaning_of}
-use Rattle.tal_trees.specs.Expressions.{op_of_sign, op_of_scale, read_by, value_of_expr, value_of_both, value_of_neg, value_of_sum, value_of_terms, value_of_product, value_of_factors, value_of_factor, value_of_spot, value_of_index}
+use Rattle.tal_meaning.specs.Expressions.{op_of_sign, op_of_scale, read_by, value_of_expr, value_of_both, value_of_neg, value_of_sum, value_of_terms, value_of_product, value_of_factors, value_of_factor, value_of_spot, value_of_index}
 use Rattle.tal_pieces.specs.declared.rank.ValueRank.{ValueRank}
 use Rattle.tal_pieces.specs.declared.rank.ValueRank.TheVariants as value
 use Rattle.tal_pieces.proofs.Values.Depths.{enclosed, value_depth, spot_depth, PrintedIsNoDeeper}

@@ -6,7 +6,7 @@ use Rattle.tal_syntax.specs.Grammar as g
 use Rattle.tal_syntax.specs.Expected.{AllAtMost}
 use Rattle.tal_syntax.specs.Nesting.{nest_sum}
 use Rattle.tal_names.specs.declared.scope.Scope.{Scope}
-use Rattle.tal_trees.specs.Expressions.{value_of_sum}
+use Rattle.tal_meaning.specs.Expressions.{value_of_sum}
 use Rattle.tal_pieces.specs.declared.rank.ValueRank.{ValueRank}
 use Rattle.tal_pieces.specs.declared.rank.ValueRank.TheVariants as value
 use Rattle.tal_pieces.specs.Printed.Expressions.{value_needs, left_rank, right_rank}

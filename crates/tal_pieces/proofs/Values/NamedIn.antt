@@ -12,7 +12,7 @@ use Rattle.tal_names.specs.declared.meaning.Meaning.{Meaning}
 use Rattle.tal_names.specs.declared.meaning.Meaning.TheVariants as m
 use Rattle.tal_names.specs.declared.scope.Scope.{Scope}
 use Rattle.tal_names.specs.Scopes.{meaning_of}
-use Rattle.tal_trees.specs.Expressions.{op_of_sign, op_of_scale, read_by, value_of_expr, value_of_both, value_of_neg, value_of_sum, value_of_terms, value_of_product, value_of_factors, value_of_factor, value_of_spot, value_of_index, cond_of_expr, cond_of_ors, cond_of_both, cond_of_ands, cond_of_neg, cond_of_sum, cond_of_product, cond_of_factor}
+use Rattle.tal_meaning.specs.Expressions.{op_of_sign, op_of_scale, read_by, value_of_expr, value_of_both, value_of_neg, value_of_sum, value_of_terms, value_of_product, value_of_factors, value_of_factor, value_of_spot, value_of_index, cond_of_expr, cond_of_ors, cond_of_both, cond_of_ands, cond_of_neg, cond_of_sum, cond_of_product, cond_of_factor}
 use Rattle.tal_pieces.proofs.Values.ReadsBack.{IsNamed, IsNamedSpot}
 use Rattle.tal_pieces.proofs.Values.TestsReadBack.{IsNamedTest}
 use Rattle.tal_pieces.proofs.Scopes.Agreement.{Agreement, printed_scope}

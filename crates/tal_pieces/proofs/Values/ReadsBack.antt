@@ -14,7 +14,7 @@ use Rattle.tal_names.specs.declared.meaning.Wanted.{Wanted}
 use Rattle.tal_names.specs.declared.scope.Scope.{Scope}
 use Rattle.tal_rules.specs.Expressions.{sum_faults}
 use Rattle.tal_names.specs.Scopes.{meaning_of}
-use Rattle.tal_trees.specs.Expressions.{value_of_sum, cond_of_sum}
+use Rattle.tal_meaning.specs.Expressions.{value_of_sum, cond_of_sum}
 use Rattle.tal_pieces.specs.declared.piece.Piece.{Piece}
 use Rattle.tal_pieces.specs.declared.rank.ValueRank.TheVariants as value
 use Rattle.tal_pieces.specs.Cuts.{AreTokens}

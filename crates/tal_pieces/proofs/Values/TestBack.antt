@@ -16,7 +16,7 @@ use Rattle.tal_names.specs.declared.meaning.Wanted.TheVariants.{Condition, Value
 use Rattle.tal_names.specs.declared.scope.Scope.{Scope}
 use Rattle.tal_rules.specs.Expressions.{both_faults, neg_faults, ands_faults, ors_faults}
 use Rattle.tal_names.specs.Places.{first_of_sum}
-use Rattle.tal_trees.specs.Expressions.{rel_of, cond_of_both, cond_of_neg, cond_of_ands, cond_of_ors}
+use Rattle.tal_meaning.specs.Expressions.{rel_of, cond_of_both, cond_of_neg, cond_of_ands, cond_of_ors}
 use Rattle.tal_pieces.specs.declared.piece.Keyword.TheVariants as word
 use Rattle.tal_pieces.specs.declared.piece.Symbol.TheVariants as sign
 use Rattle.tal_pieces.specs.declared.piece.Piece.{Piece}

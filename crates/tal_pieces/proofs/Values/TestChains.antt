@@ -10,7 +10,7 @@ use Rattle.tal_syntax.specs.Nesting.{nest_ors, nest_both, nest_ands, nest_neg}
 use Rattle.tal_names.specs.declared.meaning.Wanted.TheVariants.{Condition}
 use Rattle.tal_names.specs.declared.scope.Scope.{Scope}
 use Rattle.tal_rules.specs.Expressions.{expr_faults, both_faults, neg_faults, ands_faults, ors_faults}
-use Rattle.tal_trees.specs.Expressions.{cond_of_both, cond_of_neg, cond_of_ands, cond_of_ors}
+use Rattle.tal_meaning.specs.Expressions.{cond_of_both, cond_of_neg, cond_of_ands, cond_of_ors}
 use Rattle.tal_faultless.proofs.Common.Faultless.{nils, first_nil, second_nil}
 
 abbrev pub one_and : g.Ands → At → g.Neg → g.Ands

@@ -6,7 +6,7 @@ use Rattle.tal_syntax.specs.Grammar as g
 use Rattle.tal_syntax.specs.Expected.{AllAtMost}
 use Rattle.tal_syntax.specs.Nesting.{nest_expr, nest_ors, nest_both, nest_ands, nest_neg, nest_sum, nest_product, nest_factor}
 use Rattle.tal_names.specs.declared.scope.Scope.{Scope}
-use Rattle.tal_trees.specs.Expressions.{value_of_product, value_of_factor, cond_of_expr, cond_of_ors, cond_of_both, cond_of_ands, cond_of_neg, cond_of_sum, cond_of_product, cond_of_factor}
+use Rattle.tal_meaning.specs.Expressions.{value_of_product, value_of_factor, cond_of_expr, cond_of_ors, cond_of_both, cond_of_ands, cond_of_neg, cond_of_sum, cond_of_product, cond_of_factor}
 use Rattle.tal_pieces.specs.declared.rank.TestRank.{TestRank}
 use Rattle.tal_pieces.specs.declared.rank.TestRank.TheVariants as test
 use Rattle.tal_pieces.proofs.Values.Depths.{enclosed}

@@ -5,7 +5,7 @@ use Rattle.tal_syntax.specs.Grammar as g
 use Rattle.tal_syntax.specs.Expected.{AllAtMost}
 use Rattle.tal_syntax.specs.Nesting.{nest_expr}
 use Rattle.tal_names.specs.declared.scope.Scope.{Scope}
-use Rattle.tal_trees.specs.Expressions.{cond_of_expr}
+use Rattle.tal_meaning.specs.Expressions.{cond_of_expr}
 use Rattle.tal_pieces.specs.declared.rank.TestRank.{TestRank}
 use Rattle.tal_pieces.specs.declared.rank.TestRank.TheVariants as test
 use Rattle.tal_pieces.specs.declared.rank.ValueRank.TheVariants as value

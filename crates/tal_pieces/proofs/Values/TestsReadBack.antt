@@ -9,7 +9,7 @@ use Rattle.tal_syntax.specs.Nesting.{nest_expr}
 use Rattle.tal_names.specs.declared.meaning.Wanted.TheVariants.{Condition}
 use Rattle.tal_names.specs.declared.scope.Scope.{Scope}
 use Rattle.tal_rules.specs.Expressions.{expr_faults}
-use Rattle.tal_trees.specs.Expressions.{cond_of_expr}
+use Rattle.tal_meaning.specs.Expressions.{cond_of_expr}
 use Rattle.tal_pieces.specs.declared.piece.Piece.{Piece}
 use Rattle.tal_pieces.specs.declared.rank.TestRank.TheVariants as test
 use Rattle.tal_pieces.specs.Cuts.{AreTokens}

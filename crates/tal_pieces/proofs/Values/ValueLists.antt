@@ -8,7 +8,7 @@ use Rattle.tal_syntax.specs.Expected.{AllAtMost}
 use Rattle.tal_syntax.specs.Nesting.{nest_values}
 use Rattle.tal_names.specs.declared.scope.Scope.{Scope}
 use Rattle.tal_rules.specs.Calls.{values_faults, values_count}
-use Rattle.tal_trees.specs.Calls.{values_of}
+use Rattle.tal_meaning.specs.Calls.{values_of}
 use Rattle.tal_pieces.specs.declared.piece.Piece.{Piece}
 use Rattle.tal_pieces.specs.declared.rank.ValueRank.TheVariants as value
 use Rattle.tal_pieces.specs.Cuts.{AreTokens}

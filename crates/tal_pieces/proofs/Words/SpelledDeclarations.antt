@@ -16,7 +16,7 @@ use Rattle.tal_names.specs.declared.scope.Named.{Named}
 use Rattle.tal_declarations.specs.Globals.{atom_meaning, constant_meaning, literal_value, atom_value, negated, constant_value, bounds_by, array_by, extent_of, item_meaning, with_item, with_literal, with_items, with_literals, with_line, with_lines}
 use Rattle.tal_declarations.specs.Headings.{names_of, parameters_of, local_names, locals_of}
 use Rattle.tal_names.specs.Names.{Declarations}
-use Rattle.tal_trees.specs.Programs.{name_by, parameters_by}
+use Rattle.tal_meaning.specs.Programs.{name_by, parameters_by}
 use Rattle.tal_pieces.proofs.Words.LiteralWords.{MeaningFits, FoundFits, AreFitting, found_fits, with_fits}
 use Rattle.tal_pieces.proofs.Words.SpelledSyntax.{AllSpelled, zero_fits}
 use Rattle.tal_pieces.proofs.Spelling.SpelledTokens.{either}

@@ -17,9 +17,9 @@ use Rattle.tal_names.specs.Systems.{system_of}
 use Rattle.tal_names.specs.Places.{name_of_expr, further_arguments, arguments_of}
 use Rattle.tal_names.specs.Scopes.{meaning_of}
 use Rattle.tal_rules.specs.Statements.{stepped, after}
-use Rattle.tal_trees.specs.Calls.{value_of_argument, values_of_arguments, values_of, value_at, meaning_by, meaning_at, item_by, variable_by, file_by, procedure_by, items_named, files_named, system_what, call_what}
-use Rattle.tal_trees.specs.Expressions.{value_of_expr, cond_of_expr, target_of_spot}
-use Rattle.tal_trees.specs.Statements.{answer_of, assign_by, statements_of, else_statements, row_statements}
+use Rattle.tal_meaning.specs.Calls.{value_of_argument, values_of_arguments, values_of, value_at, meaning_by, meaning_at, item_by, variable_by, file_by, procedure_by, items_named, files_named, system_what, call_what}
+use Rattle.tal_meaning.specs.Expressions.{value_of_expr, cond_of_expr, target_of_spot}
+use Rattle.tal_meaning.specs.Statements.{answer_of, assign_by, statements_of, else_statements, row_statements}
 use Rattle.tal_pieces.proofs.Words.LiteralWords.{ScopeFits}
 use Rattle.tal_pieces.proofs.Words.SpelledSyntax.{AllSpelled, zero_fits, words_expr, words_target}
 use Rattle.tal_pieces.proofs.Words.WordTrees.{NamesSpell, LocalsSpell, SpellsValue, SpellsSpot, SpellsWhat, SpellsStatement, spells_number, spells_assign, spells_assign_call, spells_if, spells_while, spells_for, spells_call, spells_return, spells_answer, spells_read_update, spells_reply, spells_write_read, spells_checkpoint, spells_monitor, spells_open, spells_stop}

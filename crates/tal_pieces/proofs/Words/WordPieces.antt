@@ -3,7 +3,7 @@ use Rattle.std.specs.Prelude.{◌≡◌, ℕ, List, [], None}
 use Rattle.tal_tokens.specs.Lexer.{tokens_of}
 use Rattle.tal_syntax.specs.Grammar as g
 use Rattle.tal_rules.specs.Texts.{faults}
-use Rattle.tal_trees.specs.Programs.{tree_of}
+use Rattle.tal_meaning.specs.Programs.{tree_of}
 use Rattle.tal_pieces.specs.Cuts.{AreSpellable}
 use Rattle.tal_pieces.specs.Printed.Procedures.{printed}
 

@@ -24,8 +24,8 @@ use Rattle.tal_names.specs.Names.{Declarations, meaning_in, with_name}
 use Rattle.tal_names.specs.Systems.{system_of}
 use Rattle.tal_rules.specs.Statements.{after}
 use Rattle.tal_rules.specs.Texts.{scope_of, locals_by, entered, next_procedure, after_procedure, first_progress, headed_after, headed_text, procedure_files, files_from, files_by, no_files}
-use Rattle.tal_trees.specs.Programs.{shape_by, items_with, texts_of, name_by, parameters_by, trees_of, tree_of}
-use Rattle.tal_trees.specs.Statements.{statements_of, row_statements}
+use Rattle.tal_meaning.specs.Programs.{shape_by, items_with, texts_of, name_by, parameters_by, trees_of, tree_of}
+use Rattle.tal_meaning.specs.Statements.{statements_of, row_statements}
 use Rattle.tal_pieces.proofs.Words.LiteralWords.{AreFitting, ScopeFits, scope_fits, with_fits}
 use Rattle.tal_pieces.proofs.Words.SpelledDeclarations.{NamedSpells, words_lines, words_locals, words_heading}
 use Rattle.tal_pieces.proofs.Words.SpelledFiles.{FilesSpell, rest_of_statement, files_statement, files_row}

@@ -1,5 +1,5 @@
 use Rattle.std.proofs.Common.{length}
-use Rattle.headline.proofs.Kept.{run-keeps}
+use Rattle.takeover_laws.proofs.Kept.{run-keeps}
 use Rattle.awaited_requests.proofs.Awaited.{awaited-stands}
 use Rattle.awaited_requests.proofs.laws.awaited_requests_stand_at_their_server.Goals as goal
 

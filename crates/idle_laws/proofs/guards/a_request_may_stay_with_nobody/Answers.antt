@@ -17,7 +17,7 @@ use Rattle.computed_changes.proofs.Entered.{enter-only}
 use Rattle.letters.specs.Routes.{Letter}
 use Rattle.world_semantics.proofs.Lists.{some-same}
 use Rattle.world_semantics.specs.Rules.{by_enter, by_stop, by_mark}
-use Rattle.world_semantics.specs.World.{Pair, is_running, has_marked, copy_of}
+use Rattle.world_semantics.specs.World.{Pair, is_running, has_noted, copy_of}
 use Rattle.world_semantics.proofs.Ran.{run-idle}
 use Rattle.letters.specs.Idle.{IsIdle, OneStops}
 use Rattle.letters.specs.Posts.{Post, plays_enter, plays_fail, plays_tick, one_mark, no_mark, HasPlayed, played_none, played_more}
@@ -49,7 +49,7 @@ one_is_there = (
 idle-by : (site : Site) (post : Post) (pair : Pair) → post.world.processes ≡ pair ∷ [] → ((k : Which) → (copy_of k pair).role ≢ Acting)
     → post.owed ≡ letter_to 1 ∷ [] → is_running post.world.stopped 1 ≡ false
     → ((number : ℕ) → (run_done site number post.world ≡ None) × (enter_done site number post.world ≡ None))
-    → ((node processor : ℕ) → is_running post.world.stopped node ≡ true → slice_get post.world.stopped processor ≡ Some true → has_marked post.world.marks node processor ≡ true)
+    → ((node processor : ℕ) → is_running post.world.stopped node ≡ true → slice_get post.world.stopped processor ≡ Some true → has_noted post.world.marks node processor ≡ true)
     → IsIdle site post
 idle-by site post pair processes rest owed stopped none marked = record {
   enters = λ number sendings next change. (let is = enter-only number post.world next sendings change in let nothing = (none number).1 in cc);
@@ -84,14 +84,14 @@ rest-there First acts = cc
 rest-there Second acts = cc
 
 -- of the nodes that run there is only that of the terminals
-only : (node processor : ℕ) → is_running (true ∷ true ∷ []) node ≡ true → slice_get (true ∷ true ∷ []) processor ≡ Some true → has_marked two_stop.0.world.marks node processor ≡ true
+only : (node processor : ℕ) → is_running (true ∷ true ∷ []) node ≡ true → slice_get (true ∷ true ∷ []) processor ≡ Some true → has_noted two_stop.0.world.marks node processor ≡ true
 only zero processor runs down = absurd (cc)
 only (suc zero) processor runs down = absurd (cc)
 only (suc (suc node)) zero runs down = rw (eqb-true (suc (suc node)) 16 runs) refl
 only (suc (suc node)) (suc zero) runs down = rw (eqb-true (suc (suc node)) 16 runs) refl
 only (suc (suc node)) (suc (suc processor)) runs down = absurd (cc)
 
-only-there : (node processor : ℕ) → is_running (true ∷ []) node ≡ true → slice_get (true ∷ []) processor ≡ Some true → has_marked one_is_there.0.world.marks node processor ≡ true
+only-there : (node processor : ℕ) → is_running (true ∷ []) node ≡ true → slice_get (true ∷ []) processor ≡ Some true → has_noted one_is_there.0.world.marks node processor ≡ true
 only-there zero processor runs down = absurd (cc)
 only-there (suc node) zero runs down = rw (eqb-true (suc node) 16 runs) refl
 only-there (suc node) (suc processor) runs down = absurd (cc)

@@ -1,4 +1,4 @@
-use Rattle.headline_laws.proofs.Accepted.{accepted-fit}
+use Rattle.accepted_sites.proofs.Accepted.{accepted-fit}
 use Rattle.idle_laws.proofs.Sound.{played-sound}
 use Rattle.idle_laws.proofs.laws.every_awaited_request_is_served.Goals as goal
 

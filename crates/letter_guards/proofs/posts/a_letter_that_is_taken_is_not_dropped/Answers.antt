@@ -3,18 +3,18 @@ use Rattle.tal_tree.specs.declared.site.Site.{Site}
 use Rattle.schedule.specs.declared.event.Event.TheVariants.{Deliver}
 use Rattle.world_semantics.specs.declared.which.Which.TheVariants.{First}
 use Rattle.world_semantics.specs.Follows.{IsIdleFor}
-use Rattle.world_semantics.specs.Messages.{Asking, Sending, Cause, Handing, Marking}
+use Rattle.world_semantics.specs.Messages.{Asking, Sending, Cause, Handing, NotingDown}
 use Rattle.world_semantics.specs.Rules.{Change, by_own, by_checkpoint, by_request, by_early_request, by_enter, by_print, by_stop, by_mark}
 use Rattle.world_semantics.specs.World.{World}
 use Rattle.computed_changes.proofs.Causes.{IsOfCopies, own-causes, passes-causes}
-use Rattle.letters.specs.Posts.{Post, IsTaken, takes_first, takes_later, Plays, plays_nothing, plays_hand, plays_drop, plays_again, plays_mark}
+use Rattle.letters.specs.Posts.{Post, IsTaken, takes_first, takes_later, PlaysEvent, plays_nothing, plays_hand, plays_drop, plays_again, plays_mark}
 use Rattle.letters.specs.Routes.{Letter}
 use Rattle.letter_guards.specs.Worlds.{site, bank_at, next_request, letter, owing}
 use Rattle.letter_guards.proofs.posts.a_letter_that_is_taken_is_not_dropped.Goals as goal
 
 -- a processor that is marked has stopped
 marked-stopped : {site : Site} {w next : World} {cause : Cause} {sendings : List Sending} → Change site w cause sendings next → (node processor : ℕ)
-    → cause ≡ Marking node processor → slice_get w.stopped processor ≡ Some true
+    → cause ≡ NotingDown node processor → slice_get w.stopped processor ≡ Some true
 marked-stopped (by_own number k pair there role causes advances enters) node processor same = absurd (subst IsOfCopies same (own-causes causes))
 marked-stopped (by_checkpoint number pair there passes) node processor same = absurd (subst IsOfCopies same (passes-causes passes))
 marked-stopped (by_request request k pair among there role) node processor same = absurd (cc)
@@ -24,7 +24,7 @@ marked-stopped (by_print number terminal reply there odd among opens last) node 
 marked-stopped (by_stop other runs) node processor same = absurd (cc)
 marked-stopped {w = w} (by_mark at other stopped runs new) node processor same = subst (λ p. slice_get w.stopped p ≡ Some true) (other-is same) stopped
   where
-    other-is : {at other node processor : ℕ} → Marking at other ≡ Marking node processor → other ≡ processor
+    other-is : {at other node processor : ℕ} → NotingDown at other ≡ NotingDown node processor → other ≡ processor
     other-is same = cc
 
 none-stopped : (processor : ℕ) → slice_get owing.world.stopped processor ≡ Some true → ⊥
@@ -46,7 +46,7 @@ returns c = λ y k next plays gone. of plays gone
     Handed : World → Type 0
     Handed next = (sendings : List Sending) × Change site owing.world (Handing 0 (Asking next_request)) sendings next
 
-    of : {y : Bool} {k : ℕ} {next : Post} → Plays site owing (Deliver y k) next → next.owed ≡ [] → Handed next.world
+    of : {y : Bool} {k : ℕ} {next : Post} → PlaysEvent site owing (Deliver y k) next → next.owed ≡ [] → Handed next.world
     of plays_nothing gone = absurd (cc)
     of (plays_hand {sendings = sendings} {next = w} one taken change) gone =
         (sendings, subst (λ (l : Letter). Change site owing.world (Handing l.receiver l.message) sendings w) (only-letter taken refl) change)

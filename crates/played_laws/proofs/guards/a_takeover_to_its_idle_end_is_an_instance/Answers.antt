@@ -1,6 +1,6 @@
 use Rattle.std.proofs.Common.{◌∙◌, pos, [], ◌∷◌, arith}
 use Rattle.world_semantics.specs.Examples.{adder_for}
-use Rattle.headline_laws.proofs.Pairs.{adders-accepted}
+use Rattle.accepted_sites.proofs.Pairs.{adders-accepted}
 use Rattle.idle_end.proofs.Reached.{end-of}
 use Rattle.idle_end.proofs.Still.{none-left, closed-shows-nothing}
 use Rattle.played_laws.specs.Takeover.{adder_end, takeover_to_the_end}

@@ -1,6 +1,6 @@
 use Rattle.std.proofs.Common.{arith}
-use Rattle.headline.proofs.Kept.{kept-possible, kept-shown}
-use Rattle.headline_laws.proofs.Accepted.{accepted-fit}
+use Rattle.takeover_laws.proofs.Kept.{kept-possible, kept-shown}
+use Rattle.accepted_sites.proofs.Accepted.{accepted-fit}
 use Rattle.played_laws.proofs.Joined.{runs}
 use Rattle.played_laws.proofs.laws.what_is_played_is_possible.Goals as goal
 

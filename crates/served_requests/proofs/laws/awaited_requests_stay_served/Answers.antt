@@ -1,6 +1,6 @@
 use Rattle.std.proofs.Common.{length, arith}
 use Rattle.world_semantics.proofs.Reached.{run-marks, run-roles}
-use Rattle.headline.proofs.Kept.{IsGood, run-keeps}
+use Rattle.takeover_laws.proofs.Kept.{IsGood, run-keeps}
 use Rattle.awaited_requests.proofs.Seats.{run-seats}
 use Rattle.served_requests.proofs.Played.{served-begins, plays-served}
 use Rattle.served_requests.proofs.laws.awaited_requests_stay_served.Goals as goal

@@ -1,7 +1,7 @@
 use Rattle.std.proofs.Common.{rules, ◌+◌, ◌<◌, length, drop, get_or, add-one, drop-cons}
 use Rattle.std.specs.Prelude.{pos}
 use Rattle.tal_code.specs.declared.step.Operand.TheVariants.{Number}
-use Rattle.tal_code.specs.declared.step.Step.TheVariants.{Load}
+use Rattle.tal_code.specs.declared.step.Instruction.TheVariants.{Load}
 use Rattle.tal_code.proofs.Tops.{deepens, deepens-room}
 use Rattle.tal_code.proofs.run.go_through.Goals as goal
 

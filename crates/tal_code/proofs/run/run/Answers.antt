@@ -1,6 +1,6 @@
 use Rattle.std.proofs.Common.{◌≡◌, ◌∷◌, ap, ◌∙◌}
 use Rattle.tal_values.specs.Seen.{seen}
-use Rattle.tal_code.specs.declared.step.Step.TheVariants.{Load}
+use Rattle.tal_code.specs.declared.step.Instruction.TheVariants.{Load}
 use Rattle.tal_code.proofs.Room.{first-room}
 use Rattle.tal_code.proofs.Tops.{first-load}
 use Rattle.tal_code.proofs.run.run.Goals as goal

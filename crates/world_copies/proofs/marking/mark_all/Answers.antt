@@ -1,6 +1,6 @@
 use Rattle.std.proofs.Common.{◌≡◌, ◌<◌, ◌∙◌, get_or, length, Some, slice_get, subst, sym, arith}
 use Rattle.std.proofs.lemmas.Option.{slice_get-get_or}
-use Rattle.world_semantics.specs.Rules.{marked_pair, told_at_mark}
+use Rattle.world_semantics.specs.Rules.{pair_at_down, told_at_down}
 use Rattle.process_copies.specs.Seen.{Placed}
 use Rattle.world_copies.specs.Changes.{changed}
 use Rattle.world_copies.specs.Room.{WatchersHaveRoom}
@@ -33,8 +33,8 @@ loop-number-preserved c =
     let processes = c.loop-number.processes in
     let k = c.loop-number.number in
     let before = get_or processes k c.index-processes-number.result in
-    let f = marked_pair c.args.node c.args.processor in
-    let g = told_at_mark c.args.node c.args.processor in
+    let f = pair_at_down c.args.node c.args.processor in
+    let g = told_at_down c.args.node c.args.processor in
     let within : k < length processes = omega arith in
     let there : slice_get processes k ≡ Some before = slice_get-get_or processes k c.index-processes-number.result within in
     record {

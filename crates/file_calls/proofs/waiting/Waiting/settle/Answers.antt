@@ -1,7 +1,7 @@
 use Rattle.std.proofs.Common.{◌≡◌, ◌⊎◌, List, ap, arith, subst, sym, ◌∙◌}
 use Rattle.gd_words.specs.declared.message.Request.{Request}
-use Rattle.checkpoint_image.specs.declared.receive.Standing.{Standing}
-use Rattle.checkpoint_image.specs.declared.receive.Standing.TheVariants.{InHand, Old}
+use Rattle.checkpoint_image.specs.declared.receive.RequestStanding.{RequestStanding}
+use Rattle.checkpoint_image.specs.declared.receive.RequestStanding.TheVariants.{InHand, Old}
 use Rattle.file_calls.specs.Queue.{IsOnePerOpener, queue_of}
 use Rattle.file_calls.proofs.Openers.{sound-removed}
 use Rattle.file_calls.proofs.Taking.{settled-without, settled_from}
@@ -15,7 +15,7 @@ loop-place-preserved c = record {
   room = omega (arith, c.loop-place.invariant.room, c.remove-dropped.ensures.capacity);
   settled = c.loop-place.invariant.settled
       ∙ settled-without c.args.receive.now.table c.loop-place.self-inside.requests.items c.loop-place.place c.index.result.now (omega (arith, c.loop-place-test.true, c.len.ensures)) c.index.ensures
-      (subst (λ (s : Standing). (s ≡ InHand) ⊎ (s ≡ Old)) c.standing.ensures c.in-InHand.is)
+      (subst (λ (s : RequestStanding). (s ≡ InHand) ⊎ (s ≡ Old)) c.standing.ensures c.in-InHand.is)
       ∙ ap (λ (requests : List Request). settled_from c.args.receive.now.table requests c.loop-place.place) (sym c.remove-dropped.ensures.items);
 }
 

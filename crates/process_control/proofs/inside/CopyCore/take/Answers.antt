@@ -2,7 +2,7 @@ use Rattle.std.proofs.Common.{◌≡◌, ◌<◌, ℕ, sym, subst, arith}
 use Rattle.process_semantics.specs.Process.{point}
 use Rattle.process_semantics.specs.declared.point.Point.TheVariants.{Take}
 use Rattle.checkpoint_image.specs.Receive.{standing}
-use Rattle.checkpoint_image.specs.declared.receive.Standing.TheVariants.{Next}
+use Rattle.checkpoint_image.specs.declared.receive.RequestStanding.TheVariants.{Next}
 use Rattle.process_control.specs.Cores.{CoreAndDepths}
 use Rattle.process_control.proofs.Consistent.{taking}
 use Rattle.process_control.proofs.Numbers.{next-there}

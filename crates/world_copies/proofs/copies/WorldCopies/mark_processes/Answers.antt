@@ -1,6 +1,6 @@
 use Rattle.std.proofs.Common.{rules, ◌≡◌, ◌∙◌, ap, length, map, refl, subst, sym}
 use Rattle.std.proofs.lemmas.List.{places, with_items_is}
-use Rattle.world_semantics.specs.Rules.{marked_pair}
+use Rattle.world_semantics.specs.Rules.{pair_at_down}
 use Rattle.world_copies.specs.Changes.{changed}
 use Rattle.world_copies.specs.SiteWorld.{SiteWorld}
 use Rattle.world_copies.specs.Room.{AllWatchersHaveRoom}
@@ -31,7 +31,7 @@ invariant_of-self-2 c =
 pub returns-clause-state : goal.returns-clause-state
 returns-clause-state c =
     let before = c.self.inside.processes in
-    let f = marked_pair c.args.node c.args.processor in
+    let f = pair_at_down c.args.node c.args.processor in
     let after =
     with_items_is before c.mark_all.new.processes (search (rules, places)) ∙ c.in_ok-mark_all.ensures.processes
     ∙ ap (map (changed f)) c.as_mut_slice.ensures.value in

@@ -1,0 +1,23 @@
+-- Accepted programs keep the discipline.
+use Rattle.std.proofs.Common.{◌≡◌, ℕ, slice_get, ap, sym, ◌∙◌}
+use Rattle.tal_tree.specs.Regular.{IsRegular}
+use Rattle.tal_tree.specs.declared.program.Program.{Program}
+use Rattle.tal_tree.specs.declared.site.Kind.{Kind}
+use Rattle.tal_tree.specs.declared.site.Kind.TheVariants as kind
+use Rattle.tal_tree.specs.declared.site.ProcessSpec.{ProcessSpec}
+use Rattle.tal_tree.specs.declared.site.Site.{Site}
+use Rattle.plain_semantics.specs.Openers.{files_of}
+use Rattle.path_semantics.specs.Accepted.{IsAccepted}
+use Rattle.discipline_laws.specs.Disciplined.{IsDisciplined}
+use Rattle.discipline_laws.proofs.Quiet.{quiet, once, depth}
+use Rattle.discipline_laws.proofs.Resuming.{resume}
+
+pub accepted-disciplined : (site : Site) (number : ℕ) (spec : ProcessSpec) (program : Program) → spec.what ≡ kind.Pair program → IsRegular program → IsAccepted program
+    → IsDisciplined site number spec
+accepted-disciplined site number spec program is regular accepted = record {
+  resume = λ since before core stale done unmarked bounded at old. resume site number spec program is regular accepted since before done unmarked bounded at old;
+  quiet = λ since before place words core done unmarked. quiet site number spec program is regular accepted since before place words done unmarked;
+  once = λ since before call found core done unmarked. once site number spec program is regular since before call found done unmarked;
+  depth = λ since before file use_of core done unmarked there. depth site number spec program is regular accepted since before file use_of done unmarked
+      (sym (ap (λ (what : Kind). slice_get (files_of what) file) is) ∙ there);
+}

@@ -1,9 +1,0 @@
-use Rattle.headline.proofs.Kept.{kept-possible, kept-shown}
-use Rattle.headline_laws.proofs.Accepted.{accepted-fit}
-use Rattle.headline_laws.proofs.laws.kept_acts_are_possible.Goals as goal
-
-pub returns : goal.returns
-returns c = record {
-  possible = λ site events w accepted few run. kept-possible site (accepted-fit site accepted) events w few run;
-  shown = λ site events w accepted few run. kept-shown site (accepted-fit site accepted) events w few run;
-}

@@ -1,5 +1,0 @@
-use Rattle.interp_tests.proofs.Loading.{all-are-listed}
-use Rattle.interp_tests.proofs.programs.image_of.Goals as goal
-
-pub image-requires : goal.image-requires
-image-requires c = all-are-listed c.args.process.now _ _ c.in_ok-everything.ensures.items c.in_ok-everything.ensures.files

@@ -1,6 +1,0 @@
-use Rattle.std.proofs.Common.{◌≡◌, take, map}
-use Rattle.message_system.specs.Routing.{first_route}
-use Rattle.message_system.proofs.routes.Routes.new.Given as goal
-
-abbrev pub invariant-loop-process : goal.invariant-loop-process
-invariant-loop-process l = l.routes.items ≡ map first_route (take l.process-index l.site.processes)

@@ -1,0 +1,7 @@
+use Rattle.std.proofs.Common.{ap, subst, sym}
+use Rattle.message_wires.specs.Play.{MachineState}
+use Rattle.number_ranges.specs.HasRoom.{WorldHasRoom}
+use Rattle.pair_machine.proofs.whole.MachineParts.receive.Goals as goal
+
+pub hand-requires-clause-room : goal.hand-requires-clause-room
+hand-requires-clause-room c = subst WorldHasRoom (ap (λ (s : MachineState). s.world) (sym c.self.view_is)) c.requires.room

@@ -1,7 +1,0 @@
-use Rattle.std.proofs.Common.{ap, subst, sym}
-use Rattle.message_wires.specs.Play.{Whole}
-use Rattle.number_ranges.specs.HasRoom.{WorldHasRoom}
-use Rattle.pair_machine.proofs.whole.Whole.receive.Goals as goal
-
-pub hand-requires-clause-room : goal.hand-requires-clause-room
-hand-requires-clause-room c = subst WorldHasRoom (ap (λ (s : Whole). s.world) (sym c.self.view_is)) c.requires.room

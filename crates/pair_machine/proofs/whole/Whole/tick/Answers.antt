@@ -1,5 +1,0 @@
-use Rattle.pair_machine.proofs.Room.{watchers-room}
-use Rattle.pair_machine.proofs.whole.Whole.tick.Goals as goal
-
-pub mark_stopped-requires-clause-watching : goal.mark_stopped-requires-clause-watching
-mark_stopped-requires-clause-watching c = watchers-room c.args.self.now c.requires.room

@@ -1,7 +1,0 @@
-use Rattle.std.proofs.Common.{◌≡◌, ◌++◌, drop}
-use Rattle.tal_trees.specs.Programs.{items_with}
-use Rattle.tal_trees.proofs.program.items_with.Given as goal
-
--- those so far and those that are left are all
-abbrev pub invariant-loop-item : goal.invariant-loop-item
-invariant-loop-item l = l.all ++ items_with l.files (drop l.item-index l.items) ≡ items_with l.files l.items
