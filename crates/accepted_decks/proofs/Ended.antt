@@ -1,5 +1,6 @@
 -- A run of an accepted site, by how it ended.
-use Rattle.std.proofs.Common.{◌≡◌, ◌<◌, ℕ, Bool, true, false, List, length, Option, Some, None, reverse, refl, sym, ap, ◌∙◌, subst}
+use Rattle.std.proofs.Common.{◌≡◌, ◌<◌, ℕ, Bool, true, false, List, length, Option, Some, None, reverse, refl, sym, ap}
+use Rattle.std.proofs.Common.{◌∙◌, subst}
 use Rattle.std.specs.Option.{IsSome}
 use Rattle.tal_tree.specs.declared.act.Act.{Act}
 use Rattle.tal_tree.specs.declared.site.Site.{Site}
@@ -32,18 +33,24 @@ none-possible site acts none = subst IsSome (sym none.1) refl
 
 -- what is known of states that events were played to, on this site
 pub record Known (site : Site) : Type 0 where
-  pub possible : (events : List Event) (s : MachineState) → length events < 4294967295 → IsPlayed site events s → IsPossible site (acts_of s.world)
+  pub possible : (events : List Event) (s : MachineState) → length events < 4294967295 → IsPlayed site events s
+      → IsPossible site (acts_of s.world)
   pub shown : (events : List Event) (s : MachineState) → length events < 4294967295 → IsPlayed site events s
       → shown_by site (acts_of s.world) ≡ reverse s.world.shown
-  pub none : (events : List Event) (s : MachineState) → length events < 4294967295 → IsPlayed site events s → is_idle s ≡ true → IsNoneLeft site (closed s.world)
-  pub closed_shown : (events : List Event) (s : MachineState) → length events < 4294967295 → IsPlayed site events s → is_idle s ≡ true
+  pub none : (events : List Event) (s : MachineState) → length events < 4294967295 → IsPlayed site events s
+      → is_idle s ≡ true → IsNoneLeft site (closed s.world)
+  pub closed_shown : (events : List Event) (s : MachineState) → length events < 4294967295 → IsPlayed site events s
+      → is_idle s ≡ true
       → shown_by site (closed s.world) ≡ reverse s.world.shown
   pub closed_acts : (w : World) → acts_of (closed_world w) ≡ closed w
-  pub schedule : (lines : List Line) (stop : Option ProcessorStop) (events : List Event) (agenda : Agenda) (s : MachineState) → PlaysSchedule site lines stop events agenda s
+  pub schedule : (lines : List Line) (stop : Option ProcessorStop) (events : List Event) (agenda : Agenda)
+      (s : MachineState) → PlaysSchedule site lines stop events agenda s
       → IsPlayed site events s
 
-module _ (site : Site) (known : Known site) (lines : List Line) (stop : Option ProcessorStop) (events : List Event) (few : length events < 4294967295) where
-  keeps-on : (s : MachineState) (ending : Ending) → IsPlayed site events s → (ending ≡ Idle → ⊥) → Keeps site s.world ending
+module _ (site : Site) (known : Known site) (lines : List Line) (stop : Option ProcessorStop) (events : List Event)
+    (few : length events < 4294967295) where
+  keeps-on : (s : MachineState) (ending : Ending) → IsPlayed site events s → (ending ≡ Idle → ⊥)
+      → Keeps site s.world ending
   keeps-on s ending played goes_on = record {
     possible = known.possible events s few played;
     shown = sym (known.shown events s few played);
@@ -60,7 +67,8 @@ module _ (site : Site) (known : Known site) (lines : List Line) (stop : Option P
         none = λ same. none;
       }
 
-  pub keeps-ended : (s left : MachineState) (asked : ℕ) (ending : Ending) → EndsAs site lines stop events s left asked ending → Keeps site left.world ending
+  pub keeps-ended : (s left : MachineState) (asked : ℕ) (ending : Ending)
+      → EndsAs site lines stop events s left asked ending → Keeps site left.world ending
   keeps-ended s left asked Idle ends =
       subst (λ (one : MachineState). Keeps site one.world Idle) (sym ends.2)
       (keeps-closed s (known.schedule lines stop events ends.0.agenda s ends.0.played) ends.1)
@@ -71,7 +79,9 @@ module _ (site : Site) (known : Known site) (lines : List Line) (stop : Option P
       subst (λ (one : MachineState). Keeps site one.world (Second processor)) (sym ends.1)
       (keeps-on s (Second processor) (known.schedule lines stop events ends.0.agenda s ends.0.played) (λ e. cc))
 
-pub run-keeps : (site : Site) (lines : List Line) (stop : Option ProcessorStop) (ran : Ran) → Known site → IsRunOf site lines stop ran → KeepsPossibleActs site ran
+pub run-keeps : (site : Site) (lines : List Line) (stop : Option ProcessorStop) (ran : Ran) → Known site
+    → IsRunOf site lines stop ran → KeepsPossibleActs site ran
 run-keeps site lines stop ran known is =
-    let keeps = keeps-ended site known lines stop is.events is.few is.state ran.machine.state ran.asked ran.ending is.ends in
+    let keeps = keeps-ended site known lines stop is.events is.few is.state ran.machine.state ran.asked ran.ending
+    is.ends in
     record { possible = keeps.possible; shown = keeps.shown; none = keeps.none }

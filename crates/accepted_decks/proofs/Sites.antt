@@ -1,5 +1,7 @@
--- A deck that bytes spell keeps the limits and its programs were read; so its site meets the premises where they are accepted.
-use Rattle.std.proofs.Common.{◌≡◌, ◌≤◌, ◌<◌, ℕ, ℤ, List, [], length, slice_get, Option, Some, None, arith, refl, ap, ◌∙◌, subst}
+-- A deck that bytes spell keeps the limits and its programs were read; so its site meets the premises where they are
+-- accepted.
+use Rattle.std.proofs.Common.{◌≡◌, ◌≤◌, ◌<◌, ℕ, ℤ, List, [], length, slice_get, Option, Some, None, arith, refl, ap}
+use Rattle.std.proofs.Common.{◌∙◌, subst}
 use Rattle.std.specs.List.{All, slice_index_or}
 use Rattle.std.specs.Option.{option_and_then}
 use Rattle.std.proofs.lemmas.Option.{get_or_from_slice_get, slice_get-get_or, slice_get_within}
@@ -23,7 +25,8 @@ use Rattle.tal_tree.specs.declared.site.Kind.TheVariants as kind
 use Rattle.tal_tree.specs.declared.site.ProcessSpec.{ProcessSpec}
 use Rattle.tal_tree.specs.declared.site.Site.{Site}
 use Rattle.tal_tree.specs.declared.site.TerminalSpec.{TerminalSpec}
-use Rattle.verdicts.specs.Refused.{AreAccepted, AreJudgeable, IsJudgeableKind, program_at, program_of}
+use Rattle.verdicts.specs.Judgeable.{AreJudgeable, IsJudgeableKind}
+use Rattle.verdicts.specs.Refused.{AreAccepted, program_at, program_of}
 
 -- what holds of all of a list holds of what stands at a place of it, and the other way round
 at-place : {X : Type 0} (P : X → Type 0) (xs : List X) (n : ℕ) (x : X) → All P xs → slice_get xs n ≡ Some x → P x
@@ -69,15 +72,18 @@ has-depths (kind.Pair program) keeps =
     at-each (λ (file : FileUse). IsDepth file.depth) program.files
     (λ n file there. depth-of program file (keeps.each_file file (among-at program.files n file there)))
 
-program-there : (specs : List ProcessSpec) (number : ℕ) (spec : ProcessSpec) (program : Program) → slice_get specs number ≡ Some spec
+program-there : (specs : List ProcessSpec) (number : ℕ) (spec : ProcessSpec) (program : Program)
+    → slice_get specs number ≡ Some spec
     → spec.what ≡ kind.Pair program → program_at specs number ≡ Some program
-program-there specs number spec program there pair = ap (option_and_then (λ (one : ProcessSpec). program_of one.what)) there ∙ ap program_of pair
+program-there specs number spec program there pair =
+    ap (option_and_then (λ (one : ProcessSpec). program_of one.what)) there ∙ ap program_of pair
 
 -- what the reader of decks says of a site
 pub record IsTold (site : Site) : Type 0 where
   pub within : IsSiteWithinLimits site
   pub short : All HasShortRequests site.terminals
-  pub read : (number : ℕ) (spec : ProcessSpec) (program : Program) → slice_get site.processes number ≡ Some spec → spec.what ≡ kind.Pair program
+  pub read : (number : ℕ) (spec : ProcessSpec) (program : Program) → slice_get site.processes number ≡ Some spec
+      → spec.what ≡ kind.Pair program
       → Read program
 
 limits-of : (site : Site) → IsTold site → KeepsSiteLimits site
@@ -106,12 +112,15 @@ pub laid-out-of : (site : Site) → IsTold site → IsLaidOut site
 laid-out-of site is = record {
   few = is.within.most_processors;
   places = λ number spec there.
-      let keeps = at-place (IsProcessWithinLimits site.processors) site.processes number spec is.within.each_process there in
+      let keeps = at-place (IsProcessWithinLimits site.processors) site.processes number spec is.within.each_process
+      there in
       (keeps.primary, keeps.backup, keeps.apart);
 }
 
-request-short : (site : Site) (terminal entered : ℕ) (words : List ℤ) → All HasShortRequests site.terminals → (at : Option TerminalSpec)
-    → slice_get site.terminals terminal ≡ at → option_and_then (λ (spec : TerminalSpec). slice_get spec.requests entered) at ≡ Some words → length words ≤ 16
+request-short : (site : Site) (terminal entered : ℕ) (words : List ℤ) → All HasShortRequests site.terminals
+    → (at : Option TerminalSpec)
+    → slice_get site.terminals terminal ≡ at
+    → option_and_then (λ (spec : TerminalSpec). slice_get spec.requests entered) at ≡ Some words → length words ≤ 16
 request-short site terminal entered words all None there asked = absurd (cc)
 request-short site terminal entered words all (Some spec) there asked =
     at-place (λ (request : List ℤ). length request ≤ 16) spec.requests entered words
@@ -120,7 +129,8 @@ request-short site terminal entered words all (Some spec) there asked =
 pub accepted-of : (site : Site) → IsTold site → AreAccepted site.processes → IsAcceptedSite site
 accepted-of site is accepted = record {
   read = is.read;
-  accepted = λ number spec program there pair. accepted number program (program-there site.processes number spec program there pair);
+  accepted = λ number spec program there pair.
+      accepted number program (program-there site.processes number spec program there pair);
   requests = λ terminal entered words asked.
       request-short site terminal entered words is.short (slice_get site.terminals terminal) refl asked;
 }

@@ -6,8 +6,8 @@ use Rattle.world_semantics.specs.Kept.{acts_of}
 use Rattle.schedule_runs.specs.declared.ran.Ending.TheVariants.{Idle}
 use Rattle.schedule_runs.specs.declared.ran.Ran.{Ran}
 
--- the acts that the run keeps are possible on the machine of single unfailing processes; what was shown, in order, is what they show there; and where the
--- run ended idle no act is possible after them
+-- the acts that the run keeps are possible on the machine of single unfailing processes; what was shown, in order, is
+-- what they show there; and where the run ended idle no act is possible after them
 pub record KeepsPossibleActs (site : Site) (ran : Ran) : Type 0 where
   pub possible : IsPossible site (acts_of ran.machine.state.world)
   pub shown : reverse ran.machine.state.world.shown ≡ shown_by site (acts_of ran.machine.state.world)

@@ -2,7 +2,8 @@
 ghost use Rattle.std.specs.Prelude.{ℕ, List, Option};
 ghost use Rattle.deck_reader.specs.Decks.{Decks};
 ghost use Rattle.deck_reader.specs.declared.deck.Deck.{Deck};
-ghost use Rattle.verdicts.specs.Refused.{AreAccepted, AreJudgeable};
+ghost use Rattle.verdicts.specs.Judgeable.{AreJudgeable};
+ghost use Rattle.verdicts.specs.Refused.{AreAccepted};
 ghost use Rattle.awaited_requests.specs.Seats.{IsLaidOut};
 ghost use Rattle.accepted_sites.specs.Premises.{IsAcceptedSite};
 ghost use Rattle.player.specs.declared.stop.ProcessorStop.{ProcessorStop};
@@ -14,15 +15,17 @@ use deck_reader::{
 };
 use schedule_lengths::a_schedule_asks_for_few_events;
 
-/// The programs of a deck that bytes spell can be judged, the machine of copies starts on its site, and its processes are
-/// laid out over its processors. Its schedule asks for few events. Where all its programs are accepted, its site is an
-/// accepted one.
+/// The programs of a deck that bytes spell can be judged, the machine of copies starts on its site, and its processes
+/// are laid out over its processors. Its schedule asks for few events. Where all its programs are accepted, its site is
+/// an accepted one.
 pub fn an_accepted_deck_meets_the_premises()
     ensures judgeable { (bytes : List ℕ) (deck : Deck) → Decks bytes deck → AreJudgeable deck.site.processes }
     ensures startable { (bytes : List ℕ) (deck : Deck) → Decks bytes deck → IsStartable deck.site }
     ensures laid_out { (bytes : List ℕ) (deck : Deck) → Decks bytes deck → IsLaidOut deck.site }
-    ensures few { (bytes : List ℕ) (deck : Deck) (stop : Option ProcessorStop) → Decks bytes deck → AsksForFewEvents deck.site deck.lines stop }
-    ensures accepted { (bytes : List ℕ) (deck : Deck) → Decks bytes deck → AreAccepted deck.site.processes → IsAcceptedSite deck.site }
+    ensures few { (bytes : List ℕ) (deck : Deck) (stop : Option ProcessorStop) → Decks bytes deck
+        → AsksForFewEvents deck.site deck.lines stop }
+    ensures accepted { (bytes : List ℕ) (deck : Deck) → Decks bytes deck → AreAccepted deck.site.processes
+        → IsAcceptedSite deck.site }
 {
     a_deck_keeps_the_limits();
     a_deck_reads_its_programs();

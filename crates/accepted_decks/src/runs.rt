@@ -15,7 +15,8 @@ use world_copies::laws::a_closed_world_has_the_closed_run;
 
 /// Whatever its schedule, a run of an accepted site keeps possible acts, and none is left at an idle end.
 pub fn a_run_of_an_accepted_site_keeps_possible_acts()
-    ensures { (site : Site) (lines : List Line) (stop : Option ProcessorStop) (ran : Ran) → IsAcceptedSite site → IsLaidOut site → IsRunOf site lines stop ran
+    ensures { (site : Site) (lines : List Line) (stop : Option ProcessorStop) (ran : Ran) → IsAcceptedSite site
+        → IsLaidOut site → IsRunOf site lines stop ran
         → KeepsPossibleActs site ran }
 {
     what_is_played_is_possible();

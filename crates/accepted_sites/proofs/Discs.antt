@@ -15,11 +15,13 @@ disc-accepted = record {
   requests = short;
 }
   where
-    no-pair : (number : ℕ) (spec : ProcessSpec) (program : Program) → slice_get disc_site.processes number ≡ Some spec → spec.what ≡ kind.Pair program → ⊥
+    no-pair : (number : ℕ) (spec : ProcessSpec) (program : Program) → slice_get disc_site.processes number ≡ Some spec
+        → spec.what ≡ kind.Pair program → ⊥
     no-pair zero spec program there is = let same = some-same there in cc
     no-pair (suc number) spec program there is = cc
 
-    short : (terminal entered : ℕ) (words : List ℤ) → next_request disc_site terminal entered ≡ Some words → length words ≤ 16
+    short : (terminal entered : ℕ) (words : List ℤ) → next_request disc_site terminal entered ≡ Some words
+        → length words ≤ 16
     short zero zero words next = rw (← some-same next) (omega arith)
     short zero (suc entered) words next = absurd (cc)
     short (suc terminal) entered words next = absurd (cc)

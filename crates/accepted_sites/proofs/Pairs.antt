@@ -18,16 +18,22 @@ same-program one other same = cc
 
 pub adders-accepted : (words : List ℤ) → IsAcceptedSite (adder_for words)
 adders-accepted words = record {
-  read = λ number spec program there is. (adder_text, subst (Reads adder_text) (only number spec program there is) adder-read);
+  read = λ number spec program there is. (
+    adder_text,
+    subst (Reads adder_text) (only number spec program there is) adder-read,
+  );
   accepted = λ number spec program there is. subst IsAccepted (only number spec program there is) adder-accepted;
   requests = short words;
 }
   where
-    only : (number : ℕ) (spec : ProcessSpec) (program : Program) → slice_get (adder_for words).processes number ≡ Some spec → spec.what ≡ kind.Pair program → adder ≡ program
-    only zero spec program there is = same-program adder program (ap (λ (s : ProcessSpec). s.what) (some-same there) ∙ is)
+    only : (number : ℕ) (spec : ProcessSpec) (program : Program)
+        → slice_get (adder_for words).processes number ≡ Some spec → spec.what ≡ kind.Pair program → adder ≡ program
+    only zero spec program there is =
+        same-program adder program (ap (λ (s : ProcessSpec). s.what) (some-same there) ∙ is)
     only (suc number) spec program there is = absurd (cc)
 
-    short : (words : List ℤ) (terminal entered : ℕ) (request : List ℤ) → next_request (adder_for words) terminal entered ≡ Some request → length request ≤ 16
+    short : (words : List ℤ) (terminal entered : ℕ) (request : List ℤ)
+        → next_request (adder_for words) terminal entered ≡ Some request → length request ≤ 16
     short [] terminal entered request next = absurd (cc)
     short (word ∷ words) zero zero request next = rw (← some-same next) (omega arith)
     short (word ∷ words) zero (suc entered) request next = absurd (cc)
@@ -35,17 +41,23 @@ adders-accepted words = record {
 
 pub bank-site-accepted : IsAcceptedSite bank_site
 bank-site-accepted = record {
-  read = λ number spec program there is. (bank_text, subst (Reads bank_text) (only number spec program there is) bank-read);
+  read = λ number spec program there is. (
+    bank_text,
+    subst (Reads bank_text) (only number spec program there is) bank-read,
+  );
   accepted = λ number spec program there is. subst IsAccepted (only number spec program there is) bank-accepted;
   requests = short;
 }
   where
-    only : (number : ℕ) (spec : ProcessSpec) (program : Program) → slice_get bank_site.processes number ≡ Some spec → spec.what ≡ kind.Pair program → bank ≡ program
+    only : (number : ℕ) (spec : ProcessSpec) (program : Program) → slice_get bank_site.processes number ≡ Some spec
+        → spec.what ≡ kind.Pair program → bank ≡ program
     only zero spec program there is = let same = some-same there in absurd (cc)
-    only (suc zero) spec program there is = same-program bank program (ap (λ (s : ProcessSpec). s.what) (some-same there) ∙ is)
+    only (suc zero) spec program there is =
+        same-program bank program (ap (λ (s : ProcessSpec). s.what) (some-same there) ∙ is)
     only (suc (suc number)) spec program there is = absurd (cc)
 
-    short : (terminal entered : ℕ) (request : List ℤ) → next_request bank_site terminal entered ≡ Some request → length request ≤ 16
+    short : (terminal entered : ℕ) (request : List ℤ) → next_request bank_site terminal entered ≡ Some request
+        → length request ≤ 16
     short zero zero request next = rw (← some-same next) (omega arith)
     short zero (suc entered) request next = absurd (cc)
     short (suc terminal) entered request next = absurd (cc)

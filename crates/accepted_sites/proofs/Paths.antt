@@ -15,11 +15,13 @@ use Rattle.accepted_sites.proofs.Listed.{AreLed, along, behind, ended, is_safe_a
 
 -- MAIN up to its WHILE, a round with the WHILE behind it, and the end
 abbrev adder_stands : List Stand
-adder_stands = along no_dues (body_of adder 0) ++ along no_dues (runs_of adding ++ last_in (body_of adder 0)) ++ ended no_dues ∷ []
+adder_stands =
+    along no_dues (body_of adder 0) ++ along no_dues (runs_of adding ++ last_in (body_of adder 0)) ++ ended no_dues ∷ []
 
 -- where in the list each of them leads
 abbrev adder_ways : List (List ℕ)
-adder_ways = (1 ∷ []) ∷ (2 ∷ []) ∷ (3 ∷ 9 ∷ []) ∷ (4 ∷ []) ∷ (5 ∷ []) ∷ (6 ∷ []) ∷ (7 ∷ []) ∷ (2 ∷ []) ∷ (3 ∷ 9 ∷ []) ∷ [] ∷ []
+adder_ways =
+    (1 ∷ []) ∷ (2 ∷ []) ∷ (3 ∷ 9 ∷ []) ∷ (4 ∷ []) ∷ (5 ∷ []) ∷ (6 ∷ []) ∷ (7 ∷ []) ∷ (2 ∷ []) ∷ (3 ∷ 9 ∷ []) ∷ [] ∷ []
 
 adder-led : AreLed adder adder_stands adder_ways
 unfolding out-What shown-the_row-Statement-0 shown out
@@ -48,8 +50,10 @@ bank_stands =
 
 abbrev bank_ways : List (List ℕ)
 bank_ways =
-    (1 ∷ []) ∷ (2 ∷ []) ∷ (3 ∷ []) ∷ (4 ∷ 24 ∷ []) ∷ (5 ∷ []) ∷ (6 ∷ []) ∷ (7 ∷ []) ∷ (8 ∷ []) ∷ (9 ∷ []) ∷ (10 ∷ []) ∷ (11 ∷ []) ∷ (12 ∷ []) ∷ (13 ∷ [])
-    ∷ (14 ∷ 25 ∷ []) ∷ (15 ∷ []) ∷ (16 ∷ []) ∷ (17 ∷ []) ∷ (18 ∷ []) ∷ (19 ∷ []) ∷ (20 ∷ []) ∷ (21 ∷ []) ∷ (22 ∷ []) ∷ (23 ∷ []) ∷ (14 ∷ 25 ∷ [])
+    (1 ∷ []) ∷ (2 ∷ []) ∷ (3 ∷ []) ∷ (4 ∷ 24 ∷ []) ∷ (5 ∷ []) ∷ (6 ∷ []) ∷ (7 ∷ []) ∷ (8 ∷ []) ∷ (9 ∷ []) ∷ (10 ∷ [])
+    ∷ (11 ∷ []) ∷ (12 ∷ []) ∷ (13 ∷ [])
+    ∷ (14 ∷ 25 ∷ []) ∷ (15 ∷ []) ∷ (16 ∷ []) ∷ (17 ∷ []) ∷ (18 ∷ []) ∷ (19 ∷ []) ∷ (20 ∷ []) ∷ (21 ∷ []) ∷ (22 ∷ [])
+    ∷ (23 ∷ []) ∷ (14 ∷ 25 ∷ [])
     ∷ [] ∷ [] ∷ []
 
 bank-led : AreLed bank bank_stands bank_ways

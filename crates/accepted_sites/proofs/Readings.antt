@@ -6,7 +6,8 @@ use Rattle.std.specs.List.{list_all}
 use Rattle.std.proofs.lemmas.Bool.{leb-true}
 use denote.Hole.Carrier.{hidden}
 use Rattle.tal_tree.specs.declared.statement.What.TheBlock.{shape-the_row-Statement-0, hidden-the_row-Statement-0}
-use Rattle.tal_tree.specs.declared.expression.Expr.TheBlock.{shape-the_row-Spot-0, hidden-the_row-Spot-0, shape-the_row-Expr-1, hidden-the_row-Expr-1}
+use Rattle.tal_tree.specs.declared.expression.Expr.TheBlock.{shape-the_row-Spot-0, hidden-the_row-Spot-0}
+use Rattle.tal_tree.specs.declared.expression.Expr.TheBlock.{shape-the_row-Expr-1, hidden-the_row-Expr-1}
 use Rattle.tal_tokens.specs.Lexer.{tokens_of}
 use Rattle.tal_syntax.specs.Grammar as g
 use Rattle.tal_syntax.specs.Nesting.{nest_text}
@@ -23,7 +24,8 @@ use Rattle.accepted_sites.proofs.BankSyntax.{bank_syntax}
 -- levels that a test finds at most so high
 pub all-low : (m : ℕ) (levels : List ℕ) → list_all (λ level. nat_le level m) levels ≡ true → AllAtMost m levels
 all-low m [] low = tt
-all-low m (level ∷ levels) low = let parts = both (nat_le level m) _ low in (leb-true level m parts.0, all-low m levels parts.1)
+all-low m (level ∷ levels) low =
+    let parts = both (nat_le level m) _ low in (leb-true level m parts.0, all-low m levels parts.1)
 
 adder-cut : tokens_of adder_text ≡ record { list = g.of_text adder_syntax; fault = None }
 unfolding int_wrap
@@ -34,7 +36,8 @@ unfolding int_wrap
 adder-free = refl
 
 adder-tree : adder ≡ tree_of adder_syntax
-unfolding int_wrap shape-the_row-Statement-0 hidden-the_row-Statement-0 hidden shape-the_row-Spot-0 hidden-the_row-Spot-0 shape-the_row-Expr-1 hidden-the_row-Expr-1
+unfolding int_wrap shape-the_row-Statement-0 hidden-the_row-Statement-0 hidden shape-the_row-Spot-0
+    hidden-the_row-Spot-0 shape-the_row-Expr-1 hidden-the_row-Expr-1
 adder-tree = refl
 
 adder-text : g.IsText adder_syntax
@@ -52,7 +55,8 @@ unfolding int_wrap
 bank-free = refl
 
 bank-tree : bank ≡ tree_of bank_syntax
-unfolding int_wrap shape-the_row-Statement-0 hidden-the_row-Statement-0 hidden shape-the_row-Spot-0 hidden-the_row-Spot-0 shape-the_row-Expr-1 hidden-the_row-Expr-1
+unfolding int_wrap shape-the_row-Statement-0 hidden-the_row-Statement-0 hidden shape-the_row-Spot-0
+    hidden-the_row-Spot-0 shape-the_row-Expr-1 hidden-the_row-Expr-1
 bank-tree = refl
 
 bank-text : g.IsText bank_syntax

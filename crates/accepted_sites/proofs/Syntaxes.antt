@@ -10,10 +10,15 @@ Line = ℕ → ℕ → At
 -- a line of this number, before which so many bytes stand
 abbrev pub line : ℕ → ℕ → Line
 line number before column width =
-    record { place = record { line = number; column = column }; start = before + column - 1; end = before + column - 1 + width }
+    record {
+      place = record { line = number; column = column };
+      start = before + column - 1;
+      end = before + column - 1 + width;
+    }
 
 abbrev pub alone : g.Factor → g.Expr
-alone factor = g.expr (g.both (g.relation (g.sum (g.product factor g.no_factors) g.no_terms) g.alone) g.no_ands) g.no_ors
+alone factor =
+    g.expr (g.both (g.relation (g.sum (g.product factor g.no_factors) g.no_terms) g.alone) g.no_ands) g.no_ors
 
 -- a digit
 abbrev pub digit : Line → ℕ → ℕ → g.Factor
@@ -27,7 +32,8 @@ named at column name = g.spot (at column (length name)) name g.no_index
 abbrev pub element : Line → ℕ → List ℕ → ℕ → g.Spot
 element at column name n =
     g.spot (at column (length name)) name
-    (g.index (at (column + length name) 1) (alone (digit at (column + length name + 1) n)) (at (column + length name + 2) 1))
+    (g.index (at (column + length name) 1) (alone (digit at (column + length name + 1) n))
+    (at (column + length name + 2) 1))
 
 -- an item, and an array from 0 up to a digit
 abbrev pub item : Line → ℕ → List ℕ → g.Item
@@ -36,7 +42,8 @@ item at column name = g.item (at column (length name)) name g.unbounded
 abbrev pub array : Line → ℕ → List ℕ → ℕ → g.Item
 array at column name high =
     g.item (at column (length name)) name
-    (g.bounded (at (column + length name) 1) (g.positive (g.digits (at (column + length name + 1) 1) (pos 0))) (at (column + length name + 2) 1)
+    (g.bounded (at (column + length name) 1) (g.positive (g.digits (at (column + length name + 1) 1) (pos 0)))
+    (at (column + length name + 2) 1)
     (g.positive (g.digits (at (column + length name + 3) 1) (pos high))) (at (column + length name + 4) 1))
 
 -- an argument and its width
@@ -74,12 +81,14 @@ arguments at column (piece ∷ pieces) =
 
 -- CALL, a name and its arguments
 abbrev pub call : Line → ℕ → List ℕ → List Piece → g.Statement
-call at column name pieces = g.call (at column 4) (at (column + 5) (length name)) name (arguments at (column + 5 + length name) pieces)
+call at column name pieces =
+    g.call (at column 4) (at (column + 5) (length name)) name (arguments at (column + 5 + length name) pieces)
 
 -- The lines that the texts share
 
 abbrev pub reads_request : Line → g.Statement
-reads_request at = call at 1 (codes "READUPDATE") (a_name (codes "RCV") ∷ a_name (codes "BUF") ∷ a_digit 1 ∷ a_name (codes "GOT") ∷ [])
+reads_request at =
+    call at 1 (codes "READUPDATE") (a_name (codes "RCV") ∷ a_name (codes "BUF") ∷ a_digit 1 ∷ a_name (codes "GOT") ∷ [])
 
 abbrev pub adds : Line → g.Statement
 adds at =

@@ -1,5 +1,5 @@
--- The advice for a program: each CHECKPOINT names what is due there on some path and nothing else, and each file has the least depth that is enough. The rule is
--- our own.
+-- The advice for a program: each CHECKPOINT names what is due there on some path and nothing else, and each file has
+-- the least depth that is enough. The rule is our own.
 use Rattle.std.specs.Prelude.{◌≤◌, ◌<◌, ◌↔◌, ℕ, IsTrue}
 use Rattle.gd_words.specs.Members.{is_among}
 use Rattle.tal_tree.specs.declared.program.Program.{Program}

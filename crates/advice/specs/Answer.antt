@@ -1,5 +1,6 @@
 -- The answer to a program for which advice is asked: its lists and depths, or why there are none. The rule is our own.
-use Rattle.std.specs.Prelude.{◌≡◌, ◌≤◌, ◌<◌, ◌↔◌, ℕ, ◌==◌, Bool, IsTrue, List, [], ◌∷◌, map, filter, flat_map, length, slice_get, Some, if◌then◌else◌, Result, Ok, Err}
+use Rattle.std.specs.Prelude.{◌≡◌, ◌≤◌, ◌<◌, ◌↔◌, ℕ, ◌==◌, Bool, IsTrue, List, [], ◌∷◌, map, filter, flat_map, length}
+use Rattle.std.specs.Prelude.{slice_get, Some, if◌then◌else◌, Result, Ok, Err}
 use Rattle.std.specs.Option.{unwrap_or}
 use Rattle.gd_words.specs.Members.{IsAmong, is_among}
 use Rattle.tal_tree.specs.Statements.{all_of}
@@ -39,7 +40,8 @@ abbrev pub files_among : List Advised → ℕ → List ℕ
 files_among [] number = []
 files_among (one ∷ rest) number = if one.statement == number then one.files else files_among rest number
 
--- an answer as a choice: a statement of which it doesn't speak names nothing, and a file of which it doesn't has depth 1
+-- an answer as a choice: a statement of which it doesn't speak names nothing, and a file of which it doesn't has depth
+-- 1
 abbrev pub choice_of : Advice → Choice
 choice_of advice = record {
   items = items_among advice.lists;
@@ -59,7 +61,8 @@ pub record IsLeastList (program : Program) (one : Advised) : Type 0 where
   pub ascending_items : IsAscending one.items
   pub ascending_files : IsAscending one.files
 
--- the lists and depths of a program that they mend: a list for each CHECKPOINT and a depth for each file, none more than 4
+-- the lists and depths of a program that they mend: a list for each CHECKPOINT and a depth for each file, none more
+-- than 4
 pub record IsAnswer (program : Program) (advice : Advice) : Type 0 where
   pub bounds : IsWithinBounds program
   pub input : (path : List ℕ) → Breaks program path Input → ⊥
@@ -77,15 +80,17 @@ IsBeyondLists (SyncBlock file) = ⊥
 IsBeyondLists Input = Unit {0}
 IsBeyondLists (Depth file) = Unit {0}
 
--- in a program within bounds a path breaks that no choice mends, even with the greatest depths: the first such reason, input before depths, and a shortest path
+-- in a program within bounds a path breaks that no choice mends, even with the greatest depths: the first such reason,
+-- input before depths, and a shortest path
 pub record IsUnmendable (program : Program) (reason : Reason) (path : List ℕ) : Type 0 where
   pub bounds : IsWithinBounds program
   pub beyond : IsBeyondLists reason
   pub shortest : IsLeast (deepest program) reason path
-  pub first : (earlier : Reason) (other : List ℕ) → IsBeyondLists earlier → IsEarlier earlier reason → Breaks (deepest program) other earlier → ⊥
+  pub first : (earlier : Reason) (other : List ℕ) → IsBeyondLists earlier → IsEarlier earlier reason
+      → Breaks (deepest program) other earlier → ⊥
 
--- what comes of asking for advice: the lists and depths, or calls too deep, or else too many statements with the calls written out, as in the verdict, or else what
--- can't be mended. Want of memory is free
+-- what comes of asking for advice: the lists and depths, or calls too deep, or else too many statements with the calls
+-- written out, as in the verdict, or else what can't be mended. Want of memory is free
 abbrev pub IsAdvised : Program → Result Advice AdviseRefusal → Type 0
 IsAdvised program (Ok advice) = IsAnswer program advice
 IsAdvised program (Err TooDeep) = IsVerdict program (Err verdict.TooDeep)

@@ -1,5 +1,5 @@
--- A choice of what each CHECKPOINT names and of how many replies are kept for each file, and a program with these in place of its own. Lists and sync depths are
--- GUARDIAN's; which of them may be chosen is our own rule.
+-- A choice of what each CHECKPOINT names and of how many replies are kept for each file, and a program with these in
+-- place of its own. Lists and sync depths are GUARDIAN's; which of them may be chosen is our own rule.
 use Rattle.std.specs.Prelude.{◌≡◌, ◌≤◌, ◌<◌, ℕ, suc, IsTrue, List, [], ◌∷◌, map, length, slice_get, Some}
 use Rattle.gd_words.specs.Members.{is_among}
 use Rattle.tal_tree.specs.Named.{IsProcess}
@@ -9,9 +9,12 @@ use Rattle.tal_tree.specs.declared.program.Procedure.{Procedure}
 use Rattle.tal_tree.specs.declared.program.Program.{Program}
 use Rattle.tal_tree.specs.declared.program.Target.TheVariants as target
 use Rattle.tal_tree.specs.declared.statement.Statement.{Statement}
-use Rattle.tal_tree.specs.declared.statement.What.{What, Assign, AssignCall, If', While', For', Call, Return, ReadUpdate, Reply, WriteRead, Checkpoint, CheckMonitor, Open, Stop, Row_of-Statement, end_of-Statement, more_of-Statement}
+use Rattle.tal_tree.specs.declared.statement.What.{What, Assign, AssignCall, If', While', For', Call, Return}
+use Rattle.tal_tree.specs.declared.statement.What.{ReadUpdate, Reply, WriteRead, Checkpoint, CheckMonitor, Open, Stop}
+use Rattle.tal_tree.specs.declared.statement.What.{Row_of-Statement, end_of-Statement, more_of-Statement}
 
--- the globals and the files that a CHECKPOINT names, by its number, and the depth of a file, by its place among the OPENs
+-- the globals and the files that a CHECKPOINT names, by its number, and the depth of a file, by its place among the
+-- OPENs
 pub record Choice : Type 0 where
   pub items : ℕ → List ℕ
   pub files : ℕ → List ℕ
@@ -37,10 +40,12 @@ abbrev mutual
 
   pub row_with : {n : _} → Choice → Row_of-Statement n → Row_of-Statement n
   row_with choice end_of-Statement = end_of-Statement
-  row_with choice (more_of-Statement number line what rest) = more_of-Statement number line (what_with choice number what) (row_with choice rest)
+  row_with choice (more_of-Statement number line what rest) =
+      more_of-Statement number line (what_with choice number what) (row_with choice rest)
 
 abbrev pub statement_with : Choice → Statement → Statement
-statement_with choice statement = record { number = statement.number; line = statement.line; what = what_with choice statement.number statement.what }
+statement_with choice statement =
+    record { number = statement.number; line = statement.line; what = what_with choice statement.number statement.what }
 
 abbrev pub body_with : Choice → List Statement → List Statement
 body_with choice body = map (statement_with choice) body
@@ -67,16 +72,20 @@ deepened file = record file { depth = 4 }
 abbrev pub deepest : Program → Program
 deepest program = record program { files = map deepened program.files }
 
--- what may be chosen for a program: globals that have words, files that are opened to a process, and for each file a depth from 1 to 4, 1 for `$RECEIVE`
+-- what may be chosen for a program: globals that have words, files that are opened to a process, and for each file a
+-- depth from 1 to 4, 1 for `$RECEIVE`
 pub record IsChoice (program : Program) (choice : Choice) : Type 0 where
   pub items : (number item : ℕ) → IsTrue (is_among item (choice.items number)) → MayBeListed program item
   pub files : (number file : ℕ) → IsTrue (is_among file (choice.files number)) → IsProcess program file
   pub lowest : (place : ℕ) → place < length program.files → 1 ≤ choice.depth place
   pub highest : (place : ℕ) → place < length program.files → choice.depth place ≤ 4
-  pub receive : (place : ℕ) (file : FileUse) → slice_get program.files place ≡ Some file → file.target ≡ target.Receive → choice.depth place ≡ 1
+  pub receive : (place : ℕ) (file : FileUse) → slice_get program.files place ≡ Some file → file.target ≡ target.Receive
+      → choice.depth place ≡ 1
 
 -- one choice is contained in another: each CHECKPOINT names no more, and no file's depth is greater
 pub record IsContained (program : Program) (one other : Choice) : Type 0 where
-  pub items : (number item : ℕ) → IsTrue (is_among item (one.items number)) → IsTrue (is_among item (other.items number))
-  pub files : (number file : ℕ) → IsTrue (is_among file (one.files number)) → IsTrue (is_among file (other.files number))
+  pub items : (number item : ℕ) → IsTrue (is_among item (one.items number))
+      → IsTrue (is_among item (other.items number))
+  pub files : (number file : ℕ) → IsTrue (is_among file (one.files number))
+      → IsTrue (is_among file (other.files number))
   pub depths : (place : ℕ) → place < length program.files → one.depth place ≤ other.depth place

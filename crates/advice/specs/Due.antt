@@ -1,5 +1,5 @@
--- What is due where a CHECKPOINT comes next on some path, and how much a file was asked where it is asked again. The rules are those by which paths break; that
--- they are told here without what the CHECKPOINTs name is our own.
+-- What is due where a CHECKPOINT comes next on some path, and how much a file was asked where it is asked again. The
+-- rules are those by which paths break; that they are told here without what the CHECKPOINTs name is our own.
 use Rattle.std.specs.Prelude.{◌≡◌, ℕ, ◌==◌, Bool, true, false, ◌&&◌, IsTrue, List, Option, Some}
 use Rattle.gd_words.specs.Members.{is_among}
 use Rattle.tal_tree.specs.declared.program.Program.{Program}
@@ -21,7 +21,8 @@ is_ask file _ = false
 
 -- whether the next entry is a CHECKPOINT of this number
 abbrev pub is_checkpoint_next : ℕ → Option Entry → Bool
-is_checkpoint_next number (Some (Run statement)) = (statement.number == number) && is_checkpoint (out-What statement.what)
+is_checkpoint_next number (Some (Run statement)) =
+    (statement.number == number) && is_checkpoint (out-What statement.what)
 is_checkpoint_next number _ = false
 
 -- whether the next entry is a WRITEREAD on this file

@@ -1,8 +1,8 @@
 use gd_words::{List, NoMemory};
 use path_semantics::Reason;
 
-/// What a CHECKPOINT has to name: its statement's number and line, the globals by their items' numbers, and the files by their
-/// numbers in the order of the OPENs.
+/// What a CHECKPOINT has to name: its statement's number and line, the globals by their items' numbers, and the files
+/// by their numbers in the order of the OPENs.
 #[derive(Drop)]
 pub struct Advised {
     pub statement: u16,
@@ -11,8 +11,8 @@ pub struct Advised {
     pub files: List<u8>,
 }
 
-/// What the CHECKPOINTs of a program have to name, in the order of the text, and how many replies have to be kept for each file,
-/// in the order of the OPENs.
+/// What the CHECKPOINTs of a program have to name, in the order of the text, and how many replies have to be kept for
+/// each file, in the order of the OPENs.
 #[derive(Drop)]
 pub struct Advice {
     pub lists: List<Advised>,

@@ -4,9 +4,14 @@ use denote.Hole.Carrier.{shown, out}
 use Rattle.tal_tree.specs.declared.statement.What.{out-What}
 use Rattle.tal_tree.specs.declared.statement.What.TheBlock.{shown-the_row-Statement-0}
 use Rattle.advice.specs.Choice.{deepest}
-use Rattle.advice_guards.specs.Programs.{two_lists, elements, asking_once, asking_twice, asking_four, asking_five, unreached, branching, calling, targeting, shared, again, serving}
+use Rattle.advice_guards.specs.Programs.{two_lists, elements, asking_once, asking_twice, asking_four, asking_five}
+use Rattle.advice_guards.specs.Programs.{unreached, branching, calling, targeting, shared, again, serving}
 use Rattle.advice_guards.proofs.Listed.{AreAll}
-use Rattle.advice_guards.proofs.Stands.{again_stands, again_ways, branching_stands, branching_ways, calling_stands, element_stands, five_stands, four_stands, four_ways, once_stands, serving_stands, serving_ways, shared_stands, shared_ways, targeting_stands, three_ways, twice_stands, two_stands, two_ways, unreached_stands, unreached_ways}
+use Rattle.advice_guards.proofs.Stands.{again_stands, again_ways, branching_stands, branching_ways, calling_stands}
+use Rattle.advice_guards.proofs.Stands.{element_stands, five_stands, four_stands, four_ways, once_stands}
+use Rattle.advice_guards.proofs.Stands.{serving_stands, serving_ways, shared_stands, shared_ways, targeting_stands}
+use Rattle.advice_guards.proofs.Stands.{three_ways, twice_stands, two_stands, two_ways, unreached_stands}
+use Rattle.advice_guards.proofs.Stands.{unreached_ways}
 
 pub two_lists-all : AreAll two_lists two_stands two_ways
 unfolding out-What shown-the_row-Statement-0 shown out

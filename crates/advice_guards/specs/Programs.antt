@@ -1,4 +1,5 @@
--- Small programs, each for one telling point of what is due at a CHECKPOINT. A statement stands ten lines behind its number.
+-- Small programs, each for one telling point of what is due at a CHECKPOINT. A statement stands ten lines behind its
+-- number.
 use Rattle.std.specs.Prelude.{ℕ, ◌+◌, pos, true, List, [], ◌∷◌, codes}
 use Rattle.tal_tree.specs.Rows.{places, rows}
 use Rattle.tal_tree.specs.declared.expression.Cond.{Cond, Truth}
@@ -12,9 +13,11 @@ use Rattle.tal_tree.specs.declared.program.Program.{Program}
 use Rattle.tal_tree.specs.declared.program.Shape.TheVariants as shape
 use Rattle.tal_tree.specs.declared.program.Target.TheVariants as target
 use Rattle.tal_tree.specs.declared.statement.Statement.{Statement}
-use Rattle.tal_tree.specs.declared.statement.What.{What, Assign, AssignCall, If', While', Call, ReadUpdate, Reply, WriteRead, Checkpoint, Stop}
+use Rattle.tal_tree.specs.declared.statement.What.{What, Assign, AssignCall, If', While', Call, ReadUpdate, Reply}
+use Rattle.tal_tree.specs.declared.statement.What.{WriteRead, Checkpoint, Stop}
 
--- X and Y are simple, A and BUF arrays of two words, RCV is opened to `$RECEIVE` and DISK to a process, GOT counts words
+-- X and Y are simple, A and BUF arrays of two words, RCV is opened to `$RECEIVE` and DISK to a process, GOT counts
+-- words
 abbrev items : List Item
 items =
     record { name = codes "X"; shape = shape.Simple }
@@ -27,7 +30,8 @@ items =
     ∷ []
 
 abbrev files : List FileUse
-files = record { item = 3; target = target.Receive; depth = 1 } ∷ record { item = 4; target = target.Process (codes "$DATA"); depth = 2 } ∷ []
+files = record { item = 3; target = target.Receive; depth = 1 }
+    ∷ record { item = 4; target = target.Process (codes "$DATA"); depth = 2 } ∷ []
 
 abbrev procedure_of : List Statement → Procedure
 procedure_of body = record { name = codes "P"; gives = true; parameters = 0; locals = []; body = body }
@@ -38,7 +42,8 @@ main_alone body = record { items = items; files = files; procedures = procedure_
 
 -- a procedure, and MAIN behind it
 abbrev pub with_called : List Statement → List Statement → Program
-with_called called body = record { items = items; files = files; procedures = procedure_of called ∷ procedure_of body ∷ []; main = 1 }
+with_called called body =
+    record { items = items; files = files; procedures = procedure_of called ∷ procedure_of body ∷ []; main = 1 }
 
 abbrev pub at : ℕ → What → Statement
 at number what = record { number = number; line = number + 10; what = what }
@@ -76,7 +81,8 @@ abbrev pub stopping : List Statement
 stopping = at 3 Stop ∷ at 4 (sets 1) ∷ []
 
 abbrev pub unreached : Program
-unreached = main_alone (at 1 (sets 0) ∷ at 2 (If' always (places stopping) (rows stopping) [] (rows [])) ∷ at 5 marks ∷ at 6 Stop ∷ at 7 marks ∷ [])
+unreached = main_alone (at 1 (sets 0) ∷ at 2 (If' always (places stopping) (rows stopping) [] (rows [])) ∷ at 5 marks
+    ∷ at 6 Stop ∷ at 7 marks ∷ [])
 
 -- F is y := 1, and MAIN is x := 1; F; CHECKPOINT
 abbrev pub calling : Program
@@ -102,7 +108,8 @@ abbrev pub second_branch : List Statement
 second_branch = at 3 (sets 1) ∷ []
 
 abbrev pub branching : Program
-branching = main_alone (at 1 (If' always (places first_branch) (rows first_branch) (places second_branch) (rows second_branch)) ∷ at 4 marks ∷ [])
+branching = main_alone (at 1 (If' always (places first_branch) (rows first_branch) (places second_branch)
+    (rows second_branch)) ∷ at 4 marks ∷ [])
 
 -- WHILE .. DO BEGIN CHECKPOINT; x := 1 END
 abbrev pub round : List Statement
@@ -144,7 +151,9 @@ turn_with globals named = at 2 takes ∷ at 3 (sets 0) ∷ at 4 (Checkpoint glob
 abbrev pub serving_with : List ℕ → List ℕ → ℕ → ℕ → Program
 serving_with globals named first second = record {
   items = items;
-  files = record { item = 3; target = target.Receive; depth = first } ∷ record { item = 4; target = target.Process (codes "$DATA"); depth = second } ∷ [];
-  procedures = procedure_of (at 1 (While' always (places (turn_with globals named)) (rows (turn_with globals named))) ∷ []) ∷ [];
+  files = record { item = 3; target = target.Receive; depth = first }
+      ∷ record { item = 4; target = target.Process (codes "$DATA"); depth = second } ∷ [];
+  procedures =
+      procedure_of (at 1 (While' always (places (turn_with globals named)) (rows (turn_with globals named))) ∷ []) ∷ [];
   main = 0;
 }

@@ -1,7 +1,8 @@
 ghost use Rattle.std.specs.Prelude.{◌↔◌, ℕ, IsTrue, [], ◌∷◌};
 ghost use Rattle.gd_words.specs.Members.{is_among};
 ghost use Rattle.advice.specs.Due.{IsItemDue, IsFileDue};
-ghost use Rattle.advice_guards.specs.Programs.{two_lists, unreached, calling, targeting, shared, elements, branching, again, asking_once};
+ghost use Rattle.advice_guards.specs.Programs.{two_lists, unreached, calling, targeting, shared, elements, branching};
+ghost use Rattle.advice_guards.specs.Programs.{again, asking_once};
 
 /// Each CHECKPOINT has what is due since the one before it, and the second of two in a row nothing.
 pub fn checkpoints_have_lists_of_their_own()
@@ -17,8 +18,8 @@ pub fn what_no_path_reaches_adds_nothing()
     ensures unreached { (item : ℕ) → IsTrue (is_among item []) ↔ IsItemDue unreached 7 item }
 {}
 
-/// What a called procedure changes is due behind the call; and where a CHECKPOINT is the last statement of a procedure, the target
-/// of its call is due at the next one, and not there.
+/// What a called procedure changes is due behind the call; and where a CHECKPOINT is the last statement of a procedure,
+/// the target of its call is due at the next one, and not there.
 pub fn calls_add_what_they_change()
     ensures called { (item : ℕ) → IsTrue (is_among item (0 ∷ 1 ∷ [])) ↔ IsItemDue calling 4 item }
     ensures inside { (item : ℕ) → IsTrue (is_among item []) ↔ IsItemDue targeting 1 item }

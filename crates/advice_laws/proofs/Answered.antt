@@ -1,5 +1,7 @@
 -- An answer for a regular program is the advice for it, and may be chosen.
-use Rattle.std.proofs.Common.{◌≡◌, ◌≤◌, ◌<◌, ◌⊎◌, ◌↔◌, inl, inr, ℕ, ◌==◌, Bool, true, false, cond, if◌then◌else◌, IsTrue, List, [], ◌∷◌, map, filter, length, slice_get, Option, Some, None, arith, refl, ap, subst, sym, ◌∙◌}
+use Rattle.std.proofs.Common.{◌≡◌, ◌≤◌, ◌<◌, ◌⊎◌, ◌↔◌, inl, inr, ℕ, ◌==◌, Bool, true, false, cond, if◌then◌else◌}
+use Rattle.std.proofs.Common.{IsTrue, List, [], ◌∷◌, map, filter, length, slice_get, Option, Some, None, arith, refl}
+use Rattle.std.proofs.Common.{ap, subst, sym, ◌∙◌}
 use Rattle.std.specs.Option.{unwrap_or}
 use Rattle.std.proofs.lemmas.Option.{slice_get_within}
 use Rattle.gd_words.specs.Members.{IsAmong, is_among}
@@ -43,7 +45,8 @@ record IsSilent (lists : List Advised) (number : ℕ) : Type 0 where
   items : items_among lists number ≡ []
   files : files_among lists number ≡ []
 
-speaks-first : (one : Advised) (rest : List Advised) (number : ℕ) → (one.statement == number) ≡ true → Speaks (one ∷ rest) number
+speaks-first : (one : Advised) (rest : List Advised) (number : ℕ) → (one.statement == number) ≡ true
+    → Speaks (one ∷ rest) number
 speaks-first one rest number is = record {
   one = one;
   there = inl refl;
@@ -52,7 +55,8 @@ speaks-first one rest number is = record {
   files = ap (λ (b : Bool). if b then one.files else files_among rest number) is;
 }
 
-speaks-later : (one : Advised) (rest : List Advised) (number : ℕ) → (one.statement == number) ≡ false → Speaks rest number → Speaks (one ∷ rest) number
+speaks-later : (one : Advised) (rest : List Advised) (number : ℕ) → (one.statement == number) ≡ false
+    → Speaks rest number → Speaks (one ∷ rest) number
 speaks-later one rest number isnt later = record {
   one = later.one;
   there = inr later.there;
@@ -64,7 +68,8 @@ speaks-later one rest number isnt later = record {
 differs : (n m : ℕ) → (n == m) ≡ false → n ≡ m → ⊥
 differs n m isnt same = absurd (grind arith)
 
-silent-still : (one : Advised) (rest : List Advised) (number : ℕ) → (one.statement == number) ≡ false → IsSilent rest number → IsSilent (one ∷ rest) number
+silent-still : (one : Advised) (rest : List Advised) (number : ℕ) → (one.statement == number) ≡ false
+    → IsSilent rest number → IsSilent (one ∷ rest) number
 silent-still one rest number isnt silent = record {
   nowhere = λ other among same. elim among [
     | inl is ↦ differs one.statement number isnt (ap (λ (x : Advised). x.statement) (sym is) ∙ same)
@@ -77,7 +82,8 @@ silent-still one rest number isnt silent = record {
 said : (lists : List Advised) (number : ℕ) → Speaks lists number ⊎ IsSilent lists number
 said [] number = inr (record { nowhere = λ one among same. among; items = refl; files = refl })
 said (one ∷ rest) number = by-test (one.statement == number) refl (said rest number) where
-  by-test : (b : Bool) → (one.statement == number) ≡ b → Speaks rest number ⊎ IsSilent rest number → Speaks (one ∷ rest) number ⊎ IsSilent (one ∷ rest) number
+  by-test : (b : Bool) → (one.statement == number) ≡ b → Speaks rest number ⊎ IsSilent rest number
+      → Speaks (one ∷ rest) number ⊎ IsSilent (one ∷ rest) number
   by-test true is later = inl (speaks-first one rest number is)
   by-test false isnt (inl later) = inl (speaks-later one rest number isnt later)
   by-test false isnt (inr silent) = inr (silent-still one rest number isnt silent)
@@ -92,7 +98,8 @@ behind : (b : Bool) (x y : Statement) (rest : List Statement) → IsAmong x rest
 behind true x y rest among = inr among
 behind false x y rest among = among
 
-among-filtered : (test : Statement → Bool) (x : Statement) (xs : List Statement) → IsAmong x xs → test x ≡ true → IsAmong x (filter test xs)
+among-filtered : (test : Statement → Bool) (x : Statement) (xs : List Statement) → IsAmong x xs → test x ≡ true
+    → IsAmong x (filter test xs)
 among-filtered test x [] among is = absurd among
 among-filtered test x (y ∷ ys) (inl same) is = passed (test y) x y (filter test ys) (ap test (sym same) ∙ is) same
 among-filtered test x (y ∷ ys) (inr among) is = behind (test y) x y (filter test ys) (among-filtered test x ys among is)
@@ -101,7 +108,8 @@ module _ (program : Program) where
   abbrev Stands : Statement → Type 0
   Stands statement = IsAmong statement (statements_of program)
 
-  next-checkpoint : (place : Place) → HoldsAt Stands place → (number : ℕ) → IsTrue (is_checkpoint_next number (next_in place))
+  next-checkpoint : (place : Place) → HoldsAt Stands place → (number : ℕ)
+      → IsTrue (is_checkpoint_next number (next_in place))
       → (statement : Statement) × (statement.number ≡ number) × IsAmong statement (checkpoints_of program)
   next-checkpoint [] holds number is = never is
   next-checkpoint ([] ∷ callers) holds number is = never is
@@ -115,17 +123,20 @@ module _ (program : Program) where
       )
 
   -- a path leads only to CHECKPOINTs of the program
-  led-checkpoint : (path : List ℕ) (stand : Stand) → Leads program path stand → (number : ℕ) → IsTrue (is_checkpoint_next number (next_entry stand))
+  led-checkpoint : (path : List ℕ) (stand : Stand) → Leads program path stand → (number : ℕ)
+      → IsTrue (is_checkpoint_next number (next_entry stand))
       → (statement : Statement) × (statement.number ≡ number) × IsAmong statement (checkpoints_of program)
   led-checkpoint path stand leads number is =
       next-checkpoint stand.place
       (kept-led program (HoldsAt Stands)
       (entries-kept Stands program
-      (λ procedure statement there inside. among-given (λ (one : Procedure). all_of one.body) procedure statement program.procedures there inside)) path stand leads)
+      (λ procedure statement there inside. among-given (λ (one : Procedure). all_of one.body) procedure statement
+      program.procedures there inside)) path stand leads)
       number is
 
   module _ (advice : Advice) (answer : IsAnswer program advice) where
-    never-silent : (path : List ℕ) (stand : Stand) → Leads program path stand → (number : ℕ) → IsTrue (is_checkpoint_next number (next_entry stand)) → IsSilent advice.lists number → ⊥
+    never-silent : (path : List ℕ) (stand : Stand) → Leads program path stand → (number : ℕ)
+        → IsTrue (is_checkpoint_next number (next_entry stand)) → IsSilent advice.lists number → ⊥
     never-silent path stand leads number is silent =
         let found = led-checkpoint path stand leads number is in
         let listed : IsAmong found.0.number (map (λ (one : Advised). one.statement) advice.lists) =
@@ -135,25 +146,35 @@ module _ (program : Program) where
         silent.nowhere one.0 one.1 (sym one.2 ∙ found.1)
 
     -- for each number the chosen globals are those that are due
-    items-due : (number item : ℕ) → IsTrue (is_among item (items_among advice.lists number)) ↔ IsItemDue program number item
+    items-due : (number item : ℕ) → IsTrue (is_among item (items_among advice.lists number))
+        ↔ IsItemDue program number item
     items-due number item = by-said (said advice.lists number) where
-      by-said : Speaks advice.lists number ⊎ IsSilent advice.lists number → IsTrue (is_among item (items_among advice.lists number)) ↔ IsItemDue program number item
+      by-said : Speaks advice.lists number ⊎ IsSilent advice.lists number
+          → IsTrue (is_among item (items_among advice.lists number)) ↔ IsItemDue program number item
       by-said (inl speaks) =
-          let due : IsTrue (is_among item speaks.one.items) ↔ IsItemDue program speaks.one.statement item = (answer.lists speaks.one speaks.there).items item in
-          subst (λ (n : ℕ). IsTrue (is_among item (items_among advice.lists number)) ↔ IsItemDue program n item) speaks.same
-          (subst (λ (items : List ℕ). IsTrue (is_among item items) ↔ IsItemDue program speaks.one.statement item) (sym speaks.items) due)
+          let due : IsTrue (is_among item speaks.one.items) ↔ IsItemDue program speaks.one.statement item =
+          (answer.lists speaks.one speaks.there).items item in
+          subst (λ (n : ℕ). IsTrue (is_among item (items_among advice.lists number)) ↔ IsItemDue program n item)
+          speaks.same
+          (subst (λ (items : List ℕ). IsTrue (is_among item items) ↔ IsItemDue program speaks.one.statement item)
+          (sym speaks.items) due)
       by-said (inr silent) = (
         (λ named. never (sym (ap (is_among item) silent.items) ∙ named)),
         (λ due. absurd (never-silent due.path due.stand due.leads number due.next silent)),
       )
 
-    files-due : (number file : ℕ) → IsTrue (is_among file (files_among advice.lists number)) ↔ IsFileDue program number file
+    files-due : (number file : ℕ) → IsTrue (is_among file (files_among advice.lists number))
+        ↔ IsFileDue program number file
     files-due number file = by-said (said advice.lists number) where
-      by-said : Speaks advice.lists number ⊎ IsSilent advice.lists number → IsTrue (is_among file (files_among advice.lists number)) ↔ IsFileDue program number file
+      by-said : Speaks advice.lists number ⊎ IsSilent advice.lists number
+          → IsTrue (is_among file (files_among advice.lists number)) ↔ IsFileDue program number file
       by-said (inl speaks) =
-          let due : IsTrue (is_among file speaks.one.files) ↔ IsFileDue program speaks.one.statement file = (answer.lists speaks.one speaks.there).files file in
-          subst (λ (n : ℕ). IsTrue (is_among file (files_among advice.lists number)) ↔ IsFileDue program n file) speaks.same
-          (subst (λ (files : List ℕ). IsTrue (is_among file files) ↔ IsFileDue program speaks.one.statement file) (sym speaks.files) due)
+          let due : IsTrue (is_among file speaks.one.files) ↔ IsFileDue program speaks.one.statement file =
+          (answer.lists speaks.one speaks.there).files file in
+          subst (λ (n : ℕ). IsTrue (is_among file (files_among advice.lists number)) ↔ IsFileDue program n file)
+          speaks.same
+          (subst (λ (files : List ℕ). IsTrue (is_among file files) ↔ IsFileDue program speaks.one.statement file)
+          (sym speaks.files) due)
       by-said (inr silent) = (
         (λ named. never (sym (ap (is_among file) silent.files) ∙ named)),
         (λ due. absurd (never-silent due.path due.stand due.leads number due.next silent)),
@@ -179,7 +200,8 @@ module _ (program : Program) where
             let found : slice_get advice.depths file ≡ Some there.0 = there.1 in
             absurd (cc)
 
-      depth-least : (file : ℕ) (found : Option ℕ) → slice_get advice.depths file ≡ found → IsLeastDepth program file (unwrap_or found 1)
+      depth-least : (file : ℕ) (found : Option ℕ) → slice_get advice.depths file ≡ found
+          → IsLeastDepth program file (unwrap_or found 1)
       depth-least file (Some depth) is = answer.depths file depth is
       depth-least file None is =
           unasked file (λ count asked.
@@ -200,17 +222,22 @@ module _ (program : Program) where
         depths = λ file. depth-least file (slice_get advice.depths file) refl;
       }
 
-      receive-other : (one : FileUse) (file : ℕ) → slice_get program.files file ≡ Some one → one.target ≡ target.Receive → IsProcess program file → ⊥
+      receive-other : (one : FileUse) (file : ℕ) → slice_get program.files file ≡ Some one
+          → one.target ≡ target.Receive → IsProcess program file → ⊥
       receive-other one file there receive process =
           let same : Some process.opened ≡ Some one = sym process.there ∙ there in
           let equal : process.opened ≡ one = cc in
-          let both : target.Process process.process ≡ target.Receive = sym process.is ∙ ap (λ (opened : FileUse). opened.target) equal ∙ receive in
+          let both : target.Process process.process ≡ target.Receive =
+          sym process.is ∙ ap (λ (opened : FileUse). opened.target) equal ∙ receive in
           absurd (cc)
 
-      receive-one : (file : ℕ) (one : FileUse) → slice_get program.files file ≡ Some one → one.target ≡ target.Receive → (choice_of advice).depth file ≡ 1
+      receive-one : (file : ℕ) (one : FileUse) → slice_get program.files file ≡ Some one → one.target ≡ target.Receive
+          → (choice_of advice).depth file ≡ 1
       receive-one file one there receive =
-          let depth : IsLeastDepth program file ((choice_of advice).depth file) = depth-least file (slice_get advice.depths file) refl in
-          let unasked-one = unasked file (λ count asked. receive-other one file there receive (asked-process program regular file count asked)) in
+          let depth : IsLeastDepth program file ((choice_of advice).depth file) =
+          depth-least file (slice_get advice.depths file) refl in
+          let unasked-one = unasked file (λ count asked.
+          receive-other one file there receive (asked-process program regular file count asked)) in
           let most : (choice_of advice).depth file ≤ 1 = depth.least 1 unasked-one.enough in
           let lowest : 1 ≤ (choice_of advice).depth file = depth.enough.lowest in
           omega arith

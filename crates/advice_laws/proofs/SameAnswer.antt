@@ -1,5 +1,6 @@
 -- Lists and depths change no advice: it is that of the program with whatever is chosen.
-use Rattle.std.proofs.Common.{◌≡◌, ℕ, suc, ◌==◌, Bool, ◌&&◌, IsTrue, List, [], ◌∷◌, length, Option, Some, None, option_map, refl, ap, subst, sym, ◌∙◌}
+use Rattle.std.proofs.Common.{◌≡◌, ℕ, suc, ◌==◌, Bool, ◌&&◌, IsTrue, List, [], ◌∷◌, length, Option, Some, None}
+use Rattle.std.proofs.Common.{option_map, refl, ap, subst, sym, ◌∙◌}
 use Rattle.gd_words.specs.Members.{is_among}
 use Rattle.tal_tree.specs.declared.program.FileUse.{FileUse}
 use Rattle.tal_tree.specs.declared.program.Program.{Program}
@@ -22,26 +23,34 @@ use Rattle.advice_laws.proofs.SamePaths.{next-kept, leads-chosen, leads-own}
 use Rattle.advice_laws.proofs.SameStatements.{checkpoint-kept, checkpoint-numbers, checkpoint-lines}
 
 module _ (choice : Choice) where
-  checkpoint-next : (number : ℕ) (next : Option Entry) → is_checkpoint_next number (option_map (entry_with choice) next) ≡ is_checkpoint_next number next
+  checkpoint-next : (number : ℕ) (next : Option Entry)
+      → is_checkpoint_next number (option_map (entry_with choice) next) ≡ is_checkpoint_next number next
   checkpoint-next number None = refl
   checkpoint-next number (Some (Test statement)) = refl
   checkpoint-next number (Some (Last statement)) = refl
-  checkpoint-next number (Some (Run statement)) = ap (λ (is : Bool). (statement.number == number) && is) (checkpoint-kept choice statement.number statement.what)
+  checkpoint-next number (Some (Run statement)) =
+      ap (λ (is : Bool). (statement.number == number) && is) (checkpoint-kept choice statement.number statement.what)
 
-  ask-layer : (file number : ℕ) (layer : What-F What Statement) → is_ask file (layer_with choice number layer) ≡ is_ask file layer
+  ask-layer : (file number : ℕ) (layer : What-F What Statement)
+      → is_ask file (layer_with choice number layer) ≡ is_ask file layer
   ask-layer file number (What-F.WriteRead asked buffer send room got) = refl
   ask-layer file number _ = refl
 
-  ask-next : (file : ℕ) (next : Option Entry) → is_ask_next file (option_map (entry_with choice) next) ≡ is_ask_next file next
+  ask-next : (file : ℕ) (next : Option Entry)
+      → is_ask_next file (option_map (entry_with choice) next) ≡ is_ask_next file next
   ask-next file None = refl
   ask-next file (Some (Test statement)) = refl
   ask-next file (Some (Last statement)) = refl
-  ask-next file (Some (Run statement)) = ap (is_ask file) (layer-is choice statement.number statement.what) ∙ ask-layer file statement.number (out-What statement.what)
+  ask-next file (Some (Run statement)) = ap (is_ask file) (layer-is choice statement.number statement.what)
+      ∙ ask-layer file statement.number (out-What statement.what)
 
-  checkpoint-at : (number : ℕ) (stand : Stand) → is_checkpoint_next number (next_entry (stand_with choice stand)) ≡ is_checkpoint_next number (next_entry stand)
-  checkpoint-at number stand = ap (is_checkpoint_next number) (next-kept choice stand.place) ∙ checkpoint-next number (next_entry stand)
+  checkpoint-at : (number : ℕ) (stand : Stand)
+      → is_checkpoint_next number (next_entry (stand_with choice stand)) ≡ is_checkpoint_next number (next_entry stand)
+  checkpoint-at number stand =
+      ap (is_checkpoint_next number) (next-kept choice stand.place) ∙ checkpoint-next number (next_entry stand)
 
-  ask-at : (file : ℕ) (stand : Stand) → is_ask_next file (next_entry (stand_with choice stand)) ≡ is_ask_next file (next_entry stand)
+  ask-at : (file : ℕ) (stand : Stand) → is_ask_next file (next_entry (stand_with choice stand))
+      ≡ is_ask_next file (next_entry stand)
   ask-at file stand = ap (is_ask_next file) (next-kept choice stand.place) ∙ ask-next file (next_entry stand)
 
   module _ (program : Program) where
@@ -64,7 +73,8 @@ module _ (choice : Choice) where
           path = due.path;
           stand = own.0;
           leads = own.1;
-          next = sym (checkpoint-at number own.0) ∙ subst (λ (stand : Stand). IsTrue (is_checkpoint_next number (next_entry stand))) own.2 due.next;
+          next = sym (checkpoint-at number own.0)
+              ∙ subst (λ (stand : Stand). IsTrue (is_checkpoint_next number (next_entry stand))) own.2 due.next;
           due = subst (λ (stand : Stand). IsTrue (is_among item stand.dues.globals)) own.2 due.due;
         }
 
@@ -84,7 +94,8 @@ module _ (choice : Choice) where
           path = due.path;
           stand = own.0;
           leads = own.1;
-          next = sym (checkpoint-at number own.0) ∙ subst (λ (stand : Stand). IsTrue (is_checkpoint_next number (next_entry stand))) own.2 due.next;
+          next = sym (checkpoint-at number own.0)
+              ∙ subst (λ (stand : Stand). IsTrue (is_checkpoint_next number (next_entry stand))) own.2 due.next;
           due = subst (λ (stand : Stand). IsTrue (is_among file stand.dues.asked)) own.2 due.due;
         }
 
@@ -104,15 +115,18 @@ module _ (choice : Choice) where
           path = asked.path;
           stand = own.0;
           leads = own.1;
-          next = sym (ask-at file own.0) ∙ subst (λ (stand : Stand). IsTrue (is_ask_next file (next_entry stand))) own.2 asked.next;
+          next = sym (ask-at file own.0) ∙ subst (λ (stand : Stand). IsTrue (is_ask_next file (next_entry stand)))
+              own.2 asked.next;
           counted = subst (λ (stand : Stand). asked_count file stand.dues ≡ count) own.2 asked.counted;
         }
 
     enough-chosen : (file depth : ℕ) → IsDepthEnough program file depth → IsDepthEnough chosen file depth
-    enough-chosen file depth enough = record { lowest = enough.lowest; counts = λ count asked. enough.counts count (asked-own file count asked) }
+    enough-chosen file depth enough =
+        record { lowest = enough.lowest; counts = λ count asked. enough.counts count (asked-own file count asked) }
 
     enough-own : (file depth : ℕ) → IsDepthEnough chosen file depth → IsDepthEnough program file depth
-    enough-own file depth enough = record { lowest = enough.lowest; counts = λ count asked. enough.counts count (asked-chosen file count asked) }
+    enough-own file depth enough =
+        record { lowest = enough.lowest; counts = λ count asked. enough.counts count (asked-chosen file count asked) }
 
     least-chosen : (file depth : ℕ) → IsLeastDepth program file depth → IsLeastDepth chosen file depth
     least-chosen file depth least = record {
@@ -128,16 +142,28 @@ module _ (choice : Choice) where
 
     list-chosen : (one : Advised) → IsLeastList program one → IsLeastList chosen one
     list-chosen one list = record {
-      items = λ item. ((λ named. item-chosen one.statement item ((list.items item).0 named)), (λ due. (list.items item).1 (item-own one.statement item due)));
-      files = λ file. ((λ named. file-chosen one.statement file ((list.files file).0 named)), (λ due. (list.files file).1 (file-own one.statement file due)));
+      items = λ item. (
+        (λ named. item-chosen one.statement item ((list.items item).0 named)),
+        (λ due. (list.items item).1 (item-own one.statement item due)),
+      );
+      files = λ file. (
+        (λ named. file-chosen one.statement file ((list.files file).0 named)),
+        (λ due. (list.files file).1 (file-own one.statement file due)),
+      );
       ascending_items = list.ascending_items;
       ascending_files = list.ascending_files;
     }
 
     list-own : (one : Advised) → IsLeastList chosen one → IsLeastList program one
     list-own one list = record {
-      items = λ item. ((λ named. item-own one.statement item ((list.items item).0 named)), (λ due. (list.items item).1 (item-chosen one.statement item due)));
-      files = λ file. ((λ named. file-own one.statement file ((list.files file).0 named)), (λ due. (list.files file).1 (file-chosen one.statement file due)));
+      items = λ item. (
+        (λ named. item-own one.statement item ((list.items item).0 named)),
+        (λ due. (list.items item).1 (item-chosen one.statement item due)),
+      );
+      files = λ file. (
+        (λ named. file-own one.statement file ((list.files file).0 named)),
+        (λ due. (list.files file).1 (file-chosen one.statement file due)),
+      );
       ascending_items = list.ascending_items;
       ascending_files = list.ascending_files;
     }

@@ -29,12 +29,19 @@ module _ (program : Program) where
 
   -- a break with the greatest depth is a file that is there, and is asked after at least four
   pub depth-broken : (path : List ℕ) (file : ℕ) → Breaks (deepest program) path (Depth file)
-      → ((one : FileUse) × (slice_get program.files file ≡ Some one)) × (count : ℕ) × IsAskedAfter program file count × (4 ≤ count)
+      → ((one : FileUse) × (slice_get program.files file ≡ Some one)) × (count : ℕ) × IsAskedAfter program file count
+      × (4 ≤ count)
   depth-broken path file broken =
       let told = depth-asked program file broken.stand.dues (next_entry broken.stand) broken.breaks in (
         told.1,
         asked_count file broken.stand.dues,
-        record { path = broken.front; stand = broken.stand; leads = leads-own program broken.front broken.stand broken.leads; next = told.0; counted = refl },
+        record {
+          path = broken.front;
+          stand = broken.stand;
+          leads = leads-own program broken.front broken.stand broken.leads;
+          next = told.0;
+          counted = refl;
+        },
         told.2,
       )
 
@@ -42,11 +49,13 @@ module _ (program : Program) where
       → (choice : Choice) → IsChoice program choice → IsAccepted (with_choice program choice) → ⊥
   beyond-stays (Data item) path beyond broken choice is accepted = absurd beyond
   beyond-stays (SyncBlock file) path beyond broken choice is accepted = absurd beyond
-  beyond-stays Input path beyond broken choice is accepted = input-stays choice program path (input-broken path broken) accepted
+  beyond-stays Input path beyond broken choice is accepted =
+      input-stays choice program path (input-broken path broken) accepted
   beyond-stays (Depth file) path beyond broken choice is accepted =
       let asked = depth-broken path file broken in
       let many : 4 ≤ asked.1 = asked.3 in
-      let fewer : asked.1 < choice.depth file = fewer-counted choice program accepted file asked.1 asked.0.0 asked.0.1 asked.2 in
+      let fewer : asked.1 < choice.depth file =
+      fewer-counted choice program accepted file asked.1 asked.0.0 asked.0.1 asked.2 in
       let inside : file < length program.files = slice_get_within program.files file asked.0.0 asked.0.1 in
       let few : choice.depth file ≤ 4 = is.highest file inside in
       absurd (omega arith)

@@ -1,4 +1,5 @@
--- Where a program with chosen lists stands: as the program does, but that the statements which remain name what is chosen.
+-- Where a program with chosen lists stands: as the program does, but that the statements which remain name what is
+-- chosen.
 use Rattle.std.specs.Prelude.{List, map}
 use Rattle.process_semantics.specs.State.{Entry, Run, Test, Last}
 use Rattle.path_semantics.specs.Place.{Place, Stand}

@@ -1,8 +1,8 @@
-//! Laws of advice: lists and depths change no path, so the advice for a program is accepted and contained in every choice that is,
-//! and what it can't mend no choice mends. No code runs here.
+//! Laws of advice: lists and depths change no path, so the advice for a program is accepted and contained in every
+//! choice that is, and what it can't mend no choice mends. No code runs here.
 //!
-//! Below stands `advice` with the definitions. The layer above uses the laws of this crate's public functions, first of all
-//! `advice_is_least`.
+//! Below stands `advice` with the definitions. The layer above uses the laws of this crate's public functions, first of
+//! all `advice_is_least`.
 #![tactic(auto)]
 
 pub mod laws;

@@ -1,4 +1,5 @@
--- Where a schedule stands, and which event is its next one; and runs of a schedule, on whatever machine. The lines are our own.
+-- Where a schedule stands, and which event is its next one; and runs of a schedule, on whatever machine. The lines are
+-- our own.
 use Rattle.std.specs.Prelude.{◌≡◌, ℕ, ◌==◌, if◌then◌else◌, List, [], ◌∷◌, ◌++◌, length, Option, Some, None}
 use Rattle.std.specs.Option.{option_map}
 use Rattle.schedule.specs.declared.event.Counts.{Counts}
@@ -14,7 +15,8 @@ use Rattle.player.specs.Lines.{begun, next_event}
 
 -- The next event of a schedule
 
--- where a schedule stands: its line, the lines after it, the stop that is still to come, and the event that was to come when a stop came before it
+-- where a schedule stands: its line, the lines after it, the stop that is still to come, and the event that was to come
+-- when a stop came before it
 pub record Agenda : Type 0 where
   pub standing : LinePlace
   pub lines : List Line
@@ -29,12 +31,18 @@ pub record Plan : Type 0 where
   pub event : Event
   pub agenda : Agenda
 
--- the next event of a line and the lines after it, where the line gives this: its own, or else that of the first line after it that gives one
+-- the next event of a line and the lines after it, where the line gives this: its own, or else that of the first line
+-- after it that gives one
 abbrev pub planned_by : Sizes → Counts → Option ProcessorStop → List Line → Option Move → Option Plan
 planned_by sizes counts stop lines (Some move) =
-    Some (record { event = move.event; agenda = record { standing = move.standing; lines = lines; stop = stop; held_back = None } })
+    Some (record {
+      event = move.event;
+      agenda =
+          record { standing = move.standing; lines = lines; stop = stop; held_back = None };
+    })
 planned_by sizes counts stop [] None = None
-planned_by sizes counts stop (line ∷ lines) None = planned_by sizes counts stop lines (next_event sizes (begun line) counts)
+planned_by sizes counts stop (line ∷ lines) None =
+    planned_by sizes counts stop lines (next_event sizes (begun line) counts)
 
 -- the processor whose stop comes just before the event that so many events precede
 abbrev pub coming : Option ProcessorStop → ℕ → Option ℕ
@@ -48,23 +56,27 @@ stopped_by (Some processor) plan =
     record { event = Fail processor; agenda = record plan.agenda { stop = None; held_back = Some plan.event } }
 
 abbrev pub upcoming_after : Sizes → ℕ → Counts → Agenda → Option Event → Option Plan
-upcoming_after sizes before counts agenda (Some event) = Some (record { event = event; agenda = record agenda { held_back = None } })
+upcoming_after sizes before counts agenda (Some event) =
+    Some (record { event = event; agenda = record agenda { held_back = None } })
 upcoming_after sizes before counts agenda None =
     option_map (stopped_by (coming agenda.stop before))
     (planned_by sizes counts agenda.stop agenda.lines (next_event sizes agenda.standing counts))
 
--- the next event of a schedule, that so many events precede, by the counts before it; none where the schedule is over. A stop comes just before an event that
--- is to come, and that event comes after it, whatever the counts are then
+-- the next event of a schedule, that so many events precede, by the counts before it; none where the schedule is over.
+-- A stop comes just before an event that is to come, and that event comes after it, whatever the counts are then
 abbrev pub upcoming : Sizes → ℕ → Counts → Agenda → Option Plan
 upcoming sizes before counts agenda = upcoming_after sizes before counts agenda agenda.held_back
 
 -- Runs
 
--- on a machine with such states, of which these counts are taken, and whose states go on so with an event: these events of a schedule with a stop came from
--- this state at the beginning one after the other, each as its counts gave it, and lead to a state and to where the schedule stands
-pub data PlaysOn {S : Type 0} (sizes : Sizes) (counts : S → Counts) (goes : S → Event → S → Type 0) (start : S) (lines : List Line) (stop : Option ProcessorStop)
+-- on a machine with such states, of which these counts are taken, and whose states go on so with an event: these events
+-- of a schedule with a stop came from this state at the beginning one after the other, each as its counts gave it, and
+-- lead to a state and to where the schedule stands
+pub data PlaysOn {S : Type 0} (sizes : Sizes) (counts : S → Counts) (goes : S → Event → S → Type 0) (start : S)
+    (lines : List Line) (stop : Option ProcessorStop)
     : List Event → Agenda → S → Type 0 where
   plays_none : PlaysOn sizes counts goes start lines stop [] (agenda_of lines stop) start
-  plays_on : {events : List Event} {agenda : Agenda} {s next : S} → (plan : Plan) → PlaysOn sizes counts goes start lines stop events agenda s
+  plays_on : {events : List Event} {agenda : Agenda} {s next : S} → (plan : Plan)
+      → PlaysOn sizes counts goes start lines stop events agenda s
       → upcoming sizes (length events) (counts s) agenda ≡ Some plan → goes s plan.event next
       → PlaysOn sizes counts goes start lines stop (events ++ plan.event ∷ []) plan.agenda next

@@ -15,7 +15,11 @@ pub fn an_event_of_a_line_comes()
     ensures { (sizes : Sizes) (before : ℕ) (counts : Counts) (standing : LinePlace) (lines : List Line) (move : Move)
         → next_event sizes standing counts ≡ Some move
         → upcoming sizes before counts (record { standing = standing; lines = lines; stop = None; held_back = None })
-        ≡ Some (record { event = move.event; agenda = record { standing = move.standing; lines = lines; stop = None; held_back = None } }) }
+        ≡ Some (record {
+          event = move.event;
+          agenda =
+              record { standing = move.standing; lines = lines; stop = None; held_back = None };
+        }) }
 {}
 
 /// A stop comes first, and what was to come is held back.

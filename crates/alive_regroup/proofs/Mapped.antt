@@ -1,9 +1,11 @@
 -- A list whose items become those of another list under a function, one after the other.
-use Rattle.std.proofs.Common.{◌≡◌, ℕ, suc, ◌+◌, ◌<◌, List, [], ◌∷◌, ◌++◌, length, get_or, set, take, drop, map, arith, ap, sym, ◌∙◌, append_assoc}
+use Rattle.std.proofs.Common.{◌≡◌, ℕ, suc, ◌+◌, ◌<◌, List, [], ◌∷◌, ◌++◌, length, get_or, set, take, drop, map, arith}
+use Rattle.std.proofs.Common.{ap, sym, ◌∙◌, append_assoc}
 use Rattle.std.proofs.Math.Seq.{set-append_seam, drop-cons}
 use Rattle.std.proofs.lemmas.List.{take_more, length-take-le, length-map, map-append}
 
-pub mapped-more : {A B : Type 0} (f : A → B) (xs : List A) (first : List B) (k : ℕ) (d : A) → k < length xs → k < length first
+pub mapped-more : {A B : Type 0} (f : A → B) (xs : List A) (first : List B) (k : ℕ) (d : A) → k < length xs
+    → k < length first
     → set (map f (take k xs) ++ drop k first) k (f (get_or xs k d)) ≡ map f (take (k + 1) xs) ++ drop (k + 1) first
 mapped-more f xs first k d within room =
     let x = get_or xs k d in
@@ -14,4 +16,6 @@ mapped-more f xs first k d within room =
     ∙ ap (λ j. set (done ++ get_or first k (f d) ∷ drop (suc k) first) j (f x)) (sym len)
     ∙ set-append_seam done (get_or first k (f d)) (drop (suc k) first) (f x)
     ∙ ap (λ j. done ++ f x ∷ drop j first) next
-    ∙ sym (ap (λ items. map f items ++ drop (k + 1) first) (take_more xs k d within) ∙ ap (λ items. items ++ drop (k + 1) first) (map-append f (take k xs) (x ∷ [])) ∙ append_assoc done (f x ∷ []) (drop (k + 1) first))
+    ∙ sym (ap (λ items. map f items ++ drop (k + 1) first) (take_more xs k d within)
+    ∙ ap (λ items. items ++ drop (k + 1) first) (map-append f (take k xs) (x ∷ []))
+    ∙ append_assoc done (f x ∷ []) (drop (k + 1) first))

@@ -1,6 +1,8 @@
--- What a node knows of the processors of its site. I'm-alive packets over both buses, and that a processor which isn't heard of is taken to be down, are
--- Bartlett's; checks at every second tick, reports and the hold line are this project's own rules.
-use Rattle.std.specs.Prelude.{ℕ, [], ◌∷◌, ◌+◌, ◌==◌, ◌&&◌, not, nat_lt, Bool, true, false, List, map, take, drop, slice_get, slice_set, Option, Some, None, if◌then◌else◌}
+-- What a node knows of the processors of its site. I'm-alive packets over both buses, and that a processor which isn't
+-- heard of is taken to be down, are Bartlett's; checks at every second tick, reports and the hold line are this
+-- project's own rules.
+use Rattle.std.specs.Prelude.{ℕ, [], ◌∷◌, ◌+◌, ◌==◌, ◌&&◌, not, nat_lt, Bool, true, false, List, map, take, drop}
+use Rattle.std.specs.Prelude.{slice_get, slice_set, Option, Some, None, if◌then◌else◌}
 use Rattle.std.specs.List.{list_all}
 use Rattle.std.specs.Option.{option_map, unwrap_or}
 use Rattle.alive_regroup.specs.declared.neighbour.Missed.{Missed}
@@ -72,7 +74,8 @@ agrees processor Absent = true
 agrees processor (Up came misses report) = has report processor
 agrees processor Down = true
 
--- Of a node: its number, whether its next tick checks, what it knows of the processors 0 to 15, and the silent set that it reported last
+-- Of a node: its number, whether its next tick checks, what it knows of the processors 0 to 15, and the silent set that
+-- it reported last
 
 pub record Watching : Type 0 where
   pub me : ℕ
@@ -87,7 +90,10 @@ silent_set neighbours = record { members = map is_silent neighbours }
 -- the knowledge with that of one processor changed
 abbrev pub changed_at : ℕ → (Neighbour → Neighbour) → Watching → Watching
 changed_at processor change w =
-    record w { neighbours = unwrap_or (option_map (λ one. slice_set w.neighbours processor (change one)) (slice_get w.neighbours processor)) w.neighbours }
+    record w {
+      neighbours = unwrap_or (option_map (λ one. slice_set w.neighbours processor (change one))
+          (slice_get w.neighbours processor)) w.neighbours;
+    }
 
 -- Ticks. Every second tick of a processor checks; the node of the terminals, 16, checks never
 
@@ -96,7 +102,11 @@ does_check w = nat_lt w.me 16 && w.checks
 
 -- after a check, which has told the silent set where that changed
 abbrev pub after_check : Watching → Watching
-after_check w = record w { checks = false; neighbours = map neighbour_after_check w.neighbours; told = silent_set (map neighbour_after_check w.neighbours) }
+after_check w = record w {
+  checks = false;
+  neighbours = map neighbour_after_check w.neighbours;
+  told = silent_set (map neighbour_after_check w.neighbours);
+}
 
 abbrev pub after_tick : Watching → Watching
 after_tick w = if does_check w then after_check w else record w { checks = true }
@@ -116,16 +126,19 @@ is_silent_at processor w = unwrap_or (option_map is_silent (slice_get w.neighbou
 
 -- all but this one pass
 abbrev pub all_but : ℕ → (Neighbour → Bool) → List Neighbour → Bool
-all_but processor passes neighbours = list_all passes (take processor neighbours) && list_all passes (drop (processor + 1) neighbours)
+all_but processor passes neighbours =
+    list_all passes (take processor neighbours) && list_all passes (drop (processor + 1) neighbours)
 
 -- the node is the lowest of the processors that it hasn't noted down, this one aside
 abbrev pub is_coordinator : ℕ → Watching → Bool
 is_coordinator processor w = all_but processor (λ one. not (is_up one)) (take w.me w.neighbours)
 
--- all agree: this processor is in the node's own silent set and in the last report of each other one that isn't noted down, and the node is the coordinator
+-- all agree: this processor is in the node's own silent set and in the last report of each other one that isn't noted
+-- down, and the node is the coordinator
 abbrev pub is_held : ℕ → Watching → Bool
 is_held processor w =
-    nat_lt w.me 16 && is_silent_at processor w && is_coordinator processor w && all_but processor (agrees processor) w.neighbours
+    nat_lt w.me 16 && is_silent_at processor w && is_coordinator processor w
+    && all_but processor (agrees processor) w.neighbours
 
 -- whether a processor is noted down
 abbrev pub is_marked : ℕ → Watching → Bool
@@ -135,10 +148,12 @@ is_marked processor w = unwrap_or (option_map is_down (slice_get w.neighbours pr
 
 -- a number at the beginning: another processor of the site is up, not heard of and missed by no check
 abbrev pub at_first : ℕ → ℕ → ℕ → Neighbour
-at_first me processors place = if nat_lt place processors && not (place == me) then Up false missed.None nobody else Absent
+at_first me processors place =
+    if nat_lt place processors && not (place == me) then Up false missed.None nobody else Absent
 
 abbrev pub places : List ℕ
 places = 0 ∷ 1 ∷ 2 ∷ 3 ∷ 4 ∷ 5 ∷ 6 ∷ 7 ∷ 8 ∷ 9 ∷ 10 ∷ 11 ∷ 12 ∷ 13 ∷ 14 ∷ 15 ∷ []
 
 abbrev pub begun : ℕ → ℕ → Watching
-begun me processors = record { me = me; checks = false; neighbours = map (at_first me processors) places; told = nobody }
+begun me processors =
+    record { me = me; checks = false; neighbours = map (at_first me processors) places; told = nobody }

@@ -1,5 +1,5 @@
-//! Silence and agreement: what a node knows of the processors of its site from their alive packets and reports, and when it
-//! pulls the hold line of one.
+//! Silence and agreement: what a node knows of the processors of its site from their alive packets and reports, and
+//! when it pulls the hold line of one.
 //!
 //! Below stands nothing but std. The layers above use that each call of a `Watch` changes what the node knows as
 //! `specs/Watching.antt` says, and that `decide` names the first processor of which all agree that it is silent.

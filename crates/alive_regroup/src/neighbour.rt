@@ -1,5 +1,6 @@
 ghost use Rattle.std.specs.Prelude.{◌≡◌};
-ghost use Rattle.alive_regroup.specs.Watching.{risen, is_more, neighbour_after_check, neighbour_after_alive, is_silent, is_up, is_down, neighbour_after_report, agrees, neighbour_after_down};
+ghost use Rattle.alive_regroup.specs.Watching.{risen, is_more, neighbour_after_check, neighbour_after_alive, is_silent};
+ghost use Rattle.alive_regroup.specs.Watching.{is_up, is_down, neighbour_after_report, agrees, neighbour_after_down};
 
 use crate::set::ProcessorSet;
 
@@ -11,8 +12,9 @@ pub enum Missed {
     More,
 }
 
-/// What a node knows of a number up to 15: it is no other processor of the site; it is one, of which an alive packet came since
-/// the last check or not, with the checks missed and the silent set that it reported last; or it is marked down.
+/// What a node knows of a number up to 15: it is no other processor of the site; it is one, of which an alive packet
+/// came since the last check or not, with the checks missed and the silent set that it reported last; or it is marked
+/// down.
 #[derive(Clone, Copy)]
 pub enum Neighbour {
     Absent,

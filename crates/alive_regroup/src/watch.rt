@@ -1,7 +1,10 @@
 ghost use Rattle.std.specs.Prelude.{◌≡◌, ◌≤◌, ◌<◌, ◌+◌, ℕ, take, drop, true, false, map, not, length, IfSome, IfNone};
 ghost use Rattle.std.specs.List.{list_all};
 ghost use Rattle.alive_regroup.specs.Sets.{has};
-ghost use Rattle.alive_regroup.specs.Watching.{Watching, neighbour_after_alive, neighbour_after_report, neighbour_after_down, is_down, is_up, is_silent, changed_at, neighbour_after_check, is_marked, after_tick, told_by_tick, is_coordinator, is_held, all_but, agrees, begun, at_first, is_silent_at};
+ghost use Rattle.alive_regroup.specs.Watching.{Watching, neighbour_after_alive, neighbour_after_report};
+ghost use Rattle.alive_regroup.specs.Watching.{neighbour_after_down, is_down, is_up, is_silent, changed_at};
+ghost use Rattle.alive_regroup.specs.Watching.{neighbour_after_check, is_marked, after_tick, told_by_tick};
+ghost use Rattle.alive_regroup.specs.Watching.{is_coordinator, is_held, all_but, agrees, begun, at_first, is_silent_at};
 
 use crate::neighbour::{Missed, Neighbour};
 use crate::set::ProcessorSet;
@@ -30,8 +33,8 @@ impl Model for Watch {
 }
 
 impl Watch {
-    /// What node `me`, a processor or 16, knows at the beginning of a site of so many processors: all others are up, and none
-    /// was missed.
+    /// What node `me`, a processor or 16, knows at the beginning of a site of so many processors: all others are up,
+    /// and none was missed.
     pub fn new(me: u8, processors: u8) -> Watch
         ensures { result ≡ begun me processors }
     {
@@ -104,8 +107,8 @@ impl Watch {
         if before == silent { None } else { Some(silent) }
     }
 
-    /// The processor whose hold line the node pulls: the first of which all agree that it is silent, where the node is the
-    /// coordinator.
+    /// The processor whose hold line the node pulls: the first of which all agree that it is silent, where the node is
+    /// the coordinator.
     pub fn decide(&self) -> Option<u8>
         ensures held { IfSome result (λ processor. is_held processor self.now ≡ true) }
         ensures first { IfSome result (λ processor. (lower : ℕ) → lower < processor → is_held lower self.now ≡ false) }
@@ -122,8 +125,10 @@ impl Watch {
     /// The processor that `decide` would name after a tick made now.
     pub fn would_decide(&self) -> Option<u8>
         ensures held { IfSome result (λ processor. is_held processor (after_tick self.now) ≡ true) }
-        ensures first { IfSome result (λ processor. (lower : ℕ) → lower < processor → is_held lower (after_tick self.now) ≡ false) }
-        ensures none { IfNone result ((processor : ℕ) → processor < 16 → is_held processor (after_tick self.now) ≡ false) }
+        ensures first { IfSome result (λ processor. (lower : ℕ) → lower < processor
+            → is_held lower (after_tick self.now) ≡ false) }
+        ensures none { IfNone result ((processor : ℕ) → processor < 16
+            → is_held processor (after_tick self.now) ≡ false) }
     {
         let mut later = *self;
         later.tick();

@@ -19,15 +19,22 @@ use Rattle.awaited_requests.proofs.Near.{awaited-near}
 use Rattle.awaited_requests.proofs.Standing.{near-stands}
 
 -- of the requests of an opener all but one were taken at least, and no more were answered
-pub slot-counts : {requests taken answered replies : List (List ℤ)} {slot : Slot} → IsSlot requests taken answered replies slot
+pub slot-counts : {requests taken answered replies : List (List ℤ)} {slot : Slot}
+    → IsSlot requests taken answered replies slot
     → (length requests ≤ length taken + 1) × (length answered ≤ length requests)
-slot-counts (is_empty asked even last) = let n = ap (length {A = List ℤ}) asked in (omega (arith, n), omega (arith, n, even))
-slot-counts (is_waiting asked even last) = let n = ap (length {A = List ℤ}) asked in (omega (arith, n), omega (arith, n, even))
-slot-counts (is_taken asked one last) = let n = ap (length {A = List ℤ}) asked in (omega (arith, n), omega (arith, n, one))
-slot-counts (is_answered asked even last) = let n = ap (length {A = List ℤ}) asked in (omega (arith, n), omega (arith, n, even))
+slot-counts (is_empty asked even last) =
+    let n = ap (length {A = List ℤ}) asked in (omega (arith, n), omega (arith, n, even))
+slot-counts (is_waiting asked even last) =
+    let n = ap (length {A = List ℤ}) asked in (omega (arith, n), omega (arith, n, even))
+slot-counts (is_taken asked one last) =
+    let n = ap (length {A = List ℤ}) asked in (omega (arith, n), omega (arith, n, one))
+slot-counts (is_answered asked even last) =
+    let n = ap (length {A = List ℤ}) asked in (omega (arith, n), omega (arith, n, even))
 
-pub awaited-stands : (site : Site) → IsFit site → (events : ℕ) (w : World) → Invariant site events w → (asker : ℕ) (one : Who) (n : ℕ) (opener : Opener)
-    (pair : Pair) (k : Which) → opener_of site one ≡ Some opener → slice_get w.processes opener.server ≡ Some pair → IsAwaited site w asker one n
+pub awaited-stands : (site : Site) → IsFit site → (events : ℕ) (w : World) → Invariant site events w
+    → (asker : ℕ) (one : Who) (n : ℕ) (opener : Opener)
+    (pair : Pair) (k : Which) → opener_of site one ≡ Some opener → slice_get w.processes opener.server ≡ Some pair
+    → IsAwaited site w asker one n
     → (copy_of k pair).role ≢ Gone → StandsThere (copy_of k pair).core opener.place n
 awaited-stands site fit events w inv asker one n opener pair k opens there awaited not_gone =
     let near = awaited-near site fit events w inv asker one n opener opens awaited in
@@ -38,4 +45,5 @@ awaited-stands site fit events w inv asker one n opener pair k opens there await
     let has = copy-takes pair k server.2.led not_gone in
     let takes = has.takes opener.place in
     let answers = has.answers opener.place in
-    near-stands has.done opener.place is.spec n is.placed near.some (omega (arith, near.asked, counts.0, takes)) (omega (arith, last, counts.1, answers))
+    near-stands has.done opener.place is.spec n is.placed near.some (omega (arith, near.asked, counts.0, takes))
+    (omega (arith, last, counts.1, answers))

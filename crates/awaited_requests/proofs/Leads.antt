@@ -1,5 +1,6 @@
 -- Each copy that isn't gone has done all takes of its process, and no more answers than it.
-use Rattle.std.proofs.Common.{◌≡◌, ◌≢◌, ◌≤◌, ℕ, ◌+◌, ℤ, List, [], ◌∷◌, ◌++◌, length, Option, refl, ap, sym, ◌∙◌, arith, append_assoc, length-append, filter_map}
+use Rattle.std.proofs.Common.{◌≡◌, ◌≢◌, ◌≤◌, ℕ, ◌+◌, ℤ, List, [], ◌∷◌, ◌++◌, length, Option, refl, ap, sym, ◌∙◌, arith}
+use Rattle.std.proofs.Common.{append_assoc, length-append, filter_map}
 use Rattle.std.proofs.lemmas.List.Elements.{filter_map-append}
 use Rattle.tal_tree.specs.declared.act.Act.{Act}
 use Rattle.tal_tree.specs.declared.site.ProcessSpec.{ProcessSpec}
@@ -13,14 +14,17 @@ use Rattle.process_histories.specs.Histories.{HasDone}
 use Rattle.process_histories.specs.Words.{take_from, answer_to, taken_from, answered_to}
 use Rattle.plain_histories.specs.Booking.{AreHeld, none_held, take_held, step_held}
 use Rattle.plain_histories.specs.Ledgers.{Ledger}
-use Rattle.takeover_laws.specs.Invariant.{AreRepeatable, Stage, IsLead, is_level, is_applied, is_behind, Watches, IsOther, is_lost, is_due, is_even, has_applied, FirstLeads, with_other, alone, IsLed, by_first, by_second}
+use Rattle.takeover_laws.specs.Invariant.{AreRepeatable, Stage, IsLead, is_level, is_applied, is_behind, Watches}
+use Rattle.takeover_laws.specs.Invariant.{IsOther, is_lost, is_due, is_even, has_applied, FirstLeads, with_other, alone}
+use Rattle.takeover_laws.specs.Invariant.{IsLed, by_first, by_second}
 use Rattle.takeover_laws.proofs.Checkpoints.{other-rests}
 use Rattle.takeover_laws.proofs.Repeating.{repeatable-join}
 
 -- Leads
 
 module _ {site : Site} {marks : List Down} {ledger : Ledger} {number : ℕ} {spec : ProcessSpec} {deeds : List Deed} where
-  first-lead : {pair : Pair} → FirstLeads site marks ledger number spec deeds pair → (stage : Stage) × IsLead site ledger number spec deeds pair.first stage
+  first-lead : {pair : Pair} → FirstLeads site marks ledger number spec deeds pair
+      → (stage : Stage) × IsLead site ledger number spec deeds pair.first stage
   first-lead (with_other {stage = stage} role lead behind other) = (stage, lead)
   first-lead (alone {stage = stage} role lead applied unsent gone marked) = (stage, lead)
 
@@ -29,7 +33,8 @@ module _ {site : Site} {marks : List Down} {ledger : Ledger} {number : ℕ} {spe
   second-rests (alone role lead applied unsent gone marked) acting = absurd (cc)
 
   -- a copy that acts leads
-  pub acting-leads : (pair : Pair) (k : Which) → IsLed site marks ledger number spec deeds pair → (copy_of k pair).role ≡ Acting
+  pub acting-leads : (pair : Pair) (k : Which) → IsLed site marks ledger number spec deeds pair
+      → (copy_of k pair).role ≡ Acting
       → (stage : Stage) × IsLead site ledger number spec deeds (copy_of k pair) stage
   acting-leads pair First (by_first leads) acting = first-lead leads
   acting-leads pair Second (by_first leads) acting = absurd (second-rests leads acting)
@@ -47,9 +52,11 @@ pub record HasAllTakes (site : Site) (number : ℕ) (spec : ProcessSpec) (deeds 
 
 pub count-join : (f : Deed → Option (List ℤ)) (more deeds : List Deed)
     → length (filter_map f (more ++ deeds)) ≡ length (filter_map f more) + length (filter_map f deeds)
-count-join f more deeds = ap length (filter_map-append f more deeds) ∙ length-append (filter_map f more) (filter_map f deeds)
+count-join f more deeds =
+    ap length (filter_map-append f more deeds) ∙ length-append (filter_map f more) (filter_map f deeds)
 
-held-answers : {site : Site} {ledger : Ledger} {number : ℕ} {held : List Act} {deeds : List Deed} (place : ℕ) → AreHeld site ledger number held deeds
+held-answers : {site : Site} {ledger : Ledger} {number : ℕ} {held : List Act} {deeds : List Deed} (place : ℕ)
+    → AreHeld site ledger number held deeds
     → answered_to place deeds ≡ []
 held-answers place none_held = refl
 held-answers place (take_held waits) = refl
@@ -67,16 +74,22 @@ repeatable-takes place (Acted call found ∷ deeds) all = repeatable-takes place
 
 module _ {site : Site} {number : ℕ} {spec : ProcessSpec} {deeds : List Deed} where
   -- what a process did since can be done anew, so there is no take among it
-  since-takes : {core : Core} (since before : List Deed) → deeds ≡ since ++ before → AreRepeatable since → HasDone site number spec before core
+  since-takes : {core : Core} (since before : List Deed) → deeds ≡ since ++ before → AreRepeatable since
+      → HasDone site number spec before core
       → HasAllTakes site number spec deeds core
   since-takes since before split all done = record {
     whole = before;
     done = done;
-    takes = λ place. rw split (omega (arith, count-join (take_from place) since before, ap length (repeatable-takes place since all)));
+    takes = λ place. rw split (omega (
+      arith,
+      count-join (take_from place) since before,
+      ap length (repeatable-takes place since all),
+    ));
     answers = λ place. rw split (omega (arith, count-join (answer_to place) since before));
   }
 
-  pub lead-takes : {ledger : Ledger} {copy : Copy} {stage : Stage} → IsLead site ledger number spec deeds copy stage → HasAllTakes site number spec deeds copy.core
+  pub lead-takes : {ledger : Ledger} {copy : Copy} {stage : Stage} → IsLead site ledger number spec deeds copy stage
+      → HasAllTakes site number spec deeds copy.core
   lead-takes (is_level {more = more} is held position done sent) = record {
     whole = more ++ deeds;
     done = done;
@@ -90,23 +103,28 @@ module _ {site : Site} {number : ℕ} {spec : ProcessSpec} {deeds : List Deed} w
     answers = λ place. rw split (omega arith);
   }
   lead-takes (is_behind since next before none split again all position done unsent) =
-      since-takes (since ++ next ∷ []) before (split ∙ sym (append_assoc since (next ∷ []) before)) (repeatable-join since (next ∷ []) all (again, tt)) done
+      since-takes (since ++ next ∷ []) before (split ∙ sym (append_assoc since (next ∷ []) before))
+      (repeatable-join since (next ∷ []) all (again, tt)) done
 
-  watching-takes : {pair : Pair} → Watches site number spec deeds pair → HasAllTakes site number spec deeds pair.second.core
+  watching-takes : {pair : Pair} → Watches site number spec deeds pair
+      → HasAllTakes site number spec deeds pair.second.core
   watching-takes watches = since-takes watches.since watches.before watches.split watches.repeatable watches.done
 
-  other-takes : {pair : Pair} {stage : Stage} → IsOther site number spec deeds pair stage → pair.second.role ≢ Gone → HasAllTakes site number spec deeds pair.second.core
+  other-takes : {pair : Pair} {stage : Stage} → IsOther site number spec deeds pair stage → pair.second.role ≢ Gone
+      → HasAllTakes site number spec deeds pair.second.core
   other-takes (is_lost gone) there = absurd (there gone)
   other-takes (is_due watches sent told next image) there = watching-takes watches
   other-takes (is_even watches next unsent told) there = watching-takes watches
   other-takes (has_applied watches next) there = watching-takes watches
 
   module _ {marks : List Down} {ledger : Ledger} where
-    second-takes : {pair : Pair} → FirstLeads site marks ledger number spec deeds pair → pair.second.role ≢ Gone → HasAllTakes site number spec deeds pair.second.core
+    second-takes : {pair : Pair} → FirstLeads site marks ledger number spec deeds pair → pair.second.role ≢ Gone
+        → HasAllTakes site number spec deeds pair.second.core
     second-takes (with_other role lead behind other) there = other-takes other there
     second-takes (alone role lead applied unsent gone marked) there = absurd (there gone)
 
-    pub copy-takes : (pair : Pair) (k : Which) → IsLed site marks ledger number spec deeds pair → (copy_of k pair).role ≢ Gone
+    pub copy-takes : (pair : Pair) (k : Which) → IsLed site marks ledger number spec deeds pair
+        → (copy_of k pair).role ≢ Gone
         → HasAllTakes site number spec deeds (copy_of k pair).core
     copy-takes pair First (by_first leads) there = lead-takes (first-lead leads).1
     copy-takes pair Second (by_first leads) there = second-takes leads there

@@ -8,11 +8,13 @@ ghost use Rattle.world_semantics.specs.Core.{Core};
 ghost use Rattle.world_semantics.specs.World.{terminal_node, boot};
 ghost use Rattle.letters.specs.Posts.{post_at_boot};
 ghost use Rattle.awaited_requests.specs.Awaited.{IsAwaited, StandsThere};
-ghost use Rattle.awaited_requests.specs.Examples.{both_answered, site_with, disc_pair, holding, entered, entered_with, letter_to};
+ghost use Rattle.awaited_requests.specs.Examples.{both_answered, site_with, disc_pair, holding, entered, entered_with};
+ghost use Rattle.awaited_requests.specs.Examples.{letter_to};
 ghost use Rattle.awaited_requests.specs.Seats.{IsLaidOut, IsSeated};
 ghost use Rattle.awaited_requests.specs.Served.{AreServed};
 
-/// Where a server that keeps two replies answered two requests, either may be asked again and the next one may come. With one reply less the first one is old.
+/// Where a server that keeps two replies answered two requests, either may be asked again and the next one may come.
+/// With one reply less the first one is old.
 pub fn one_reply_less_is_too_few()
     ensures first { (core : Core) → core.receive ≡ both_answered 2 → StandsThere core 0 1 }
     ensures second { (core : Core) → core.receive ≡ both_answered 2 → StandsThere core 0 2 }
@@ -31,8 +33,8 @@ pub fn layouts_are_told_apart()
     ensures elsewhere { IsLaidOut (site_with 2 0 2) → ⊥ }
 {}
 
-/// A disc is seated at its beginning; it isn't where the copy that watches holds acts, where its node has marked the other copy's processor, or where a
-/// processor isn't there.
+/// A disc is seated at its beginning; it isn't where the copy that watches holds acts, where its node has marked the
+/// other copy's processor, or where a processor isn't there.
 pub fn seats_are_told_apart()
     ensures beginning { IsSeated (false ∷ false ∷ []) [] disc_pair }
     ensures holds { IsSeated (false ∷ false ∷ []) [] holding → ⊥ }

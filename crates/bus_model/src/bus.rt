@@ -4,10 +4,10 @@ ghost use Rattle.std.specs.Option.{option_copied, option_map};
 ghost use Rattle.bus_model.specs.Packets.{has_room, sent, sent_again};
 
 use gd_words::NoMemory;
+use packet_words::Packet;
 use std::alloc::Global;
 use std::collections::VecDeque;
 use std::marker::Model;
-use packet_words::Packet;
 
 /// Most packets on a bus.
 const ROOM: usize = 4_096;

@@ -6,7 +6,8 @@ use Rattle.packet_words.specs.declared.piece.Piece.{Piece}
 use Rattle.packet_words.specs.declared.packet.PacketKind.{PacketKind}
 use Rattle.packet_words.specs.declared.packet.PacketKind.TheVariants as kind
 use Rattle.packet_words.specs.Pieces.{joined}
-use Rattle.link_control.specs.Ends.{End, Sending, Receiving, numbered_at, begun, after_push_of, moved_on, after_acknowledgement, after_tick_of, kept, is_next, after_kind}
+use Rattle.link_control.specs.Ends.{End, Sending, Receiving, numbered_at, begun, after_push_of, moved_on}
+use Rattle.link_control.specs.Ends.{after_acknowledgement, after_tick_of, kept, is_next, after_kind}
 use Rattle.channel_laws.specs.Way.{IsOneOn}
 use Rattle.channel_laws.proofs.Joints.{same-piece}
 
@@ -14,7 +15,13 @@ pub one-pushed : (m : List ℤ) (s : Sending) → (after_push_of m s).numbered �
 one-pushed m s = go s.queue s.place s.numbered s.waited s.resend_bus
   where
     go : (queue : List (List ℤ)) (place numbered : ℕ) (waited : Bool) (resend_bus : BusName)
-        → (after_push_of m (record { queue = queue; place = place; numbered = numbered; waited = waited; resend_bus = resend_bus })).numbered ≤ numbered + 1
+        → (after_push_of m (record {
+          queue = queue;
+          place = place;
+          numbered = numbered;
+          waited = waited;
+          resend_bus = resend_bus;
+        })).numbered ≤ numbered + 1
     go [] place numbered waited resend_bus = omega arith
     go (q ∷ queue) place numbered waited resend_bus = omega arith
 
@@ -31,15 +38,26 @@ one-acknowledged number s = go s.queue s.place s.numbered s.waited s.resend_bus
     moved q queue place numbered false = one-begun queue numbered
 
     ended : (q : List ℤ) (queue : List (List ℤ)) (place numbered : ℕ) (waited : Bool) (resend_bus : BusName) (b : Bool)
-        → (if b then moved_on (q ∷ queue) (record { queue = q ∷ queue; place = place; numbered = numbered; waited = waited; resend_bus = resend_bus })
-        else record { queue = q ∷ queue; place = place; numbered = numbered; waited = waited; resend_bus = resend_bus }).numbered ≤ numbered + 1
-    ended q queue place numbered waited resend_bus true = moved q queue place numbered (nat_lt (10 * (place + 1)) (length q))
+        → (if b then moved_on (q ∷ queue) (record
+        { queue = q ∷ queue; place = place; numbered = numbered; waited = waited; resend_bus = resend_bus })
+        else record {
+          queue = q ∷ queue;
+          place = place;
+          numbered = numbered;
+          waited = waited;
+          resend_bus = resend_bus;
+        }).numbered ≤ numbered + 1
+    ended q queue place numbered waited resend_bus true =
+        moved q queue place numbered (nat_lt (10 * (place + 1)) (length q))
     ended q queue place numbered waited resend_bus false = omega arith
 
     go : (queue : List (List ℤ)) (place numbered : ℕ) (waited : Bool) (resend_bus : BusName)
-        → (after_acknowledgement number (record { queue = queue; place = place; numbered = numbered; waited = waited; resend_bus = resend_bus })).numbered ≤ numbered + 1
+        → (after_acknowledgement number (record
+        { queue = queue; place = place; numbered = numbered; waited = waited; resend_bus = resend_bus })).numbered
+        ≤ numbered + 1
     go [] place numbered waited resend_bus = omega arith
-    go (q ∷ queue) place numbered waited resend_bus = ended q queue place numbered waited resend_bus (number == numbered)
+    go (q ∷ queue) place numbered waited resend_bus =
+        ended q queue place numbered waited resend_bus (number == numbered)
 
 one-kept : (number : ℕ) (piece : Piece) (r : Receiving) → (kept number piece r).kept ≤ r.kept + 1
 one-kept number piece r = go (is_next number r)

@@ -1,5 +1,6 @@
 -- What is a piece or an acknowledgement of a way stays one, and is within the layout.
-use Rattle.std.proofs.Common.{◌≡◌, ◌<◌, ◌≤◌, ◌+◌, ◌*◌, ℕ, ℤ, Bool, true, false, List, [], ◌∷◌, ◌++◌, length, length-drop, take, drop, refl, sym, subst, ap, ◌∙◌, arith}
+use Rattle.std.proofs.Common.{◌≡◌, ◌<◌, ◌≤◌, ◌+◌, ◌*◌, ℕ, ℤ, Bool, true, false, List, [], ◌∷◌, ◌++◌, length}
+use Rattle.std.proofs.Common.{length-drop, take, drop, refl, sym, subst, ap, ◌∙◌, arith}
 use Rattle.std.proofs.lemmas.List.{append_assoc, length-take, length-take-le}
 use Rattle.std.proofs.lemmas.Bool.{leb-false, le-leb, lt-ltb, eq-eqb}
 use Rattle.std.specs.Prelude.{◌==◌, ◌||◌, nat_lt, nat_le, Some, if◌then◌else◌}
@@ -7,8 +8,10 @@ use Rattle.packet_words.specs.declared.bus_name.BusName.{BusName}
 use Rattle.packet_words.specs.declared.piece.Piece.{Piece}
 use Rattle.packet_words.specs.Pieces.{joined, piece_at}
 use Rattle.packet_words.specs.Layout.{is_piece}
-use Rattle.link_control.specs.Ends.{Sending, Receiving, numbered_at, begun, after_tick_of, after_acknowledgement, moved_on, is_next, kept}
-use Rattle.channel_laws.specs.Way.{Way, IsJoint, IsCut, IsPieceOf, IsReceiptOf, pushing, coming, telling, ticking, opened}
+use Rattle.link_control.specs.Ends.{Sending, Receiving, numbered_at, begun, after_tick_of, after_acknowledgement}
+use Rattle.link_control.specs.Ends.{moved_on, is_next, kept}
+use Rattle.channel_laws.specs.Way.{Way, IsJoint, IsCut, IsPieceOf, IsReceiptOf, pushing, coming, telling, ticking}
+use Rattle.channel_laws.specs.Way.{opened}
 use Rattle.channel_laws.proofs.Places.{cut-is}
 use Rattle.channel_laws.proofs.Joints.{numbered-pushed, same-piece}
 
@@ -27,15 +30,31 @@ numbered-acknowledged number s = go s.queue s.place s.numbered s.waited s.resend
     moved q queue place numbered false = numbered-begun queue numbered
 
     ended : (q : List ℤ) (queue : List (List ℤ)) (place numbered : ℕ) (waited : Bool) (resend_bus : BusName) (b : Bool)
-        → numbered ≤ (if b then moved_on (q ∷ queue) (record { queue = q ∷ queue; place = place; numbered = numbered; waited = waited; resend_bus = resend_bus })
-        else record { queue = q ∷ queue; place = place; numbered = numbered; waited = waited; resend_bus = resend_bus }).numbered
-    ended q queue place numbered waited resend_bus true = moved q queue place numbered (nat_lt (10 * (place + 1)) (length q))
+        → numbered ≤ (if b then moved_on (q ∷ queue)
+        (record { queue = q ∷ queue; place = place; numbered = numbered; waited = waited; resend_bus = resend_bus })
+        else record {
+          queue = q ∷ queue;
+          place = place;
+          numbered = numbered;
+          waited = waited;
+          resend_bus = resend_bus;
+        }).numbered
+    ended q queue place numbered waited resend_bus true =
+        moved q queue place numbered (nat_lt (10 * (place + 1)) (length q))
     ended q queue place numbered waited resend_bus false = omega arith
 
     go : (queue : List (List ℤ)) (place numbered : ℕ) (waited : Bool) (resend_bus : BusName)
-        → numbered ≤ (after_acknowledgement number (record { queue = queue; place = place; numbered = numbered; waited = waited; resend_bus = resend_bus })).numbered
+        → numbered ≤ (after_acknowledgement number
+        (record {
+          queue = queue;
+          place = place;
+          numbered = numbered;
+          waited = waited;
+          resend_bus = resend_bus;
+        })).numbered
     go [] place numbered waited resend_bus = omega arith
-    go (q ∷ queue) place numbered waited resend_bus = ended q queue place numbered waited resend_bus (number == numbered)
+    go (q ∷ queue) place numbered waited resend_bus =
+        ended q queue place numbered waited resend_bus (number == numbered)
 
 pub numbered-ticked : (s : Sending) → s.numbered ≤ (after_tick_of s).numbered
 numbered-ticked s = omega (arith, same-piece (λ queue place numbered. numbered) s)
@@ -49,7 +68,8 @@ kept-rises number piece r = go (is_next number r)
 
 -- What is of a way stays so
 
-pub cut-more : (m : List ℤ) (messages : List (List ℤ)) (number : ℕ) (piece : Piece) → IsCut messages number piece → IsCut (messages ++ m ∷ []) number piece
+pub cut-more : (m : List ℤ) (messages : List (List ℤ)) (number : ℕ) (piece : Piece) → IsCut messages number piece
+    → IsCut (messages ++ m ∷ []) number piece
 cut-more m messages number piece c = record {
   before = c.before;
   message = c.message;
@@ -62,7 +82,8 @@ cut-more m messages number piece c = record {
 
 -- which packets are of a way later too
 abbrev pub IsLater : Way → Way → Type 0
-IsLater w v = ((number : ℕ) (piece : Piece) → IsPieceOf w number piece → IsPieceOf v number piece) × ((number : ℕ) → IsReceiptOf w number → IsReceiptOf v number)
+IsLater w v = ((number : ℕ) (piece : Piece) → IsPieceOf w number piece → IsPieceOf v number piece)
+    × ((number : ℕ) → IsReceiptOf w number → IsReceiptOf v number)
 
 pub later-same : (w : Way) → IsLater w w
 later-same w = (λ number piece o. o, λ number o. o)
@@ -71,10 +92,17 @@ pub later-sender : (w : Way) (s : Sending) → w.sender.numbered ≤ s.numbered 
 later-sender w s more = (λ number piece o. (o.0, omega (arith, o.1, more)), λ number o. o)
 
 pub later-pushing : (m : List ℤ) (w : Way) → IsLater w (pushing m w)
-later-pushing m w = (λ number piece o. (cut-more m w.pushes number piece o.0, omega (arith, o.1, numbered-pushed m w.sender)), λ number o. o)
+later-pushing m w = (
+  λ number piece o. (
+    cut-more m w.pushes number piece o.0,
+    omega (arith, o.1, numbered-pushed m w.sender),
+  ),
+  λ number o. o,
+)
 
 pub later-coming : (number : ℕ) (piece : Piece) (w : Way) → IsLater w (coming number piece w)
-later-coming number piece w = (λ other more o. o, λ other o. (o.0, omega (arith, o.1, kept-rises number piece w.receiver)))
+later-coming number piece w =
+    (λ other more o. o, λ other o. (o.0, omega (arith, o.1, kept-rises number piece w.receiver)))
 
 pub later-telling : (number : ℕ) (w : Way) → IsLater w (telling number w)
 later-telling number w = later-sender w (after_acknowledgement number w.sender) (numbered-acknowledged number w.sender)
@@ -83,7 +111,8 @@ pub later-ticking : (w : Way) → IsLater w (ticking w)
 later-ticking w = later-sender w (after_tick_of w.sender) (numbered-ticked w.sender)
 
 -- the outstanding piece is of its way
-pub piece-outstanding : (w : Way) (q : List ℤ) (queue : List (List ℤ)) (piece : Piece) → IsJoint w → w.sender.queue ≡ q ∷ queue → piece_at w.sender.place q ≡ Some piece
+pub piece-outstanding : (w : Way) (q : List ℤ) (queue : List (List ℤ)) (piece : Piece) → IsJoint w
+    → w.sender.queue ≡ q ∷ queue → piece_at w.sender.place q ≡ Some piece
     → IsPieceOf w w.sender.numbered piece
 piece-outstanding w q queue piece j e cut = (
   record {
@@ -102,7 +131,12 @@ piece-outstanding w q queue piece j e cut = (
 
 pub piece-fits : (piece : Piece) (k : ℕ) (m : List ℤ) → piece_at k m ≡ Some piece → is_piece piece ≡ true
 piece-fits piece k m cut = subst (λ p. is_piece p ≡ true) (sym (cut-is k m piece cut).1)
-    (rw (lt-ltb 0 (length (take 10 left)) (omega (arith, some, length-take 10 left)), le-leb (length (take 10 left)) 10 (omega (arith, length-take 10 left)), full (nat_le (length left) 10) refl) refl)
+    (rw (
+      lt-ltb 0 (length (take 10 left)) (omega (arith, some, length-take 10 left)),
+      le-leb (length (take 10 left)) 10 (omega (arith, length-take 10 left)),
+      full (nat_le (length left) 10) refl,
+    )
+    refl)
   where
     left : List ℤ
     left = drop (10 * k) m

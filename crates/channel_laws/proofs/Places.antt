@@ -1,5 +1,6 @@
 -- Messages in pieces: how many there are, and where a number stands.
-use Rattle.std.proofs.Common.{◌≡◌, ◌<◌, ◌≤◌, ◌+◌, ◌*◌, ℕ, ℤ, Bool, true, false, List, [], ◌∷◌, ◌++◌, length, take, drop, refl, sym, subst, ap, ◌∙◌, arith, length-drop}
+use Rattle.std.proofs.Common.{◌≡◌, ◌<◌, ◌≤◌, ◌+◌, ◌*◌, ℕ, ℤ, Bool, true, false, List, [], ◌∷◌, ◌++◌, length, take, drop}
+use Rattle.std.proofs.Common.{refl, sym, subst, ap, ◌∙◌, arith, length-drop}
 use Rattle.std.proofs.lemmas.List.{take_all}
 use Rattle.std.proofs.Math.Seq.{take-add}
 use Rattle.std.proofs.lemmas.Bool.{leb-true, leb-false, ltb-true}
@@ -29,7 +30,8 @@ none-within [] h = refl
 none-within (x ∷ xs) h = omega (arith, h.0)
 
 -- what is kept in part stays where more is pushed
-pub part-more : (k : ℕ) (xs : List (List ℤ)) (m : List ℤ) → IsWithin k xs → take (10 * k) (first_of xs) ≡ take (10 * k) (first_of (xs ++ m ∷ []))
+pub part-more : (k : ℕ) (xs : List (List ℤ)) (m : List ℤ) → IsWithin k xs
+    → take (10 * k) (first_of xs) ≡ take (10 * k) (first_of (xs ++ m ∷ []))
 part-more k [] m h = rw h refl
 part-more k (x ∷ xs) m h = refl
 
@@ -40,7 +42,8 @@ none-left k (x ∷ xs) h n = absurd (omega (arith, h, n))
 
 -- a number stands at one place
 pub same-place : (before out : List (List ℤ)) (m : List ℤ) (after rest : List (List ℤ)) (k some : ℕ)
-    → before ++ m ∷ after ≡ out ++ rest → 10 * k < length m → IsWithin some rest → total before + k ≡ total out + some → (rest ≡ m ∷ after) × (k ≡ some)
+    → before ++ m ∷ after ≡ out ++ rest → 10 * k < length m → IsWithin some rest → total before + k ≡ total out + some
+    → (rest ≡ m ∷ after) × (k ≡ some)
 same-place [] [] m after rest k some e within in_part n = (sym e, omega (arith, n))
 same-place [] (o ∷ out) m after rest k some e within in_part n =
     let same : m ≡ o = cc in
@@ -54,10 +57,12 @@ same-place (b ∷ before) (o ∷ out) m after rest k some e within in_part n =
     same-place before out m after rest k some tail within in_part (omega (arith, n, ap pieces head))
 
 -- a piece that is cut is the first of what is left
-pub cut-is : (k : ℕ) (m : List ℤ) (piece : Piece) → piece_at k m ≡ Some piece → (10 * k < length m) × (piece ≡ first_piece (drop (10 * k) m))
+pub cut-is : (k : ℕ) (m : List ℤ) (piece : Piece) → piece_at k m ≡ Some piece
+    → (10 * k < length m) × (piece ≡ first_piece (drop (10 * k) m))
 cut-is k m piece = go (nat_lt (10 * k) (length m)) refl
   where
-    go : (b : Bool) → nat_lt (10 * k) (length m) ≡ b → (if b then Some (first_piece (drop (10 * k) m)) else None) ≡ Some piece
+    go : (b : Bool) → nat_lt (10 * k) (length m) ≡ b
+        → (if b then Some (first_piece (drop (10 * k) m)) else None) ≡ Some piece
         → (10 * k < length m) × (piece ≡ first_piece (drop (10 * k) m))
     go true is e = (ltb-true _ _ is, cc)
     go false is e = absurd cc
@@ -70,7 +75,8 @@ part-and_piece k m = sym (take-add (10 * k) 10 m) ∙ ap (λ n. take n m) (omega
 pub whole-at_last : (k : ℕ) (m : List ℤ) → nat_le (length (drop (10 * k) m)) 10 ≡ true → take (10 * (k + 1)) m ≡ m
 whole-at_last k m is = take_all (10 * (k + 1)) m (omega (arith, leb-true _ _ is, length-drop (10 * k) m))
 
-pub count-at_last : (k : ℕ) (m : List ℤ) → 10 * k < length m → nat_le (length (drop (10 * k) m)) 10 ≡ true → pieces m ≡ k + 1
+pub count-at_last : (k : ℕ) (m : List ℤ) → 10 * k < length m → nat_le (length (drop (10 * k) m)) 10 ≡ true
+    → pieces m ≡ k + 1
 count-at_last k m within is = omega (arith, within, leb-true _ _ is, length-drop (10 * k) m)
 
 pub more-after : (k : ℕ) (m : List ℤ) → nat_le (length (drop (10 * k) m)) 10 ≡ false → 10 * (k + 1) < length m

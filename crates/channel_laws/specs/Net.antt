@@ -1,5 +1,6 @@
 -- Channels between any number of nodes.
-use Rattle.std.specs.Prelude.{◌≡◌, ◌<◌, ℕ, ◌==◌, ◌&&◌, ℤ, Bool, true, false, List, [], ◌∷◌, ◌++◌, length, Option, if◌then◌else◌}
+use Rattle.std.specs.Prelude.{◌≡◌, ◌<◌, ℕ, ◌==◌, ◌&&◌, ℤ, Bool, true, false, List, [], ◌∷◌, ◌++◌, length, Option}
+use Rattle.std.specs.Prelude.{if◌then◌else◌}
 use Rattle.std.specs.Option.{option_map, option_to_list}
 use Rattle.gd_words.specs.Members.{IsAmong}
 use Rattle.packet_words.specs.declared.packet.Packet.{Packet}
@@ -7,7 +8,8 @@ use Rattle.packet_words.specs.declared.packet.Incarnation.{Incarnation}
 use Rattle.packet_words.specs.declared.packet.PacketKind.{PacketKind}
 use Rattle.packet_words.specs.declared.packet.PacketKind.TheVariants as kind
 use Rattle.link_control.specs.declared.channel.Resent.{Resent}
-use Rattle.link_control.specs.Ends.{End, new_end, packet_of, after_push, sent_by_push, after_packet, sent_by_packet, after_tick, sent_by_tick, after_down}
+use Rattle.link_control.specs.Ends.{End, new_end, packet_of, after_push, sent_by_push, after_packet, sent_by_packet}
+use Rattle.link_control.specs.Ends.{after_tick, sent_by_tick, after_down}
 use Rattle.channel_laws.specs.Way.{Way, IsJoint, IsPieceOf, IsReceiptOf, quiet_way, pushing, coming, telling, ticking}
 
 -- a table with one place changed
@@ -17,8 +19,9 @@ put x y v f a b = if (a == x) && (b == y) then v else f a b
 abbrev pub put_one : {A : Type 0} → ℕ → A → (ℕ → A) → ℕ → A
 put_one x v f a = if a == x then v else f a
 
--- how often each node was reloaded; the end of each node's channel with each node; the packets in flight; which nodes have stopped; and the ways: what went
--- from each node to each node so far, with both ends as each was last before its node stopped or threw it away
+-- how often each node was reloaded; the end of each node's channel with each node; the packets in flight; which nodes
+-- have stopped; and the ways: what went from each node to each node so far, with both ends as each was last before its
+-- node stopped or threw it away
 pub record Net : Type 0 where
   pub reloads : ℕ → ℕ
   pub ends : ℕ → ℕ → End
@@ -52,7 +55,8 @@ at_end x y e sent ways n = record n { ends = put x y e n.ends; flight = n.flight
 -- at x a message to y is pushed
 abbrev pub pushed_net : ℕ → ℕ → List ℤ → Net → Net
 pushed_net x y message n =
-    at_end x y (after_push message (n.ends x y)) (sent_by_push message (n.ends x y)) (put x y (pushing message (n.ways x y)) n.ways) n
+    at_end x y (after_push message (n.ends x y)) (sent_by_push message (n.ends x y))
+    (put x y (pushing message (n.ways x y)) n.ways) n
 
 -- what came from y to x: a piece on its way, or an acknowledgement of the way back
 abbrev pub ways_by : ℕ → ℕ → PacketKind → (ℕ → ℕ → Way) → ℕ → ℕ → Way
@@ -62,7 +66,8 @@ ways_by x y (kind.Acknowledgement number) ways = put x y (telling number (ways x
 
 -- at x a packet of y comes
 abbrev pub arrived_net : ℕ → ℕ → Packet → Net → Net
-arrived_net x y p n = at_end x y (after_packet p (n.ends x y)) (sent_by_packet p (n.ends x y)) (ways_by x y p.kind n.ways) n
+arrived_net x y p n =
+    at_end x y (after_packet p (n.ends x y)) (sent_by_packet p (n.ends x y)) (ways_by x y p.kind n.ways) n
 
 abbrev pub packet_in : Resent → Packet
 packet_in resent = resent.packet
@@ -70,7 +75,8 @@ packet_in resent = resent.packet
 -- at x the end with y ticks
 abbrev pub ticked_net : ℕ → ℕ → Net → Net
 ticked_net x y n =
-    at_end x y (after_tick (n.ends x y)) (option_map packet_in (sent_by_tick (n.ends x y))) (put x y (ticking (n.ways x y)) n.ways) n
+    at_end x y (after_tick (n.ends x y)) (option_map packet_in (sent_by_tick (n.ends x y)))
+    (put x y (ticking (n.ways x y)) n.ways) n
 
 -- x tells y that it is alive
 abbrev pub alive_net : ℕ → ℕ → Net → Net
@@ -84,14 +90,17 @@ stopped_net x n = record n { stopped = put_one x true n.stopped }
 abbrev pub marked_net : ℕ → ℕ → Net → Net
 marked_net x y n = record n { ends = put x y (after_down (n.ends x y)) n.ends }
 
--- what may happen next: at a node that runs and hasn't marked the other one down a message is pushed, a packet comes, or a tick or a sign of life goes out;
--- packets are lost, repeated or come to stand in another order, so that none is there that wasn't; a node stops; a node marks down one that has stopped
+-- what may happen next: at a node that runs and hasn't marked the other one down a message is pushed, a packet comes,
+-- or a tick or a sign of life goes out; packets are lost, repeated or come to stand in another order, so that none is
+-- there that wasn't; a node stops; a node marks down one that has stopped
 pub data Goes (n : Net) : Net → Type 0 where
   pushes : (x y : ℕ) (message : List ℤ) → 0 < length message → Runs n x y → Goes n (pushed_net x y message n)
-  arrives : (p : Packet) → IsAmong p n.flight → Runs n p.receiver p.sender → Goes n (arrived_net p.receiver p.sender p n)
+  arrives : (p : Packet) → IsAmong p n.flight → Runs n p.receiver p.sender
+      → Goes n (arrived_net p.receiver p.sender p n)
   ticks : (x y : ℕ) → Runs n x y → Goes n (ticked_net x y n)
   lives : (x y : ℕ) → Runs n x y → Goes n (alive_net x y n)
-  bus_changes : (flight : List Packet) → ((p : Packet) → IsAmong p flight → IsAmong p n.flight) → Goes n (record n { flight = flight })
+  bus_changes : (flight : List Packet) → ((p : Packet) → IsAmong p flight → IsAmong p n.flight)
+      → Goes n (record n { flight = flight })
   stops : (x : ℕ) → Goes n (stopped_net x n)
   marks : (x y : ℕ) → n.stopped y ≡ true → Goes n (marked_net x y n)
 
@@ -123,8 +132,8 @@ pub record IsTied (ways : ℕ → ℕ → Way) (a b : ℕ) (e : End) : Type 0 wh
   pub sending : e.sending ≡ (ways a b).sender
   pub receiving : e.receiving ≡ (ways b a).receiver
 
--- a net is whole: both ends of each way are joint, each end bears its names and, where its node runs and hasn't thrown it away, is that of its ways, and each
--- packet in flight is one of its way
+-- a net is whole: both ends of each way are joint, each end bears its names and, where its node runs and hasn't thrown
+-- it away, is that of its ways, and each packet in flight is one of its way
 pub record IsWhole (n : Net) : Type 0 where
   pub joint : (a b : ℕ) → IsJoint (n.ways a b)
   pub named : (a b : ℕ) → IsNamed n.reloads a b (n.ends a b)

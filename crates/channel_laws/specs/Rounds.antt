@@ -7,25 +7,36 @@ use Rattle.packet_words.specs.declared.packet.PacketKind.TheVariants as kind
 use Rattle.link_control.specs.Ends.{Sending}
 use Rattle.channel_laws.specs.Way.{IsEnded}
 use Rattle.gd_words.specs.Members.{IsAmong}
-use Rattle.channel_laws.specs.Net.{Net, IsWhole, Runs, pushed_net, arrived_net, ticked_net, alive_net, stopped_net, marked_net}
+use Rattle.channel_laws.specs.Net.{Net, IsWhole, Runs, pushed_net, arrived_net, ticked_net, alive_net, stopped_net}
+use Rattle.channel_laws.specs.Net.{marked_net}
 
--- what goes on in a net while the nodes a and b don't stop and no packet is lost that didn't come. The packets that came are listed, the newest first; those
--- that came may leave the buses, be repeated and stand in another order
+-- what goes on in a net while the nodes a and b don't stop and no packet is lost that didn't come. The packets that
+-- came are listed, the newest first; those that came may leave the buses, be repeated and stand in another order
 pub data Passes (a b : ℕ) (n : Net) : List Packet → Net → Type 0 where
   nothing : Passes a b n [] n
-  by_push : {came : List Packet} {m : Net} (x y : ℕ) (message : List ℤ) → 0 < length message → Runs m x y → Passes a b n came m → Passes a b n came (pushed_net x y message m)
-  by_packet : {came : List Packet} {m : Net} (p : Packet) → IsAmong p m.flight → Runs m p.receiver p.sender → Passes a b n came m
+  by_push : {came : List Packet} {m : Net} (x y : ℕ) (message : List ℤ) → 0 < length message → Runs m x y
+      → Passes a b n came m → Passes a b n came (pushed_net x y message m)
+  by_packet : {came : List Packet} {m : Net} (p : Packet) → IsAmong p m.flight → Runs m p.receiver p.sender
+      → Passes a b n came m
       → Passes a b n (p ∷ came) (arrived_net p.receiver p.sender p m)
   -- a packet comes to a node that has stopped or has marked its sender down
-  by_drop : {came : List Packet} {m : Net} (p : Packet) → (Runs m p.receiver p.sender → ⊥) → Passes a b n came m → Passes a b n (p ∷ came) m
-  by_tick : {came : List Packet} {m : Net} (x y : ℕ) → Runs m x y → Passes a b n came m → Passes a b n came (ticked_net x y m)
-  by_alive : {came : List Packet} {m : Net} (x y : ℕ) → Runs m x y → Passes a b n came m → Passes a b n came (alive_net x y m)
-  by_bus : {came : List Packet} {m : Net} (flight : List Packet) → ((p : Packet) → IsAmong p flight → IsAmong p m.flight)
-      → ((p : Packet) → IsAmong p m.flight → IsAmong p flight ⊎ IsAmong p came) → Passes a b n came m → Passes a b n came (record m { flight = flight })
-  by_stop : {came : List Packet} {m : Net} (x : ℕ) → x ≢ a → x ≢ b → Passes a b n came m → Passes a b n came (stopped_net x m)
-  by_mark : {came : List Packet} {m : Net} (x y : ℕ) → m.stopped y ≡ true → Passes a b n came m → Passes a b n came (marked_net x y m)
+  by_drop : {came : List Packet} {m : Net} (p : Packet) → (Runs m p.receiver p.sender → ⊥) → Passes a b n came m
+      → Passes a b n (p ∷ came) m
+  by_tick : {came : List Packet} {m : Net} (x y : ℕ) → Runs m x y → Passes a b n came m
+      → Passes a b n came (ticked_net x y m)
+  by_alive : {came : List Packet} {m : Net} (x y : ℕ) → Runs m x y → Passes a b n came m
+      → Passes a b n came (alive_net x y m)
+  by_bus : {came : List Packet} {m : Net} (flight : List Packet)
+      → ((p : Packet) → IsAmong p flight → IsAmong p m.flight)
+      → ((p : Packet) → IsAmong p m.flight → IsAmong p flight ⊎ IsAmong p came) → Passes a b n came m
+      → Passes a b n came (record m { flight = flight })
+  by_stop : {came : List Packet} {m : Net} (x : ℕ) → x ≢ a → x ≢ b → Passes a b n came m
+      → Passes a b n came (stopped_net x m)
+  by_mark : {came : List Packet} {m : Net} (x y : ℕ) → m.stopped y ≡ true → Passes a b n came m
+      → Passes a b n came (marked_net x y m)
 
--- a round from a to b: all that is in flight at its beginning comes, then the end of a with b ticks, and then more may go on
+-- a round from a to b: all that is in flight at its beginning comes, then the end of a with b ticks, and then more may
+-- go on
 pub record IsRound (a b : ℕ) (n next : Net) : Type 0 where
   pub came : List Packet
   pub middle : Net
@@ -52,7 +63,8 @@ IsAnswered n a b s flight = IsEnded n s ⊎ IsFlying b a (kind.Acknowledgement n
 abbrev pub IsSent : ℕ → ℕ → ℕ → Sending → List Packet → Type 0
 IsSent n a b s flight = IsAnswered n a b s flight ⊎ ((piece : Piece) × IsFlying a b (kind.Piece n piece) flight)
 
--- a round brings it on: what was numbered has waited, what has waited is sent, what was sent is answered, and what was answered has ended
+-- a round brings it on: what was numbered has waited, what has waited is sent, what was sent is answered, and what was
+-- answered has ended
 pub record IsBroughtOn (n a b : ℕ) (l next : Net) : Type 0 where
   pub whole : IsWhole next
   pub here : Runs next a b

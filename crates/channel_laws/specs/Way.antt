@@ -3,9 +3,11 @@ use Rattle.std.specs.Prelude.{◌≡◌, ◌≤◌, ◌<◌, ℕ, ◌+◌, ◌*�
 use Rattle.std.specs.Option.{option_to_list}
 use Rattle.packet_words.specs.declared.piece.Piece.{Piece}
 use Rattle.packet_words.specs.Pieces.{pieces, piece_at}
-use Rattle.link_control.specs.Ends.{Sending, Receiving, End, idle_after, nothing_in_part, after_push_of, after_acknowledgement, after_tick_of, kept, message_of_piece}
+use Rattle.link_control.specs.Ends.{Sending, Receiving, End, idle_after, nothing_in_part, after_push_of}
+use Rattle.link_control.specs.Ends.{after_acknowledgement, after_tick_of, kept, message_of_piece}
 
--- the messages ever pushed at the sender's end, the oldest first; that end; the receiver's end; and the messages that it handed over
+-- the messages ever pushed at the sender's end, the oldest first; that end; the receiver's end; and the messages that
+-- it handed over
 pub record Way : Type 0 where
   pub pushes : List (List ℤ)
   pub sender : Sending
@@ -23,7 +25,10 @@ pushing message w = record w { pushes = w.pushes ++ message ∷ []; sender = aft
 
 -- a piece comes
 abbrev pub coming : ℕ → Piece → Way → Way
-coming number piece w = record w { receiver = kept number piece w.receiver; out = w.out ++ option_to_list (message_of_piece number piece w.receiver) }
+coming number piece w = record w {
+  receiver = kept number piece w.receiver;
+  out = w.out ++ option_to_list (message_of_piece number piece w.receiver);
+}
 
 -- an acknowledgement comes
 abbrev pub telling : ℕ → Way → Way
@@ -59,8 +64,8 @@ abbrev pub opened : List (List ℤ) → ℕ
 opened [] = 0
 opened (message ∷ rest) = 1
 
--- at the sender's end: the pushed messages are those acknowledged whole, then the queue. So many pieces are acknowledged, and numbered are these and the
--- outstanding one
+-- at the sender's end: the pushed messages are those acknowledged whole, then the queue. So many pieces are
+-- acknowledged, and numbered are these and the outstanding one
 pub record AtSender (pushes : List (List ℤ)) (after_acknowledgement : ℕ) (s : Sending) : Type 0 where
   pub done : List (List ℤ)
   pub sent : pushes ≡ done ++ s.queue
@@ -68,8 +73,8 @@ pub record AtSender (pushes : List (List ℤ)) (after_acknowledgement : ℕ) (s 
   pub count : after_acknowledgement ≡ total done + s.place
   pub numbered : s.numbered ≡ after_acknowledgement + opened s.queue
 
--- at the receiver's end: the pushed messages are those handed over, then the rest. Of the first of the rest some pieces are kept, and so are its words in
--- them
+-- at the receiver's end: the pushed messages are those handed over, then the rest. Of the first of the rest some pieces
+-- are kept, and so are its words in them
 pub record AtReceiver (pushes out : List (List ℤ)) (r : Receiving) : Type 0 where
   pub rest : List (List ℤ)
   pub come : pushes ≡ out ++ rest

@@ -1,8 +1,8 @@
 use gd_words::List;
 use link_control::{Arrived, Channel, Resent};
+use packet_words::{BusName, Incarnation, Packet, PacketKind, cut};
 use std::alloc::AllocError;
 use std::test::Fail;
-use packet_words::{BusName, Incarnation, Packet, PacketKind, cut};
 
 /// What a packet tells, and what happens at an end: such a packet comes, or a tick.
 #[derive(Clone, Copy, PartialEq, Eq)]

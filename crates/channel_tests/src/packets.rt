@@ -1,6 +1,6 @@
 use bus_model::Bus;
-use std::test::Fail;
 use packet_words::{Incarnation, Packet, PacketKind, Piece, PieceWords};
+use std::test::Fail;
 
 /// A packet's words, where it is within its ranges.
 fn words_of(packet: &Packet) -> Option<[i16; 16]> {

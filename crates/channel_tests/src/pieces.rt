@@ -1,6 +1,6 @@
 use gd_words::List;
-use std::test::Fail;
 use packet_words::{Joiner, cut};
+use std::test::Fail;
 
 /// Messages are cut into so many pieces, and joined again.
 #[test]

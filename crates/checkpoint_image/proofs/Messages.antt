@@ -1,5 +1,7 @@
 -- The words of checkpoints are read back, and what is read has its words.
-use Rattle.std.proofs.Common.{◌≡◌, ◌≤◌, ◌<◌, ◌^◌, ◌==◌, ℕ, zero, suc, ℤ, pos, negsuc, Bool, true, false, if◌then◌else◌, List, [], ◌∷◌, ◌++◌, length, Option, Some, None, nat_le, refl, arith, ap, sym, subst, ◌∙◌, append-nil, eq-eqb}
+use Rattle.std.proofs.Common.{◌≡◌, ◌≤◌, ◌<◌, ◌^◌, ◌==◌, ℕ, zero, suc, ℤ, pos, negsuc, Bool, true, false, if◌then◌else◌}
+use Rattle.std.proofs.Common.{List, [], ◌∷◌, ◌++◌, length, Option, Some, None, nat_le, refl, arith, ap, sym, subst, ◌∙◌}
+use Rattle.std.proofs.Common.{append-nil, eq-eqb}
 use Rattle.std.proofs.lemmas.Bool.{le-leb, leb-true, eqb-true}
 use Rattle.std.specs.List.{All}
 use Rattle.process_semantics.specs.Words.{Front, whole, words_in, long, counted}
@@ -9,10 +11,13 @@ use Rattle.checkpoint_image.specs.declared.message.ImageMessage.{ImageMessage}
 use Rattle.checkpoint_image.specs.declared.reading.Heading.{Heading}
 use Rattle.checkpoint_image.specs.declared.receive.OpenerBlock.{OpenerBlock}
 use Rattle.checkpoint_image.specs.declared.receive.ReceiveBlock.{ReceiveBlock}
-use Rattle.checkpoint_image.specs.Layout.{listed, file_words, opener_words, place_word, receive_words, image_words, message_words, IsPlace, HasShortLists, IsWithinLayout}
-use Rattle.checkpoint_image.specs.Reading.{body_in, file_in, reply_in, opener_in, place_in, receive_in, contents_in, image_in, longs_in, named_in, heading_in, message_of, message_in, both_in}
+use Rattle.checkpoint_image.specs.Layout.{listed, file_words, opener_words, place_word, receive_words, image_words}
+use Rattle.checkpoint_image.specs.Layout.{message_words, IsPlace, HasShortLists, IsWithinLayout}
+use Rattle.checkpoint_image.specs.Reading.{body_in, file_in, reply_in, opener_in, place_in, receive_in, contents_in}
+use Rattle.checkpoint_image.specs.Reading.{image_in, longs_in, named_in, heading_in, message_of, message_in, both_in}
 use Rattle.checkpoint_image.proofs.Patterns.{pair-reads}
-use Rattle.checkpoint_image.proofs.Readers.{WasWritten, IsReader, number-reads, words-reads, sized-reads, both-reads, listed-reads}
+use Rattle.checkpoint_image.proofs.Readers.{WasWritten, IsReader, number-reads, words-reads, sized-reads, both-reads}
+use Rattle.checkpoint_image.proofs.Readers.{listed-reads}
 
 abbrev AreFew : ℕ → List ℤ → Type 0
 AreFew limit words = (length words ≤ limit) × Unit {0}
@@ -28,7 +33,8 @@ IsFileRead named = (named.file ≤ 255) × (named.next < 2 ^ 32)
 
 file-reads : IsReader file_words IsFileRead file_in
 file-reads =
-    both-reads (number-reads 255) pair-reads (λ file next. record { file = file; next = next }) (λ named. named.file) (λ named. named.next)
+    both-reads (number-reads 255) pair-reads (λ file next. record { file = file; next = next }) (λ named. named.file)
+    (λ named. named.next)
     (λ named. refl) (λ file next. refl) (λ file next. refl)
 
 abbrev IsOpenerRead : OpenerBlock → Type 0
@@ -36,7 +42,8 @@ IsOpenerRead block = (block.taken < 2 ^ 32) × ((length block.kept ≤ 32767) ×
 
 opener-reads : IsReader opener_words IsOpenerRead opener_in
 opener-reads =
-    both-reads pair-reads (listed-reads reply-reads) (λ taken kept. record { taken = taken; kept = kept }) (λ block. block.taken) (λ block. block.kept)
+    both-reads pair-reads (listed-reads reply-reads) (λ taken kept. record { taken = taken; kept = kept })
+    (λ block. block.taken) (λ block. block.kept)
     (λ block. refl) (λ taken kept. refl) (λ taken kept. refl)
 
 place-reads : IsReader (λ place. place_word place ∷ []) IsPlace place_in
@@ -47,7 +54,8 @@ place-reads = record { again = again; exact = exact }
     again (Some place) left is = ap (λ (b : Bool). if b then Some (Some place, left) else None) (le-leb place 32767 is)
 
     tested : (place : ℕ) (left : List ℤ) (b : Bool) → nat_le place 32767 ≡ b
-        → WasWritten (λ place. place_word place ∷ []) IsPlace (pos place ∷ left) (if b then Some (Some place, left) else None)
+        → WasWritten (λ place. place_word place ∷ []) IsPlace (pos place ∷ left)
+        (if b then Some (Some place, left) else None)
     tested place left true is = (refl, leb-true place 32767 is)
     tested place left false is = tt
 
@@ -65,15 +73,19 @@ IsTableRead table = AreOpenersRead table.openers × IsPlace table.in_hand
 
 receive-reads : IsReader receive_words IsTableRead receive_in
 receive-reads =
-    both-reads (listed-reads opener-reads) place-reads (λ openers in_hand. record { openers = openers; in_hand = in_hand })
-    (λ table. table.openers) (λ table. table.in_hand) (λ table. refl) (λ openers in_hand. refl) (λ openers in_hand. refl)
+    both-reads (listed-reads opener-reads) place-reads
+    (λ openers in_hand. record { openers = openers; in_hand = in_hand })
+    (λ table. table.openers) (λ table. table.in_hand) (λ table. refl) (λ openers in_hand. refl)
+    (λ openers in_hand. refl)
 
 abbrev AreFilesRead : List FileNumber → Type 0
 AreFilesRead files = (length files ≤ 32767) × All IsFileRead files
 
-contents-reads : IsReader (λ (body, files). counted body ++ listed file_words files) (λ (body, files). AreFew 32767 body × AreFilesRead files) contents_in
+contents-reads : IsReader (λ (body, files). counted body ++ listed file_words files)
+    (λ (body, files). AreFew 32767 body × AreFilesRead files) contents_in
 contents-reads =
-    both-reads body-reads (listed-reads file-reads) (λ body files. (body, files)) (λ contents. contents.0) (λ contents. contents.1)
+    both-reads body-reads (listed-reads file-reads) (λ body files. (body, files)) (λ contents. contents.0)
+    (λ contents. contents.1)
     (λ contents. refl) (λ body files. refl) (λ body files. refl)
 
 abbrev IsImageRead : Image → Type 0
@@ -81,10 +93,13 @@ IsImageRead image = (AreFew 32767 image.body × AreFilesRead image.files) × IsT
 
 image-reads : IsReader image_words IsImageRead image_in
 image-reads =
-    both-reads contents-reads receive-reads (λ (body, files) receive. record { body = body; files = files; receive = receive })
-    (λ image. (image.body, image.files)) (λ image. image.receive) (λ image. refl) (λ contents receive. refl) (λ contents receive. refl)
+    both-reads contents-reads receive-reads
+    (λ (body, files) receive. record { body = body; files = files; receive = receive })
+    (λ image. (image.body, image.files)) (λ image. image.receive) (λ image. refl) (λ contents receive. refl)
+    (λ contents receive. refl)
 
-longs-reads : IsReader (λ (era, number). long era ++ long number) (λ (era, number). (era < 2 ^ 32) × (number < 2 ^ 32)) longs_in
+longs-reads : IsReader (λ (era, number). long era ++ long number) (λ (era, number). (era < 2 ^ 32) × (number < 2 ^ 32))
+    longs_in
 longs-reads =
     both-reads pair-reads pair-reads (λ era number. (era, number)) (λ longs. longs.0) (λ longs. longs.1)
     (λ longs. refl) (λ era number. refl) (λ era number. refl)
@@ -97,13 +112,16 @@ IsNamedRead heading = (heading.process ≤ 255) × ((heading.era < 2 ^ 32) × (h
 
 named-reads : IsReader named_words IsNamedRead named_in
 named-reads =
-    both-reads (number-reads 255) longs-reads (λ process (era, number). record { process = process; era = era; number = number }) (λ heading. heading.process)
+    both-reads (number-reads 255) longs-reads
+    (λ process (era, number). record { process = process; era = era; number = number }) (λ heading. heading.process)
     (λ heading. (heading.era, heading.number)) (λ heading. refl) (λ process longs. refl) (λ process longs. refl)
 
-kind-reads : (kind : ℕ) → IsReader named_words (λ heading. (3 ≡ kind) × IsNamedRead heading) (λ words. if kind == 3 then named_in words else None)
+kind-reads : (kind : ℕ) → IsReader named_words (λ heading. (3 ≡ kind) × IsNamedRead heading)
+    (λ words. if kind == 3 then named_in words else None)
 kind-reads kind = record {
   again = λ heading left is.
-      ap (λ (b : Bool). if b then named_in (named_words heading ++ left) else None) (eq-eqb kind 3 (sym is.0)) ∙ named-reads.again heading left is.1;
+      ap (λ (b : Bool). if b then named_in (named_words heading ++ left) else None) (eq-eqb kind 3 (sym is.0))
+      ∙ named-reads.again heading left is.1;
   exact = λ words. tested words (kind == 3) refl;
 }
   where
@@ -113,12 +131,14 @@ kind-reads kind = record {
     of_kind is words (Some (heading, left)) was = (was.0, (is, was.1))
 
     tested : (words : List ℤ) (b : Bool) → (kind == 3) ≡ b
-        → WasWritten named_words (λ heading. (3 ≡ kind) × IsNamedRead heading) words (if b then named_in words else None)
+        → WasWritten named_words (λ heading. (3 ≡ kind) × IsNamedRead heading) words
+        (if b then named_in words else None)
     tested words true is = of_kind (sym (eqb-true kind 3 is)) words (named_in words) (named-reads.exact words)
     tested words false is = tt
 
 heading-reads : IsReader (λ heading. pos 3 ∷ named_words heading) (λ heading. (3 ≤ 3) × IsNamedRead heading) heading_in
-heading-reads = sized-reads named_words IsNamedRead (λ heading. 3) (λ kind words. if kind == 3 then named_in words else None) 3 kind-reads
+heading-reads = sized-reads named_words IsNamedRead (λ heading. 3)
+    (λ kind words. if kind == 3 then named_in words else None) 3 kind-reads
 
 abbrev heading_of : ImageMessage → Heading
 heading_of message = record { process = message.process; era = message.era; number = message.number }
@@ -138,7 +158,11 @@ is-read message is =
       (
         ((short.body, tt), (short.files, λ k d among. let one = is.files k d among in (one.file, one.next))),
         (
-          (short.openers, λ k d among. let one = is.openers k d among in (one.taken, (short.kept k d among, λ i e kept. (one.replies i e kept, tt)))),
+          (
+            short.openers,
+            λ k d among. let one = is.openers k d among in
+                (one.taken, (short.kept k d among, λ i e kept. (one.replies i e kept, tt))),
+          ),
           short.in_hand,
         ),
       ),
@@ -160,13 +184,15 @@ within message is =
       era = heading.1.0;
       number = heading.1.1;
       files = λ k d among. let one = contents.1.1 k d among in record { file = one.0; next = one.1 };
-      openers = λ k d among. let one = table.0.1 k d among in record { taken = one.0; replies = λ i e kept. (one.1.1 i e kept).0 };
+      openers = λ k d among. let one =
+          table.0.1 k d among in record { taken = one.0; replies = λ i e kept. (one.1.1 i e kept).0 };
     }
 
 -- the words of a checkpoint are read as that checkpoint
 pub read-again : (message : ImageMessage) → IsWithinLayout message → message_in (message_words message) ≡ Some message
 read-again message is =
-    ap message_in (sym (append-nil (message_words message))) ∙ ap (λ (f : Front ImageMessage). whole f) (message-reads.again message [] (is-read message is))
+    ap message_in (sym (append-nil (message_words message)))
+    ∙ ap (λ (f : Front ImageMessage). whole f) (message-reads.again message [] (is-read message is))
 
 -- what is read has these words and is within the layout
 pub read-exact : (words : List ℤ) (message : ImageMessage) → message_in words ≡ Some message
@@ -178,9 +204,12 @@ read-exact words message = by (both_in message_of heading_in image_in words) (me
     by None was found = absurd (cc)
     by (Some (one, [])) was found =
         let same : one ≡ message = cc in
-        subst (λ (m : ImageMessage). (message_words m ≡ words) × IsWithinLayout m) same (sym (was.0 ∙ append-nil (message_words one)), within one was.1)
+        subst (λ (m : ImageMessage). (message_words m ≡ words) × IsWithinLayout m) same
+        (sym (was.0 ∙ append-nil (message_words one)), within one was.1)
     by (Some (one, word ∷ left)) was found = absurd (cc)
 
-pub read-apart : (one other : ImageMessage) → IsWithinLayout one → IsWithinLayout other → message_words one ≡ message_words other → one ≡ other
+pub read-apart : (one other : ImageMessage) → IsWithinLayout one → IsWithinLayout other
+    → message_words one ≡ message_words other → one ≡ other
 read-apart one other is_one is_other same =
-    let found : Some one ≡ Some other = sym (read-again one is_one) ∙ ap message_in same ∙ read-again other is_other in cc
+    let found : Some one ≡ Some other =
+    sym (read-again one is_one) ∙ ap message_in same ∙ read-again other is_other in cc

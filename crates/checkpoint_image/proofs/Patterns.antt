@@ -1,5 +1,6 @@
 -- Numbers of 16 and 32 bits stand in their patterns.
-use Rattle.std.proofs.Common.{◌≡◌, ℕ, ◌+◌, ◌*◌, ◌/◌, ◌%◌, ◌<◌, ◌^◌, suc, ℤ, pos, negsuc, Bool, true, false, if◌then◌else◌, ◌&&◌, List, [], ◌∷◌, ◌++◌, Some, None, refl, ap, ap₂, sym, ◌∙◌, arith}
+use Rattle.std.proofs.Common.{◌≡◌, ℕ, ◌+◌, ◌*◌, ◌/◌, ◌%◌, ◌<◌, ◌^◌, suc, ℤ, pos, negsuc, Bool, true, false}
+use Rattle.std.proofs.Common.{if◌then◌else◌, ◌&&◌, List, [], ◌∷◌, ◌++◌, Some, None, refl, ap, ap₂, sym, ◌∙◌, arith}
 use Rattle.std.proofs.lemmas.Bool.{le-leb, leb-true}
 use Rattle.std.proofs.lemmas.Int.{of_z-to_z, to_z-of_z, SFits-int_wrap}
 use Rattle.std.specs.Int.{w16, cast_signed, cast_unsigned, int_wrap}
@@ -25,11 +26,13 @@ half-small (pos n) fits = omega (arith, fits.sfits)
 half-small (negsuc n) fits = omega arith
 
 pattern-again : (z : ℤ) → FitsSigned w16 z → wrap (pos (half_of z)) ≡ z
-pattern-again z fits = pattern-is (half_of z) (half-small z fits) ∙ ap (cast_signed w16) (half-is z) ∙ to_z-of_z w16 z fits
+pattern-again z fits =
+    pattern-is (half_of z) (half-small z fits) ∙ ap (cast_signed w16) (half-is z) ∙ to_z-of_z w16 z fits
 
 long-again : (n : ℕ) (left : List ℤ) → n < 2 ^ 32 → long_in (long n ++ left) ≡ Some (n, left)
 long-again n left small =
-    ap₂ (λ (high low : ℕ). Some (high * 65536 + low, left)) (half-again (n / 65536) (omega (arith, small))) (half-again (n % 65536) (omega arith))
+    ap₂ (λ (high low : ℕ). Some (high * 65536 + low, left)) (half-again (n / 65536) (omega (arith, small)))
+    (half-again (n % 65536) (omega arith))
     ∙ ap (λ (k : ℕ). Some (k, left)) (omega arith)
 
 long-small : (high low : ℤ) → FitsSigned w16 high → FitsSigned w16 low → half_of high * 65536 + half_of low < 2 ^ 32

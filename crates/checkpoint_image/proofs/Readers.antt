@@ -1,5 +1,7 @@
 -- Readers: they read what is written and leave the words behind it, and what they read was written so.
-use Rattle.std.proofs.Common.{◌≡◌, ◌≤◌, ◌+◌, ℕ, zero, suc, ℤ, pos, negsuc, Bool, true, false, if◌then◌else◌, List, [], ◌∷◌, ◌++◌, length, take, drop, flat_map, Some, None, nat_le, refl, ap, ap₂, sym, subst, ◌∙◌, arith, append_assoc, length-append, option_and_then}
+use Rattle.std.proofs.Common.{◌≡◌, ◌≤◌, ◌+◌, ℕ, zero, suc, ℤ, pos, negsuc, Bool, true, false, if◌then◌else◌, List, []}
+use Rattle.std.proofs.Common.{◌∷◌, ◌++◌, length, take, drop, flat_map, Some, None, nat_le, refl, ap, ap₂, sym, subst}
+use Rattle.std.proofs.Common.{◌∙◌, arith, append_assoc, length-append, option_and_then}
 use Rattle.std.proofs.lemmas.Bool.{le-leb, leb-true}
 use Rattle.std.proofs.lemmas.List.{take-append-drop, length-take}
 use Rattle.std.proofs.lemmas.List.Elements.{All-head, All-tail, All-cons, All-nil}
@@ -45,11 +47,14 @@ module _ {A : Type 0} (write : A → List ℤ) (Is : A → Type 0) (size : A →
       → WasWritten write (λ x. (size x ≡ n) × Is x) left f
       → WasWritten (λ x. pos (size x) ∷ write x) (λ x. (size x ≤ limit) × Is x) words f
   after_count words left n same few None was = tt
-  after_count words left n same few (Some (x, rest)) was =
-      (same ∙ ap₂ (λ (k : ℕ) (ws : List ℤ). pos k ∷ ws) (sym was.1.0) was.0, (subst (λ k. k ≤ limit) (sym was.1.0) few, was.1.1))
+  after_count words left n same few (Some (x, rest)) was = (
+    same ∙ ap₂ (λ (k : ℕ) (ws : List ℤ). pos k ∷ ws) (sym was.1.0) was.0,
+    (subst (λ k. k ≤ limit) (sym was.1.0) few, was.1.1),
+  )
 
   counted : (words : List ℤ) (f : Front ℕ) → WasWritten (λ n. pos n ∷ []) (λ n. n ≤ limit) words f
-      → WasWritten (λ x. pos (size x) ∷ write x) (λ x. (size x ≤ limit) × Is x) words (option_and_then (λ (n, left). read n left) f)
+      → WasWritten (λ x. pos (size x) ∷ write x) (λ x. (size x ≤ limit) × Is x) words
+      (option_and_then (λ (n, left). read n left) f)
   counted words None was = tt
   counted words (Some (n, left)) was = after_count words left n was.0 was.1 (read n left) ((reads n).exact left)
 
@@ -64,18 +69,25 @@ module _ {A : Type 0} (write : A → List ℤ) (Is : A → Type 0) (size : A →
 -- So many words
 
 pub words-reads : (n : ℕ) → IsReader (λ words. words) (λ words. (length words ≡ n) × Unit {0}) (words_in n)
-words-reads n = record { again = λ words left is. again words left is.0; exact = λ words. tested words (nat_le n (length words)) refl }
+words-reads n = record {
+  again = λ words left is. again words left is.0;
+  exact = λ words. tested words (nat_le n (length words)) refl;
+}
   where
     again : (words left : List ℤ) → length words ≡ n → words_in n (words ++ left) ≡ Some (words, left)
     again words left is = subst (λ (k : ℕ). words_in k (words ++ left) ≡ Some (words, left)) is
         (let all : length (words ++ left) ≡ length words + length left = length-append words left in
-        let fits : nat_le (length words) (length (words ++ left)) ≡ true = le-leb (length words) (length (words ++ left)) (omega (arith, all)) in
-        ap (λ (b : Bool). if b then Some (take (length words) (words ++ left), drop (length words) (words ++ left)) else None) fits
+        let fits : nat_le (length words) (length (words ++ left)) ≡ true =
+        le-leb (length words) (length (words ++ left)) (omega (arith, all)) in
+        ap (λ (b : Bool). if b then Some (take (length words) (words ++ left), drop (length words) (words ++ left))
+        else None) fits
         ∙ ap₂ (λ (xs ys : List ℤ). Some (xs, ys)) (take-append_seam words left) (drop-append_seam words left))
 
     tested : (words : List ℤ) (b : Bool) → nat_le n (length words) ≡ b
-        → WasWritten (λ words. words) (λ words. (length words ≡ n) × Unit {0}) words (if b then Some (take n words, drop n words) else None)
-    tested words true is = (sym (take-append-drop n words), (omega (arith, length-take n words, leb-true n (length words) is), tt))
+        → WasWritten (λ words. words) (λ words. (length words ≡ n) × Unit {0}) words
+        (if b then Some (take n words, drop n words) else None)
+    tested words true is =
+        (sym (take-append-drop n words), (omega (arith, length-take n words, leb-true n (length words) is), tt))
     tested words false is = tt
 
 -- Two parts
@@ -85,8 +97,10 @@ module _ {A B C : Type 0} {first_words : A → List ℤ} {IsFirst : A → Type 0
     (first_reads : IsReader first_words IsFirst first) (second_reads : IsReader second_words IsSecond second)
     (join : A → B → C) (left_of : C → A) (right_of : C → B) (joined : (c : C) → join (left_of c) (right_of c) ≡ c)
     (to_left : (x : A) (y : B) → left_of (join x y) ≡ x) (to_right : (x : A) (y : B) → right_of (join x y) ≡ y) where
-  with_second : (words left : List ℤ) (x : A) → words ≡ first_words x ++ left → IsFirst x → (f : Front B) → WasWritten second_words IsSecond left f
-      → WasWritten (λ c. first_words (left_of c) ++ second_words (right_of c)) (λ c. IsFirst (left_of c) × IsSecond (right_of c)) words
+  with_second : (words left : List ℤ) (x : A) → words ≡ first_words x ++ left → IsFirst x → (f : Front B)
+      → WasWritten second_words IsSecond left f
+      → WasWritten (λ c. first_words (left_of c) ++ second_words (right_of c))
+      (λ c. IsFirst (left_of c) × IsSecond (right_of c)) words
       (option_map (λ (y, rest). (join x y, rest)) f)
   with_second words left x same is None was = tt
   with_second words left x same is (Some (y, rest)) was = (
@@ -96,12 +110,14 @@ module _ {A B C : Type 0} {first_words : A → List ℤ} {IsFirst : A → Type 0
   )
 
   with_first : (words : List ℤ) (f : Front A) → WasWritten first_words IsFirst words f
-      → WasWritten (λ c. first_words (left_of c) ++ second_words (right_of c)) (λ c. IsFirst (left_of c) × IsSecond (right_of c)) words
+      → WasWritten (λ c. first_words (left_of c) ++ second_words (right_of c))
+      (λ c. IsFirst (left_of c) × IsSecond (right_of c)) words
       (option_and_then (λ (x, left). option_map (λ (y, rest). (join x y, rest)) (second left)) f)
   with_first words None was = tt
   with_first words (Some (x, left)) was = with_second words left x was.0 was.1 (second left) (second_reads.exact left)
 
-  pub both-reads : IsReader (λ c. first_words (left_of c) ++ second_words (right_of c)) (λ c. IsFirst (left_of c) × IsSecond (right_of c))
+  pub both-reads : IsReader (λ c. first_words (left_of c) ++ second_words (right_of c))
+      (λ c. IsFirst (left_of c) × IsSecond (right_of c))
       (both_in join first second)
   both-reads = record {
     again = λ c rest is.
@@ -115,8 +131,10 @@ module _ {A B C : Type 0} {first_words : A → List ℤ} {IsFirst : A → Type 0
 
 -- Lists
 
-module _ {A : Type 0} {write : A → List ℤ} {Is : A → Type 0} {part : List ℤ → Front A} (reads : IsReader write Is part) where
-  many-again : (xs : List A) (left : List ℤ) → All Is xs → many_in part (length xs) (flat_map write xs ++ left) ≡ Some (xs, left)
+module _ {A : Type 0} {write : A → List ℤ} {Is : A → Type 0} {part : List ℤ → Front A}
+    (reads : IsReader write Is part) where
+  many-again : (xs : List A) (left : List ℤ) → All Is xs
+      → many_in part (length xs) (flat_map write xs ++ left) ≡ Some (xs, left)
   many-again [] left all = refl
   many-again (x ∷ xs) left all =
       ap (many_in part (suc (length xs))) (append_assoc (write x) (flat_map write xs) left)
@@ -126,27 +144,31 @@ module _ {A : Type 0} {write : A → List ℤ} {Is : A → Type 0} {part : List 
 
   with_more : (words left : List ℤ) (x : A) (n : ℕ) → words ≡ write x ++ left → Is x → (f : Front (List A))
       → WasWritten (flat_map write) (λ xs. (length xs ≡ n) × All Is xs) left f
-      → WasWritten (flat_map write) (λ xs. (length xs ≡ suc n) × All Is xs) words (option_map (λ (xs, rest). (x ∷ xs, rest)) f)
+      → WasWritten (flat_map write) (λ xs. (length xs ≡ suc n) × All Is xs) words
+      (option_map (λ (xs, rest). (x ∷ xs, rest)) f)
   with_more words left x n same is None was = tt
   with_more words left x n same is (Some (xs, rest)) was = (
     same ∙ ap (λ ws. write x ++ ws) was.0 ∙ sym (append_assoc (write x) (flat_map write xs) rest),
     (ap suc was.1.0, All-cons Is x xs is was.1.1),
   )
 
-  with_one : (n : ℕ) → ((left : List ℤ) → WasWritten (flat_map write) (λ xs. (length xs ≡ n) × All Is xs) left (many_in part n left))
+  with_one : (n : ℕ) → ((left : List ℤ) → WasWritten (flat_map write) (λ xs. (length xs ≡ n) × All Is xs) left
+      (many_in part n left))
       → (words : List ℤ) (f : Front A) → WasWritten write Is words f
       → WasWritten (flat_map write) (λ xs. (length xs ≡ suc n) × All Is xs) words
       (option_and_then (λ (x, left). option_map (λ (xs, rest). (x ∷ xs, rest)) (many_in part n left)) f)
   with_one n more words None was = tt
   with_one n more words (Some (x, left)) was = with_more words left x n was.0 was.1 (many_in part n left) (more left)
 
-  many-exact : (n : ℕ) (words : List ℤ) → WasWritten (flat_map write) (λ xs. (length xs ≡ n) × All Is xs) words (many_in part n words)
+  many-exact : (n : ℕ) (words : List ℤ) → WasWritten (flat_map write) (λ xs. (length xs ≡ n) × All Is xs) words
+      (many_in part n words)
   many-exact zero words = (refl, (refl, All-nil Is))
   many-exact (suc n) words = with_one n (many-exact n) words (part words) (reads.exact words)
 
   many-reads : (n : ℕ) → IsReader (flat_map write) (λ xs. (length xs ≡ n) × All Is xs) (many_in part n)
   many-reads n = record {
-    again = λ xs left is. subst (λ (k : ℕ). many_in part k (flat_map write xs ++ left) ≡ Some (xs, left)) is.0 (many-again xs left is.1);
+    again = λ xs left is. subst (λ (k : ℕ). many_in part k (flat_map write xs ++ left) ≡ Some (xs, left)) is.0
+        (many-again xs left is.1);
     exact = many-exact n;
   }
 

@@ -1,5 +1,6 @@
 -- A loop that reads parts: those that it has, and those of the words that are left.
-use Rattle.std.proofs.Common.{◌≡◌, ℕ, suc, ℤ, List, [], ◌∷◌, ◌++◌, Some, None, refl, ap, sym, ◌∙◌, append_assoc, option_and_then}
+use Rattle.std.proofs.Common.{◌≡◌, ℕ, suc, ℤ, List, [], ◌∷◌, ◌++◌, Some, None, refl, ap, sym, ◌∙◌, append_assoc}
+use Rattle.std.proofs.Common.{option_and_then}
 use Rattle.std.specs.Option.{option_map}
 use Rattle.process_semantics.specs.Words.{Front}
 use Rattle.checkpoint_image.specs.Reading.{many_in}
@@ -18,5 +19,6 @@ pub turns : {A : Type 0} (part : List ℤ → Front A) (items : List A) (m n : �
     → after items (many_in part m words) ≡ after (items ++ item ∷ []) (many_in part n left)
 turns {A} part items m n words left item count found =
     ap (λ (k : ℕ). after items (many_in part k words)) count
-    ∙ ap (λ (f : Front A). after items (option_and_then (λ (x, rest). option_map (λ (xs, last). (x ∷ xs, last)) (many_in part n rest)) f)) found
+    ∙ ap (λ (f : Front A). after items (option_and_then
+    (λ (x, rest). option_map (λ (xs, last). (x ∷ xs, last)) (many_in part n rest)) f)) found
     ∙ onto items item (many_in part n left)

@@ -1,5 +1,5 @@
--- The words of a checkpoint, and which checkpoints have words. That a checkpoint carries its process's state, the numbers of its files and what was taken
--- and answered is Bartlett's; the layout is this project's own.
+-- The words of a checkpoint, and which checkpoints have words. That a checkpoint carries its process's state, the
+-- numbers of its files and what was taken and answered is Bartlett's; the layout is this project's own.
 use Rattle.std.specs.List.{All, flat_map}
 use Rattle.std.specs.Prelude.{ℕ, ◌<◌, ◌≤◌, ◌^◌, ℤ, pos, negsuc, zero, List, [], ◌∷◌, ◌++◌, length, Option, Some, None}
 use Rattle.process_semantics.specs.Words.{long, counted}

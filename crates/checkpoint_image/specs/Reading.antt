@@ -1,6 +1,7 @@
 -- Reading the words of a checkpoint from their front, and what a call that reads tells of it.
 use Rattle.std.specs.Option.{option_map, option_and_then}
-use Rattle.std.specs.Prelude.{◌≡◌, ℕ, zero, suc, ◌==◌, ℤ, pos, negsuc, Bool, ◌&&◌, if◌then◌else◌, nat_le, nat_lt, List, [], ◌∷◌, Option, Some, None, Result, Ok, Err}
+use Rattle.std.specs.Prelude.{◌≡◌, ℕ, zero, suc, ◌==◌, ℤ, pos, negsuc, Bool, ◌&&◌, if◌then◌else◌, nat_le, nat_lt, List}
+use Rattle.std.specs.Prelude.{[], ◌∷◌, Option, Some, None, Result, Ok, Err}
 use Rattle.gd_words.specs.Memory.{no_memory}
 use Rattle.process_semantics.specs.Words.{Front, count_in, words_in, whole, long_in}
 use Rattle.checkpoint_image.specs.declared.message.FileNumber.{FileNumber}
@@ -32,7 +33,8 @@ sized_in limit read words = option_and_then (λ (n, left). read n left) (number_
 
 -- two parts one after the other, joined
 abbrev pub both_in : {A B C : Type 0} → (A → B → C) → (List ℤ → Front A) → (List ℤ → Front B) → List ℤ → Front C
-both_in join first second words = option_and_then (λ (x, left). option_map (λ (y, rest). (join x y, rest)) (second left)) (first words)
+both_in join first second words =
+    option_and_then (λ (x, left). option_map (λ (y, rest). (join x y, rest)) (second left)) (first words)
 
 -- so many parts
 abbrev pub many_in : {A : Type 0} → (List ℤ → Front A) → ℕ → List ℤ → Front (List A)
@@ -68,7 +70,8 @@ abbrev pub contents_in : List ℤ → Front (List ℤ × List FileNumber)
 contents_in = both_in (λ body files. (body, files)) body_in (listed_in file_in)
 
 abbrev pub image_in : List ℤ → Front Image
-image_in = both_in (λ (body, files) receive. record { body = body; files = files; receive = receive }) contents_in receive_in
+image_in = both_in (λ (body, files) receive. record { body = body; files = files; receive = receive }) contents_in
+    receive_in
 
 -- the era and the number
 abbrev pub longs_in : List ℤ → Front (ℕ × ℕ)
@@ -76,14 +79,16 @@ longs_in = both_in (λ era number. (era, number)) pair_in pair_in
 
 -- the process, the era and the number
 abbrev pub named_in : List ℤ → Front Heading
-named_in = both_in (λ process (era, number). record { process = process; era = era; number = number }) (number_in 255) longs_in
+named_in = both_in (λ process (era, number). record { process = process; era = era; number = number }) (number_in 255)
+    longs_in
 
 -- the 3 of a checkpoint, and the numbers after it
 abbrev pub heading_in : List ℤ → Front Heading
 heading_in = sized_in 3 (λ kind words. if kind == 3 then named_in words else None)
 
 abbrev pub message_of : Heading → Image → ImageMessage
-message_of heading image = record { process = heading.process; era = heading.era; number = heading.number; image = image }
+message_of heading image =
+    record { process = heading.process; era = heading.era; number = heading.number; image = image }
 
 -- the checkpoint of these words
 abbrev pub message_in : List ℤ → Option ImageMessage

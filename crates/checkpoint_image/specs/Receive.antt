@@ -1,6 +1,8 @@
--- Receive tables: how a request that comes stands to its process, which replies are kept, and which requests wait. Numbers and the depth of what is kept
--- are those of the GUARDIAN manual's sync depth; that one request of an opener waits is our own rule.
-use Rattle.std.specs.Prelude.{ℕ, ◌+◌, ◌-◌, ◌==◌, ℤ, Bool, true, false, not, ◌&&◌, if◌then◌else◌, nat_le, nat_lt, List, [], ◌∷◌, ◌++◌, length, drop, reverse, slice_get, slice_set, Option, Some, None}
+-- Receive tables: how a request that comes stands to its process, which replies are kept, and which requests wait.
+-- Numbers and the depth of what is kept are those of the GUARDIAN manual's sync depth; that one request of an opener
+-- waits is our own rule.
+use Rattle.std.specs.Prelude.{ℕ, ◌+◌, ◌-◌, ◌==◌, ℤ, Bool, true, false, not, ◌&&◌, if◌then◌else◌, nat_le, nat_lt, List}
+use Rattle.std.specs.Prelude.{[], ◌∷◌, ◌++◌, length, drop, reverse, slice_get, slice_set, Option, Some, None}
 use Rattle.std.specs.Option.{option_map}
 use Rattle.std.specs.List.{filter, flat_map, list_any}
 use Rattle.gd_words.specs.declared.message.Request.{Request}
@@ -33,8 +35,8 @@ abbrev pub kept_or_old : Option (List ℤ) → RequestStanding
 kept_or_old None = Old
 kept_or_old (Some words) = Kept words
 
--- how a number stands to an opener's block: Next is the one after the last taken and Ahead a later one; the last taken is InHand while it is in hand;
--- a number whose reply is kept is Kept, and any other is Old
+-- how a number stands to an opener's block: Next is the one after the last taken and Ahead a later one; the last taken
+-- is InHand while it is in hand; a number whose reply is kept is Kept, and any other is Old
 abbrev pub standing_in : Bool → OpenerBlock → ℕ → RequestStanding
 standing_in held block number =
     if number == block.taken + 1 then Next
@@ -59,17 +61,24 @@ standing table request = standing_at table request.opener request.number
 -- the table after the next request of the opener at a place was taken: it is in hand
 abbrev pub after_taking : ℕ → OpenerBlock → ReceiveBlock → ReceiveBlock
 after_taking place block table =
-    record table { openers = slice_set table.openers place (record block { taken = block.taken + 1 }); in_hand = Some place }
+    record table {
+      openers = slice_set table.openers place (record block { taken = block.taken + 1 });
+      in_hand = Some place;
+    }
 
 -- so many of a list, its last ones
 abbrev pub last_ones : {A : Type 0} → ℕ → List A → List A
 last_ones n items = drop (length items - n) items
 
--- the table after the request in hand was answered: the reply is kept, the oldest one goes where more than the depth would be kept, and nothing is in
--- hand
+-- the table after the request in hand was answered: the reply is kept, the oldest one goes where more than the depth
+-- would be kept, and nothing is in hand
 abbrev pub after_answering : ℕ → ℕ → OpenerBlock → List ℤ → ReceiveBlock → ReceiveBlock
 after_answering depth place block words table =
-    record table { openers = slice_set table.openers place (record block { kept = last_ones depth (block.kept ++ words ∷ []) }); in_hand = None }
+    record table {
+      openers = slice_set table.openers place
+          (record block { kept = last_ones depth (block.kept ++ words ∷ []) });
+      in_hand = None;
+    }
 
 -- Waiting
 
@@ -79,13 +88,15 @@ is_same_opener one other = one.opener == other.opener
 
 -- whether a request of the same opener waits whose number is as great
 abbrev pub is_outdone : Request → List Request → Bool
-is_outdone request waiting = list_any (λ other. is_same_opener request other && nat_le request.number other.number) waiting
+is_outdone request waiting =
+    list_any (λ other. is_same_opener request other && nat_le request.number other.number) waiting
 
--- the waiting requests after one more came to wait. Of one opener one request waits: a greater number takes the place of a smaller one and goes to the
--- end, and any other is dropped
+-- the waiting requests after one more came to wait. Of one opener one request waits: a greater number takes the place
+-- of a smaller one and goes to the end, and any other is dropped
 abbrev pub waits : List Request → Request → List Request
 waits waiting request =
-    if is_outdone request waiting then waiting else filter (λ other. not (is_same_opener request other)) waiting ++ request ∷ []
+    if is_outdone request waiting then waiting else filter (λ other. not (is_same_opener request other)) waiting
+    ++ request ∷ []
 
 -- whether a request of this standing waits where its process acts
 abbrev pub is_waiting : RequestStanding → Bool
@@ -99,7 +110,8 @@ came table waiting request = if is_waiting (standing table request) then waits w
 
 -- the reply of these words to a request
 abbrev pub reply_to : Request → List ℤ → Reply
-reply_to request words = record { process = request.process; opener = request.opener; number = request.number; words = words }
+reply_to request words =
+    record { process = request.process; opener = request.opener; number = request.number; words = words }
 
 abbrev pub repeated_by : Request → RequestStanding → List Reply
 repeated_by request (Kept words) = reply_to request words ∷ []
@@ -109,7 +121,8 @@ repeated_by request _ = []
 abbrev pub repeated : ReceiveBlock → Request → List Reply
 repeated table request = repeated_by request (standing table request)
 
--- the waiting requests of a copy that takes over: each is treated in order as if it came now, so Next and Ahead wait on and the others are dropped
+-- the waiting requests of a copy that takes over: each is treated in order as if it came now, so Next and Ahead wait on
+-- and the others are dropped
 abbrev pub still_waiting : ReceiveBlock → List Request → List Request
 still_waiting table waiting = filter (λ request. is_waiting (standing table request)) waiting
 

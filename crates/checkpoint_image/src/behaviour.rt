@@ -1,9 +1,12 @@
 ghost use Rattle.std.specs.Prelude.{◌≡◌, ◌+◌, ◌<◌, ◌^◌, IfOk, Some, None};
 ghost use Rattle.std.specs.Bool.{OnTrue, OnFalse};
 ghost use Rattle.gd_words.specs.Ranges.{HasNext};
-ghost use Rattle.process_semantics.specs.declared.point.Point.TheVariants.{Inner, Take, Ask, Await, Answer, AtCheckpoint, Device};
+ghost use Rattle.process_semantics.specs.declared.point.Point.TheVariants.{Inner, Take, Ask, Await, Answer};
+ghost use Rattle.process_semantics.specs.declared.point.Point.TheVariants.{AtCheckpoint, Device};
 ghost use Rattle.process_semantics.specs.Image.{image_of, listed_items, listed_files, restored};
-ghost use Rattle.process_semantics.specs.Process.{ProcessState, point, in_hand, after_inner, after_took, asked_file, asked_words, after_asked, after_got, answer_of, after_answered, after_checkpoint, call_of, after_device};
+ghost use Rattle.process_semantics.specs.Process.{ProcessState, point, in_hand, after_inner, after_took, asked_file};
+ghost use Rattle.process_semantics.specs.Process.{asked_words, after_asked, after_got, answer_of, after_answered};
+ghost use Rattle.process_semantics.specs.Process.{after_checkpoint, call_of, after_device};
 ghost use Rattle.whole_states.specs.Listing.{MayList};
 ghost use Rattle.checkpoint_image.specs.Behaving.{last_write_of};
 
@@ -18,8 +21,8 @@ pub struct Listed {
     pub files: List<u8>,
 }
 
-/// A process, program or disc, seen from the machine that runs it: where it stands, its step there, and its image, as in
-/// Bartlett's "A NonStop Kernel". No call but `image` takes memory.
+/// A process, program or disc, seen from the machine that runs it: where it stands, its step there, and its image, as
+/// in Bartlett's "A NonStop Kernel". No call but `image` takes memory.
 pub trait Behaviour: Drop {
     ghost state: { Self → ProcessState };
 
@@ -87,7 +90,8 @@ pub trait Behaviour: Drop {
         requires { MayList (state self.now) listed.now.items listed.now.files }
         ensures { IfOk result (λ words. words ≡ image_of listed.now.items (state self.now)) };
 
-    /// Puts an image into it, with a request in hand or none; false where the words are no image of it, and then nothing changes.
+    /// Puts an image into it, with a request in hand or none; false where the words are no image of it, and then
+    /// nothing changes.
     fn apply(&mut self, words: &[i16], in_hand: bool) -> bool
         ensures applied { OnTrue result (restored (state self.old) in_hand words.now ≡ Some (state self.new)) }
         ensures refused { OnFalse result (restored (state self.old) in_hand words.now ≡ None) }

@@ -8,8 +8,8 @@ use crate::reading::{ReadingFault, message_in};
 use gd_words::{List, NoMemory};
 use std::alloc::Global;
 
-/// How many words a checkpoint has, so that their memory is taken at once: the ten that each has, those of its body, three of each
-/// file, three of each opener, and those of each reply with their count.
+/// How many words a checkpoint has, so that their memory is taken at once: the ten that each has, those of its body,
+/// three of each file, three of each opener, and those of each reply with their count.
 fn count_words(message: &ImageMessage) -> usize {
     let image = &message.image;
     let openers = image.receive.openers.as_slice();
@@ -41,7 +41,8 @@ pub fn to_words(alloc: Global, message: &ImageMessage) -> Result<List<i16>, NoMe
 pub fn from_words(alloc: Global, words: &[i16]) -> Result<Option<ImageMessage>, NoMemory>
     ensures within { IfOk result (λ read. IfSome read IsWithinLayout) }
     ensures words { IfOk result (λ read. IfSome read (λ message. message_words message ≡ words.now)) }
-    ensures none { IfOk result (λ read. IfNone read ((message : ImageMessage) → IsWithinLayout message → message_words message ≢ words.now)) }
+    ensures none { IfOk result (λ read. IfNone read
+        ((message : ImageMessage) → IsWithinLayout message → message_words message ≢ words.now)) }
 {
     match message_in(alloc, words) {
         Ok(message) => Ok(Some(message)),
@@ -52,5 +53,6 @@ pub fn from_words(alloc: Global, words: &[i16]) -> Result<Option<ImageMessage>, 
 
 /// Checkpoints within the layout are told apart by their words.
 pub fn words_tell_their_message()
-    ensures { (one other : ImageMessage) → IsWithinLayout one → IsWithinLayout other → message_words one ≡ message_words other → one ≡ other }
+    ensures { (one other : ImageMessage) → IsWithinLayout one → IsWithinLayout other
+        → message_words one ≡ message_words other → one ≡ other }
 {}

@@ -1,11 +1,12 @@
-//! Processes as a machine of copies sees them: `Behaviour`, the one interface to programs and discs; and what a checkpoint
-//! carries: the words of an image, the files that it names with their numbers, and the receive table, and the words in which it
-//! goes.
+//! Processes as a machine of copies sees them: `Behaviour`, the one interface to programs and discs; and what a
+//! checkpoint carries: the words of an image, the files that it names with their numbers, and the receive table, and
+//! the words in which it goes.
 //!
-//! Below stand `gd_words` with requests and replies, `process_semantics` with the states of processes, their steps and images,
-//! and `whole_states`, which says what may be listed. The layers above use the types; of `Behaviour`, that each call is the step of
-//! its definition; of `specs/Receive.antt` how a request that comes stands to a receive table, what taking and answering change in
-//! one, and which requests wait; and that a checkpoint has its words and words at most one checkpoint (`to_words`, `from_words`).
+//! Below stand `gd_words` with requests and replies, `process_semantics` with the states of processes, their steps and
+//! images, and `whole_states`, which says what may be listed. The layers above use the types; of `Behaviour`, that each
+//! call is the step of its definition; of `specs/Receive.antt` how a request that comes stands to a receive table, what
+//! taking and answering change in one, and which requests wait; and that a checkpoint has its words and words at most
+//! one checkpoint (`to_words`, `from_words`).
 #![tactic(auto)]
 
 pub mod behaviour;

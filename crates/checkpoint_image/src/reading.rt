@@ -1,6 +1,8 @@
 ghost use Rattle.std.specs.Prelude.{◌≡◌, ◌≤◌, length};
 ghost use Rattle.process_semantics.specs.Words.{words_in};
-ghost use Rattle.checkpoint_image.specs.Reading.{Gives, Tells, number_in, pair_in, body_in, many_in, listed_in, file_in, reply_in, opener_in, place_in, receive_in, contents_in, image_in, longs_in, named_in, heading_in, message_in};
+ghost use Rattle.checkpoint_image.specs.Reading.{Gives, Tells, number_in, pair_in, body_in, many_in, listed_in};
+ghost use Rattle.checkpoint_image.specs.Reading.{file_in, reply_in, opener_in, place_in, receive_in, contents_in};
+ghost use Rattle.checkpoint_image.specs.Reading.{image_in, longs_in, named_in, heading_in, message_in};
 ghost use Rattle.checkpoint_image.specs.declared.reading.ReadingFault.TheVariants as variants;
 
 use crate::message::{FileNumber, Image, ImageMessage};
@@ -167,7 +169,11 @@ fn files_in(alloc: Global, words: &[i16]) -> Result<(List<FileNumber>, &[i16]), 
     many_files(alloc, count, left)
 }
 
-fn many_files(alloc: Global, count: u16, words: &[i16]) -> Result<(List<FileNumber>, &[i16]), ReadingFault>
+fn many_files(
+    alloc: Global,
+    count: u16,
+    words: &[i16],
+) -> Result<(List<FileNumber>, &[i16]), ReadingFault>
     ensures { Tells (λ r. (r.0, r.1.now)) result (many_in file_in count words.now) }
 {
     let mut files = List::new(alloc);
@@ -191,7 +197,11 @@ fn replies_in(alloc: Global, words: &[i16]) -> Result<(List<Words>, &[i16]), Rea
     many_replies(alloc, count, left)
 }
 
-fn many_replies(alloc: Global, count: u16, words: &[i16]) -> Result<(List<Words>, &[i16]), ReadingFault>
+fn many_replies(
+    alloc: Global,
+    count: u16,
+    words: &[i16],
+) -> Result<(List<Words>, &[i16]), ReadingFault>
     ensures { Tells (λ r. (r.0, r.1.now)) result (many_in reply_in count words.now) }
 {
     let mut kept = List::new(alloc);
@@ -253,7 +263,10 @@ fn receive_in(alloc: Global, words: &[i16]) -> Result<(ReceiveBlock, &[i16]), Re
 }
 
 /// The body and the files.
-fn contents_in(alloc: Global, words: &[i16]) -> Result<(List<i16>, List<FileNumber>, &[i16]), ReadingFault>
+fn contents_in(
+    alloc: Global,
+    words: &[i16],
+) -> Result<(List<i16>, List<FileNumber>, &[i16]), ReadingFault>
     ensures { Tells (λ r. ((r.0, r.1), r.2.now)) result (contents_in words.now) }
 {
     let (body, left) = body_in(alloc, words)?;

@@ -15,7 +15,8 @@ pub enum RequestStanding {
     Ahead,
 }
 
-/// What a process remembers of one opener: the number last taken from it, and the replies that are kept, the oldest first.
+/// What a process remembers of one opener: the number last taken from it, and the replies that are kept, the oldest
+/// first.
 #[derive(Drop)]
 pub struct OpenerBlock {
     pub taken: u32,

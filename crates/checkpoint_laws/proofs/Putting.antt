@@ -10,10 +10,12 @@ use Rattle.process_images.proofs.Processes.{marked-restores}
 use Rattle.checkpoint_laws.specs.Behind.{IsBehind, AgreesInHand}
 use Rattle.checkpoint_laws.proofs.Files.{files-restored}
 
-pub put-whole : (core stale : Core) → IsWholeProcess core.state → IsWholeProcess stale.state → point core.state ≡ AtCheckpoint → AgreesInHand core → IsBehind stale core
+pub put-whole : (core stale : Core) → IsWholeProcess core.state → IsWholeProcess stale.state
+    → point core.state ≡ AtCheckpoint → AgreesInHand core → IsBehind stale core
     → put_in stale (carried core) ≡ Some (after_passing core)
 put-whole core stale is old at hand behind =
-    ap (λ (h : Bool). option_map filled (restored stale.state h (image_of (listed_items core.state) core.state))) (sym hand)
+    ap (λ (h : Bool). option_map filled (restored stale.state h (image_of (listed_items core.state) core.state)))
+    (sym hand)
     ∙ ap (option_map filled) (marked-restores core.state stale.state is old at behind.state)
     ∙ ap (λ (next : List ℕ). Some (record { state = after_checkpoint core.state; next = next; receive = core.receive }))
     (files-restored (listed_files core.state) core stale.next behind.files behind.next)

@@ -3,8 +3,8 @@ use gd_words::{List, NoMemory};
 use std::alloc::Global;
 use std::test::Fail;
 
-/// The first checkpoint of a bank's process: its frame and five items, the number of its disc, and one opener whose request is in
-/// hand.
+/// The first checkpoint of a bank's process: its frame and five items, the number of its disc, and one opener whose
+/// request is in hand.
 const WORDS: [i16; 30] = [
     3, 1, 0, 0, 0, 1, 14, 1, 0, 8, 4, 4, 5, 5, 0, 0, 0, 1, 1, 0, 5, 1, 1, 0, 1, 1, 0, 1, 0, 0,
 ];

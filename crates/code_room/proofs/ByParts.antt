@@ -2,8 +2,10 @@
 use Rattle.tal_tree.specs.Rows.{read-is, minus-is, two-is, not-is, and-is, or-is}
 use Rattle.tal_tree.specs.declared.expression.Op.{Op}
 use Rattle.tal_tree.specs.declared.expression.Rel.{Rel}
-use Rattle.tal_tree.specs.declared.expression.Cond.{Cond, Truth, Compare, Not, And, Or, Not', And', Or', end_of-Cond, more_of-Cond}
-use Rattle.tal_tree.specs.declared.expression.Expr.{Expr, Number, Read, Minus, Two, Read', Minus', Two', end_of-Spot, more_of-Spot, end_of-Expr, more_of-Expr}
+use Rattle.tal_tree.specs.declared.expression.Cond.{Cond, Truth, Compare, Not, And, Or, Not', And', Or', end_of-Cond}
+use Rattle.tal_tree.specs.declared.expression.Cond.{more_of-Cond}
+use Rattle.tal_tree.specs.declared.expression.Expr.{Expr, Number, Read, Minus, Two, Read', Minus', Two', end_of-Spot}
+use Rattle.tal_tree.specs.declared.expression.Expr.{more_of-Spot, end_of-Expr, more_of-Expr}
 use Rattle.tal_tree.specs.declared.expression.Spot.{Spot, Local, Simple, Element}
 use Rattle.std.specs.Prelude.{ℤ, ℕ}
 use mathlib.Core.Path.{subst}
@@ -41,7 +43,8 @@ module _ (P : Cond → Type 0) (parts : IsByTestParts P) where
   pub by_test_parts : (c : Cond) → P c
   by_test_parts (Truth value) = parts.truth value
   by_test_parts (Compare rel left right) = parts.compare rel left right
-  by_test_parts (Not' _ (more_of-Cond inner end_of-Cond)) = subst P (not-is inner) (parts.not inner (by_test_parts inner))
+  by_test_parts (Not' _ (more_of-Cond inner end_of-Cond)) =
+      subst P (not-is inner) (parts.not inner (by_test_parts inner))
   by_test_parts (And' _ (more_of-Cond left end_of-Cond) _ (more_of-Cond right end_of-Cond)) =
       subst P (and-is left right) (parts.and left right (by_test_parts left) (by_test_parts right))
   by_test_parts (Or' _ (more_of-Cond left end_of-Cond) _ (more_of-Cond right end_of-Cond)) =

@@ -13,7 +13,8 @@ differences_wait (suc n) = omega (arith, differences_wait n, waiting-two Sub (di
 
 pub products_wait : (n : ℕ) → waiting_of (sum_of_products (suc n)) ≡ 1
 products_wait zero = omega (arith, waiting-two Add one (Two Mul one one), for-two Mul one one)
-products_wait (suc n) = omega (arith, products_wait n, waiting-two Add (sum_of_products (suc n)) (Two Mul one one), for-two Mul one one)
+products_wait (suc n) =
+    omega (arith, products_wait n, waiting-two Add (sum_of_products (suc n)) (Two Mul one one), for-two Mul one one)
 
 pub nested_wait : (n : ℕ) → waiting_of (nested n) ≡ n
 nested_wait zero = refl

@@ -14,7 +14,8 @@ use Rattle.code_room.specs.Steps.{spot_operand, operand_of, two_steps, steps_of,
 pub for-more : (right : Expr) → (waiting_of right ≤ waiting_for right) × (waiting_for right ≤ waiting_of right + 1)
 for-more right = by (is_ready right)
   where
-    by : (b : Bool) → (waiting_of right ≤ one_more b (waiting_of right)) × (one_more b (waiting_of right) ≤ waiting_of right + 1)
+    by : (b : Bool) → (waiting_of right ≤ one_more b (waiting_of right))
+        × (one_more b (waiting_of right) ≤ waiting_of right + 1)
     by true = (omega arith, omega arith)
     by false = (omega arith, omega arith)
 
@@ -33,14 +34,17 @@ steps-read spot = ap steps_of (read-is spot)
 pub steps-minus : (inner : Expr) → steps_of (Minus inner) ≡ steps_of inner ++ step.Minus ∷ []
 steps-minus inner = ap steps_of (minus-is inner)
 
-pub steps-two : (op : Op) (left right : Expr) → steps_of (Two op left right) ≡ steps_of left ++ two_steps op (operand_of right) (steps_of right)
+pub steps-two : (op : Op) (left right : Expr)
+    → steps_of (Two op left right) ≡ steps_of left ++ two_steps op (operand_of right) (steps_of right)
 steps-two op left right = ap steps_of (two-is op left right)
 
 pub steps-not : (inner : Cond) → steps_of_test (Not inner) ≡ steps_of_test inner ++ step.Not ∷ []
 steps-not inner = ap steps_of_test (not-is inner)
 
-pub steps-and : (left right : Cond) → steps_of_test (And left right) ≡ steps_of_test left ++ (steps_of_test right ++ step.And ∷ [])
+pub steps-and : (left right : Cond) → steps_of_test (And left right)
+    ≡ steps_of_test left ++ (steps_of_test right ++ step.And ∷ [])
 steps-and left right = ap steps_of_test (and-is left right)
 
-pub steps-or : (left right : Cond) → steps_of_test (Or left right) ≡ steps_of_test left ++ (steps_of_test right ++ step.Or ∷ [])
+pub steps-or : (left right : Cond) → steps_of_test (Or left right)
+    ≡ steps_of_test left ++ (steps_of_test right ++ step.Or ∷ [])
 steps-or left right = ap steps_of_test (or-is left right)

@@ -26,19 +26,23 @@ module _ (globals files : Declarations) (most : ℕ) where
       (r.0, r.1.1.1)
 
   procedures_few : (p : Progress) (ps : g.Procedures) (n : ℕ) (ls : List ℕ) → AllAtMost most (nest_procedures n ps ls)
-      → (k : ℕ) (procedure : Procedure) → slice_get (trees_of globals files p ps) k ≡ Some procedure → WaitFew most procedure.body
+      → (k : ℕ) (procedure : Procedure) → slice_get (trees_of globals files p ps) k ≡ Some procedure
+      → WaitFew most procedure.body
   procedures_few p g.no_procedures n ls levels k procedure there = absurd (cc there)
   procedures_few p (g.more_procedures q rest) n ls levels zero procedure there =
       let is : tree_of_procedure globals files p q ≡ procedure = cc there in
       subst (λ (x : Procedure). WaitFew most x.body) is (procedure_few p q n (nest_procedures n rest ls) levels).0
   procedures_few p (g.more_procedures q rest) n ls levels (suc k) procedure there =
-      procedures_few (after_procedure globals files p q) rest n ls (procedure_few p q n (nest_procedures n rest ls) levels).1 k procedure there
+      procedures_few (after_procedure globals files p q) rest n ls
+      (procedure_few p q n (nest_procedures n rest ls) levels).1 k procedure there
 
 text_few : (t : g.Text) → AllAtMost 33 (nest_text t) → WaitsBelow 80 (tree_of t)
 text_few (g.text lines ps finish) levels k procedure there statement among =
-    let later : AllAtMost 33 (nest_procedures 0 ps (0 ∷ [])) = after_lines 33 0 lines (nest_procedures 0 ps (0 ∷ [])) levels in
+    let later : AllAtMost 33 (nest_procedures 0 ps (0 ∷ [])) =
+    after_lines 33 0 lines (nest_procedures 0 ps (0 ∷ [])) levels in
     let few : WaitFew 33 procedure.body =
-    procedures_few (headed_text lines ps).names (files_by (headed_text lines ps) ps).names 33 first_progress ps 0 (0 ∷ []) later k procedure there in
+    procedures_few (headed_text lines ps).names (files_by (headed_text lines ps) ps).names 33 first_progress ps 0
+    (0 ∷ []) later k procedure there in
     omega (arith, few statement among)
 
 pub read_waits_below : (text : List ℕ) (program : Program) → Reads text program → WaitsBelow 80 program

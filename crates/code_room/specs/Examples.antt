@@ -49,6 +49,8 @@ abbrev pub deep_inside : Program
 deep_inside = record {
   items = [];
   files = [];
-  procedures = procedure_of what.Stop ∷ procedure_of (what.If (Truth one) [] (numbered 2 (what.While (Truth one) (numbered 3 (what.Assign (Local 0) (nested 1)) ∷ [])) ∷ [])) ∷ [];
+  procedures = procedure_of what.Stop ∷ procedure_of
+      (what.If (Truth one) [] (numbered 2 (what.While (Truth one) (numbered 3 (what.Assign (Local 0) (nested 1)) ∷ []))
+      ∷ [])) ∷ [];
   main = 0;
 }

@@ -9,7 +9,8 @@ ghost use Rattle.tal_tree.specs.declared.statement.What.{What-F};
 ghost use Rattle.tal_code.specs.Room.{IsLow};
 ghost use Rattle.tal_code.specs.Waiting.{waiting_of, waiting_of_test, waiting_at, WaitsBelow};
 ghost use Rattle.code_room.specs.Steps.{steps_of};
-ghost use Rattle.code_room.specs.Examples.{one, differences, sum_of_products, nested, chained_tests, nested_tests, deep_inside};
+ghost use Rattle.code_room.specs.Examples.{one, differences, sum_of_products, nested, chained_tests, nested_tests};
+ghost use Rattle.code_room.specs.Examples.{deep_inside};
 
 /// In a chain to the left no more wait the longer it is: none beside numbers, one beside products, one beside AND.
 pub fn a_chain_makes_few_wait()

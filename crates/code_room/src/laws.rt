@@ -29,12 +29,14 @@ pub fn there_is_room_where_few_wait()
 /// Where words stand below the top already, they count with those that wait.
 pub fn there_is_room_above_others()
     ensures value { (e : Expr) (s : PartStack) → LowFrom s (steps_of e) ↔ (length s.below + waiting_of e < 80) }
-    ensures test { (c : Cond) (s : PartStack) → LowFrom s (steps_of_test c) ↔ (length s.below + waiting_of_test c < 80) }
+    ensures test { (c : Cond) (s : PartStack)
+        → LowFrom s (steps_of_test c) ↔ (length s.below + waiting_of_test c < 80) }
 {}
 
 /// For the test of a FOR as many wait as for the value after TO, and for what its variable becomes after a turn none.
 pub fn a_loop_waits_for_its_limit()
-    ensures limit { (variable : Variable) (to : Expr) → waiting_of_test (Compare rel.AtMost (Read (spot_of variable)) to) ≡ waiting_for to }
+    ensures limit { (variable : Variable) (to : Expr)
+        → waiting_of_test (Compare rel.AtMost (Read (spot_of variable)) to) ≡ waiting_for to }
     ensures next { (variable : Variable) → waiting_of (Two op.Add (Read (spot_of variable)) (Number (pos 1))) ≡ 0 }
 {}
 

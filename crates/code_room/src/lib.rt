@@ -2,8 +2,8 @@
 //! computed, that its code needs one word for each of them and one more, and that no program that a text reads as needs
 //! more words than there are.
 //!
-//! Below stand `tal_code`, which says what room there is, and `tal_reader`, which says what it is that a text reads as a
-//! program. No code runs here.
+//! Below stand `tal_code`, which says what room there is, and `tal_reader`, which says what it is that a text reads as
+//! a program. No code runs here.
 #![tactic(auto)]
 
 pub mod guards;

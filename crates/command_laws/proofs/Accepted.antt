@@ -17,22 +17,27 @@ use Rattle.runner.specs.declared.due.Due.{Due}
 use Rattle.runner.specs.declared.due.Due.TheVariants as due
 use Rattle.runner.specs.declared.task.Task.{Task}
 
-pub only-wanting : (refusal : RefusalFault) → (◌≡◌ {A = Result ⊤ RefusalFault} (Err refusal) (Ok tt)) ⊎ (◌≡◌ {A = Result ⊤ RefusalFault} (Err refusal) (Err (NoMemory no_memory))) → refusal ≡ NoMemory no_memory
+pub only-wanting : (refusal : RefusalFault)
+    → (◌≡◌ {A = Result ⊤ RefusalFault} (Err refusal) (Ok tt))
+    ⊎ (◌≡◌ {A = Result ⊤ RefusalFault} (Err refusal) (Err (NoMemory no_memory))) → refusal ≡ NoMemory no_memory
 only-wanting refusal (inl fine) = absurd (cc)
 only-wanting refusal (inr wanting) = cc
 
 -- of processes whose programs are accepted none is the first that is refused
-none-refused : (specs : List ProcessSpec) (refused : RefusedProgram) → AreAccepted specs → IsFirstRefused specs refused → ⊥
+none-refused : (specs : List ProcessSpec) (refused : RefusedProgram) → AreAccepted specs → IsFirstRefused specs refused
+    → ⊥
 none-refused specs refused accepted first =
     first.told
     (only-wanting refused.refusal
-    (accepted-ok first.program (Err refused.refusal) first.verdict (accepted refused.process first.program first.there)))
+    (accepted-ok first.program (Err refused.refusal) first.verdict
+    (accepted refused.process first.program first.there)))
 
 -- what is due is what is due of accepted programs, or want of memory
 abbrev pub IsGood : Task → Deck → Due → Type 0
 IsGood task deck decided = (decided ≡ due.NoMemory no_memory) ⊎ IsDueOfAccepted task deck decided
 
-module _ (task : Task) (deck : Deck) (able : can_stop task deck.site ≡ true) (accepted : AreAccepted deck.site.processes) where
+module _ (task : Task) (deck : Deck) (able : can_stop task deck.site ≡ true)
+    (accepted : AreAccepted deck.site.processes) where
   of-deck : (decided : Due) → IsDueOfDeck task deck decided → IsGood task deck decided
   of-deck (due.NoMemory _) is = inl refl
   of-deck due.Usage is = absurd (cc)
@@ -45,8 +50,10 @@ module _ (task : Task) (deck : Deck) (able : can_stop task deck.site ≡ true) (
 
   module _ (bytes : List ℕ) (spelt : Decks bytes deck) where
     -- a deck that the bytes spell too is the same one
-    of-spelt : (other : Deck) (decided : Due) → Decks bytes other → IsDueOfDeck task other decided → IsGood task deck decided
-    of-spelt other decided too is = of-deck decided (subst (λ (d : Deck). IsDueOfDeck task d decided) (one_deck bytes other deck too spelt) is)
+    of-spelt : (other : Deck) (decided : Due) → Decks bytes other → IsDueOfDeck task other decided
+        → IsGood task deck decided
+    of-spelt other decided too is =
+        of-deck decided (subst (λ (d : Deck). IsDueOfDeck task d decided) (one_deck bytes other deck too spelt) is)
 
     pub of-bytes : (decided : Due) → IsDueOfBytes task bytes decided → IsGood task deck decided
     of-bytes (due.NoMemory _) is = inl refl
@@ -59,15 +66,18 @@ module _ (task : Task) (deck : Deck) (able : can_stop task deck.site ≡ true) (
     of-bytes (due.Swept rows) (other, too, is) = of-spelt other (due.Swept rows) too is
 
     -- what is read of a source is what it told
-    of-told : (found : List ℕ) (decided : Due) → bytes ≡ found → IsDueOfBytes task found decided → IsGood task deck decided
+    of-told : (found : List ℕ) (decided : Due) → bytes ≡ found → IsDueOfBytes task found decided
+        → IsGood task deck decided
     of-told found decided same is = of-bytes decided (subst (λ (b : List ℕ). IsDueOfBytes task b decided) (sym same) is)
 
-    pub of-source : (before now : ℕ) (decided : Due) → IsDueOfSource task (Some bytes) before now decided → decided ≢ due.ReadFault → IsGood task deck decided
+    pub of-source : (before now : ℕ) (decided : Due) → IsDueOfSource task (Some bytes) before now decided
+        → decided ≢ due.ReadFault → IsGood task deck decided
     of-source before now due.ReadFault is read = absurd (read refl)
     of-source before now (due.NoMemory _) is read = inl refl
     of-source before now due.Usage (found, told, is) read = of-told found due.Usage told is
     of-source before now (due.DeckRefused fault) (found, told, is) read = of-told found (due.DeckRefused fault) told is
     of-source before now (due.Accepted site) (found, told, is) read = of-told found (due.Accepted site) told is
-    of-source before now (due.ProgramRefused refused) (found, told, is) read = of-told found (due.ProgramRefused refused) told is
+    of-source before now (due.ProgramRefused refused) (found, told, is) read =
+        of-told found (due.ProgramRefused refused) told is
     of-source before now (due.Report report) (found, told, is) read = of-told found (due.Report report) told is
     of-source before now (due.Swept rows) (found, told, is) read = of-told found (due.Swept rows) told is

@@ -1,5 +1,6 @@
 -- What is due by words, and how a command of them ends.
-use Rattle.std.proofs.Common.{◌≡◌, ◌≢◌, ◌⊎◌, inl, inr, ℕ, true, List, Option, Some, None, refl, subst, sym, ap, ◌∙◌, arith}
+use Rattle.std.proofs.Common.{◌≡◌, ◌≢◌, ◌⊎◌, inl, inr, ℕ, true, List, Option, Some, None, refl, subst, sym, ap, ◌∙◌}
+use Rattle.std.proofs.Common.{arith}
 use Rattle.std.specs.Prelude.{⊤, Bool, IfSome, Result, Ok, Err}
 use Rattle.gd_words.specs.Memory.{no_memory}
 use Rattle.command_words.specs.Asked.{IsInRange, asked_by}
@@ -33,14 +34,18 @@ use Rattle.runner.specs.declared.task.Telling.TheVariants.{Counts, Lines}
 use Rattle.command_laws.specs.RunStatus.{IsStatusOfCheck, IsStatusOfLoad, IsStatusOfRun}
 use Rattle.command_laws.proofs.Accepted.{IsGood, of-bytes, of-source}
 
-good-run : (deck : Deck) (stop : Option ProcessorStop) (tells : Telling) (decided : Due) → IsGood (task.Run tells stop) deck decided → IsDueOfRun deck stop tells decided
+good-run : (deck : Deck) (stop : Option ProcessorStop) (tells : Telling) (decided : Due)
+    → IsGood (task.Run tells stop) deck decided → IsDueOfRun deck stop tells decided
 good-run deck stop tells decided (inl none) = subst (IsDueOfRun deck stop tells) (sym none) tt
 good-run deck stop tells decided (inr is) = is
 
-pub deck-run : (words : List (List ℕ)) (bytes : List ℕ) (before now : ℕ) (acts : Bool) (stop : Option ProcessorStop) (deck : Deck) (decided : Due)
-    → asked_by words ≡ Some (Run acts stop) → Decks bytes deck → can_stop (task.Run (Lines acts) stop) deck.site ≡ true → AreAccepted deck.site.processes
+pub deck-run : (words : List (List ℕ)) (bytes : List ℕ) (before now : ℕ) (acts : Bool) (stop : Option ProcessorStop)
+    (deck : Deck) (decided : Due)
+    → asked_by words ≡ Some (Run acts stop) → Decks bytes deck → can_stop (task.Run (Lines acts) stop) deck.site ≡ true
+    → AreAccepted deck.site.processes
     → IsDue words (Some bytes) before now decided → decided ≢ due.ReadFault → IsDueOfRun deck stop (Lines acts) decided
-deck-run words bytes before now acts stop deck decided asked spelt able accepted (inl none) read = good-run deck stop (Lines acts) decided (inl none)
+deck-run words bytes before now acts stop deck decided asked spelt able accepted (inl none) read =
+    good-run deck stop (Lines acts) decided (inl none)
 deck-run words bytes before now acts stop deck decided asked spelt able accepted (inr is) read =
     good-run deck stop (Lines acts) decided
     (of-source (task.Run (Lines acts) stop) deck able accepted bytes spelt before now decided
@@ -48,7 +53,8 @@ deck-run words bytes before now acts stop deck decided asked spelt able accepted
 
 pub deck-checked : (words : List (List ℕ)) (bytes : List ℕ) (before now : ℕ) (deck : Deck) (decided : Due)
     → asked_by words ≡ Some Check → Decks bytes deck → AreAccepted deck.site.processes
-    → IsDue words (Some bytes) before now decided → decided ≢ due.ReadFault → (decided ≡ due.Accepted deck.site) ⊎ (decided ≡ due.NoMemory no_memory)
+    → IsDue words (Some bytes) before now decided → decided ≢ due.ReadFault
+    → (decided ≡ due.Accepted deck.site) ⊎ (decided ≡ due.NoMemory no_memory)
 deck-checked words bytes before now deck decided asked spelt accepted (inl none) read = inr none
 deck-checked words bytes before now deck decided asked spelt accepted (inr is) read =
     go (of-source task.Check deck refl accepted bytes spelt before now decided
@@ -58,26 +64,31 @@ deck-checked words bytes before now deck decided asked spelt accepted (inr is) r
     go (inl none) = inr none
     go (inr is) = inl is
 
-good-sweep : (deck : Deck) (runs : ℕ) (decided : Due) → IsGood (task.Sweep runs) deck decided → IsDueOfSweep deck runs decided
+good-sweep : (deck : Deck) (runs : ℕ) (decided : Due) → IsGood (task.Sweep runs) deck decided
+    → IsDueOfSweep deck runs decided
 good-sweep deck runs decided (inl none) = subst (IsDueOfSweep deck runs) (sym none) tt
 good-sweep deck runs decided (inr is) = is
 
 pub deck-swept : (words : List (List ℕ)) (bytes : List ℕ) (before now runs : ℕ) (deck : Deck) (decided : Due)
     → asked_by words ≡ Some (Sweep runs) → Decks bytes deck → AreAccepted deck.site.processes
     → IsDue words (Some bytes) before now decided → decided ≢ due.ReadFault → IsDueOfSweep deck runs decided
-deck-swept words bytes before now runs deck decided asked spelt accepted (inl none) read = good-sweep deck runs decided (inl none)
+deck-swept words bytes before now runs deck decided asked spelt accepted (inl none) read =
+    good-sweep deck runs decided (inl none)
 deck-swept words bytes before now runs deck decided asked spelt accepted (inr is) read =
     good-sweep deck runs decided
     (of-source (task.Sweep runs) deck refl accepted bytes spelt before now decided
     (subst (λ (c : Option Command). IsDueOn c (Some bytes) before now decided) asked is) read)
 
-pub load-run : (words : List (List ℕ)) (left : Option (List ℕ)) (before now count : ℕ) (decided : Due) → asked_by words ≡ Some (Load count)
+pub load-run : (words : List (List ℕ)) (left : Option (List ℕ)) (before now count : ℕ) (decided : Due)
+    → asked_by words ≡ Some (Load count)
     → IsDue words left before now decided → IsDueOfRun (load_deck count) None (Counts count) decided
-load-run words left before now count decided asked (inl none) = good-run (load_deck count) None (Counts count) decided (inl none)
+load-run words left before now count decided asked (inl none) =
+    good-run (load_deck count) None (Counts count) decided (inl none)
 load-run words left before now count decided asked (inr is) =
     let few = (subst (λ (c : Option Command). IfSome c IsInRange) asked (asked_in_range words)).1 in
     good-run (load_deck count) None (Counts count) decided
-    (of-bytes (load_task count) (load_deck count) refl (load-accepted count) (load_text count) (load-decks count few) decided
+    (of-bytes (load_task count) (load_deck count) refl (load-accepted count) (load_text count) (load-decks count few)
+    decided
     (subst (λ (c : Option Command). IsDueOn c left before now decided) asked is))
 
 -- Statuses
@@ -87,73 +98,96 @@ ended ending.Idle = tt
 ended ending.Cut = tt
 ended (ending.Second processor) = tt
 
-run-status : (deck : Deck) (stop : Option ProcessorStop) (tells : Telling) (decided : Due) → IsDueOfRun deck stop tells decided → IsStatusOfRun (status_of decided)
+run-status : (deck : Deck) (stop : Option ProcessorStop) (tells : Telling) (decided : Due)
+    → IsDueOfRun deck stop tells decided → IsStatusOfRun (status_of decided)
 run-status deck stop tells (due.Report report) is = ended report.run.ran.ending
 run-status deck stop tells (due.NoMemory _) is = tt
 run-status deck stop tells _ is = absurd is
 
-run-ends : (deck : Deck) (stop : Option ProcessorStop) (tells : Telling) (decided : Due) (result : Result ⊤ WriteFault) (outcome : Outcome)
+run-ends : (deck : Deck) (stop : Option ProcessorStop) (tells : Telling) (decided : Due) (result : Result ⊤ WriteFault)
+    (outcome : Outcome)
     → IsDueOfRun deck stop tells decided → outcome ≡ outcome_of decided result → IsStatusOfRun outcome.status
-run-ends deck stop tells decided (Ok done) outcome is same = subst (λ (o : Outcome). IsStatusOfRun o.status) (sym same) (run-status deck stop tells decided is)
-run-ends deck stop tells decided (Err fault) outcome is same = subst (λ (o : Outcome). IsStatusOfRun o.status) (sym same) tt
+run-ends deck stop tells decided (Ok done) outcome is same =
+    subst (λ (o : Outcome). IsStatusOfRun o.status) (sym same) (run-status deck stop tells decided is)
+run-ends deck stop tells decided (Err fault) outcome is same =
+    subst (λ (o : Outcome). IsStatusOfRun o.status) (sym same) tt
 
 -- where the status tells no read fault and all was written, none was due
-none-failed : (decided : Due) (done : ⊤) (outcome : Outcome) → outcome ≡ outcome_of decided (Ok done) → outcome.status ≢ status.ReadFault
+none-failed : (decided : Due) (done : ⊤) (outcome : Outcome) → outcome ≡ outcome_of decided (Ok done)
+    → outcome.status ≢ status.ReadFault
     → decided ≢ due.ReadFault
 none-failed decided done outcome same sure read = sure (ap (λ (o : Outcome). o.status) same ∙ ap status_of read)
 
-pub deck-ends : (words : List (List ℕ)) (bytes : List ℕ) (before now : ℕ) (acts : Bool) (stop : Option ProcessorStop) (deck : Deck) (decided : Due)
+pub deck-ends : (words : List (List ℕ)) (bytes : List ℕ) (before now : ℕ) (acts : Bool) (stop : Option ProcessorStop)
+    (deck : Deck) (decided : Due)
     (result : Result ⊤ WriteFault) (outcome : Outcome)
-    → asked_by words ≡ Some (Run acts stop) → Decks bytes deck → can_stop (task.Run (Lines acts) stop) deck.site ≡ true → AreAccepted deck.site.processes
-    → IsDue words (Some bytes) before now decided → outcome ≡ outcome_of decided result → outcome.status ≢ status.ReadFault → IsStatusOfRun outcome.status
+    → asked_by words ≡ Some (Run acts stop) → Decks bytes deck → can_stop (task.Run (Lines acts) stop) deck.site ≡ true
+    → AreAccepted deck.site.processes
+    → IsDue words (Some bytes) before now decided → outcome ≡ outcome_of decided result
+    → outcome.status ≢ status.ReadFault → IsStatusOfRun outcome.status
 deck-ends words bytes before now acts stop deck decided (Err fault) outcome asked spelt able accepted is same sure =
     subst (λ (o : Outcome). IsStatusOfRun o.status) (sym same) tt
 deck-ends words bytes before now acts stop deck decided (Ok done) outcome asked spelt able accepted is same sure =
     run-ends deck stop (Lines acts) decided (Ok done) outcome
-    (deck-run words bytes before now acts stop deck decided asked spelt able accepted is (none-failed decided done outcome same sure)) same
+    (deck-run words bytes before now acts stop deck decided asked spelt able accepted is
+    (none-failed decided done outcome same sure)) same
 
 -- the schedule of a load asks for one stop
-load-ended : (count : ℕ) (report : Report) → IsReportOf (load_deck count) None report → (how : Ending) → report.run.ran.ending ≡ how
+load-ended : (count : ℕ) (report : Report) → IsReportOf (load_deck count) None report → (how : Ending)
+    → report.run.ran.ending ≡ how
     → IsStatusOfLoad (status_of_run how)
 load-ended count report is ending.Idle how = tt
 load-ended count report is ending.Cut how = tt
 load-ended count report is (ending.Second processor) how =
     never-second (load_deck count).site load_schedule None report.run.ran processor (omega arith) is.run how
 
-load-status : (count : ℕ) (decided : Due) → IsDueOfRun (load_deck count) None (Counts count) decided → IsStatusOfLoad (status_of decided)
+load-status : (count : ℕ) (decided : Due) → IsDueOfRun (load_deck count) None (Counts count) decided
+    → IsStatusOfLoad (status_of decided)
 load-status count (due.Report report) is = load-ended count report is.0 report.run.ran.ending refl
 load-status count (due.NoMemory _) is = tt
 load-status count _ is = absurd is
 
-pub load-ends : (words : List (List ℕ)) (left : Option (List ℕ)) (before now count : ℕ) (decided : Due) (result : Result ⊤ WriteFault) (outcome : Outcome)
-    → asked_by words ≡ Some (Load count) → IsDue words left before now decided → outcome ≡ outcome_of decided result → IsStatusOfLoad outcome.status
-load-ends words left before now count decided (Err fault) outcome asked is same = subst (λ (o : Outcome). IsStatusOfLoad o.status) (sym same) tt
+pub load-ends : (words : List (List ℕ)) (left : Option (List ℕ)) (before now count : ℕ) (decided : Due)
+    (result : Result ⊤ WriteFault) (outcome : Outcome)
+    → asked_by words ≡ Some (Load count) → IsDue words left before now decided → outcome ≡ outcome_of decided result
+    → IsStatusOfLoad outcome.status
+load-ends words left before now count decided (Err fault) outcome asked is same =
+    subst (λ (o : Outcome). IsStatusOfLoad o.status) (sym same) tt
 load-ends words left before now count decided (Ok done) outcome asked is same =
-    subst (λ (o : Outcome). IsStatusOfLoad o.status) (sym same) (load-status count decided (load-run words left before now count decided asked is))
+    subst (λ (o : Outcome). IsStatusOfLoad o.status) (sym same)
+    (load-status count decided (load-run words left before now count decided asked is))
 
-checked-status : (decided : Due) (deck : Deck) → (decided ≡ due.Accepted deck.site) ⊎ (decided ≡ due.NoMemory no_memory) → IsStatusOfCheck (status_of decided)
+checked-status : (decided : Due) (deck : Deck)
+    → (decided ≡ due.Accepted deck.site) ⊎ (decided ≡ due.NoMemory no_memory) → IsStatusOfCheck (status_of decided)
 checked-status decided deck (inl is) = subst (λ (d : Due). IsStatusOfCheck (status_of d)) (sym is) tt
 checked-status decided deck (inr none) = subst (λ (d : Due). IsStatusOfCheck (status_of d)) (sym none) tt
 
-pub check-ends : (words : List (List ℕ)) (bytes : List ℕ) (before now : ℕ) (deck : Deck) (decided : Due) (result : Result ⊤ WriteFault) (outcome : Outcome)
+pub check-ends : (words : List (List ℕ)) (bytes : List ℕ) (before now : ℕ) (deck : Deck) (decided : Due)
+    (result : Result ⊤ WriteFault) (outcome : Outcome)
     → asked_by words ≡ Some Check → Decks bytes deck → AreAccepted deck.site.processes
-    → IsDue words (Some bytes) before now decided → outcome ≡ outcome_of decided result → outcome.status ≢ status.ReadFault → IsStatusOfCheck outcome.status
+    → IsDue words (Some bytes) before now decided → outcome ≡ outcome_of decided result
+    → outcome.status ≢ status.ReadFault → IsStatusOfCheck outcome.status
 check-ends words bytes before now deck decided (Err fault) outcome asked spelt accepted is same sure =
     subst (λ (o : Outcome). IsStatusOfCheck o.status) (sym same) tt
 check-ends words bytes before now deck decided (Ok done) outcome asked spelt accepted is same sure =
     subst (λ (o : Outcome). IsStatusOfCheck o.status) (sym same)
-    (checked-status decided deck (deck-checked words bytes before now deck decided asked spelt accepted is (none-failed decided done outcome same sure)))
+    (checked-status decided deck (deck-checked words bytes before now deck decided asked spelt accepted is
+    (none-failed decided done outcome same sure)))
 
-swept-status : (deck : Deck) (runs : ℕ) (decided : Due) → IsDueOfSweep deck runs decided → IsStatusOfCheck (status_of decided)
+swept-status : (deck : Deck) (runs : ℕ) (decided : Due) → IsDueOfSweep deck runs decided
+    → IsStatusOfCheck (status_of decided)
 swept-status deck runs (due.Swept rows) is = tt
 swept-status deck runs (due.NoMemory _) is = tt
 swept-status deck runs _ is = absurd is
 
-pub sweep-ends : (words : List (List ℕ)) (bytes : List ℕ) (before now runs : ℕ) (deck : Deck) (decided : Due) (result : Result ⊤ WriteFault) (outcome : Outcome)
+pub sweep-ends : (words : List (List ℕ)) (bytes : List ℕ) (before now runs : ℕ) (deck : Deck) (decided : Due)
+    (result : Result ⊤ WriteFault) (outcome : Outcome)
     → asked_by words ≡ Some (Sweep runs) → Decks bytes deck → AreAccepted deck.site.processes
-    → IsDue words (Some bytes) before now decided → outcome ≡ outcome_of decided result → outcome.status ≢ status.ReadFault → IsStatusOfCheck outcome.status
+    → IsDue words (Some bytes) before now decided → outcome ≡ outcome_of decided result
+    → outcome.status ≢ status.ReadFault → IsStatusOfCheck outcome.status
 sweep-ends words bytes before now runs deck decided (Err fault) outcome asked spelt accepted is same sure =
     subst (λ (o : Outcome). IsStatusOfCheck o.status) (sym same) tt
 sweep-ends words bytes before now runs deck decided (Ok done) outcome asked spelt accepted is same sure =
     subst (λ (o : Outcome). IsStatusOfCheck o.status) (sym same)
-    (swept-status deck runs decided (deck-swept words bytes before now runs deck decided asked spelt accepted is (none-failed decided done outcome same sure)))
+    (swept-status deck runs decided (deck-swept words bytes before now runs deck decided asked spelt accepted is
+    (none-failed decided done outcome same sure)))

@@ -5,7 +5,8 @@ use Rattle.runner.specs.declared.due.Due.{Due}
 use Rattle.runner.specs.declared.due.Due.TheVariants as due
 use Rattle.runner.specs.declared.due.RefusedSite.{RefusedSite}
 
--- the first program that is refused is that of the same process, for the same cause, told by the same lines; the paths of two refusals are as long
+-- the first program that is refused is that of the same process, for the same cause, told by the same lines; the paths
+-- of two refusals are as long
 pub record IsSameRefusal (one other : RefusedSite) : Type 0 where
   pub site : one.site ≡ other.site
   pub process : one.found.process ≡ other.found.process

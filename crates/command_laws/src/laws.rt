@@ -24,30 +24,37 @@ ghost use Rattle.verdicts.specs.Refused.{AreAccepted};
 
 use gd_io::{Sink, Source};
 
-/// Where the words ask for a run, and the source tells bytes that spell a deck which has the processor that is to stop and whose
-/// programs are accepted, what is due is the report of a run of that deck, unless reading fails or memory runs out.
+/// Where the words ask for a run, and the source tells bytes that spell a deck which has the processor that is to stop
+/// and whose programs are accepted, what is due is the report of a run of that deck, unless reading fails or memory
+/// runs out.
 pub fn an_accepted_deck_is_run()
-    ensures { (words : List (List ℕ)) (bytes : List ℕ) (before now : ℕ) (acts : Bool) (stop : Option ProcessorStop) (deck : Deck) (decided : Due)
-        → asked_by words ≡ Some (Run acts stop) → Decks bytes deck → can_stop (task.Run (Lines acts) stop) deck.site ≡ true → AreAccepted deck.site.processes
-        → IsDue words (Some bytes) before now decided → decided ≢ due.ReadFault → IsDueOfRun deck stop (Lines acts) decided }
+    ensures { (words : List (List ℕ)) (bytes : List ℕ) (before now : ℕ) (acts : Bool) (stop : Option ProcessorStop)
+        (deck : Deck) (decided : Due)
+        → asked_by words ≡ Some (Run acts stop) → Decks bytes deck
+        → can_stop (task.Run (Lines acts) stop) deck.site ≡ true → AreAccepted deck.site.processes
+        → IsDue words (Some bytes) before now decided → decided ≢ due.ReadFault
+        → IsDueOfRun deck stop (Lines acts) decided }
 {}
 
-/// So such a command ends with a run, where the source is sure of itself, unless memory runs out or a write fails: no words, deck or
-/// program is refused.
+/// So such a command ends with a run, where the source is sure of itself, unless memory runs out or a write fails: no
+/// words, deck or program is refused.
 pub fn no_accepted_deck_is_refused<S: Source, K: Sink>()
     ensures { (words : List (List ℕ)) (source source_now : S) (sink sink_now : K) (outcome : Outcome)
         → Ends S.left S.faults S.sure K.held K.faults K.sure words source source_now sink sink_now outcome
-        → (bytes : List ℕ) (acts : Bool) (stop : Option ProcessorStop) (deck : Deck) → asked_by words ≡ Some (Run acts stop)
-        → S.left source ≡ Some bytes → S.sure source → Decks bytes deck → can_stop (task.Run (Lines acts) stop) deck.site ≡ true
+        → (bytes : List ℕ) (acts : Bool) (stop : Option ProcessorStop) (deck : Deck)
+        → asked_by words ≡ Some (Run acts stop)
+        → S.left source ≡ Some bytes → S.sure source → Decks bytes deck
+        → can_stop (task.Run (Lines acts) stop) deck.site ≡ true
         → AreAccepted deck.site.processes → IsStatusOfRun outcome.status }
 {}
 
-/// Where the words ask for a check, and the source tells bytes that spell a deck whose programs are accepted, it is due to say so,
-/// unless reading fails or memory runs out.
+/// Where the words ask for a check, and the source tells bytes that spell a deck whose programs are accepted, it is due
+/// to say so, unless reading fails or memory runs out.
 pub fn an_accepted_deck_is_checked()
     ensures { (words : List (List ℕ)) (bytes : List ℕ) (before now : ℕ) (deck : Deck) (decided : Due)
         → asked_by words ≡ Some Check → Decks bytes deck → AreAccepted deck.site.processes
-        → IsDue words (Some bytes) before now decided → decided ≢ due.ReadFault → (decided ≡ due.Accepted deck.site) ⊎ (decided ≡ due.NoMemory no_memory) }
+        → IsDue words (Some bytes) before now decided → decided ≢ due.ReadFault
+        → (decided ≡ due.Accepted deck.site) ⊎ (decided ≡ due.NoMemory no_memory) }
 {}
 
 /// So such a command ends well, where the source is sure of itself, unless memory runs out or a write fails.
@@ -55,11 +62,12 @@ pub fn no_accepted_deck_is_refused_a_check<S: Source, K: Sink>()
     ensures { (words : List (List ℕ)) (source source_now : S) (sink sink_now : K) (outcome : Outcome)
         → Ends S.left S.faults S.sure K.held K.faults K.sure words source source_now sink sink_now outcome
         → (bytes : List ℕ) (deck : Deck) → asked_by words ≡ Some Check
-        → S.left source ≡ Some bytes → S.sure source → Decks bytes deck → AreAccepted deck.site.processes → IsStatusOfCheck outcome.status }
+        → S.left source ≡ Some bytes → S.sure source → Decks bytes deck → AreAccepted deck.site.processes
+        → IsStatusOfCheck outcome.status }
 {}
 
-/// Where the words ask for a sweep, and the source tells bytes that spell a deck whose programs are accepted, what is due is the row of
-/// each of its processors, unless reading fails or memory runs out.
+/// Where the words ask for a sweep, and the source tells bytes that spell a deck whose programs are accepted, what is
+/// due is the row of each of its processors, unless reading fails or memory runs out.
 pub fn an_accepted_deck_is_swept()
     ensures { (words : List (List ℕ)) (bytes : List ℕ) (before now runs : ℕ) (deck : Deck) (decided : Due)
         → asked_by words ≡ Some (Sweep runs) → Decks bytes deck → AreAccepted deck.site.processes
@@ -71,31 +79,37 @@ pub fn no_accepted_deck_is_refused_a_sweep<S: Source, K: Sink>()
     ensures { (words : List (List ℕ)) (source source_now : S) (sink sink_now : K) (outcome : Outcome)
         → Ends S.left S.faults S.sure K.held K.faults K.sure words source source_now sink sink_now outcome
         → (bytes : List ℕ) (runs : ℕ) (deck : Deck) → asked_by words ≡ Some (Sweep runs)
-        → S.left source ≡ Some bytes → S.sure source → Decks bytes deck → AreAccepted deck.site.processes → IsStatusOfCheck outcome.status }
+        → S.left source ≡ Some bytes → S.sure source → Decks bytes deck → AreAccepted deck.site.processes
+        → IsStatusOfCheck outcome.status }
 {}
 
-/// Where the words ask for a load, what is due is the report of a run of the load deck, told in counts, or want of memory.
+/// Where the words ask for a load, what is due is the report of a run of the load deck, told in counts, or want of
+/// memory.
 pub fn a_load_is_run()
-    ensures { (words : List (List ℕ)) (left : Option (List ℕ)) (before now count : ℕ) (decided : Due) → asked_by words ≡ Some (Load count)
+    ensures { (words : List (List ℕ)) (left : Option (List ℕ)) (before now count : ℕ) (decided : Due)
+        → asked_by words ≡ Some (Load count)
         → IsDue words left before now decided → IsDueOfRun (load_deck count) None (Counts count) decided }
 {}
 
-/// So a command of such words ends with a run, unless memory runs out or a write fails: no words, deck, program or source is refused,
-/// and no second processor would stop.
+/// So a command of such words ends with a run, unless memory runs out or a write fails: no words, deck, program or
+/// source is refused, and no second processor would stop.
 pub fn a_load_is_never_refused<S: Source, K: Sink>()
     ensures { (words : List (List ℕ)) (source source_now : S) (sink sink_now : K) (outcome : Outcome) (count : ℕ)
-        → Ends S.left S.faults S.sure K.held K.faults K.sure words source source_now sink sink_now outcome → asked_by words ≡ Some (Load count)
+        → Ends S.left S.faults S.sure K.held K.faults K.sure words source source_now sink sink_now outcome
+        → asked_by words ≡ Some (Load count)
         → IsStatusOfLoad outcome.status }
 {}
 
-/// A command ends with a read fault only where the source counted one, and with a write fault only where the sink did; and with no write
-/// fault where the sink is sure of the text that is due.
+/// A command ends with a read fault only where the source counted one, and with a write fault only where the sink did;
+/// and with no write fault where the sink is sure of the text that is due.
 pub fn faults_were_counted<S: Source, K: Sink>()
     ensures read { (words : List (List ℕ)) (source source_now : S) (sink sink_now : K) (outcome : Outcome)
-        → Ends S.left S.faults S.sure K.held K.faults K.sure words source source_now sink sink_now outcome → outcome.status ≡ status.ReadFault
+        → Ends S.left S.faults S.sure K.held K.faults K.sure words source source_now sink sink_now outcome
+        → outcome.status ≡ status.ReadFault
         → HasRisen (S.faults source) (S.faults source_now) }
     ensures written { (words : List (List ℕ)) (source source_now : S) (sink sink_now : K) (outcome : Outcome)
-        → Ends S.left S.faults S.sure K.held K.faults K.sure words source source_now sink sink_now outcome → outcome.status ≡ status.WriteFault
+        → Ends S.left S.faults S.sure K.held K.faults K.sure words source source_now sink sink_now outcome
+        → outcome.status ≡ status.WriteFault
         → HasRisen (K.faults sink) (K.faults sink_now) }
     ensures sure { (words : List (List ℕ)) (source source_now : S) (sink sink_now : K) (outcome : Outcome)
         → (ends : Ends S.left S.faults S.sure K.held K.faults K.sure words source source_now sink sink_now outcome)
@@ -104,15 +118,20 @@ pub fn faults_were_counted<S: Source, K: Sink>()
 
 /// A deck with a stop has one report, by what is to be told of it.
 pub fn a_deck_has_one_report()
-    ensures { (deck : Deck) (stop : Option ProcessorStop) (report other : Report) → IsReportOf deck stop report → IsReportOf deck stop other
+    ensures { (deck : Deck) (stop : Option ProcessorStop) (report other : Report) → IsReportOf deck stop report
+        → IsReportOf deck stop other
         → report.tells ≡ other.tells → report ≡ other }
 {}
 
-/// The same words over the same bytes have the same due: the same report or verdict, or the same refusal, unless a read fails or memory runs out. Of a
-/// program that is refused two shortest paths may be told, where there are two. What is due of a load is the same over all sources.
+/// The same words over the same bytes have the same due: the same report or verdict, or the same refusal, unless a read
+/// fails or memory runs out. Of a program that is refused two shortest paths may be told, where there are two. What is
+/// due of a load is the same over all sources.
 pub fn what_is_due_is_one()
-    ensures told { (words : List (List ℕ)) (bytes : List ℕ) (before now earlier later : ℕ) (one other : Due) → IsDue words (Some bytes) before now one
+    ensures told { (words : List (List ℕ)) (bytes : List ℕ) (before now earlier later : ℕ) (one other : Due)
+        → IsDue words (Some bytes) before now one
         → IsDue words (Some bytes) earlier later other → IsSameDue one other }
-    ensures load { (words : List (List ℕ)) (count : ℕ) (left told : Option (List ℕ)) (before now earlier later : ℕ) (one other : Due)
-        → asked_by words ≡ Some (Load count) → IsDue words left before now one → IsDue words told earlier later other → IsSameDue one other }
+    ensures load { (words : List (List ℕ)) (count : ℕ) (left told : Option (List ℕ)) (before now earlier later : ℕ)
+        (one other : Due)
+        → asked_by words ≡ Some (Load count) → IsDue words left before now one → IsDue words told earlier later other
+        → IsSameDue one other }
 {}

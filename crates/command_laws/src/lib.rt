@@ -1,9 +1,10 @@
-//! A command whose words, deck and programs are good is never refused: it ends with a run, a sweep or a verdict, unless memory runs out or a
-//! read or a write fails; and a load is such a command. A fault with which a command ends was counted, and what is due of a command is one.
+//! A command whose words, deck and programs are good is never refused: it ends with a run, a sweep or a verdict, unless
+//! memory runs out or a read or a write fails; and a load is such a command. A fault with which a command ends was
+//! counted, and what is due of a command is one.
 //!
-//! Below stand `runner`, whose definitions say what is due and how a command ends, `deck_reader`, `verdicts` and `discipline` with the
-//! laws that decks and verdicts are one, `load_laws`, which says what deck the load text is, and `single_stops`, by which its run has no
-//! second stop. No code runs here.
+//! Below stand `runner`, whose definitions say what is due and how a command ends, `deck_reader`, `verdicts` and
+//! `discipline` with the laws that decks and verdicts are one, `load_laws`, which says what deck the load text is, and
+//! `single_stops`, by which its run has no second stop. No code runs here.
 #![tactic(auto)]
 
 pub mod laws;

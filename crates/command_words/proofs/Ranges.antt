@@ -6,7 +6,8 @@ use Rattle.std.specs.Str.{bytes_eq}
 use Rattle.std.proofs.lemmas.Bool.{and_parts, leb-true}
 use Rattle.clap.specs.Words.{Row, Text, first_of}
 use Rattle.deck_lines.specs.Numbers.{written_number}
-use Rattle.command_words.specs.Asked.{IsInRange, asks_for_acts, asked_by, check_as, command_as, command_in, load_as, load_of, run_as, stop_at, stop_of, sweep_as, sweep_of}
+use Rattle.command_words.specs.Asked.{IsInRange, asks_for_acts, asked_by, check_as, command_as, command_in, load_as}
+use Rattle.command_words.specs.Asked.{load_of, run_as, stop_at, stop_of, sweep_as, sweep_of}
 use Rattle.command_words.specs.Line.{parse_of}
 use Rattle.command_words.specs.declared.asked.Command.TheVariants.{Run, Load, Sweep}
 use Rattle.player.specs.declared.stop.ProcessorStop.{ProcessorStop}
@@ -15,7 +16,8 @@ load : (number : Option ℕ) → IfSome (load_of number) IsInRange
 load None = tt
 load (Some n) = go (nat_le 1 n && nat_le n 200) refl
   where
-    go : (holds : Bool) → (nat_le 1 n && nat_le n 200) ≡ holds → IfSome (if holds then Some (Load n) else None) IsInRange
+    go : (holds : Bool) → (nat_le 1 n && nat_le n 200) ≡ holds
+        → IfSome (if holds then Some (Load n) else None) IsInRange
     go false e = tt
     go true e = let parts = and_parts (nat_le 1 n) (nat_le n 200) e in (leb-true 1 n parts.0, leb-true n 200 parts.1)
 
@@ -23,9 +25,11 @@ sweep : (number : Option ℕ) → IfSome (sweep_of number) IsInRange
 sweep None = tt
 sweep (Some n) = go (nat_le 1 n && nat_le n 10000) refl
   where
-    go : (holds : Bool) → (nat_le 1 n && nat_le n 10000) ≡ holds → IfSome (if holds then Some (Sweep n) else None) IsInRange
+    go : (holds : Bool) → (nat_le 1 n && nat_le n 10000) ≡ holds
+        → IfSome (if holds then Some (Sweep n) else None) IsInRange
     go false e = tt
-    go true e = let parts = and_parts (nat_le 1 n) (nat_le n 10000) e in (leb-true 1 n parts.0, leb-true n 10000 parts.1)
+    go true e = let parts =
+        and_parts (nat_le 1 n) (nat_le n 10000) e in (leb-true 1 n parts.0, leb-true n 10000 parts.1)
 
 stop_in : (processor after : Option ℕ) → IfSome (stop_at processor after) (λ stop. stop.processor ≤ 15)
 stop_in None after = tt
@@ -39,7 +43,8 @@ stop_in (Some p) (Some k) = go (nat_le p 15) refl
     go false e = tt
     go true e = leb-true p 15 e
 
-stopped : (acts : Bool) (found : Option ProcessorStop) → IfSome found (λ stop. stop.processor ≤ 15) → IfSome (option_map (λ stop. Run acts (Some stop)) found) IsInRange
+stopped : (acts : Bool) (found : Option ProcessorStop) → IfSome found (λ stop. stop.processor ≤ 15)
+    → IfSome (option_map (λ stop. Run acts (Some stop)) found) IsInRange
 stopped acts None h = tt
 stopped acts (Some found) h = h
 
@@ -80,10 +85,12 @@ moded : (mode number : Option Text) (acts : Bool) (fail : Option Text)
     → IfSome (option_and_then (λ mode. command_as mode number acts fail) mode) IsInRange
 moded None number acts fail = tt
 moded (Some mode) number acts fail =
-    by_mode (bytes_eq mode (codes "run")) (bytes_eq mode (codes "check")) (bytes_eq mode (codes "load")) (bytes_eq mode (codes "sweep")) number acts fail
+    by_mode (bytes_eq mode (codes "run")) (bytes_eq mode (codes "check")) (bytes_eq mode (codes "load"))
+    (bytes_eq mode (codes "sweep")) number acts fail
 
 pub in_range : (rows : List Row) → IfSome (command_in rows) IsInRange
-in_range rows = moded (first_of (codes "mode") rows) (first_of (codes "number") rows) (asks_for_acts rows) (first_of (codes "fail") rows)
+in_range rows = moded (first_of (codes "mode") rows) (first_of (codes "number") rows) (asks_for_acts rows)
+    (first_of (codes "fail") rows)
 
 found : (rows : Option (List Row)) → IfSome (option_and_then command_in rows) IsInRange
 found None = tt

@@ -1,5 +1,6 @@
 -- Which command the words of a command line ask for. Our own rule.
-use Rattle.std.specs.Prelude.{ℕ, ◌≤◌, Bool, false, ◌==◌, ◌&&◌, nat_le, List, Option, Some, None, option_map, option_and_then, codes, if◌then◌else◌}
+use Rattle.std.specs.Prelude.{ℕ, ◌≤◌, Bool, false, ◌==◌, ◌&&◌, nat_le, List, Option, Some, None, option_map}
+use Rattle.std.specs.Prelude.{option_and_then, codes, if◌then◌else◌}
 use Rattle.std.specs.List.{before_first, after_first}
 use Rattle.std.specs.Option.{option_map_or}
 use Rattle.std.specs.Str.{bytes_eq}
@@ -17,7 +18,8 @@ stop_at _ _ = None
 
 -- `P:K`, numbers before and after the first colon
 abbrev pub stop_of : Text → Option ProcessorStop
-stop_of text = stop_at (written_number (before_first (λ c. c == 58) text)) (written_number (after_first (λ c. c == 58) text))
+stop_of text =
+    stop_at (written_number (before_first (λ c. c == 58) text)) (written_number (after_first (λ c. c == 58) text))
 
 -- `run` takes no number, and any of the flags
 abbrev pub run_as : Option Text → Bool → Option Text → Option Command

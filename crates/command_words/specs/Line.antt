@@ -20,7 +20,8 @@ abbrev pub fail_rule : Rule
 fail_rule = record (new_rule (codes "fail")) { long = Some (codes "fail"); action = Some Set }
 
 abbrev pub the_line : App
-the_line = with_rule (with_rule (with_rule (with_rule (new_app (codes "guardian")) mode_rule) number_rule) acts_rule) fail_rule
+the_line = with_rule (with_rule (with_rule (with_rule (new_app (codes "guardian")) mode_rule) number_rule) acts_rule)
+    fail_rule
 
 -- what clap found, where it refuses nothing
 abbrev pub found_where : Kinds → List Row → Option (List Row)

@@ -1,6 +1,7 @@
 ghost use Rattle.std.specs.Prelude.{◌≡◌, IfOk, IfSome, map, option_map, string_bytes};
 ghost use Rattle.clap.specs.Words.{found_of, rows_of};
-ghost use Rattle.command_words.specs.Asked.{IsInRange, asks_for_acts, asked_by, check_as, command_as, command_in, load_as, load_of, run_as, stop_at, stop_of, sweep_as, sweep_of};
+ghost use Rattle.command_words.specs.Asked.{IsInRange, asks_for_acts, asked_by, check_as, command_as, command_in};
+ghost use Rattle.command_words.specs.Asked.{load_as, load_of, run_as, stop_at, stop_of, sweep_as, sweep_of};
 
 use crate::line::{parsed, text_of};
 use clap::ArgMatches;
@@ -12,15 +13,18 @@ use std::alloc::Global;
 /// What a command is to do.
 #[derive(Clone, Copy, PartialEq, Eq)]
 pub enum Command {
-    /// To judge the programs of a deck, and, where all are accepted, to play it, with this stop, of a processor 0 to 15, beside those of the schedule,
-    /// and to tell the acts that are kept, if they are asked for.
-    Run { acts: bool, stop: Option<ProcessorStop> },
+    /// To judge the programs of a deck, and, where all are accepted, to play it, with this stop, of a processor 0 to
+    /// 15, beside those of the schedule, and to tell the acts that are kept, if they are asked for.
+    Run {
+        acts: bool,
+        stop: Option<ProcessorStop>,
+    },
     /// To judge the programs of a deck.
     Check,
     /// To play the deck that is made for this number, 1 to 200.
     Load(u32),
-    /// To judge the programs of a deck, and, where all are accepted, to play it once for each of its processors and each number of events
-    /// below this one, 1 to 10,000, with a stop of that processor after so many.
+    /// To judge the programs of a deck, and, where all are accepted, to play it once for each of its processors and
+    /// each number of events below this one, 1 to 10,000, with a stop of that processor after so many.
     Sweep(u32),
 }
 
@@ -46,7 +50,8 @@ fn command_in(matches: &ArgMatches) -> Option<Command>
     command_as(mode, number, acts, fail)
 }
 
-// Whether the words ask for the acts. Not by `get_flag`, which promises nothing of other values than `true` and `false`.
+// Whether the words ask for the acts. Not by `get_flag`, which promises nothing of other values than `true` and
+// `false`.
 fn asks_for_acts(matches: &ArgMatches) -> bool
     ensures { result ≡ asks_for_acts (rows_of (found_of matches.now)) }
 {
@@ -57,7 +62,8 @@ fn asks_for_acts(matches: &ArgMatches) -> bool
 }
 
 fn command_as(mode: &str, number: Option<&str>, acts: bool, fail: Option<&str>) -> Option<Command>
-    ensures { result ≡ command_as mode.now (option_map (λ s. s.now) number.entry) acts (option_map (λ s. s.now) fail.entry) }
+    ensures { result ≡ command_as mode.now (option_map (λ s. s.now) number.entry) acts
+        (option_map (λ s. s.now) fail.entry) }
 {
     match mode {
         "run" => run_as(number, acts, fail),
@@ -133,7 +139,10 @@ fn stop_of(text: &str) -> Option<ProcessorStop>
     ensures { result ≡ stop_of text.now }
 {
     let (processor, after) = text.split_once(':')?;
-    stop_at(written_number(processor.as_bytes()), written_number(after.as_bytes()))
+    stop_at(
+        written_number(processor.as_bytes()),
+        written_number(after.as_bytes()),
+    )
 }
 
 fn stop_at(processor: Option<u32>, after: Option<u32>) -> Option<ProcessorStop>

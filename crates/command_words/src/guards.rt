@@ -3,7 +3,8 @@ ghost use Rattle.command_words.specs.Asked.{asked_by};
 ghost use Rattle.command_words.specs.Guarded.{asked, run_with_stop};
 ghost use Rattle.command_words.specs.declared.asked.Command.TheVariants.{Run, Check, Load, Sweep};
 
-/// `run` alone, with its flags in any order, with the value of `--fail` as a word of its own or after `=`, and before `--`.
+/// `run` alone, with its flags in any order, with the value of `--fail` as a word of its own or after `=`, and before
+/// `--`.
 pub fn run_is_asked_for()
     ensures alone { asked (codes "run" ∷ []) ≡ Some (Run false None) }
     ensures acts { asked (codes "run" ∷ codes "--acts" ∷ []) ≡ Some (Run true None) }
@@ -11,7 +12,8 @@ pub fn run_is_asked_for()
     ensures nothing_after { asked (codes "run" ∷ codes "--" ∷ []) ≡ Some (Run false None) }
     ensures fail { asked (codes "run" ∷ codes "--fail" ∷ codes "1:7" ∷ []) ≡ Some (run_with_stop false 1 7) }
     ensures both { asked (codes "run" ∷ codes "--fail=1:007" ∷ codes "--acts" ∷ []) ≡ Some (run_with_stop true 1 7) }
-    ensures greatest { asked (codes "run" ∷ codes "--fail" ∷ codes "15:999999999" ∷ []) ≡ Some (run_with_stop false 15 999999999) }
+    ensures greatest { asked (codes "run" ∷ codes "--fail" ∷ codes "15:999999999" ∷ [])
+        ≡ Some (run_with_stop false 15 999999999) }
 {}
 
 /// `check` alone, and `load` with a number, which may begin with zeros.

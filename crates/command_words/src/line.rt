@@ -37,7 +37,8 @@ fn matches_of<'a>(alloc: Global, words: &'a [String]) -> Result<ArgMatches<'a>, 
 /// What clap makes of the words, the program's name first; none where it refuses them.
 #[tactic(auto, using(crate::proofs::Refused::refused))]
 pub fn parsed<'a>(alloc: Global, words: &'a [String]) -> Result<Option<ArgMatches<'a>>, NoMemory>
-    ensures { IfOk result (λ parse. option_map (λ matches. rows_of (found_of matches)) parse ≡ parse_of (map string_bytes words.entry.now)) }
+    ensures { IfOk result (λ parse. option_map (λ matches. rows_of (found_of matches)) parse
+        ≡ parse_of (map string_bytes words.entry.now)) }
 {
     match matches_of(alloc, words) {
         Ok(matches) => Ok(Some(matches)),

@@ -5,7 +5,8 @@ use Rattle.tal_tree.specs.declared.site.Site.{Site}
 use Rattle.world_semantics.specs.Core.{Core, Deed}
 use Rattle.world_semantics.specs.World.{Pair, Down}
 use Rattle.world_semantics.specs.Messages.{Message, Sending, Cause, Running, Entering, Handing, Stopping, NotingDown}
-use Rattle.world_semantics.specs.Own.{Around, Causes, by_inner, by_take, by_ask, by_answer, by_device, by_write, by_reply}
+use Rattle.world_semantics.specs.Own.{Around, Causes, by_inner, by_take, by_ask, by_answer, by_device, by_write}
+use Rattle.world_semantics.specs.Own.{by_reply}
 use Rattle.world_semantics.specs.Passes.{Passes, by_send, by_pass_again, by_pass, by_apply, by_acknowledge}
 
 abbrev pub IsOfCopies : Cause → Type 0
@@ -15,7 +16,8 @@ IsOfCopies (Entering terminal) = ⊥
 IsOfCopies (Stopping processor) = ⊥
 IsOfCopies (NotingDown node processor) = ⊥
 
-pub own-causes : {site : Site} {number node : ℕ} {core : Core} {before after : Around} {cause : Cause} {deed : Deed} {done : Act} {messages : List Message}
+pub own-causes : {site : Site} {number node : ℕ} {core : Core} {before after : Around} {cause : Cause} {deed : Deed}
+    {done : Act} {messages : List Message}
     → Causes site number node core before cause deed done messages after → IsOfCopies cause
 own-causes by_inner = tt
 own-causes (by_take c) = tt
@@ -25,7 +27,8 @@ own-causes (by_device n) = tt
 own-causes (by_write n) = tt
 own-causes (by_reply i o n u) = tt
 
-pub passes-causes : {number : ℕ} {marks : List Down} {kept after : List Act} {pair next : Pair} {cause : Cause} {sendings : List Sending}
+pub passes-causes : {number : ℕ} {marks : List Down} {kept after : List Act} {pair next : Pair} {cause : Cause}
+    {sendings : List Sending}
     → Passes number marks kept pair cause sendings next after → IsOfCopies cause
 passes-causes (by_send k r p s m) = tt
 passes-causes (by_pass_again k r p m l) = tt

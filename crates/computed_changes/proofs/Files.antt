@@ -1,5 +1,6 @@
 -- Each copy in a run has a next number for each file of its process.
-use Rattle.std.proofs.Common.{◌≡◌, inl, inr, ℕ, zero, suc, ◌+◌, ◌<◌, true, List, [], ◌∷◌, length, Some, is_some, slice_get, slice_set, refl, subst, ◌∙◌}
+use Rattle.std.proofs.Common.{◌≡◌, inl, inr, ℕ, zero, suc, ◌+◌, ◌<◌, true, List, [], ◌∷◌, length, Some, is_some}
+use Rattle.std.proofs.Common.{slice_get, slice_set, refl, subst, ◌∙◌}
 use Rattle.std.specs.Cmp.Derive.{both_true}
 use Rattle.std.proofs.lemmas.Bool.{lt-ltb}
 use Rattle.std.proofs.lemmas.List.{length-map, length-set}
@@ -14,7 +15,8 @@ use Rattle.plain_semantics.specs.Openers.{files_of}
 use Rattle.checkpoint_image.specs.declared.message.FileNumber.{FileNumber}
 use Rattle.checkpoint_image.specs.declared.message.Image.{Image}
 use Rattle.checkpoint_image.specs.declared.message.ImageMessage.{ImageMessage}
-use Rattle.world_semantics.specs.Core.{Core, Deed, Advances, goes, marks, takes, asks, gets, answers, acts, next_on, with_files, put_in}
+use Rattle.world_semantics.specs.Core.{Core, Deed, Advances, goes, marks, takes, asks, gets, answers, acts, next_on}
+use Rattle.world_semantics.specs.Core.{with_files, put_in}
 use Rattle.world_semantics.specs.declared.which.Which.{Which}
 use Rattle.world_semantics.specs.declared.which.Which.TheVariants.{First, Second}
 use Rattle.world_semantics.specs.World.{Copy, Pair, World, copy_of, pair_at_boot, pairs_at_boot}
@@ -28,7 +30,8 @@ use Rattle.world_semantics.proofs.Becoming as becoming
 use Rattle.world_semantics.proofs.Becoming.{Becomes, change-was}
 use Rattle.computed_changes.specs.Fitting.{are_files}
 
-advances-length : {openers : List OpenerSpec} {core next : Core} {deed : Deed} → Advances openers core deed next → length next.next ≡ length core.next
+advances-length : {openers : List OpenerSpec} {core next : Core} {deed : Deed} → Advances openers core deed next
+    → length next.next ≡ length core.next
 advances-length (goes p) = refl
 advances-length (marks p) = refl
 advances-length (takes block p there) = refl
@@ -39,20 +42,25 @@ advances-length (acts p c) = refl
 
 with-length : (files : List FileNumber) (next : List ℕ) → length (with_files files next) ≡ length next
 with-length [] next = refl
-with-length (named ∷ files) next = with-length files (slice_set next named.file named.next) ∙ length-set next named.file named.next
+with-length (named ∷ files) next =
+    with-length files (slice_set next named.file named.next) ∙ length-set next named.file named.next
 
-put-length : (core applied : Core) (image : Image) → put_in core image ≡ Some applied → length applied.next ≡ length core.next
+put-length : (core applied : Core) (image : Image) → put_in core image ≡ Some applied
+    → length applied.next ≡ length core.next
 put-length core applied image e =
-    map-some _ (λ (one : Core). length one.next ≡ length core.next) (restored core.state (is_some image.receive.in_hand) image.body) applied
+    map-some _ (λ (one : Core). length one.next ≡ length core.next)
+    (restored core.state (is_some image.receive.in_hand) image.body) applied
     (λ s r. with-length image.files core.next) e
 
-becomes-length : {site : Site} {w : World} {number : ℕ} {pair : Pair} {sent : List ImageMessage} {k : Which} {cause : Cause} {after : Copy}
+becomes-length : {site : Site} {w : World} {number : ℕ} {pair : Pair} {sent : List ImageMessage} {k : Which}
+    {cause : Cause} {after : Copy}
     → Becomes site w number pair sent k cause after → length after.core.next ≡ length (copy_of k pair).core.next
 becomes-length becoming.stays = refl
 becomes-length (becoming.acts r c a e) = advances-length a
 becomes-length (becoming.sends r p i) = refl
 becomes-length (becoming.passes r) = refl
-becomes-length {pair = pair} {k = k} (becoming.applies {applied = applied} message r i e n a) = put-length (copy_of k pair).core applied message.image a
+becomes-length {pair = pair} {k = k} (becoming.applies {applied = applied} message r i e n a) =
+    put-length (copy_of k pair).core applied message.image a
 becomes-length (becoming.is_told taken r s i e n) = refl
 becomes-length becoming.is_freed = refl
 becomes-length (becoming.hears request r) = refl
@@ -62,32 +70,39 @@ becomes-length (becoming.takes_over node processor t) = refl
 
 abbrev AllNumbered : Site → World → Type 0
 AllNumbered site w =
-    (number : ℕ) (pair : Pair) (spec : ProcessSpec) (k : Which) → slice_get w.processes number ≡ Some pair → slice_get site.processes number ≡ Some spec
+    (number : ℕ) (pair : Pair) (spec : ProcessSpec) (k : Which) → slice_get w.processes number ≡ Some pair
+    → slice_get site.processes number ≡ Some spec
     → length (copy_of k pair).core.next ≡ length (files_of spec.what)
 
-change-numbered : {site : Site} (w next : World) (cause : Cause) (sendings : List Sending) → Change site w cause sendings next → AllNumbered site w
+change-numbered : {site : Site} (w next : World) (cause : Cause) (sendings : List Sending)
+    → Change site w cause sendings next → AllNumbered site w
     → AllNumbered site next
 change-numbered w next cause sendings c ok number after spec k now named =
     let was = change-was w next cause sendings c number after now in
     becomes-length (was.copies k) ∙ ok number was.before spec k was.there named
 
-begin-numbered : (site : Site) (from : ℕ) (specs : List ProcessSpec) (number : ℕ) (pair : Pair) (spec : ProcessSpec) (k : Which)
+begin-numbered : (site : Site) (from : ℕ) (specs : List ProcessSpec) (number : ℕ) (pair : Pair) (spec : ProcessSpec)
+    (k : Which)
     → slice_get (pairs_at_boot site from specs) number ≡ Some pair → slice_get specs number ≡ Some spec
     → length (copy_of k pair).core.next ≡ length (files_of spec.what)
 begin-numbered site from [] number pair spec k e named = absurd (cc)
 begin-numbered site from (one ∷ specs) zero pair spec k e named =
     subst (λ (p : Pair). length (copy_of k p).core.next ≡ length (files_of spec.what)) (some-same e)
-    (subst (λ (s : ProcessSpec). length (copy_of k (pair_at_boot site from one)).core.next ≡ length (files_of s.what)) (some-same named) (by-which k))
+    (subst (λ (s : ProcessSpec). length (copy_of k (pair_at_boot site from one)).core.next ≡ length (files_of s.what))
+    (some-same named) (by-which k))
   where
     by-which : (k : Which) → length (copy_of k (pair_at_boot site from one)).core.next ≡ length (files_of one.what)
     by-which First = length-map (files_of one.what) (λ (file : FileUse). 1)
     by-which Second = length-map (files_of one.what) (λ (file : FileUse). 1)
-begin-numbered site from (one ∷ specs) (suc number) pair spec k e named = begin-numbered site (from + 1) specs number pair spec k e named
+begin-numbered site from (one ∷ specs) (suc number) pair spec k e named =
+    begin-numbered site (from + 1) specs number pair spec k e named
 
 pub run-numbered : {site : Site} {events : List Event} {w : World} → IsRun site events w → AllNumbered site w
 run-numbered {site = site} run = holds-on (AllNumbered site) change-numbered run (begin-numbered site 0 site.processes)
 
-pub files-there : (next : List ℕ) (files : List FileNumber) → ((named : FileNumber) → IsAmong named files → named.file < length next) → are_files next files ≡ true
+pub files-there : (next : List ℕ) (files : List FileNumber)
+    → ((named : FileNumber) → IsAmong named files → named.file < length next) → are_files next files ≡ true
 files-there next [] all = refl
 files-there next (named ∷ files) all =
-    both_true (lt-ltb named.file (length next) (all named (inl refl))) (files-there next files (λ one i. all one (inr i)))
+    both_true (lt-ltb named.file (length next) (all named (inl refl)))
+    (files-there next files (λ one i. all one (inr i)))

@@ -1,5 +1,6 @@
 -- The receive tables of all copies in a run, and those that sent checkpoints carry, fit their process.
-use Rattle.std.proofs.Common.{◌≡◌, inl, inr, ℕ, zero, suc, ◌+◌, ◌<◌, ◌&&◌, ℤ, true, List, [], ◌∷◌, ◌++◌, map, length, Some, is_some, option_map, slice_get, refl, sym, ap, subst, ◌∙◌, arith}
+use Rattle.std.proofs.Common.{◌≡◌, inl, inr, ℕ, zero, suc, ◌+◌, ◌<◌, ◌&&◌, ℤ, true, List, [], ◌∷◌, ◌++◌, map, length}
+use Rattle.std.proofs.Common.{Some, is_some, option_map, slice_get, refl, sym, ap, subst, ◌∙◌, arith}
 use Rattle.std.specs.Prelude.{nat_le}
 use Rattle.std.specs.Cmp.Derive.{both_true}
 use Rattle.std.proofs.lemmas.Bool.{le-leb, leb-true, lt-ltb, ltb-true}
@@ -42,7 +43,8 @@ Fits depths table = (are_of_depths table.openers depths && can_hold table.opener
 
 -- The beginning
 
-begin-of : (openers : List OpenerSpec) → are_of_depths (map (λ opener. record { taken = 0; kept = [] }) openers) (map (λ opener. opener.depth) openers) ≡ true
+begin-of : (openers : List OpenerSpec) → are_of_depths (map (λ opener. record { taken = 0; kept = [] }) openers)
+    (map (λ opener. opener.depth) openers) ≡ true
 begin-of [] = refl
 begin-of (opener ∷ openers) = both_true (both_true (le-leb 0 opener.depth (omega arith)) refl) (begin-of openers)
 
@@ -50,10 +52,12 @@ begin-of (opener ∷ openers) = both_true (both_true (le-leb 0 opener.depth (ome
 
 depth-is : (openers : List OpenerSpec) (place : ℕ) (opener : OpenerSpec) → slice_get openers place ≡ Some opener
     → slice_get (map (λ (one : OpenerSpec). one.depth) openers) place ≡ Some opener.depth
-depth-is openers place opener there = slice_get-map (λ (one : OpenerSpec). one.depth) openers place ∙ ap (option_map (λ (one : OpenerSpec). one.depth)) there
+depth-is openers place opener there = slice_get-map (λ (one : OpenerSpec). one.depth) openers place
+    ∙ ap (option_map (λ (one : OpenerSpec). one.depth)) there
 
 -- each block has a depth
-depth-there : (blocks : List OpenerBlock) (depths : List ℕ) (place : ℕ) (block : OpenerBlock) → are_of_depths blocks depths ≡ true
+depth-there : (blocks : List OpenerBlock) (depths : List ℕ) (place : ℕ) (block : OpenerBlock)
+    → are_of_depths blocks depths ≡ true
     → slice_get blocks place ≡ Some block → (depth : ℕ) × (slice_get depths place ≡ Some depth)
 depth-there [] depths place block are there = absurd (cc)
 depth-there (b ∷ blocks) [] place block are there = absurd (cc)
@@ -61,7 +65,8 @@ depth-there (b ∷ blocks) (depth ∷ depths) zero block are there = (depth, ref
 depth-there (b ∷ blocks) (depth ∷ depths) (suc place) block are there =
     depth-there blocks depths place block (and-right (is_of_depth b depth) (are_of_depths blocks depths) are) there
 
-taking-fits : (depths : List ℕ) (place : ℕ) (block : OpenerBlock) (table : ReceiveBlock) → slice_get table.openers place ≡ Some block → Fits depths table
+taking-fits : (depths : List ℕ) (place : ℕ) (block : OpenerBlock) (table : ReceiveBlock)
+    → slice_get table.openers place ≡ Some block → Fits depths table
     → Fits depths (after_taking place block table)
 taking-fits depths place block table there ok =
     let are = and-left (are_of_depths table.openers depths) _ ok in
@@ -69,10 +74,13 @@ taking-fits depths place block table there ok =
     let of = depth-at table.openers depths place block found.0 are there found.1 in
     let new : OpenerBlock = record block { taken = block.taken + 1 } in
     let kept = leb-true (length block.kept) block.taken (and-right (nat_le (length block.kept) found.0) _ of) in
-    both_true (depths-set table.openers depths place new found.0 are found.1 (more-taken (length block.kept) found.0 block.taken of))
-    (ap is_unanswered (set-there table.openers place block new there) ∙ lt-ltb (length block.kept) (block.taken + 1) (omega (arith, kept)))
+    both_true (depths-set table.openers depths place new found.0 are found.1
+    (more-taken (length block.kept) found.0 block.taken of))
+    (ap is_unanswered (set-there table.openers place block new there)
+    ∙ lt-ltb (length block.kept) (block.taken + 1) (omega (arith, kept)))
 
-answering-fits : (openers : List OpenerSpec) (place : ℕ) (opener : OpenerSpec) (block : OpenerBlock) (words : List ℤ) (table : ReceiveBlock)
+answering-fits : (openers : List OpenerSpec) (place : ℕ) (opener : OpenerSpec) (block : OpenerBlock) (words : List ℤ)
+    (table : ReceiveBlock)
     → table.in_hand ≡ Some place → slice_get openers place ≡ Some opener → slice_get table.openers place ≡ Some block
     → Fits (map (λ (one : OpenerSpec). one.depth) openers) table
     → Fits (map (λ (one : OpenerSpec). one.depth) openers) (after_answering opener.depth place block words table)
@@ -80,26 +88,31 @@ answering-fits openers place opener block words table held opens there ok =
     let depths = map (λ (one : OpenerSpec). one.depth) openers in
     let are = and-left (are_of_depths table.openers depths) _ ok in
     let holds : can_hold table.openers table.in_hand ≡ true = and-right (are_of_depths table.openers depths) _ ok in
-    let unanswered : is_unanswered (slice_get table.openers place) ≡ true = ap (can_hold table.openers) (sym held) ∙ holds in
+    let unanswered : is_unanswered (slice_get table.openers place) ≡ true =
+    ap (can_hold table.openers) (sym held) ∙ holds in
     let fewer = ltb-true (length block.kept) block.taken (ap is_unanswered (sym there) ∙ unanswered) in
     both_true
-    (depths-set table.openers depths place (record block { kept = last_ones opener.depth (block.kept ++ words ∷ []) }) opener.depth are
+    (depths-set table.openers depths place (record block { kept = last_ones opener.depth (block.kept ++ words ∷ []) })
+    opener.depth are
     (depth-is openers place opener opens) (one-more-kept block.kept words opener.depth block.taken fewer)) refl
 
 advances-fits : {openers : List OpenerSpec} {core next : Core} {deed : Deed} → Advances openers core deed next
-    → Fits (map (λ (one : OpenerSpec). one.depth) openers) core.receive → Fits (map (λ (one : OpenerSpec). one.depth) openers) next.receive
+    → Fits (map (λ (one : OpenerSpec). one.depth) openers) core.receive
+    → Fits (map (λ (one : OpenerSpec). one.depth) openers) next.receive
 advances-fits (goes p) ok = ok
 advances-fits (marks p) ok = ok
 advances-fits {core = core} (takes {place = place} block p there) ok = taking-fits _ place block core.receive there ok
 advances-fits (asks p f w) ok = ok
 advances-fits (gets p f) ok = ok
-advances-fits {openers = openers} {core = core} (answers {place = place} {words = words} opener block p held opens there w) ok =
+advances-fits {openers = openers} {core = core}
+    (answers {place = place} {words = words} opener block p held opens there w) ok =
     answering-fits openers place opener block words core.receive held opens there ok
 advances-fits (acts p c) ok = ok
 
 put-receive : (core applied : Core) (image : Image) → put_in core image ≡ Some applied → applied.receive ≡ image.receive
 put-receive core applied image e =
-    map-some _ (λ (one : Core). one.receive ≡ image.receive) (restored core.state (is_some image.receive.in_hand) image.body) applied (λ s r. refl) e
+    map-some _ (λ (one : Core). one.receive ≡ image.receive)
+    (restored core.state (is_some image.receive.in_hand) image.body) applied (λ s r. refl) e
 
 -- Processes
 
@@ -108,14 +121,18 @@ record AreFitting (depths : List ℕ) (pair : Pair) : Type 0 where
   pub copies : (k : Which) → Fits depths (copy_of k pair).core.receive
   pub sent : (message : ImageMessage) → IsAmong message pair.checkpoints → Fits depths message.image.receive
 
-becomes-fits : {site : Site} {w : World} {number : ℕ} {pair : Pair} {sent : List ImageMessage} {k : Which} {cause : Cause} {after : Copy}
-    → Becomes site w number pair sent k cause after → AreFitting (depths_of site number) pair → Fits (depths_of site number) after.core.receive
+becomes-fits : {site : Site} {w : World} {number : ℕ} {pair : Pair} {sent : List ImageMessage} {k : Which}
+    {cause : Cause} {after : Copy}
+    → Becomes site w number pair sent k cause after → AreFitting (depths_of site number) pair
+    → Fits (depths_of site number) after.core.receive
 becomes-fits {k = k} becoming.stays ok = ok.copies k
 becomes-fits {k = k} (becoming.acts r c a e) ok = advances-fits a (ok.copies k)
 becomes-fits {k = k} (becoming.sends r p i) ok = ok.copies k
 becomes-fits {k = k} (becoming.passes r) ok = ok.copies k
-becomes-fits {site = site} {number = number} {pair = pair} {k = k} (becoming.applies {applied = applied} message r i e n a) ok =
-    subst (Fits (depths_of site number)) (sym (put-receive (copy_of k pair).core applied message.image a)) (ok.sent message i)
+becomes-fits {site = site} {number = number} {pair = pair} {k = k}
+    (becoming.applies {applied = applied} message r i e n a) ok =
+    subst (Fits (depths_of site number)) (sym (put-receive (copy_of k pair).core applied message.image a))
+    (ok.sent message i)
 becomes-fits {k = k} (becoming.is_told taken r s i e n) ok = ok.copies k
 becomes-fits {k = k} becoming.is_freed ok = ok.copies k
 becomes-fits {k = k} (becoming.hears request r) ok = ok.copies k
@@ -123,20 +140,24 @@ becomes-fits {k = k} (becoming.hears_early request r) ok = ok.copies k
 becomes-fits {k = k} (becoming.stops processor) ok = ok.copies k
 becomes-fits {k = k} (becoming.takes_over node processor t) ok = ok.copies k
 
-says-fits : {number : ℕ} (depths : List ℕ) (before after : Pair) → Says number before after → AreFitting depths before → (message : ImageMessage)
+says-fits : {number : ℕ} (depths : List ℕ) (before after : Pair) → Says number before after → AreFitting depths before
+    → (message : ImageMessage)
     → IsAmong message after.checkpoints → Fits depths message.image.receive
 says-fits depths before after (nothing c t) ok message i = ok.sent message (subst (IsAmong message) c i)
 says-fits depths before after (was_taken taken j c t) ok message i = ok.sent message (subst (IsAmong message) c i)
 says-fits {number = number} depths before after (a_checkpoint k c t) ok message i = of (subst (IsAmong message) c i)
   where
-    of : IsAmong message (checkpoint_of number (copy_of k before) ∷ before.checkpoints) → Fits depths message.image.receive
+    of : IsAmong message (checkpoint_of number (copy_of k before) ∷ before.checkpoints)
+        → Fits depths message.image.receive
     of (inl same) = subst (λ (m : ImageMessage). Fits depths m.image.receive) (sym same) (ok.copies k)
     of (inr among) = ok.sent message among
 
 abbrev AllFitting : Site → World → Type 0
-AllFitting site w = (number : ℕ) (pair : Pair) → slice_get w.processes number ≡ Some pair → AreFitting (depths_of site number) pair
+AllFitting site w =
+    (number : ℕ) (pair : Pair) → slice_get w.processes number ≡ Some pair → AreFitting (depths_of site number) pair
 
-change-fits : {site : Site} (w next : World) (cause : Cause) (sendings : List Sending) → Change site w cause sendings next → AllFitting site w → AllFitting site next
+change-fits : {site : Site} (w next : World) (cause : Cause) (sendings : List Sending)
+    → Change site w cause sendings next → AllFitting site w → AllFitting site next
 change-fits {site = site} w next cause sendings c ok number after now =
     let was = change-was w next cause sendings c number after now in
     let said = change-said w next cause sendings c number after now in
@@ -145,29 +166,36 @@ change-fits {site = site} w next cause sendings c ok number after now =
       sent = says-fits (depths_of site number) said.before after said.says (ok number said.before said.there);
     }
 
-fits-begin : (site : Site) (from : ℕ) (specs : List ProcessSpec) (place number : ℕ) (pair : Pair) → number ≡ from + place
+fits-begin : (site : Site) (from : ℕ) (specs : List ProcessSpec) (place number : ℕ) (pair : Pair)
+    → number ≡ from + place
     → slice_get (pairs_at_boot site from specs) place ≡ Some pair → AreFitting (depths_of site number) pair
 fits-begin site from [] place number pair n e = absurd (cc)
 fits-begin site from (spec ∷ specs) zero number pair n e =
     let same : from ≡ number = omega (arith, n) in
     subst (λ m. AreFitting (depths_of site m) pair) same
-    (subst (AreFitting (depths_of site from)) (some-same e) (record { copies = by-which; sent = λ message i. absurd i }))
+    (subst (AreFitting (depths_of site from)) (some-same e)
+    (record { copies = by-which; sent = λ message i. absurd i }))
   where
     by-which : (k : Which) → Fits (depths_of site from) (copy_of k (pair_at_boot site from spec)).core.receive
     by-which First = both_true (begin-of (openers_of site from)) refl
     by-which Second = both_true (begin-of (openers_of site from)) refl
-fits-begin site from (spec ∷ specs) (suc place) number pair n e = fits-begin site (from + 1) specs place number pair (omega (arith, n)) e
+fits-begin site from (spec ∷ specs) (suc place) number pair n e =
+    fits-begin site (from + 1) specs place number pair (omega (arith, n)) e
 
 run-fits : {site : Site} {events : List Event} {w : World} → IsRun site events w → AllFitting site w
 run-fits {site = site} run =
-    holds-on (AllFitting site) change-fits run (λ number pair there. fits-begin site 0 site.processes number number pair (omega arith) there)
+    holds-on (AllFitting site) change-fits run
+    (λ number pair there. fits-begin site 0 site.processes number number pair (omega arith) there)
 
-pub sent-fits : {site : Site} {events : List Event} (w : World) (number : ℕ) (spec : ProcessSpec) (pair : Pair) (k : Which) (message : ImageMessage)
-    → IsRun site events w → slice_get site.processes number ≡ Some spec → slice_get w.processes number ≡ Some pair → IsAmong message pair.checkpoints
+pub sent-fits : {site : Site} {events : List Event} (w : World) (number : ℕ) (spec : ProcessSpec) (pair : Pair)
+    (k : Which) (message : ImageMessage)
+    → IsRun site events w → slice_get site.processes number ≡ Some spec → slice_get w.processes number ≡ Some pair
+    → IsAmong message pair.checkpoints
     → ((named : FileNumber) → IsAmong named message.image.files → named.file < length (files_of spec.what))
     → fits (depths_of site number) (copy_of k pair).core message.image ≡ true
 sent-fits w number spec pair k message run named there i files =
     let many = run-numbered run number pair spec k there named in
     both_true
-    (files-there (copy_of k pair).core.next message.image.files (λ one among. subst (λ n. one.file < n) (sym many) (files one among)))
+    (files-there (copy_of k pair).core.next message.image.files
+    (λ one among. subst (λ n. one.file < n) (sym many) (files one among)))
     ((run-fits run number pair there).sent message i)

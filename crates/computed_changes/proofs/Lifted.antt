@@ -30,7 +30,8 @@ abbrev pub got_done : Site → ℕ → Reply → Which → Pair → World → Ro
 got_done site number reply k pair w role = lifted number w (reply_step site number k pair (records_of w) reply role)
 
 abbrev pub applied_done : ImageMessage → Which → Pair → World → Core → Done
-applied_done message k pair w core = in_world message.process w (applied_step message.process k pair (records_of w) message core)
+applied_done message k pair w core =
+    in_world message.process w (applied_step message.process k pair (records_of w) message core)
 
 abbrev pub applied_made : ImageMessage → Which → Pair → World → Option Core → Option Done
 applied_made message k pair w core =

@@ -1,5 +1,6 @@
 -- Where a file or a terminal stands among the openers of its server, it is the one that stands there.
-use Rattle.std.proofs.Common.{◌≡◌, ℕ, zero, suc, ◌+◌, ◌==◌, Bool, true, false, if◌then◌else◌, List, [], ◌∷◌, Option, Some, None, option_map, slice_get, refl, sym, ap, arith}
+use Rattle.std.proofs.Common.{◌≡◌, ℕ, zero, suc, ◌+◌, ◌==◌, Bool, true, false, if◌then◌else◌, List, [], ◌∷◌, Option}
+use Rattle.std.proofs.Common.{Some, None, option_map, slice_get, refl, sym, ap, arith}
 use Rattle.std.proofs.lemmas.Bool.{eqb-true}
 use Rattle.gd_words.specs.declared.message.Reply.{Reply}
 use Rattle.tal_tree.specs.declared.site.Site.{Site}
@@ -32,22 +33,28 @@ record IsPlaced (one : Who) (from : ℕ) (openers : List OpenerSpec) (place : �
   pub count : place ≡ from + at
   pub same : who_at openers at ≡ Some one
 
-placed-from : (one : Who) (from : ℕ) (openers : List OpenerSpec) (place : ℕ) → place_from one from openers ≡ Some place → IsPlaced one from openers place
+placed-from : (one : Who) (from : ℕ) (openers : List OpenerSpec) (place : ℕ) → place_from one from openers ≡ Some place
+    → IsPlaced one from openers place
 placed-from one from [] place e = absurd (cc)
-placed-from one from (opener ∷ openers) place e = by (same_who one opener.who) refl e (placed-from one (from + 1) openers place)
+placed-from one from (opener ∷ openers) place e =
+    by (same_who one opener.who) refl e (placed-from one (from + 1) openers place)
   where
-    by : (test : Bool) → same_who one opener.who ≡ test → (if test then Some from else place_from one (from + 1) openers) ≡ Some place
-        → (place_from one (from + 1) openers ≡ Some place → IsPlaced one (from + 1) openers place) → IsPlaced one from (opener ∷ openers) place
+    by : (test : Bool) → same_who one opener.who ≡ test
+        → (if test then Some from else place_from one (from + 1) openers) ≡ Some place
+        → (place_from one (from + 1) openers ≡ Some place → IsPlaced one (from + 1) openers place)
+        → IsPlaced one from (opener ∷ openers) place
     by true is e later =
         let n : from ≡ place = some-same e in
         record { at = zero; count = omega (arith, n); same = ap Some (sym (same-who one opener.who is)) }
     by false is e later = let p = later e in record { at = suc p.at; count = omega (arith, p.count); same = p.same }
 
-pub opener-placed : (site : Site) (one : Who) (server place : ℕ) → opener_of site one ≡ Some (record { server = server; place = place })
+pub opener-placed : (site : Site) (one : Who) (server place : ℕ)
+    → opener_of site one ≡ Some (record { server = server; place = place })
     → who_at (openers_of site server) place ≡ Some one
 opener-placed site one server place e = by (server_by site one) e
   where
-    at-place : (n : ℕ) (found : Option ℕ) → place_from one 0 (openers_of site n) ≡ found → opener_at n found ≡ Some (record { server = server; place = place })
+    at-place : (n : ℕ) (found : Option ℕ) → place_from one 0 (openers_of site n) ≡ found
+        → opener_at n found ≡ Some (record { server = server; place = place })
         → who_at (openers_of site server) place ≡ Some one
     at-place n None is e = absurd (cc)
     at-place n (Some m) is e =
@@ -58,12 +65,14 @@ opener-placed site one server place e = by (server_by site one) e
         let at : placed.at ≡ place = omega (arith, placed.count, p) in
         rw (sym s, sym at) placed.same
 
-    by : (found : Option ℕ) → opener_on site one found ≡ Some (record { server = server; place = place }) → who_at (openers_of site server) place ≡ Some one
+    by : (found : Option ℕ) → opener_on site one found ≡ Some (record { server = server; place = place })
+        → who_at (openers_of site server) place ≡ Some one
     by None e = absurd (cc)
     by (Some n) e = at-place n (place_from one 0 (openers_of site n)) refl e
 
 -- Whom a reply goes to
 
-pub is-to : (opener : Option Opener) (reply : Reply) → is_to opener reply ≡ true → opener ≡ Some (record { server = reply.process; place = reply.opener })
+pub is-to : (opener : Option Opener) (reply : Reply) → is_to opener reply ≡ true
+    → opener ≡ Some (record { server = reply.process; place = reply.opener })
 is-to None reply e = absurd (cc)
 is-to (Some opener) reply e = ap Some (opener-is opener reply e)

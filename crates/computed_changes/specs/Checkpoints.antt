@@ -17,7 +17,8 @@ use Rattle.computed_changes.specs.Fitting.{depths_of, put_fitting}
 
 -- A checkpoint
 
--- whether a checkpoint is the next one for a copy of this era, which applied that of this number last: of the copy's own era, and of the number next to its own
+-- whether a checkpoint is the next one for a copy of this era, which applied that of this number last: of the copy's
+-- own era, and of the number next to its own
 abbrev pub is_next_for : ℕ → ℕ → ImageMessage → Bool
 is_next_for era number message = message.era == era && message.number == number + 1
 
@@ -25,8 +26,8 @@ abbrev pub core_where : List ℕ → Core → ImageMessage → Bool → Option C
 core_where depths core message true = put_fitting depths core message.image
 core_where depths core message false = None
 
--- the core of a copy of this era, number and role after a checkpoint came to it; none where it is ignored. A copy that watches applies it whole where it is the
--- next one and fits
+-- the core of a copy of this era, number and role after a checkpoint came to it; none where it is ignored. A copy that
+-- watches applies it whole where it is the next one and fits
 abbrev pub core_as : List ℕ → ℕ → ℕ → Core → ImageMessage → Role → Option Core
 core_as depths era number core message Watching = core_where depths core message (is_next_for era number message)
 core_as depths era number core message Acting = None
@@ -56,12 +57,17 @@ is_of_last sent era number taken = sent && (taken.era == era && taken.number == 
 
 abbrev pub taken_step_where : Which → Pair → Records → Bool → Option Stepped
 taken_step_where k pair records true =
-    Some (record { pair = with_copy k (record (copy_of k pair) { acknowledged = true }) pair; records = records; sendings = [] })
+    Some (record {
+      pair = with_copy k (record (copy_of k pair) { acknowledged = true }) pair;
+      records = records;
+      sendings = [];
+    })
 taken_step_where k pair records false = None
 
 -- a copy that acts is told that the checkpoint which it sent last was taken
 abbrev pub taken_step : Which → Pair → Records → TakenMessage → Role → Option Stepped
 taken_step k pair records taken Acting =
-    taken_step_where k pair records (is_of_last (copy_of k pair).sent (copy_of k pair).era (copy_of k pair).number taken)
+    taken_step_where k pair records (is_of_last (copy_of k pair).sent (copy_of k pair).era (copy_of k pair).number
+    taken)
 taken_step k pair records taken Watching = None
 taken_step k pair records taken Gone = None

@@ -1,5 +1,6 @@
 -- What a terminal does that enters, computed.
-use Rattle.std.specs.Prelude.{ℕ, ◌+◌, ◌==◌, ℤ, Bool, true, false, List, [], ◌∷◌, slice_get, slice_set, Option, Some, None}
+use Rattle.std.specs.Prelude.{ℕ, ◌+◌, ◌==◌, ℤ, Bool, true, false, List, [], ◌∷◌, slice_get, slice_set, Option, Some}
+use Rattle.std.specs.Prelude.{None}
 use Rattle.std.specs.Option.{option_map}
 use Rattle.tal_tree.specs.declared.act.Act.TheVariants as act
 use Rattle.tal_tree.specs.declared.site.Site.{Site}

@@ -15,7 +15,8 @@ use Rattle.computed_changes.specs.Handed.{copy_in}
 
 -- each process of a site has its two copies in two processors
 abbrev pub HasCopiesApart : Site → Type 0
-HasCopiesApart site = (number : ℕ) (spec : ProcessSpec) → slice_get site.processes number ≡ Some spec → spec.primary ≢ spec.backup
+HasCopiesApart site =
+    (number : ℕ) (spec : ProcessSpec) → slice_get site.processes number ≡ Some spec → spec.primary ≢ spec.backup
 
 -- a process has this copy at a node
 pub record IsCopyAt (w : World) (node number : ℕ) (k : Which) (pair : Pair) : Type 0 where
@@ -31,13 +32,15 @@ NamesOpener site number (Taking taken) = Unit {0}
 
 -- a reply goes to this opener
 abbrev pub GoesTo : Site → Reply → Who → Type 0
-GoesTo site reply one = option_map (λ opener. opener.who) (slice_get (openers_of site reply.process) reply.opener) ≡ Some one
+GoesTo site reply one =
+    option_map (λ opener. opener.who) (slice_get (openers_of site reply.process) reply.opener) ≡ Some one
 
 -- a message was sent, and what copies send each other by copies of the process that it names
 abbrev pub IsSent : World → Message → Type 0
 IsSent w (Asking request) = IsAmong request w.requests
 IsSent w (Replying reply) = IsAmong reply w.replies
-IsSent w (Checkpointing message) = (pair : Pair) × (slice_get w.processes message.process ≡ Some pair) × IsAmong message pair.checkpoints
+IsSent w (Checkpointing message) =
+    (pair : Pair) × (slice_get w.processes message.process ≡ Some pair) × IsAmong message pair.checkpoints
 IsSent w (Taking taken) = (pair : Pair) × (slice_get w.processes taken.process ≡ Some pair) × IsAmong taken pair.takens
 
 -- what a checkpoint carries fits the copy at the node where it comes; any other message fits

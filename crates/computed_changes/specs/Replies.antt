@@ -1,5 +1,6 @@
 -- What a reply does that comes to a copy of a process or to a terminal, computed.
-use Rattle.std.specs.Prelude.{ℕ, ◌+◌, ◌==◌, ◌&&◌, ℤ, Bool, true, false, List, [], ◌∷◌, slice_get, slice_set, Option, Some, None}
+use Rattle.std.specs.Prelude.{ℕ, ◌+◌, ◌==◌, ◌&&◌, ℤ, Bool, true, false, List, [], ◌∷◌, slice_get, slice_set, Option}
+use Rattle.std.specs.Prelude.{Some, None}
 use Rattle.gd_words.specs.declared.message.Reply.{Reply}
 use Rattle.tal_tree.specs.declared.act.Act.{Act}
 use Rattle.tal_tree.specs.declared.act.Act.TheVariants as act
@@ -27,16 +28,19 @@ is_to (Some opener) reply = opener.server == reply.process && opener.place == re
 
 -- At a copy
 
--- whether a process that stands at this point awaits a reply: it is to the file on which the process asked, and has the number of the request that was asked
--- last on that file
+-- whether a process that stands at this point awaits a reply: it is to the file on which the process asked, and has the
+-- number of the request that was asked last on that file
 abbrev pub awaits : Site → ℕ → Core → Reply → Point → Bool
 awaits site number core reply point.Await =
-    is_to (opener_of site (who.File number (process.asked_file core.state))) reply && reply.number + 1 == next_on core (process.asked_file core.state)
+    is_to (opener_of site (who.File number (process.asked_file core.state))) reply
+    && reply.number + 1 == next_on core (process.asked_file core.state)
 awaits site number core reply stands = false
 
--- a copy of a process after it got the words of the reply that it awaits, which is a step of the process, and the kept acts then
+-- a copy of a process after it got the words of the reply that it awaits, which is a step of the process, and the kept
+-- acts then
 abbrev pub copy_got : ℕ → List ℤ → List Act → Copy → Copy
-copy_got number words kept copy = record (after_entering number (act.Step number) kept copy) { core = core_getting words copy.core }
+copy_got number words kept copy =
+    record (after_entering number (act.Step number) kept copy) { core = core_getting words copy.core }
 
 abbrev pub kept_got : ℕ → List Act → Copy → List Act
 kept_got number kept copy = (share_after_act number (act.Step number) kept (share_of copy)).kept
@@ -55,16 +59,19 @@ reply_step_where number k pair records reply false = None
 -- a reply that comes to a copy that acts and awaits it is got
 abbrev pub reply_step : Site → ℕ → Which → Pair → Records → Reply → Role → Option Stepped
 reply_step site number k pair records reply Acting =
-    reply_step_where number k pair records reply (awaits site number (copy_of k pair).core reply (process.point (copy_of k pair).core.state))
+    reply_step_where number k pair records reply
+    (awaits site number (copy_of k pair).core reply (process.point (copy_of k pair).core.state))
 reply_step site number k pair records reply Watching = None
 reply_step site number k pair records reply Gone = None
 
 -- At a terminal
 
--- whether a terminal awaits a reply: it is to the terminal, and has the number of the request that was entered last, to which none is printed yet
+-- whether a terminal awaits a reply: it is to the terminal, and has the number of the request that was entered last, to
+-- which none is printed yet
 abbrev pub awaits_at : Site → ℕ → Terminal → Reply → Bool
 awaits_at site number terminal reply =
-    is_to (opener_of site (who.Terminal number)) reply && (terminal.entered == terminal.printed + 1 && reply.number == terminal.entered)
+    is_to (opener_of site (who.Terminal number)) reply
+    && (terminal.entered == terminal.printed + 1 && reply.number == terminal.entered)
 
 abbrev pub printed_where : ℕ → Reply → Terminal → World → Bool → Option Done
 printed_where number reply terminal w true = Some (record {
@@ -80,7 +87,8 @@ printed_where number reply terminal w false = None
 -- a reply that comes to a terminal that awaits it is printed
 abbrev pub printed_done : Site → ℕ → Reply → World → Option Terminal → Option Done
 printed_done site number reply w None = None
-printed_done site number reply w (Some terminal) = printed_where number reply terminal w (awaits_at site number terminal reply)
+printed_done site number reply w (Some terminal) =
+    printed_where number reply terminal w (awaits_at site number terminal reply)
 
 abbrev pub printed_at : Site → ℕ → Reply → World → Bool → Option Done
 printed_at site number reply w true = printed_done site number reply w (slice_get w.terminals number)

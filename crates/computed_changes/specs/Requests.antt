@@ -22,7 +22,8 @@ repeated_at copy request = sent_at copy.processor (map Replying (repeated copy.c
 abbrev pub after_early_request : Copy → Request → Copy
 after_early_request copy request = record copy { waiting = waits copy.waiting request }
 
--- a request that comes to a copy that acts waits there, or its kept reply is sent again; at one that watches it waits; one that is gone does nothing
+-- a request that comes to a copy that acts waits there, or its kept reply is sent again; at one that watches it waits;
+-- one that is gone does nothing
 abbrev pub request_step : Which → Pair → Records → Request → Role → Option Stepped
 request_step k pair records request Acting = Some (record {
   pair = with_copy k (after_request (copy_of k pair) request) pair;
@@ -30,5 +31,9 @@ request_step k pair records request Acting = Some (record {
   sendings = repeated_at (copy_of k pair) request;
 })
 request_step k pair records request Watching =
-    Some (record { pair = with_copy k (after_early_request (copy_of k pair) request) pair; records = records; sendings = [] })
+    Some (record {
+      pair = with_copy k (after_early_request (copy_of k pair) request) pair;
+      records = records;
+      sendings = [];
+    })
 request_step k pair records request Gone = None

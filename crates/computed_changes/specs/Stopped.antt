@@ -7,7 +7,8 @@ use Rattle.world_semantics.specs.Running.{Done}
 
 -- the world after a processor stopped
 abbrev pub stopped_world : ℕ → World → World
-stopped_world processor w = record w { stopped = slice_set w.stopped processor true; processes = map (stopped_pair processor) w.processes }
+stopped_world processor w =
+    record w { stopped = slice_set w.stopped processor true; processes = map (stopped_pair processor) w.processes }
 
 abbrev pub stop_where : ℕ → World → Option Bool → Option Done
 stop_where processor w (Some false) = Some (record { world = stopped_world processor w; sendings = [] })
@@ -21,7 +22,10 @@ stop_done processor w = stop_where processor w (slice_get w.stopped processor)
 -- the world after a node marked a processor, with what the copies send again that take over
 abbrev pub world_at_down : ℕ → ℕ → World → Done
 world_at_down node processor w = record {
-  world = record w { marks = record { node = node; down = processor } ∷ w.marks; processes = map (pair_at_down node processor) w.processes };
+  world = record w {
+    marks = record { node = node; down = processor } ∷ w.marks;
+    processes = map (pair_at_down node processor) w.processes;
+  };
   sendings = flat_map (told_at_down node processor) w.processes;
 }
 
@@ -38,6 +42,7 @@ mark_where node processor w (Some true) = marked_where node processor w (may_not
 mark_where node processor w (Some false) = None
 mark_where node processor w None = None
 
--- the change that a mark makes; none where the processor hasn't stopped, the node doesn't run, or it has marked the processor
+-- the change that a mark makes; none where the processor hasn't stopped, the node doesn't run, or it has marked the
+-- processor
 abbrev pub down_done : ℕ → ℕ → World → Option Done
 down_done node processor w = mark_where node processor w (slice_get w.stopped processor)

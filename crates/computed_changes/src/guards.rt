@@ -28,95 +28,131 @@ ghost use Rattle.computed_changes.specs.Laws.{IsCopyAt, GoesTo};
 /// A process has no copy at a node that is neither of its two processors.
 pub fn a_copy_is_in_its_processor()
     ensures first { (pair : Pair) → copy_in pair.first.processor pair ≡ Some First }
-    ensures second { (pair : Pair) → pair.first.processor ≢ pair.second.processor → copy_in pair.second.processor pair ≡ Some Second }
-    ensures none { (node : ℕ) (pair : Pair) → pair.first.processor ≢ node → pair.second.processor ≢ node → copy_in node pair ≡ None }
+    ensures second { (pair : Pair) → pair.first.processor ≢ pair.second.processor
+        → copy_in pair.second.processor pair ≡ Some Second }
+    ensures none { (node : ℕ) (pair : Pair) → pair.first.processor ≢ node → pair.second.processor ≢ node
+        → copy_in node pair ≡ None }
 {}
 
-/// A checkpoint of another era or of another number than the next isn't applied, nor is one that doesn't fit, nor does a copy apply any that doesn't watch.
+/// A checkpoint of another era or of another number than the next isn't applied, nor is one that doesn't fit, nor does
+/// a copy apply any that doesn't watch.
 pub fn only_the_next_checkpoint_is_applied()
-    ensures era { (site : Site) (w : World) (node : ℕ) (message : ImageMessage) (k : Which) (pair : Pair) → IsCopyAt w node message.process k pair
+    ensures era { (site : Site) (w : World) (node : ℕ) (message : ImageMessage) (k : Which) (pair : Pair)
+        → IsCopyAt w node message.process k pair
         → message.era ≢ (copy_of k pair).era → handed_done site node (Checkpointing message) w ≡ None }
-    ensures number { (site : Site) (w : World) (node : ℕ) (message : ImageMessage) (k : Which) (pair : Pair) → IsCopyAt w node message.process k pair
+    ensures number { (site : Site) (w : World) (node : ℕ) (message : ImageMessage) (k : Which) (pair : Pair)
+        → IsCopyAt w node message.process k pair
         → message.number ≢ (copy_of k pair).number + 1 → handed_done site node (Checkpointing message) w ≡ None }
-    ensures misfit { (site : Site) (w : World) (node : ℕ) (message : ImageMessage) (k : Which) (pair : Pair) → IsCopyAt w node message.process k pair
-        → fits (depths_of site message.process) (copy_of k pair).core message.image ≡ false → handed_done site node (Checkpointing message) w ≡ None }
-    ensures role { (site : Site) (w : World) (node : ℕ) (message : ImageMessage) (k : Which) (pair : Pair) → IsCopyAt w node message.process k pair
+    ensures misfit { (site : Site) (w : World) (node : ℕ) (message : ImageMessage) (k : Which) (pair : Pair)
+        → IsCopyAt w node message.process k pair
+        → fits (depths_of site message.process) (copy_of k pair).core message.image ≡ false
+        → handed_done site node (Checkpointing message) w ≡ None }
+    ensures role { (site : Site) (w : World) (node : ℕ) (message : ImageMessage) (k : Which) (pair : Pair)
+        → IsCopyAt w node message.process k pair
         → (copy_of k pair).role ≢ Watching → handed_done site node (Checkpointing message) w ≡ None }
 {}
 
-/// That another checkpoint was taken than the one that a copy sent last tells the copy nothing, nor is a copy told that hasn't sent one or doesn't act.
+/// That another checkpoint was taken than the one that a copy sent last tells the copy nothing, nor is a copy told that
+/// hasn't sent one or doesn't act.
 pub fn only_the_last_checkpoint_is_acknowledged()
-    ensures era { (site : Site) (w : World) (node : ℕ) (taken : TakenMessage) (k : Which) (pair : Pair) → IsCopyAt w node taken.process k pair
+    ensures era { (site : Site) (w : World) (node : ℕ) (taken : TakenMessage) (k : Which) (pair : Pair)
+        → IsCopyAt w node taken.process k pair
         → taken.era ≢ (copy_of k pair).era → handed_done site node (Taking taken) w ≡ None }
-    ensures number { (site : Site) (w : World) (node : ℕ) (taken : TakenMessage) (k : Which) (pair : Pair) → IsCopyAt w node taken.process k pair
+    ensures number { (site : Site) (w : World) (node : ℕ) (taken : TakenMessage) (k : Which) (pair : Pair)
+        → IsCopyAt w node taken.process k pair
         → taken.number ≢ (copy_of k pair).number → handed_done site node (Taking taken) w ≡ None }
-    ensures unsent { (site : Site) (w : World) (node : ℕ) (taken : TakenMessage) (k : Which) (pair : Pair) → IsCopyAt w node taken.process k pair
+    ensures unsent { (site : Site) (w : World) (node : ℕ) (taken : TakenMessage) (k : Which) (pair : Pair)
+        → IsCopyAt w node taken.process k pair
         → (copy_of k pair).sent ≡ false → handed_done site node (Taking taken) w ≡ None }
-    ensures role { (site : Site) (w : World) (node : ℕ) (taken : TakenMessage) (k : Which) (pair : Pair) → IsCopyAt w node taken.process k pair
+    ensures role { (site : Site) (w : World) (node : ℕ) (taken : TakenMessage) (k : Which) (pair : Pair)
+        → IsCopyAt w node taken.process k pair
         → (copy_of k pair).role ≢ Acting → handed_done site node (Taking taken) w ≡ None }
 {}
 
-/// A copy gets no reply to another request than the one that it asked last on the file, none on a file that goes elsewhere, and none where it doesn't
-/// await any or doesn't act.
+/// A copy gets no reply to another request than the one that it asked last on the file, none on a file that goes
+/// elsewhere, and none where it doesn't await any or doesn't act.
 pub fn an_old_reply_is_not_got()
-    ensures number { (site : Site) (w : World) (node number file : ℕ) (reply : Reply) (k : Which) (pair : Pair) → GoesTo site reply (File number file)
-        → IsCopyAt w node number k pair → reply.number + 1 ≢ next_on (copy_of k pair).core (asked_file (copy_of k pair).core.state)
+    ensures number { (site : Site) (w : World) (node number file : ℕ) (reply : Reply) (k : Which) (pair : Pair)
+        → GoesTo site reply (File number file)
+        → IsCopyAt w node number k pair → reply.number + 1
+        ≢ next_on (copy_of k pair).core (asked_file (copy_of k pair).core.state)
         → handed_done site node (Replying reply) w ≡ None }
-    ensures file { (site : Site) (w : World) (node number file : ℕ) (reply : Reply) (k : Which) (pair : Pair) → GoesTo site reply (File number file)
+    ensures file { (site : Site) (w : World) (node number file : ℕ) (reply : Reply) (k : Which) (pair : Pair)
+        → GoesTo site reply (File number file)
         → IsCopyAt w node number k pair
-        → opener_of site (File number (asked_file (copy_of k pair).core.state)) ≢ Some (record { server = reply.process; place = reply.opener })
+        → opener_of site (File number (asked_file (copy_of k pair).core.state))
+        ≢ Some (record { server = reply.process; place = reply.opener })
         → handed_done site node (Replying reply) w ≡ None }
-    ensures point { (site : Site) (w : World) (node number file : ℕ) (reply : Reply) (k : Which) (pair : Pair) → GoesTo site reply (File number file)
-        → IsCopyAt w node number k pair → point (copy_of k pair).core.state ≢ Await → handed_done site node (Replying reply) w ≡ None }
-    ensures role { (site : Site) (w : World) (node number file : ℕ) (reply : Reply) (k : Which) (pair : Pair) → GoesTo site reply (File number file)
-        → IsCopyAt w node number k pair → (copy_of k pair).role ≢ Acting → handed_done site node (Replying reply) w ≡ None }
+    ensures point { (site : Site) (w : World) (node number file : ℕ) (reply : Reply) (k : Which) (pair : Pair)
+        → GoesTo site reply (File number file)
+        → IsCopyAt w node number k pair → point (copy_of k pair).core.state ≢ Await
+        → handed_done site node (Replying reply) w ≡ None }
+    ensures role { (site : Site) (w : World) (node number file : ℕ) (reply : Reply) (k : Which) (pair : Pair)
+        → GoesTo site reply (File number file)
+        → IsCopyAt w node number k pair → (copy_of k pair).role ≢ Acting
+        → handed_done site node (Replying reply) w ≡ None }
 {}
 
 /// A reply is printed once, to the request that was entered last, and at the node that carries the terminals.
 pub fn a_reply_is_printed_once()
-    ensures printed { (site : Site) (w : World) (node number : ℕ) (reply : Reply) (terminal : AtTerminal) → GoesTo site reply (Terminal number)
-        → slice_get w.terminals number ≡ Some terminal → terminal.entered ≢ terminal.printed + 1 → handed_done site node (Replying reply) w ≡ None }
-    ensures old { (site : Site) (w : World) (node number : ℕ) (reply : Reply) (terminal : AtTerminal) → GoesTo site reply (Terminal number)
-        → slice_get w.terminals number ≡ Some terminal → reply.number ≢ terminal.entered → handed_done site node (Replying reply) w ≡ None }
-    ensures elsewhere { (site : Site) (w : World) (node number : ℕ) (reply : Reply) → GoesTo site reply (Terminal number) → node ≢ terminal_node
+    ensures printed { (site : Site) (w : World) (node number : ℕ) (reply : Reply) (terminal : AtTerminal)
+        → GoesTo site reply (Terminal number)
+        → slice_get w.terminals number ≡ Some terminal → terminal.entered ≢ terminal.printed + 1
+        → handed_done site node (Replying reply) w ≡ None }
+    ensures old { (site : Site) (w : World) (node number : ℕ) (reply : Reply) (terminal : AtTerminal)
+        → GoesTo site reply (Terminal number)
+        → slice_get w.terminals number ≡ Some terminal → reply.number ≢ terminal.entered
+        → handed_done site node (Replying reply) w ≡ None }
+    ensures elsewhere { (site : Site) (w : World) (node number : ℕ) (reply : Reply)
+        → GoesTo site reply (Terminal number) → node ≢ terminal_node
         → handed_done site node (Replying reply) w ≡ None }
 {}
 
-/// A kept reply is sent again where its request comes to the copy that acts. A copy that watches sends nothing, and one that is gone does nothing.
+/// A kept reply is sent again where its request comes to the copy that acts. A copy that watches sends nothing, and one
+/// that is gone does nothing.
 pub fn a_kept_reply_is_sent_again()
-    ensures kept { (site : Site) (w : World) (node : ℕ) (request : Request) (words : List ℤ) (k : Which) (pair : Pair) → IsCopyAt w node request.process k pair
+    ensures kept { (site : Site) (w : World) (node : ℕ) (request : Request) (words : List ℤ) (k : Which) (pair : Pair)
+        → IsCopyAt w node request.process k pair
         → (copy_of k pair).role ≡ Acting → standing (copy_of k pair).core.receive request ≡ Kept words
         → sendings_of (handed_done site node (Asking request) w)
         ≡ record { node = (copy_of k pair).processor; message = Replying (reply_to request words) } ∷ [] }
-    ensures watching { (site : Site) (w : World) (node : ℕ) (request : Request) (k : Which) (pair : Pair) → IsCopyAt w node request.process k pair
+    ensures watching { (site : Site) (w : World) (node : ℕ) (request : Request) (k : Which) (pair : Pair)
+        → IsCopyAt w node request.process k pair
         → (copy_of k pair).role ≡ Watching → sendings_of (handed_done site node (Asking request) w) ≡ [] }
-    ensures gone { (site : Site) (w : World) (node : ℕ) (request : Request) (k : Which) (pair : Pair) → IsCopyAt w node request.process k pair
+    ensures gone { (site : Site) (w : World) (node : ℕ) (request : Request) (k : Which) (pair : Pair)
+        → IsCopyAt w node request.process k pair
         → (copy_of k pair).role ≡ Gone → handed_done site node (Asking request) w ≡ None }
 {}
 
 /// A terminal enters nothing while it awaits a reply, nor where it has no request left.
 pub fn a_terminal_that_awaits_enters_nothing()
-    ensures awaits { (site : Site) (w : World) (number : ℕ) (terminal : AtTerminal) → slice_get w.terminals number ≡ Some terminal
+    ensures awaits { (site : Site) (w : World) (number : ℕ) (terminal : AtTerminal)
+        → slice_get w.terminals number ≡ Some terminal
         → terminal.entered ≢ terminal.printed → enter_done site number w ≡ None }
-    ensures last { (site : Site) (w : World) (number : ℕ) (terminal : AtTerminal) → slice_get w.terminals number ≡ Some terminal
+    ensures last { (site : Site) (w : World) (number : ℕ) (terminal : AtTerminal)
+        → slice_get w.terminals number ≡ Some terminal
         → next_request site number terminal.entered ≡ None → enter_done site number w ≡ None }
 {}
 
 /// A processor that has stopped doesn't stop again, and one that isn't there doesn't stop.
 pub fn a_processor_stops_once()
-    ensures stopped { (w : World) (processor : ℕ) → slice_get w.stopped processor ≡ Some true → stop_done processor w ≡ None }
+    ensures stopped { (w : World) (processor : ℕ) → slice_get w.stopped processor ≡ Some true
+        → stop_done processor w ≡ None }
     ensures absent { (w : World) (processor : ℕ) → slice_get w.stopped processor ≡ None → stop_done processor w ≡ None }
 {}
 
 /// Only a processor that has stopped is marked, once by a node, which runs.
 pub fn only_what_stopped_is_marked()
-    ensures running { (w : World) (node processor : ℕ) → slice_get w.stopped processor ≡ Some false → down_done node processor w ≡ None }
-    ensures node { (w : World) (node processor : ℕ) → is_running w.stopped node ≡ false → down_done node processor w ≡ None }
-    ensures again { (w : World) (node processor : ℕ) → has_noted w.marks node processor ≡ true → down_done node processor w ≡ None }
+    ensures running { (w : World) (node processor : ℕ) → slice_get w.stopped processor ≡ Some false
+        → down_done node processor w ≡ None }
+    ensures node { (w : World) (node processor : ℕ) → is_running w.stopped node ≡ false
+        → down_done node processor w ≡ None }
+    ensures again { (w : World) (node processor : ℕ) → has_noted w.marks node processor ≡ true
+        → down_done node processor w ≡ None }
 {}
 
-/// What a checkpoint carries fits a core that has the files which it names, and as many openers, of each of which no more replies are kept than its
-/// depth nor than requests were taken, and where what is in hand is unanswered.
+/// What a checkpoint carries fits a core that has the files which it names, and as many openers, of each of which no
+/// more replies are kept than its depth nor than requests were taken, and where what is in hand is unanswered.
 pub fn what_fits_is_told()
     ensures fits { (core : Core) → fits (2 ∷ 1 ∷ []) (record core { next = 4 ∷ 1 ∷ [] })
         (record {
@@ -125,13 +161,37 @@ pub fn what_fits_is_told()
           receive = record { openers = record { taken = 3; kept = [] ∷ (pos 7 ∷ []) ∷ [] } ∷ record { taken = 0; kept = [] } ∷ []; in_hand = Some 0 };
         }) ≡ true }
     ensures file { (core : Core) → fits [] (record core { next = 4 ∷ 1 ∷ [] })
-        (record { body = []; files = record { file = 2; next = 9 } ∷ []; receive = record { openers = []; in_hand = None } }) ≡ false }
+        (record {
+          body = [];
+          files = record { file = 2; next = 9 } ∷ [];
+          receive = record { openers = []; in_hand = None };
+        }) ≡ false }
     ensures openers { (core : Core) → fits (2 ∷ 1 ∷ []) core
-        (record { body = []; files = []; receive = record { openers = record { taken = 3; kept = [] } ∷ []; in_hand = None } }) ≡ false }
+        (record {
+          body = [];
+          files = [];
+          receive =
+              record { openers = record { taken = 3; kept = [] } ∷ []; in_hand = None };
+        }) ≡ false }
     ensures depth { (core : Core) → fits (1 ∷ []) core
-        (record { body = []; files = []; receive = record { openers = record { taken = 3; kept = [] ∷ [] ∷ [] } ∷ []; in_hand = None } }) ≡ false }
+        (record {
+          body = [];
+          files = [];
+          receive =
+              record { openers = record { taken = 3; kept = [] ∷ [] ∷ [] } ∷ []; in_hand = None };
+        }) ≡ false }
     ensures taken { (core : Core) → fits (2 ∷ []) core
-        (record { body = []; files = []; receive = record { openers = record { taken = 1; kept = [] ∷ [] ∷ [] } ∷ []; in_hand = None } }) ≡ false }
+        (record {
+          body = [];
+          files = [];
+          receive =
+              record { openers = record { taken = 1; kept = [] ∷ [] ∷ [] } ∷ []; in_hand = None };
+        }) ≡ false }
     ensures hand { (core : Core) → fits (2 ∷ []) core
-        (record { body = []; files = []; receive = record { openers = record { taken = 1; kept = [] ∷ [] } ∷ []; in_hand = Some 0 } }) ≡ false }
+        (record {
+          body = [];
+          files = [];
+          receive =
+              record { openers = record { taken = 1; kept = [] ∷ [] } ∷ []; in_hand = Some 0 };
+        }) ≡ false }
 {}

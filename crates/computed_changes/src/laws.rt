@@ -22,60 +22,82 @@ ghost use Rattle.computed_changes.specs.Laws.{HasCopiesApart, IsSent, FitsWhereI
 
 /// A message that was sent makes the change that is computed where it is handed over.
 pub fn a_handing_is_computed()
-    ensures made { (site : Site) (w : World) (node : ℕ) (message : Message) (done : Done) → IsSent w message → handed_done site node message w ≡ Some done
+    ensures made { (site : Site) (w : World) (node : ℕ) (message : Message) (done : Done) → IsSent w message
+        → handed_done site node message w ≡ Some done
         → Change site w (Handing node message) done.sendings done.world }
     ensures follows { (site : Site) (w : World) (y : Bool) (k node : ℕ) (message : Message) → IsSent w message
-        → Follows site w (Deliver y k) (sendings_of (handed_done site node message w)) (world_after w (handed_done site node message w)) }
+        → Follows site w (Deliver y k) (sendings_of (handed_done site node message w))
+        (world_after w (handed_done site node message w)) }
 {}
 
-/// In a run of a site whose processes have their copies in two processors, nothing else than what is computed is permitted where a message is
-/// handed over, if it fits there.
+/// In a run of a site whose processes have their copies in two processors, nothing else than what is computed is
+/// permitted where a message is handed over, if it fits there.
 pub fn a_handing_has_one_outcome()
-    ensures only { (site : Site) (events : List Event) (w next : World) (node : ℕ) (message : Message) (sendings : List Sending) → IsRun site events w → HasCopiesApart site
+    ensures only { (site : Site) (events : List Event) (w next : World) (node : ℕ) (message : Message)
+        (sendings : List Sending) → IsRun site events w → HasCopiesApart site
         → FitsWhereItComes site w node message → Change site w (Handing node message) sendings next
         → handed_done site node message w ≡ Some (record { world = next; sendings = sendings }) }
-    ensures none { (site : Site) (events : List Event) (w : World) (node : ℕ) (message : Message) → IsRun site events w → HasCopiesApart site
-        → FitsWhereItComes site w node message → handed_done site node message w ≡ None → IsIdleFor site w (Handing node message) }
+    ensures none { (site : Site) (events : List Event) (w : World) (node : ℕ) (message : Message) → IsRun site events w
+        → HasCopiesApart site
+        → FitsWhereItComes site w node message → handed_done site node message w ≡ None
+        → IsIdleFor site w (Handing node message) }
 {}
 
 /// In a run what copies ever sent each other names the process whose copies they are.
 pub fn what_copies_send_names_their_process()
-    ensures { (site : Site) (events : List Event) (w : World) (message : Message) → IsRun site events w → WasSent w message → IsSent w message }
+    ensures { (site : Site) (events : List Event) (w : World) (message : Message) → IsRun site events w
+        → WasSent w message → IsSent w message }
 {}
 
-/// In a run what a sent checkpoint carries fits each copy of its process, where the files that it names are the process's.
+/// In a run what a sent checkpoint carries fits each copy of its process, where the files that it names are the
+/// process's.
 pub fn a_sent_checkpoint_fits()
-    ensures { (site : Site) (events : List Event) (w : World) (number : ℕ) (spec : ProcessSpec) (pair : Pair) (k : Which) (message : ImageMessage) → IsRun site events w
-        → slice_get site.processes number ≡ Some spec → slice_get w.processes number ≡ Some pair → IsAmong message pair.checkpoints
+    ensures { (site : Site) (events : List Event) (w : World) (number : ℕ) (spec : ProcessSpec) (pair : Pair)
+        (k : Which) (message : ImageMessage) → IsRun site events w
+        → slice_get site.processes number ≡ Some spec → slice_get w.processes number ≡ Some pair
+        → IsAmong message pair.checkpoints
         → ((named : FileNumber) → IsAmong named message.image.files → named.file < length (files_of spec.what))
         → fits (depths_of site number) (copy_of k pair).core message.image ≡ true }
 {}
 
 /// A terminal that enters makes the change that is computed, no other, and none where none is.
 pub fn an_entry_is_computed()
-    ensures made { (site : Site) (w : World) (number : ℕ) (done : Done) → enter_done site number w ≡ Some done → Change site w (Entering number) done.sendings done.world }
-    ensures only { (site : Site) (w next : World) (number : ℕ) (sendings : List Sending) → Change site w (Entering number) sendings next
+    ensures made { (site : Site) (w : World) (number : ℕ) (done : Done) → enter_done site number w ≡ Some done
+        → Change site w (Entering number) done.sendings done.world }
+    ensures only { (site : Site) (w next : World) (number : ℕ) (sendings : List Sending)
+        → Change site w (Entering number) sendings next
         → enter_done site number w ≡ Some (record { world = next; sendings = sendings }) }
-    ensures none { (site : Site) (w : World) (number : ℕ) → enter_done site number w ≡ None → IsIdleFor site w (Entering number) }
-    ensures follows { (site : Site) (w : World) (number : ℕ) → Follows site w (Enter number) (sendings_of (enter_done site number w)) (world_after w (enter_done site number w)) }
+    ensures none { (site : Site) (w : World) (number : ℕ) → enter_done site number w ≡ None
+        → IsIdleFor site w (Entering number) }
+    ensures follows { (site : Site) (w : World) (number : ℕ)
+        → Follows site w (Enter number) (sendings_of (enter_done site number w))
+        (world_after w (enter_done site number w)) }
 {}
 
 /// A stop makes the change that is computed, no other, and none where none is.
 pub fn a_stop_is_computed()
-    ensures made { (site : Site) (w : World) (processor : ℕ) (done : Done) → stop_done processor w ≡ Some done → Change site w (Stopping processor) done.sendings done.world }
-    ensures only { (site : Site) (w next : World) (processor : ℕ) (sendings : List Sending) → Change site w (Stopping processor) sendings next
+    ensures made { (site : Site) (w : World) (processor : ℕ) (done : Done) → stop_done processor w ≡ Some done
+        → Change site w (Stopping processor) done.sendings done.world }
+    ensures only { (site : Site) (w next : World) (processor : ℕ) (sendings : List Sending)
+        → Change site w (Stopping processor) sendings next
         → stop_done processor w ≡ Some (record { world = next; sendings = sendings }) }
-    ensures none { (site : Site) (w : World) (processor : ℕ) → stop_done processor w ≡ None → IsIdleFor site w (Stopping processor) }
-    ensures follows { (site : Site) (w : World) (processor : ℕ) → Follows site w (Fail processor) (sendings_of (stop_done processor w)) (world_after w (stop_done processor w)) }
+    ensures none { (site : Site) (w : World) (processor : ℕ) → stop_done processor w ≡ None
+        → IsIdleFor site w (Stopping processor) }
+    ensures follows { (site : Site) (w : World) (processor : ℕ)
+        → Follows site w (Fail processor) (sendings_of (stop_done processor w))
+        (world_after w (stop_done processor w)) }
 {}
 
 /// A mark makes the change that is computed, no other, and none where none is.
 pub fn a_mark_is_computed()
     ensures made { (site : Site) (w : World) (node processor : ℕ) (done : Done) → down_done node processor w ≡ Some done
         → Change site w (NotingDown node processor) done.sendings done.world }
-    ensures only { (site : Site) (w next : World) (node processor : ℕ) (sendings : List Sending) → Change site w (NotingDown node processor) sendings next
+    ensures only { (site : Site) (w next : World) (node processor : ℕ) (sendings : List Sending)
+        → Change site w (NotingDown node processor) sendings next
         → down_done node processor w ≡ Some (record { world = next; sendings = sendings }) }
-    ensures none { (site : Site) (w : World) (node processor : ℕ) → down_done node processor w ≡ None → IsIdleFor site w (NotingDown node processor) }
+    ensures none { (site : Site) (w : World) (node processor : ℕ) → down_done node processor w ≡ None
+        → IsIdleFor site w (NotingDown node processor) }
     ensures follows { (site : Site) (w : World) (y : Bool) (k node processor : ℕ)
-        → Follows site w (Deliver y k) (sendings_of (down_done node processor w)) (world_after w (down_done node processor w)) }
+        → Follows site w (Deliver y k) (sendings_of (down_done node processor w))
+        (world_after w (down_done node processor w)) }
 {}

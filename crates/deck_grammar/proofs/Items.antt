@@ -4,17 +4,20 @@ use Rattle.deck_lines.specs.SayingOf.{saying_of}
 use Rattle.deck_lines.specs.declared.event_saying.EventSaying.{EventSaying}
 use Rattle.deck_lines.specs.declared.saying.Saying.{Saying}
 use Rattle.deck_lines.specs.declared.saying.Saying.TheVariants as said
-use Rattle.deck_grammar.specs.Grammar.{AreItems, Block, Disc, Item, Pair, Program, Says, Terminal, block_items, point, schedule_items}
+use Rattle.deck_grammar.specs.Grammar.{AreItems, Block, Disc, Item, Pair, Program, Says, Terminal, block_items, point}
+use Rattle.deck_grammar.specs.Grammar.{schedule_items}
 
 -- the lines of blocks, and what follows them
 abbrev pub body_items : List Block → List EventSaying → List Item
 body_items [] events = schedule_items events
 body_items (block ∷ blocks) events = block_items block ++ body_items blocks events
 
-pub body-is : (blocks : List Block) (events : List EventSaying) → flat_map block_items blocks ++ schedule_items events ≡ body_items blocks events
+pub body-is : (blocks : List Block) (events : List EventSaying)
+    → flat_map block_items blocks ++ schedule_items events ≡ body_items blocks events
 body-is [] events = refl
 body-is (block ∷ blocks) events =
-    append_assoc (block_items block) (flat_map block_items blocks) (schedule_items events) ∙ ap (λ rest. block_items block ++ rest) (body-is blocks events)
+    append_assoc (block_items block) (flat_map block_items blocks) (schedule_items events)
+    ∙ ap (λ rest. block_items block ++ rest) (body-is blocks events)
 
 -- event lines, and END
 abbrev pub event_items : List EventSaying → List Item
@@ -43,10 +46,12 @@ after_first (Terminal name target requests ∷ blocks) events = request_items re
 
 -- a line that says this and then these, or a line that says nothing before all of them
 abbrev pub StartsWith : List ℕ → List (List ℕ) → Saying → List Item → List Item → Type 0
-StartsWith line lines saying rest all = ((saying_of line ≡ saying) × AreItems lines rest) ⊎ ((saying_of line ≡ said.Nothing) × AreItems lines all)
+StartsWith line lines saying rest all =
+    ((saying_of line ≡ saying) × AreItems lines rest) ⊎ ((saying_of line ≡ said.Nothing) × AreItems lines all)
 
 pub body_starts : (line : List ℕ) (lines : List (List ℕ)) (blocks : List Block) (events : List EventSaying)
-    → AreItems (line ∷ lines) (body_items blocks events) → StartsWith line lines (first_saying blocks) (after_first blocks events) (body_items blocks events)
+    → AreItems (line ∷ lines) (body_items blocks events)
+    → StartsWith line lines (first_saying blocks) (after_first blocks events) (body_items blocks events)
 body_starts line lines [] events are = are
 body_starts line lines (Disc placing sectors ∷ blocks) events are = are
 body_starts line lines (Pair placing program ∷ blocks) events are = are
@@ -54,14 +59,17 @@ body_starts line lines (Terminal name target requests ∷ blocks) events are = a
 
 -- a line that says nothing may stand before them
 pub before_body : (line : List ℕ) (lines : List (List ℕ)) (blocks : List Block) (events : List EventSaying)
-    → saying_of line ≡ said.Nothing → AreItems lines (body_items blocks events) → AreItems (line ∷ lines) (body_items blocks events)
+    → saying_of line ≡ said.Nothing → AreItems lines (body_items blocks events)
+    → AreItems (line ∷ lines) (body_items blocks events)
 before_body line lines [] events silent are = inr (silent, are)
 before_body line lines (Disc placing sectors ∷ blocks) events silent are = inr (silent, are)
 before_body line lines (Pair placing program ∷ blocks) events silent are = inr (silent, are)
 before_body line lines (Terminal name target requests ∷ blocks) events silent are = inr (silent, are)
 
-pub before_requests : (line : List ℕ) (lines : List (List ℕ)) (requests : List (List ℤ)) (blocks : List Block) (events : List EventSaying)
-    → saying_of line ≡ said.Nothing → AreItems lines (request_items requests (body_items blocks events)) → AreItems (line ∷ lines) (request_items requests (body_items blocks events))
+pub before_requests : (line : List ℕ) (lines : List (List ℕ)) (requests : List (List ℤ)) (blocks : List Block)
+    (events : List EventSaying)
+    → saying_of line ≡ said.Nothing → AreItems lines (request_items requests (body_items blocks events))
+    → AreItems (line ∷ lines) (request_items requests (body_items blocks events))
 before_requests line lines [] blocks events silent are = before_body line lines blocks events silent are
 before_requests line lines (words ∷ requests) blocks events silent are = inr (silent, are)
 
@@ -72,7 +80,8 @@ before_events line lines (event ∷ events) silent are = inr (silent, are)
 
 -- one more line of a text
 pub more_text : (text line rest : List ℕ) → (text ++ line ++ 10 ∷ []) ++ rest ≡ text ++ ((line ++ 10 ∷ []) ++ rest)
-more_text text line rest = ap (λ (t : List ℕ). t ++ rest) (append_assoc text line (10 ∷ [])) ∙ append_assoc text (line ++ 10 ∷ []) rest
+more_text text line rest =
+    ap (λ (t : List ℕ). t ++ rest) (append_assoc text line (10 ∷ [])) ∙ append_assoc text (line ++ 10 ∷ []) rest
 
 -- lines have to be there
 pub no_body : (blocks : List Block) (events : List EventSaying) → AreItems [] (body_items blocks events) → ⊥
@@ -81,7 +90,8 @@ no_body (Disc placing sectors ∷ blocks) events are = are
 no_body (Pair placing program ∷ blocks) events are = are
 no_body (Terminal name target requests ∷ blocks) events are = are
 
-pub no_requests : (requests : List (List ℤ)) (blocks : List Block) (events : List EventSaying) → AreItems [] (request_items requests (body_items blocks events)) → ⊥
+pub no_requests : (requests : List (List ℤ)) (blocks : List Block) (events : List EventSaying)
+    → AreItems [] (request_items requests (body_items blocks events)) → ⊥
 no_requests [] blocks events are = no_body blocks events are
 no_requests (words ∷ requests) blocks events are = are
 

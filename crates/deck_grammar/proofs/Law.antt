@@ -26,19 +26,31 @@ begins bytes deck spells = (
   deck.site.processes,
   deck.site.terminals,
   spells.events,
-  subst (AreItems (lines_of bytes)) (ap (λ (rest : List Item). Says (said.Processors deck.site.processors) ∷ rest) (body-is spells.blocks spells.events)) spells.text,
+  subst (AreItems (lines_of bytes)) (ap (λ (rest : List Item). Says (said.Processors deck.site.processors) ∷ rest)
+      (body-is spells.blocks spells.events)) spells.text,
   record {
     declared = spells.declared;
     new = all_new deck.site.processors spells.blocks;
     once = spells.once;
-    holds = record { processors = refl; done = []; whole = refl; each = tt; done_terminals = []; whole_terminals = refl; each_terminal = tt };
+    holds = record {
+      processors = refl;
+      done = [];
+      whole = refl;
+      each = tt;
+      done_terminals = [];
+      whole_terminals = refl;
+      each_terminal = tt;
+    };
     none = refl;
   },
   spells.scheduled,
 )
 
 pub taken : (bytes : List ℕ) (deck : Deck) → Spells bytes deck → Decks bytes deck
-taken bytes deck spells = record { short = spells.short; outlined = all_go deck spells.limits at.Opening 0 (lines_of bytes) (begins bytes deck spells) }
+taken bytes deck spells = record {
+  short = spells.short;
+  outlined = all_go deck spells.limits at.Opening 0 (lines_of bytes) (begins bytes deck spells);
+}
 
 pub the_decks : (bytes : List ℕ) (deck : Deck) → Spells bytes deck ↔ Decks bytes deck
 the_decks bytes deck = (taken bytes deck, spelt bytes deck)

@@ -1,5 +1,6 @@
 -- Names are looked up in an outline as in the site of its deck.
-use Rattle.std.proofs.Common.{◌≡◌, ℕ, ◌+◌, Bool, true, false, cond, not, nat_lt, List, [], ◌∷◌, position, Some, None, is_some, refl, sym, ap, ap₂, ◌∙◌, true≢false, get_or}
+use Rattle.std.proofs.Common.{◌≡◌, ℕ, ◌+◌, Bool, true, false, cond, not, nat_lt, List, [], ◌∷◌, position, Some, None}
+use Rattle.std.proofs.Common.{is_some, refl, sym, ap, ap₂, ◌∙◌, true≢false, get_or}
 use Rattle.std.specs.List.{All, position_or_len, list_all}
 use Rattle.std.specs.Cmp.Lexicographic.{bytes_decides}
 use Rattle.std.proofs.lemmas.List.Sums.{AllPass-from_list_all, list_all-from_AllPass}
@@ -17,7 +18,8 @@ use Rattle.deck_grammar.specs.Spells.{MayOpen, process_at}
 use Rattle.deck_grammar.proofs.NewNames.{differ}
 
 -- what passes stands at the same place in lists that belong together
-module _ {X Y : Type 0} (p : X → Bool) (q : Y → Bool) (R : X → Y → Type 0) (same : (x : X) (y : Y) → R x y → p x ≡ q y) where
+module _ {X Y : Type 0} (p : X → Bool) (q : Y → Bool) (R : X → Y → Type 0)
+    (same : (x : X) (y : Y) → R x y → p x ≡ q y) where
   as_far : (xs : List X) (ys : List Y) → EachWith R xs ys → position_or_len p xs ≡ position_or_len q ys
   as_far [] [] each = refl
   as_far (x ∷ xs) (y ∷ ys) each = λ i. cond (not (same x y each.0 i)) (1 + as_far xs ys each.1 i) 0
@@ -25,9 +27,11 @@ module _ {X Y : Type 0} (p : X → Bool) (q : Y → Bool) (R : X → Y → Type 
   as_far (x ∷ xs) [] each = absurd each
 
   pub same_place : (xs : List X) (ys : List Y) → EachWith R xs ys → position p xs ≡ position q ys
-  same_place xs ys each = ap₂ (λ (place many : ℕ). cond (nat_lt place many) (Some place) None) (as_far xs ys each) (sym (same_length R xs ys each))
+  same_place xs ys each = ap₂ (λ (place many : ℕ). cond (nat_lt place many) (Some place) None) (as_far xs ys each)
+      (sym (same_length R xs ys each))
 
-pub each_so : {X Y : Type 0} (R S : X → Y → Type 0) → ((x : X) (y : Y) → R x y → S x y) → (xs : List X) (ys : List Y) → EachWith R xs ys → EachWith S xs ys
+pub each_so : {X Y : Type 0} (R S : X → Y → Type 0) → ((x : X) (y : Y) → R x y → S x y) → (xs : List X) (ys : List Y)
+    → EachWith R xs ys → EachWith S xs ys
 each_so R S so [] [] each = tt
 each_so R S so (x ∷ xs) (y ∷ ys) each = (so x y each.0, each_so R S so xs ys each.1)
 each_so R S so [] (y ∷ ys) each = absurd each
@@ -54,7 +58,8 @@ module _ (all : List (Named ProcessLines)) (site : Site) (there : AreThere all s
   is_not_own (target.Process name) may = ap not (differ name own may.1)
 
   -- no file is amiss exactly where each may be opened
-  pub files_open : (line : ℕ) (files : List FileUse) → files_misnamed all line own files ≡ None → All (λ (file : FileUse). MayOpen site own file.target) files
+  pub files_open : (line : ℕ) (files : List FileUse) → files_misnamed all line own files ≡ None
+      → All (λ (file : FileUse). MayOpen site own file.target) files
   files_open line files e = by (list_all known files) (list_all other files) refl refl e
     where
       known : FileUse → Bool
@@ -69,12 +74,17 @@ module _ (all : List (Named ProcessLines)) (site : Site) (there : AreThere all s
       by : (a b : Bool) → list_all known files ≡ a → list_all other files ≡ b
           → cond (not a) (Some (amiss false)) (cond (not b) (Some (amiss true)) None) ≡ None
           → All (λ (file : FileUse). MayOpen site own file.target) files
-      by true true p q e = λ k d there. may_open (get_or files k d).target (AllPass-from_list_all known files p k d there) (AllPass-from_list_all other files q k d there)
+      by true true p q e = λ k d there. may_open (get_or files k d).target
+          (AllPass-from_list_all known files p k d there) (AllPass-from_list_all other files q k d there)
       by false b p q e = absurd (cc)
       by true false p q e = absurd (cc)
 
-  pub open_files : (line : ℕ) (files : List FileUse) → All (λ (file : FileUse). MayOpen site own file.target) files → files_misnamed all line own files ≡ None
+  pub open_files : (line : ℕ) (files : List FileUse) → All (λ (file : FileUse). MayOpen site own file.target) files
+      → files_misnamed all line own files ≡ None
   open_files line files may =
-      let a = list_all-from_AllPass (λ (file : FileUse). is_known all file.target) files (λ k d there. is_there (get_or files k d).target (may k d there)) in
-      let b = list_all-from_AllPass (λ (file : FileUse). is_other own file.target) files (λ k d there. is_not_own (get_or files k d).target (may k d there)) in
-      λ i. cond (not (a i)) (Some (record { line = line; own = false })) (cond (not (b i)) (Some (record { line = line; own = true })) None)
+      let a = list_all-from_AllPass (λ (file : FileUse). is_known all file.target) files
+      (λ k d there. is_there (get_or files k d).target (may k d there)) in
+      let b = list_all-from_AllPass (λ (file : FileUse). is_other own file.target) files
+      (λ k d there. is_not_own (get_or files k d).target (may k d there)) in
+      λ i. cond (not (a i)) (Some (record { line = line; own = false }))
+      (cond (not (b i)) (Some (record { line = line; own = true })) None)

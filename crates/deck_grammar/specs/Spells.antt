@@ -1,6 +1,7 @@
--- The deck that a text of the grammar spells. Names are declared once and may be used before their line. The numbers that limit a
--- deck are those of `IsWithinDeckLimits`.
-use Rattle.std.specs.Prelude.{◌≡◌, ◌≢◌, ◌≤◌, ℕ, ℤ, List, [], ◌∷◌, length, map, position, Option, Some, option_map, IsSome}
+-- The deck that a text of the grammar spells. Names are declared once and may be used before their line. The numbers
+-- that limit a deck are those of `IsWithinDeckLimits`.
+use Rattle.std.specs.Prelude.{◌≡◌, ◌≢◌, ◌≤◌, ℕ, ℤ, List, [], ◌∷◌, length, map, position, Option, Some, option_map}
+use Rattle.std.specs.Prelude.{IsSome}
 use Rattle.std.specs.List.{All, AllZip}
 use Rattle.std.specs.Str.{bytes_eq}
 use Rattle.gd_words.specs.Members.{IsAmong}
@@ -50,7 +51,8 @@ pub record IsPairOf (site : Site) (placing : Placing) (lines : List (List ℕ)) 
   pub same : process ≡ placed placing (kind.Pair program)
 
 -- a terminal asks a process of the site
-pub record IsTerminalOf (site : Site) (name target : List ℕ) (requests : List (List ℤ)) (terminal : TerminalSpec) : Type 0 where
+pub record IsTerminalOf (site : Site) (name target : List ℕ) (requests : List (List ℤ)) (terminal : TerminalSpec) :
+    Type 0 where
   pub named : terminal.name ≡ name
   pub asks : process_at site target ≡ Some terminal.target
   pub sends : terminal.requests ≡ requests
@@ -80,7 +82,8 @@ AreDistinct (name ∷ names) = (IsAmong name names → ⊥) × AreDistinct names
 -- what an event line asks for, where what it names is there
 abbrev pub line_of : Site → EventSaying → Option Line
 line_of site (asked.Run name) = option_map (λ place. line.One (event.Run place)) (process_at site name)
-line_of site (asked.RunTimes name times) = option_map (λ place. line.Many (event.Run place) times) (process_at site name)
+line_of site (asked.RunTimes name times) =
+    option_map (λ place. line.Many (event.Run place) times) (process_at site name)
 line_of site (asked.Enter name) = option_map (λ place. line.One (event.Enter place)) (terminal_at site name)
 line_of site (asked.Deliver packet) = Some (line.One (event.Deliver packet.y packet.k))
 line_of site (asked.Lose packet) = Some (line.One (event.Lose packet.y packet.k))
@@ -100,5 +103,6 @@ pub record Spells (bytes : List ℕ) (deck : Deck) : Type 0 where
   pub text : AreItems (lines_of bytes) (deck_items deck.site.processors blocks events)
   pub once : AreDistinct (map name_in blocks)
   pub declared : Declare deck.site blocks deck.site.processes deck.site.terminals
-  pub scheduled : AllZip (λ (saying : EventSaying) (line : Line). line_of deck.site saying ≡ Some line) events deck.lines
+  pub scheduled : AllZip (λ (saying : EventSaying) (line : Line). line_of deck.site saying ≡ Some line) events
+      deck.lines
   pub limits : IsWithinDeckLimits deck

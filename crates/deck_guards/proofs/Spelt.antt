@@ -1,5 +1,6 @@
 -- Bytes that spell no deck, and bytes that spell one.
-use Rattle.std.proofs.Common.{◌≡◌, ℕ, ◌≤◌, Bool, true, List, [], ◌∷◌, length, nat_le, Some, is_some, refl, sym, ap, ◌∙◌, true≢false, arith, leb-true, ⊎_elim, codes, pos, negsuc, inl, inr}
+use Rattle.std.proofs.Common.{◌≡◌, ℕ, ◌≤◌, Bool, true, List, [], ◌∷◌, length, nat_le, Some, is_some, refl, sym, ap, ◌∙◌}
+use Rattle.std.proofs.Common.{true≢false, arith, leb-true, ⊎_elim, codes, pos, negsuc, inl, inr}
 use Rattle.std.specs.List.{All, AllZip}
 use Rattle.std.proofs.lemmas.List.Elements.{All-cons, All-nil}
 use Rattle.schedule.specs.declared.event.Event.TheVariants as event
@@ -27,12 +28,15 @@ abbrev is_amiss : Told → List ProcessSpec → Bool
 is_amiss (told.Whole outline) processes = is_some (misnamed_in outline processes)
 is_amiss (told.Broken breach) processes = true
 
-pub none_spelt : (bytes : List ℕ) → ((processes : List ProcessSpec) → is_amiss (outline_of (lines_of bytes)) processes ≡ true) → (deck : Deck) → Spells bytes deck → ⊥
+pub none_spelt : (bytes : List ℕ) → ((processes : List ProcessSpec)
+    → is_amiss (outline_of (lines_of bytes)) processes ≡ true) → (deck : Deck) → Spells bytes deck → ⊥
 none_spelt bytes amiss deck spells =
     let decks = taken bytes deck spells in
-    true≢false (sym (amiss deck.site.processes) ∙ ap (λ (one : Told). is_amiss one deck.site.processes) decks.outlined.1 ∙ ap is_some decks.outlined.2.named)
+    true≢false (sym (amiss deck.site.processes)
+    ∙ ap (λ (one : Told). is_amiss one deck.site.processes) decks.outlined.1 ∙ ap is_some decks.outlined.2.named)
 
-pub bare_within : (processors : ℕ) (lines : List Line) → 2 ≤ processors → processors ≤ 16 → All (IsLineOf processors 0 0) lines → singles_of lines ≤ 1000000 → rounds_of lines ≤ 100000
+pub bare_within : (processors : ℕ) (lines : List Line) → 2 ≤ processors → processors ≤ 16
+    → All (IsLineOf processors 0 0) lines → singles_of lines ≤ 1000000 → rounds_of lines ≤ 100000
     → IsWithinDeckLimits (bare processors lines)
 bare_within processors lines least most each singles rounds = record {
   site = record {
@@ -50,18 +54,23 @@ bare_within processors lines least most each singles rounds = record {
 
 -- no event lines
 pub empty_within : (processors : ℕ) → 2 ≤ processors → processors ≤ 16 → IsWithinDeckLimits (bare processors [])
-empty_within processors least most = bare_within processors [] least most (All-nil (IsLineOf processors 0 0)) (omega arith) (omega arith)
+empty_within processors least most =
+    bare_within processors [] least most (All-nil (IsLineOf processors 0 0)) (omega arith) (omega arith)
 
 -- two event lines
-pub two_lines : (processors processes terminals : ℕ) (one other : Line) → IsLineOf processors processes terminals one → IsLineOf processors processes terminals other
+pub two_lines : (processors processes terminals : ℕ) (one other : Line) → IsLineOf processors processes terminals one
+    → IsLineOf processors processes terminals other
     → All (IsLineOf processors processes terminals) (one ∷ other ∷ [])
 two_lines processors processes terminals one other first second =
     let of = IsLineOf processors processes terminals in
     All-cons of one (other ∷ []) first (All-cons of other [] second (All-nil of))
 
 -- a deck of processors and event lines alone
-pub bare_spelt : (bytes : List ℕ) (processors : ℕ) (events : List EventSaying) (lines : List Line) → nat_le (length bytes) 1048576 ≡ true
-    → AreItems (lines_of bytes) (deck_items processors [] events) → AllZip (λ (saying : EventSaying) (one : Line). line_of (bare processors lines).site saying ≡ Some one) events lines
+pub bare_spelt : (bytes : List ℕ) (processors : ℕ) (events : List EventSaying) (lines : List Line)
+    → nat_le (length bytes) 1048576 ≡ true
+    → AreItems (lines_of bytes) (deck_items processors [] events)
+    → AllZip (λ (saying : EventSaying) (one : Line). line_of (bare processors lines).site saying ≡ Some one) events
+    lines
     → IsWithinDeckLimits (bare processors lines) → Spells bytes (bare processors lines)
 bare_spelt bytes processors events lines short are all limits = record {
   short = leb-true (length bytes) 1048576 short;
@@ -82,13 +91,20 @@ asking_within = record {
     processes = omega arith;
     each_process =
         All-cons (IsProcessWithinLimits 2) asked_disc []
-        (record { primary = omega arith; backup = omega arith; apart = λ same. absurd (omega (arith, same)); what = (omega arith, omega arith) })
+        (record {
+          primary = omega arith;
+          backup = omega arith;
+          apart = λ same. absurd (omega (arith, same));
+          what = (omega arith, omega arith);
+        })
         (All-nil (IsProcessWithinLimits 2));
     terminals = omega arith;
-    each_terminal = All-cons (IsTerminalWithinLimits 1) asking_terminal [] (record { target = omega arith; requests = omega arith }) (All-nil (IsTerminalWithinLimits 1));
+    each_terminal = All-cons (IsTerminalWithinLimits 1) asking_terminal []
+        (record { target = omega arith; requests = omega arith }) (All-nil (IsTerminalWithinLimits 1));
   };
   each_line =
-      All-cons (IsLineOf 2 1 1) (line.Many (event.Run 0) 3) (line.One (event.Enter 0) ∷ later_events) (omega arith, omega arith)
+      All-cons (IsLineOf 2 1 1) (line.Many (event.Run 0) 3) (line.One (event.Enter 0) ∷ later_events)
+      (omega arith, omega arith)
       (All-cons (IsLineOf 2 1 1) (line.One (event.Enter 0)) later_events (omega arith)
       (two_lines 2 1 1 (line.One (event.Lose true 7)) (line.One (event.Tick 16)) tt (inr refl)));
   singles = omega arith;
@@ -98,10 +114,36 @@ asking_within = record {
 pub asking_spelt : LinesSpell asking_lines asking
 asking_spelt = record {
   short = leb-true _ _ refl;
-  blocks = Terminal (codes "$T") (codes "$D") ((pos 5 ∷ negsuc 6 ∷ []) ∷ [] ∷ []) ∷ Disc (record { name = codes "$D"; primary = 1; backup = 0 }) 64 ∷ [];
-  events = asked.RunTimes (codes "$D") 3 ∷ asked.Enter (codes "$T") ∷ asked.Lose (record { y = true; k = 7 }) ∷ asked.Tick 16 ∷ [];
+  blocks = Terminal (codes "$T") (codes "$D") ((pos 5 ∷ negsuc 6 ∷ []) ∷ [] ∷ [])
+      ∷ Disc (record { name = codes "$D"; primary = 1; backup = 0 }) 64 ∷ [];
+  events = asked.RunTimes (codes "$D") 3 ∷ asked.Enter (codes "$T") ∷ asked.Lose (record { y = true; k = 7 })
+      ∷ asked.Tick 16 ∷ [];
   text =
-      inr (refl, inl (refl, inr (refl, inl (refl, inl (refl, inr (refl, inl (refl, inl (refl, inl (refl, inl (refl, inl (refl, inl (refl, inl (refl, inl (refl, (refl, tt)))))))))))))));
+      inr (
+        refl,
+        inl (
+          refl,
+          inr (
+            refl,
+            inl (
+              refl,
+              inl (
+                refl,
+                inr (
+                  refl,
+                  inl (
+                    refl,
+                    inl (
+                      refl,
+                      inl (refl, inl (refl, inl (refl, inl (refl, inl (refl, inl (refl, (refl, tt))))))),
+                    ),
+                  ),
+                ),
+              ),
+            ),
+          ),
+        ),
+      );
   once = (⊎_elim (apart (codes "$T") (codes "$D") refl) (λ later. later), (λ among. among, tt));
   declared = (record { named = refl; asks = refl; sends = refl }, (refl, tt));
   scheduled = (refl, (refl, (refl, (refl, tt))));

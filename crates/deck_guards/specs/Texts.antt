@@ -19,7 +19,8 @@ SpellNone lines = (deck : Deck) → LinesSpell lines deck → ⊥
 
 -- so many processors, and what a schedule asks of them
 abbrev pub bare : ℕ → List Line → Deck
-bare processors lines = record { site = record { processors = processors; processes = []; terminals = [] }; lines = lines }
+bare processors lines =
+    record { site = record { processors = processors; processes = []; terminals = [] }; lines = lines }
 
 -- lines between those of the processors and of the schedule, and event lines
 abbrev pub with_blocks : List (List ℕ) → List (List ℕ)
@@ -44,8 +45,10 @@ terminal_lines (suc number) = (codes "terminal $" ++ (65 + number) ∷ codes " $
 -- a terminal that asks the disc of a later line, and events of both
 abbrev pub asking_lines : List (List ℕ)
 asking_lines =
-    codes "# remark" ∷ codes " processors  002 " ∷ [] ∷ codes "terminal $t $D" ∷ codes "send 5 -7" ∷ codes " " ∷ codes "send" ∷ codes "disc $d 1 0 64"
-    ∷ codes "schedule" ∷ codes "run $D 3" ∷ codes "enter $T" ∷ codes "lose y 007" ∷ codes "tick 16" ∷ codes "END" ∷ codes "# END" ∷ []
+    codes "# remark" ∷ codes " processors  002 " ∷ [] ∷ codes "terminal $t $D" ∷ codes "send 5 -7" ∷ codes " "
+    ∷ codes "send" ∷ codes "disc $d 1 0 64"
+    ∷ codes "schedule" ∷ codes "run $D 3" ∷ codes "enter $T" ∷ codes "lose y 007" ∷ codes "tick 16" ∷ codes "END"
+    ∷ codes "# END" ∷ []
 
 abbrev pub asked_disc : ProcessSpec
 asked_disc = record { name = codes "$D"; primary = 1; backup = 0; what = kind.Disc 64 }

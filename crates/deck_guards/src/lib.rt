@@ -1,4 +1,5 @@
-//! Guards of the grammar of decks: what texts spell at telling points, and which spell no deck. A wrong grammar is refused here.
+//! Guards of the grammar of decks: what texts spell at telling points, and which spell no deck. A wrong grammar is
+//! refused here.
 //!
 //! Below stands `deck_grammar`, whose relation is guarded; nothing stands above.
 #![tactic(auto)]

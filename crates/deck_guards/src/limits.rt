@@ -1,7 +1,8 @@
 ghost use Rattle.std.specs.Prelude.{[], ◌∷◌, codes};
 ghost use Rattle.schedule.specs.declared.event.Event.TheVariants as event;
 ghost use Rattle.schedule.specs.declared.line.Line.TheVariants as line;
-ghost use Rattle.deck_guards.specs.Texts.{LinesSpell, SpellNone, bare, disc_lines, terminal_lines, with_blocks, with_events};
+ghost use Rattle.deck_guards.specs.Texts.{LinesSpell, SpellNone, bare, disc_lines, terminal_lines, with_blocks};
+ghost use Rattle.deck_guards.specs.Texts.{with_events};
 
 /// There are 2 to 16 processors.
 pub fn processors_are_two_to_sixteen()
@@ -23,22 +24,27 @@ pub fn a_disc_keeps_its_limits()
 pub fn sixteen_are_the_most()
     ensures processes { SpellNone (with_blocks (disc_lines 17)) }
     ensures terminals { SpellNone (with_blocks (codes "disc $D0 0 1 8" ∷ terminal_lines 17)) }
-    ensures words { SpellNone (with_blocks (codes "disc $D 0 1 8" ∷ codes "terminal $T $D" ∷ codes "send 1 2 3 4 5 6 7 8 9 10 11 12 13 14 15 16 17" ∷ [])) }
+    ensures words { SpellNone (with_blocks (codes "disc $D 0 1 8" ∷ codes "terminal $T $D"
+        ∷ codes "send 1 2 3 4 5 6 7 8 9 10 11 12 13 14 15 16 17" ∷ [])) }
 {}
 
 /// An event is of a processor of the site, and only a tick is of node 16 too; a process runs once or more often.
 pub fn an_event_keeps_its_limits()
-    ensures tick { LinesSpell (with_events (codes "tick 2" ∷ codes "tick 16" ∷ [])) (bare 3 (line.One (event.Tick 2) ∷ line.One (event.Tick 16) ∷ [])) }
+    ensures tick { LinesSpell (with_events (codes "tick 2" ∷ codes "tick 16" ∷ []))
+        (bare 3 (line.One (event.Tick 2) ∷ line.One (event.Tick 16) ∷ [])) }
     ensures other_tick { SpellNone (with_events (codes "tick 3" ∷ [])) }
     ensures fail { SpellNone (with_events (codes "fail 3" ∷ [])) }
     ensures fail_of_the_terminals { SpellNone (with_events (codes "fail 16" ∷ [])) }
     ensures mute { SpellNone (with_events (codes "mute 3 1" ∷ [])) }
-    ensures never { SpellNone (codes "processors 3" ∷ codes "disc $D 0 1 8" ∷ codes "schedule" ∷ codes "run $D 0" ∷ codes "END" ∷ []) }
+    ensures never { SpellNone (codes "processors 3" ∷ codes "disc $D 0 1 8" ∷ codes "schedule" ∷ codes "run $D 0"
+        ∷ codes "END" ∷ []) }
 {}
 
 /// Lines ask for at most 1,000,000 single events and 100,000 rounds together.
 pub fn a_schedule_keeps_its_limits()
-    ensures events { SpellNone (codes "processors 3" ∷ codes "disc $D 0 1 8" ∷ codes "schedule" ∷ codes "run $D 1000000" ∷ codes "tick 0" ∷ codes "END" ∷ []) }
-    ensures rounds { LinesSpell (with_events (codes "drain 99999" ∷ codes "mix 1 1" ∷ [])) (bare 3 (line.Drain 99999 ∷ line.Mix 1 1 ∷ [])) }
+    ensures events { SpellNone (codes "processors 3" ∷ codes "disc $D 0 1 8" ∷ codes "schedule"
+        ∷ codes "run $D 1000000" ∷ codes "tick 0" ∷ codes "END" ∷ []) }
+    ensures rounds { LinesSpell (with_events (codes "drain 99999" ∷ codes "mix 1 1" ∷ []))
+        (bare 3 (line.Drain 99999 ∷ line.Mix 1 1 ∷ [])) }
     ensures more_rounds { SpellNone (with_events (codes "drain 99999" ∷ codes "mix 1 1" ∷ codes "mute 0 1" ∷ [])) }
 {}

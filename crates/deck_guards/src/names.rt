@@ -4,7 +4,8 @@ ghost use Rattle.deck_guards.specs.Texts.{SpellNone, with_blocks, with_events};
 /// No name is declared twice, as a process or as a terminal, in either case.
 pub fn a_name_is_declared_once()
     ensures processes { SpellNone (with_blocks (codes "disc $D 0 1 8" ∷ codes "disc $d 1 2 8" ∷ [])) }
-    ensures terminals { SpellNone (with_blocks (codes "disc $D 0 1 8" ∷ codes "terminal $T $D" ∷ codes "terminal $T $D" ∷ [])) }
+    ensures terminals { SpellNone (with_blocks
+        (codes "disc $D 0 1 8" ∷ codes "terminal $T $D" ∷ codes "terminal $T $D" ∷ [])) }
     ensures both { SpellNone (with_blocks (codes "terminal $D $D" ∷ codes "disc $D 0 1 8" ∷ [])) }
 {}
 

@@ -8,8 +8,8 @@ pub fn the_smallest_deck_has_three_lines()
     ensures cut { Spells (codes "processors 2" ++ 10 ∷ codes "schedule" ++ 10 ∷ codes "END") (bare 2 []) }
 {}
 
-/// Remarks, empty lines, spaces at either end and zeros before a number say nothing; names are of either case, and are used before
-/// their line.
+/// Remarks, empty lines, spaces at either end and zeros before a number say nothing; names are of either case, and are
+/// used before their line.
 pub fn a_deck_may_have_remarks()
     ensures { LinesSpell asking_lines asking }
 {}
@@ -28,7 +28,8 @@ pub fn lines_have_their_order()
 /// Requests stand right below their terminal.
 pub fn requests_follow_their_terminal()
     ensures alone { SpellNone (with_blocks (codes "send 1" ∷ [])) }
-    ensures after_a_disc { SpellNone (with_blocks (codes "terminal $T $D" ∷ codes "disc $D 0 1 8" ∷ codes "send 1" ∷ [])) }
+    ensures after_a_disc { SpellNone (with_blocks
+        (codes "terminal $T $D" ∷ codes "disc $D 0 1 8" ∷ codes "send 1" ∷ [])) }
 {}
 
 /// A program ends at the first line that is a point alone, and has to end.

@@ -1,5 +1,6 @@
 -- What an event line of a deck says, after its first word. The forms of these lines are our own.
-use Rattle.std.specs.Prelude.{ℕ, Bool, true, false, List, [], ◌∷◌, codes, Option, Some, None, option_map, option_and_then, if◌then◌else◌}
+use Rattle.std.specs.Prelude.{ℕ, Bool, true, false, List, [], ◌∷◌, codes, Option, Some, None, option_map}
+use Rattle.std.specs.Prelude.{option_and_then, if◌then◌else◌}
 use Rattle.std.specs.Str.{bytes_eq}
 use Rattle.gd_words.specs.Spelling.{name_of}
 use Rattle.deck_lines.specs.Lines.{is_blank, one_word, two_words, three_words}
@@ -13,7 +14,8 @@ use Rattle.deck_lines.specs.declared.event_saying.PacketPlace.{PacketPlace}
 -- how often a process runs: once, or TIMES times
 abbrev pub run_of : List ℕ → List (List ℕ) → Option EventSaying
 run_of name parts =
-    if is_blank parts then Some (said.Run name) else option_and_then (λ word. option_map (λ times. said.RunTimes name times) (written_number word)) (one_word parts)
+    if is_blank parts then Some (said.Run name) else option_and_then
+    (λ word. option_map (λ times. said.RunTimes name times) (written_number word)) (one_word parts)
 
 -- `run NAME` and `run NAME TIMES`
 abbrev pub run_said : List (List ℕ) → Option EventSaying
@@ -30,7 +32,9 @@ is_y_of word = if bytes_eq word (codes "x") then Some false else if bytes_eq wor
 
 -- `B K`: the packet at position K of bus B
 abbrev pub packet_of : List (List ℕ) → Option PacketPlace
-packet_of parts = option_and_then (λ words. option_and_then (λ y. option_map (λ k. record { y = y; k = k }) (written_number words.1)) (is_y_of words.0)) (two_words parts)
+packet_of parts = option_and_then (λ words.
+    option_and_then (λ y. option_map (λ k. record { y = y; k = k }) (written_number words.1)) (is_y_of words.0))
+    (two_words parts)
 
 -- `deliver B K`, `lose B K` and `repeat B K`
 abbrev pub deliver_said : List (List ℕ) → Option EventSaying
@@ -56,7 +60,9 @@ drain_said parts = option_and_then (λ word. option_map said.Drain (written_numb
 
 -- a number and R
 abbrev pub rounds_with : List (List ℕ) → Option (ℕ × ℕ)
-rounds_with parts = option_and_then (λ words. option_and_then (λ first. option_map (λ rounds. (first, rounds)) (written_number words.1)) (written_number words.0)) (two_words parts)
+rounds_with parts = option_and_then (λ words.
+    option_and_then (λ first. option_map (λ rounds. (first, rounds)) (written_number words.1))
+    (written_number words.0)) (two_words parts)
 
 -- `mix S R`
 abbrev pub mix_said : List (List ℕ) → Option EventSaying
@@ -68,12 +74,15 @@ mute_said parts = option_map (λ numbers. said.Mute numbers.0 numbers.1) (rounds
 
 -- what is counted is writes, `W`, or replies, `R`
 abbrev pub is_writes_of : List ℕ → Option Bool
-is_writes_of word = if bytes_eq word (codes "W") then Some true else if bytes_eq word (codes "R") then Some false else None
+is_writes_of word =
+    if bytes_eq word (codes "W") then Some true else if bytes_eq word (codes "R") then Some false else None
 
 -- `until W N R` and `until R N R`
 abbrev pub until_said : List (List ℕ) → Option EventSaying
 until_said parts =
-    option_and_then (λ words. option_and_then (λ writes. option_and_then (λ count. option_map (λ rounds. said.Until writes count rounds) (written_number words.2)) (written_number words.1)) (is_writes_of words.0))
+    option_and_then (λ words. option_and_then
+    (λ writes. option_and_then (λ count. option_map (λ rounds. said.Until writes count rounds)
+    (written_number words.2)) (written_number words.1)) (is_writes_of words.0))
     (three_words parts)
 
 -- the parts of an event line by its first word

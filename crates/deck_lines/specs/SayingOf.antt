@@ -1,5 +1,6 @@
 -- What a line of a deck outside a program says.
-use Rattle.std.specs.Prelude.{ℕ, Bool, false, ◌==◌, nat_le, List, [], ◌∷◌, length, codes, Option, Some, None, option_map, option_and_then, is_some, if◌then◌else◌, ℤ}
+use Rattle.std.specs.Prelude.{ℕ, Bool, false, ◌==◌, nat_le, List, [], ◌∷◌, length, codes, Option, Some, None}
+use Rattle.std.specs.Prelude.{option_map, option_and_then, is_some, if◌then◌else◌, ℤ}
 use Rattle.std.specs.List.{list_all}
 use Rattle.std.specs.Str.{bytes_eq}
 use Rattle.gd_words.specs.Spelling.{name_of}
@@ -57,11 +58,14 @@ placing_of name primary backup = placed (name_of name) (written_number primary) 
 -- `disc NAME P B SECTORS`
 abbrev pub disc_said : List (List ℕ) → Option Saying
 disc_said parts =
-    option_and_then (λ words. option_and_then (λ placing. option_map (λ sectors. said.Disc placing sectors) (written_number words.3)) (placing_of words.0 words.1 words.2)) (four_words parts)
+    option_and_then (λ words. option_and_then
+    (λ placing. option_map (λ sectors. said.Disc placing sectors) (written_number words.3))
+    (placing_of words.0 words.1 words.2)) (four_words parts)
 
 -- `pair NAME P B`
 abbrev pub pair_said : List (List ℕ) → Option Saying
-pair_said parts = option_and_then (λ words. option_map said.Pair (placing_of words.0 words.1 words.2)) (three_words parts)
+pair_said parts =
+    option_and_then (λ words. option_map said.Pair (placing_of words.0 words.1 words.2)) (three_words parts)
 
 -- `terminal NAME TARGET`
 abbrev pub terminal_said : List (List ℕ) → Option Saying
@@ -74,7 +78,8 @@ terminal_said parts = option_and_then (λ words. terminal_of (name_of words.0) (
 -- the words of a request, each of them a word
 abbrev pub request_words : List (List ℕ) → Option (List ℤ)
 request_words [] = Some []
-request_words (word ∷ words) = option_and_then (λ value. option_map (λ values. value ∷ values) (request_words words)) (word_of word)
+request_words (word ∷ words) =
+    option_and_then (λ value. option_map (λ values. value ∷ values) (request_words words)) (word_of word)
 
 -- at most 16 words
 abbrev pub request_of : List (List ℕ) → Option (List ℤ)
@@ -123,7 +128,8 @@ is_remark (c ∷ cs) = c == 35
 -- the words of a line; none and a remark say nothing
 abbrev pub said_by : List (List ℕ) → Option Saying
 said_by [] = Some said.Nothing
-said_by (word ∷ parts) = if is_remark word then Some said.Nothing else option_and_then (parts_say parts) (keyword_of word)
+said_by (word ∷ parts) =
+    if is_remark word then Some said.Nothing else option_and_then (parts_say parts) (keyword_of word)
 
 abbrev pub or_formless : Option Saying → Saying
 or_formless None = said.Formless

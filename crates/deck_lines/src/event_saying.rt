@@ -1,6 +1,8 @@
 ghost use Rattle.std.specs.Prelude.{◌≡◌};
 ghost use Rattle.deck_lines.specs.Lines.{words_of};
-ghost use Rattle.deck_lines.specs.EventSayingOf.{is_y_of, packet_of, is_writes_of, rounds_with, run_of, run_said, enter_said, deliver_said, lose_said, repeat_said, tick_said, fail_said, drain_said, mix_said, mute_said, until_said, event_said};
+ghost use Rattle.deck_lines.specs.EventSayingOf.{is_y_of, packet_of, is_writes_of, rounds_with, run_of, run_said};
+ghost use Rattle.deck_lines.specs.EventSayingOf.{enter_said, deliver_said, lose_said, repeat_said, tick_said};
+ghost use Rattle.deck_lines.specs.EventSayingOf.{fail_said, drain_said, mix_said, mute_said, until_said, event_said};
 
 use crate::lines::{is_blank, next_word, one_word, three_words, two_words};
 use crate::numbers::written_number;

@@ -1,10 +1,12 @@
 ghost use Rattle.std.specs.Prelude.{◌≡◌, ◌<◌, ◌==◌, not, [], ◌∷◌, length, MatchOption, option_map};
-ghost use Rattle.deck_lines.specs.Lines.{lines_of, words_of, is_printable, is_blank, one_word, two_words, three_words, four_words};
+ghost use Rattle.deck_lines.specs.Lines.{lines_of, words_of, is_printable, is_blank, one_word, two_words, three_words};
+ghost use Rattle.deck_lines.specs.Lines.{four_words};
 ghost use Rattle.deck_lines.specs.Cuts.{front_of, back_of};
 
 /// The first line and what follows its line feed; none where the text is at its end.
 pub fn next_line(text: &[u8]) -> Option<(&[u8], &[u8])>
-    ensures { MatchOption result (text.now ≡ []) (λ cut. (lines_of text.now ≡ cut.0.now ∷ lines_of cut.1.now) × (length cut.1.now < length text.now)) }
+    ensures { MatchOption result (text.now ≡ [])
+        (λ cut. (lines_of text.now ≡ cut.0.now ∷ lines_of cut.1.now) × (length cut.1.now < length text.now)) }
 {
     if text.is_empty() {
         return None;
@@ -31,7 +33,8 @@ fn split_before(text: &[u8], sign: u8) -> (&[u8], &[u8])
 
 /// The first word of a line and what follows it; none where only spaces are left.
 pub fn next_word(line: &[u8]) -> Option<(&[u8], &[u8])>
-    ensures { MatchOption result (words_of line.now ≡ []) (λ cut. (words_of line.now ≡ cut.0.now ∷ words_of cut.1.now) × (length cut.1.now < length line.now)) }
+    ensures { MatchOption result (words_of line.now ≡ [])
+        (λ cut. (words_of line.now ≡ cut.0.now ∷ words_of cut.1.now) × (length cut.1.now < length line.now)) }
 {
     let text = after_spaces(line);
     if text.is_empty() {
@@ -80,7 +83,8 @@ pub fn three_words(line: &[u8]) -> Option<(&[u8], &[u8], &[u8])>
 
 /// The words, where a line has just these four.
 pub fn four_words(line: &[u8]) -> Option<(&[u8], &[u8], &[u8], &[u8])>
-    ensures { option_map (λ words. (words.0.now, words.1.now, words.2.now, words.3.now)) result ≡ four_words (words_of line.now) }
+    ensures { option_map (λ words. (words.0.now, words.1.now, words.2.now, words.3.now)) result
+        ≡ four_words (words_of line.now) }
 {
     let (first, rest) = next_word(line)?;
     let (second, third, fourth) = three_words(rest)?;

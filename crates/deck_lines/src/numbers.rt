@@ -2,7 +2,8 @@ ghost use Rattle.std.specs.Prelude.{◌≡◌, ◌<◌, ◌≤◌, ◌^◌, ◌&
 ghost use Rattle.std.specs.Option.{ForSome};
 ghost use Rattle.std.specs.Char.{is_ascii_digit};
 ghost use Rattle.std.specs.List.{list_all};
-ghost use Rattle.deck_lines.specs.Numbers.{digits_value, are_digits, written_number, small_of, word_of, as_negative, as_positive};
+ghost use Rattle.deck_lines.specs.Numbers.{digits_value, are_digits, written_number, small_of, word_of, as_negative};
+ghost use Rattle.deck_lines.specs.Numbers.{as_positive};
 
 /// What decimal digits stand for.
 fn digits_value(digits: &[u8]) -> u32

@@ -1,12 +1,15 @@
 ghost use Rattle.std.specs.Prelude.{◌≡◌, ◌≤◌, length};
 ghost use Rattle.deck_lines.specs.Lines.{words_of};
-ghost use Rattle.deck_lines.specs.SayingOf.{keyword_of, processors_said, event_keyword_of, placing_of, disc_said, pair_said, terminal_said, are_words, send_said, schedule_said, event_line_said, end_said, is_remark, said_by, or_formless, saying_of, request_of};
+ghost use Rattle.deck_lines.specs.SayingOf.{keyword_of, processors_said, event_keyword_of, placing_of, disc_said};
+ghost use Rattle.deck_lines.specs.SayingOf.{pair_said, terminal_said, are_words, send_said, schedule_said};
+ghost use Rattle.deck_lines.specs.SayingOf.{event_line_said, end_said, is_remark, said_by, or_formless, saying_of};
+ghost use Rattle.deck_lines.specs.SayingOf.{request_of};
 
 use crate::event_saying::{EventKeyword, EventSaying, event_said};
 use crate::lines::{
     four_words, is_blank, is_printable, next_word, one_word, three_words, two_words,
 };
-use crate::numbers::{written_number, word_of};
+use crate::numbers::{word_of, written_number};
 use gd_words::{Name, Words};
 
 /// The word with which a line begins.

@@ -12,22 +12,30 @@ use Rattle.deck_reader.specs.declared.outline.Body.{Body}
 use Rattle.deck_reader.specs.declared.outline.Body.TheVariants as body
 use Rattle.deck_reader.specs.declared.outline.ProcessLines.{ProcessLines}
 
-program_read : (lines : Body) (what : Kind) (program : Program) → IsKindOf lines what → what ≡ kind.Pair program → (text : List ℕ) × Reads text program
+program_read : (lines : Body) (what : Kind) (program : Program) → IsKindOf lines what → what ≡ kind.Pair program
+    → (text : List ℕ) × Reads text program
 program_read (body.Disc told) (kind.Disc sectors) program is same = absurd (cc)
 program_read (body.Disc told) (kind.Pair one) program is same = absurd is
 program_read (body.Pair lines) (kind.Disc sectors) program is same = absurd is
-program_read (body.Pair lines) (kind.Pair one) program reads same = let equal : one ≡ program = cc in (lines.text, subst (Reads lines.text) equal reads)
+program_read (body.Pair lines) (kind.Pair one) program reads same =
+    let equal : one ≡ program = cc in (lines.text, subst (Reads lines.text) equal reads)
 
-programs_read : (lines : List (Named ProcessLines)) (specs : List ProcessSpec) (number : ℕ) (spec : ProcessSpec) (program : Program) → AreProcessesOf lines specs
+programs_read : (lines : List (Named ProcessLines)) (specs : List ProcessSpec) (number : ℕ) (spec : ProcessSpec)
+    (program : Program) → AreProcessesOf lines specs
     → slice_get specs number ≡ Some spec → spec.what ≡ kind.Pair program → (text : List ℕ) × Reads text program
 programs_read [] [] number spec program are there pair = absurd (cc)
 programs_read [] (first ∷ specs) number spec program are there pair = absurd are
 programs_read (one ∷ lines) [] number spec program are there pair = absurd are
 programs_read (one ∷ lines) (first ∷ specs) zero spec program are there pair =
-    let same : first ≡ spec = cc in program_read one.1.body first.what program are.0.what (ap (λ (s : ProcessSpec). s.what) same ∙ pair)
-programs_read (one ∷ lines) (first ∷ specs) (suc number) spec program are there pair = programs_read lines specs number spec program are.1 there pair
+    let same : first ≡ spec =
+    cc in program_read one.1.body first.what program are.0.what (ap (λ (s : ProcessSpec). s.what) same ∙ pair)
+programs_read (one ∷ lines) (first ∷ specs) (suc number) spec program are there pair =
+    programs_read lines specs number spec program are.1 there pair
 
-pub deck_programs : (bytes : List ℕ) (deck : Deck) (number : ℕ) (spec : ProcessSpec) (program : Program) → Decks bytes deck
-    → slice_get deck.site.processes number ≡ Some spec → spec.what ≡ kind.Pair program → (text : List ℕ) × Reads text program
+pub deck_programs : (bytes : List ℕ) (deck : Deck) (number : ℕ) (spec : ProcessSpec) (program : Program)
+    → Decks bytes deck
+    → slice_get deck.site.processes number ≡ Some spec → spec.what ≡ kind.Pair program
+    → (text : List ℕ) × Reads text program
 deck_programs bytes deck number spec program decks there pair =
-    programs_read decks.outlined.0.processes deck.site.processes number spec program decks.outlined.2.processes there pair
+    programs_read decks.outlined.0.processes deck.site.processes number spec program decks.outlined.2.processes there
+    pair

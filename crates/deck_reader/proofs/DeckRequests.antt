@@ -11,5 +11,7 @@ use Rattle.deck_reader.proofs.ShortRequests.{HasShort, IsShort, outline_short}
 pub deck_requests : (bytes : List ℕ) (deck : Deck) → Decks bytes deck → All HasShortRequests deck.site.terminals
 deck_requests bytes deck decks =
     let outline = decks.outlined.0 in
-    all_with (IsTerminalOf outline.processes) HasShort HasShortRequests (λ lines terminal short of. subst (All IsShort) (sym of.requests) short)
-    outline.terminals deck.site.terminals (outline_short (lines_of bytes) outline decks.outlined.1) decks.outlined.2.terminals
+    all_with (IsTerminalOf outline.processes) HasShort HasShortRequests
+    (λ lines terminal short of. subst (All IsShort) (sym of.requests) short)
+    outline.terminals deck.site.terminals (outline_short (lines_of bytes) outline decks.outlined.1)
+    decks.outlined.2.terminals

@@ -1,5 +1,6 @@
 -- What the event lines of a deck ask for together, with one more.
-use Rattle.std.proofs.Common.{◌≡◌, ℕ, ◌+◌, ◌<◌, ◌≤◌, Bool, true, false, cond, nat_eq, nat_lt, ◌||◌, inl, inr, List, [], ◌∷◌, ◌++◌, length, Option, Some, None, option_map, Result, Ok, Err, refl, subst, arith}
+use Rattle.std.proofs.Common.{◌≡◌, ℕ, ◌+◌, ◌<◌, ◌≤◌, Bool, true, false, cond, nat_eq, nat_lt, ◌||◌, inl, inr, List, []}
+use Rattle.std.proofs.Common.{◌∷◌, ◌++◌, length, Option, Some, None, option_map, Result, Ok, Err, refl, subst, arith}
 use Rattle.std.specs.Prelude.{position}
 use Rattle.std.proofs.lemmas.Bool.{ltb-true}
 use Rattle.std.proofs.lemmas.Bool.Decides.{nat_tests}
@@ -17,7 +18,8 @@ use Rattle.deck_reader.specs.declared.line_fault.LineFault.TheVariants as fault
 use Rattle.deck_reader.specs.declared.outline.Outline.{Outline}
 use Rattle.deck_reader.specs.declared.outline.Sums.{Sums}
 
-pub singles_with : (lines : List Line) (more : Line) → singles_of (lines ++ more ∷ []) ≡ singles_of lines + singles_in more
+pub singles_with : (lines : List Line) (more : Line)
+    → singles_of (lines ++ more ∷ []) ≡ singles_of lines + singles_in more
 singles_with [] more = omega arith
 singles_with (one ∷ lines) more = omega (arith, singles_with lines more)
 
@@ -62,37 +64,58 @@ AsksMore sums singles rounds (Ok next) = IsMore sums singles rounds next
 singles_more : (sums : Sums) (more : ℕ) → AreFewAsked sums → AsksMore sums more 0 (more_singles sums more)
 singles_more sums more few = by (nat_lt 1000000 (sums.singles + more)) refl
   where
-    by : (b : Bool) → nat_lt 1000000 (sums.singles + more) ≡ b → AsksMore sums more 0 (cond b (Err (fault.Limit 6)) (Ok (record { singles = sums.singles + more; rounds = sums.rounds })))
+    by : (b : Bool) → nat_lt 1000000 (sums.singles + more) ≡ b
+        → AsksMore sums more 0 (cond b (Err (fault.Limit 6))
+        (Ok (record { singles = sums.singles + more; rounds = sums.rounds })))
     by true over = tt
-    by false within = record { singles = refl; rounds = omega arith; few = record { singles = grind (arith, nat_tests); rounds = few.rounds } }
+    by false within = record {
+      singles = refl;
+      rounds = omega arith;
+      few = record { singles = grind (arith, nat_tests); rounds = few.rounds };
+    }
 
 rounds_more : (sums : Sums) (more : ℕ) → AreFewAsked sums → AsksMore sums 0 more (more_rounds sums more)
 rounds_more sums more few = by (nat_lt 100000 (sums.rounds + more)) refl
   where
-    by : (b : Bool) → nat_lt 100000 (sums.rounds + more) ≡ b → AsksMore sums 0 more (cond b (Err (fault.Limit 7)) (Ok (record { singles = sums.singles; rounds = sums.rounds + more })))
+    by : (b : Bool) → nat_lt 100000 (sums.rounds + more) ≡ b
+        → AsksMore sums 0 more (cond b (Err (fault.Limit 7))
+        (Ok (record { singles = sums.singles; rounds = sums.rounds + more })))
     by true over = tt
-    by false within = record { singles = omega arith; rounds = refl; few = record { singles = few.singles; rounds = grind (arith, nat_tests) } }
+    by false within = record {
+      singles = omega arith;
+      rounds = refl;
+      few = record { singles = few.singles; rounds = grind (arith, nat_tests) };
+    }
 
-where_true : (sums : Sums) (m n : ℕ) (why : LineFault) (b : Bool) (o : Result Sums LineFault) → AsksMore sums m n o → AsksMore sums m n (cond b o (Err why))
+where_true : (sums : Sums) (m n : ℕ) (why : LineFault) (b : Bool) (o : Result Sums LineFault) → AsksMore sums m n o
+    → AsksMore sums m n (cond b o (Err why))
 where_true sums m n why true o h = h
 where_true sums m n why false o h = tt
 
-where_false : (sums : Sums) (m n : ℕ) (why : LineFault) (b : Bool) (o : Result Sums LineFault) → AsksMore sums m n o → AsksMore sums m n (cond b (Err why) o)
+where_false : (sums : Sums) (m n : ℕ) (why : LineFault) (b : Bool) (o : Result Sums LineFault) → AsksMore sums m n o
+    → AsksMore sums m n (cond b (Err why) o)
 where_false sums m n why true o h = tt
 where_false sums m n why false o h = h
 
-pub asks_more : (processors : ℕ) (sums : Sums) (saying : EventSaying) → AreFewAsked sums → AsksMore sums (singles_asked saying) (rounds_asked saying) (asks processors sums saying)
+pub asks_more : (processors : ℕ) (sums : Sums) (saying : EventSaying) → AreFewAsked sums
+    → AsksMore sums (singles_asked saying) (rounds_asked saying) (asks processors sums saying)
 asks_more processors sums (asked.Run name) few = singles_more sums 1 few
-asks_more processors sums (asked.RunTimes name times) few = where_false sums times 0 fault.Form (nat_lt times 1) (more_singles sums times) (singles_more sums times few)
+asks_more processors sums (asked.RunTimes name times) few =
+    where_false sums times 0 fault.Form (nat_lt times 1) (more_singles sums times) (singles_more sums times few)
 asks_more processors sums (asked.Enter name) few = singles_more sums 1 few
 asks_more processors sums (asked.Deliver place) few = singles_more sums 1 few
 asks_more processors sums (asked.Lose place) few = singles_more sums 1 few
 asks_more processors sums (asked.Repeat place) few = singles_more sums 1 few
-asks_more processors sums (asked.Tick node) few = where_true sums 1 0 fault.NoProcessor (nat_lt node processors || nat_eq node 16) (more_singles sums 1) (singles_more sums 1 few)
-asks_more processors sums (asked.Fail processor) few = where_true sums 1 0 fault.NoProcessor (nat_lt processor processors) (more_singles sums 1) (singles_more sums 1 few)
+asks_more processors sums (asked.Tick node) few =
+    where_true sums 1 0 fault.NoProcessor (nat_lt node processors || nat_eq node 16) (more_singles sums 1)
+    (singles_more sums 1 few)
+asks_more processors sums (asked.Fail processor) few =
+    where_true sums 1 0 fault.NoProcessor (nat_lt processor processors) (more_singles sums 1) (singles_more sums 1 few)
 asks_more processors sums (asked.Drain rounds) few = rounds_more sums rounds few
 asks_more processors sums (asked.Mix start rounds) few = rounds_more sums rounds few
-asks_more processors sums (asked.Mute processor rounds) few = where_true sums 0 rounds fault.NoProcessor (nat_lt processor processors) (more_rounds sums rounds) (rounds_more sums rounds few)
+asks_more processors sums (asked.Mute processor rounds) few =
+    where_true sums 0 rounds fault.NoProcessor (nat_lt processor processors) (more_rounds sums rounds)
+    (rounds_more sums rounds few)
 asks_more processors sums (asked.Until writes count rounds) few = rounds_more sums rounds few
 
 -- what a test and a map that give something came from
@@ -100,7 +123,8 @@ given : {X : Type 0} (b : Bool) (x y : X) → cond b (Some x) None ≡ Some y �
 given true x y e = (refl, cc)
 given false x y e = absurd (cc)
 
-mapped : {X Y : Type 0} (f : X → Y) (o : Option X) (y : Y) → option_map f o ≡ Some y → (x : X) × (o ≡ Some x) × (f x ≡ y)
+mapped : {X Y : Type 0} (f : X → Y) (o : Option X) (y : Y) → option_map f o ≡ Some y
+    → (x : X) × (o ≡ Some x) × (f x ≡ y)
 mapped f None y e = absurd (cc)
 mapped f (Some x) y e = (x, refl, cc)
 
@@ -109,12 +133,15 @@ pub place_there : {X : Type 0} (p : X → Bool) (xs : List X) (k : ℕ) → posi
 place_there p xs k e = let found = given _ _ _ e in omega (arith, ltb-true _ _ found.0, found.1)
 
 -- what a test gives is of its kind where it is where the test passes
-of_test : (P : Line → Type 0) (b : Bool) (one line : Line) → (b ≡ true → P one) → cond b (Some one) None ≡ Some line → P line
+of_test : (P : Line → Type 0) (b : Bool) (one line : Line) → (b ≡ true → P one) → cond b (Some one) None ≡ Some line
+    → P line
 of_test P b one line h e = let found = given b one line e in subst P found.1 (h found.0)
 
 -- a place that is found is that of one that is there
-of_place : {X : Type 0} (P : Line → Type 0) (f : ℕ → Line) (p : X → Bool) (xs : List X) (line : Line) → ((k : ℕ) → k < length xs → P (f k)) → option_map f (position p xs) ≡ Some line → P line
-of_place P f p xs line h e = let found = mapped f (position p xs) line e in subst P found.2 (h found.0 (place_there p xs found.0 found.1))
+of_place : {X : Type 0} (P : Line → Type 0) (f : ℕ → Line) (p : X → Bool) (xs : List X) (line : Line)
+    → ((k : ℕ) → k < length xs → P (f k)) → option_map f (position p xs) ≡ Some line → P line
+of_place P f p xs line h e =
+    let found = mapped f (position p xs) line e in subst P found.2 (h found.0 (place_there p xs found.0 found.1))
 
 same_line : (P : Line → Type 0) (one line : Line) → P one → Some one ≡ Some line → P line
 same_line P one line h e = let same : one ≡ line = cc in subst P same h
@@ -133,27 +160,43 @@ pub record IsLineAsked (outline : Outline) (m n : ℕ) (line : Line) : Type 0 wh
   pub rounds : rounds_in line ≡ n
 
 -- a line that is said is one of the site, and asks for what is said
-pub line_asked : (outline : Outline) (saying : EventSaying) (line : Line) → event_line outline saying ≡ Some line → IsLineAsked outline (singles_asked saying) (rounds_asked saying) line
+pub line_asked : (outline : Outline) (saying : EventSaying) (line : Line) → event_line outline saying ≡ Some line
+    → IsLineAsked outline (singles_asked saying) (rounds_asked saying) line
 line_asked outline saying line e = by saying e
   where
     P : ℕ → ℕ → Line → Type 0
     P singles rounds one = IsLineAsked outline singles rounds one
 
-    times : (n : ℕ) (name : List ℕ) (b : Bool) → nat_lt n 1 ≡ b → cond b None (option_map (λ place. told.Many (event.Run place) n) (place_of outline.processes name)) ≡ Some line → P n 0 line
+    times : (n : ℕ) (name : List ℕ) (b : Bool) → nat_lt n 1 ≡ b
+        → cond b None (option_map (λ place. told.Many (event.Run place) n) (place_of outline.processes name))
+        ≡ Some line → P n 0 line
     times n name true few same = absurd (cc)
     times n name false few same =
-        of_place (P n 0) (λ place. told.Many (event.Run place) n) _ outline.processes line (λ k there. record { of_site = (there, grind (arith, nat_tests)); singles = refl; rounds = refl }) same
+        of_place (P n 0) (λ place. told.Many (event.Run place) n) _ outline.processes line
+        (λ k there. record { of_site = (there, grind (arith, nat_tests)); singles = refl; rounds = refl }) same
 
-    by : (saying : EventSaying) → event_line outline saying ≡ Some line → P (singles_asked saying) (rounds_asked saying) line
-    by (asked.Run name) same = of_place (P 1 0) (λ place. told.One (event.Run place)) _ outline.processes line (λ k there. record { of_site = there; singles = refl; rounds = refl }) same
+    by : (saying : EventSaying) → event_line outline saying ≡ Some line
+        → P (singles_asked saying) (rounds_asked saying) line
+    by (asked.Run name) same = of_place (P 1 0) (λ place. told.One (event.Run place)) _ outline.processes line
+        (λ k there. record { of_site = there; singles = refl; rounds = refl }) same
     by (asked.RunTimes name n) same = times n name (nat_lt n 1) refl same
-    by (asked.Enter name) same = of_place (P 1 0) (λ place. told.One (event.Enter place)) _ outline.terminals line (λ k there. record { of_site = there; singles = refl; rounds = refl }) same
-    by (asked.Deliver place) same = same_line (P 1 0) _ line (record { of_site = tt; singles = refl; rounds = refl }) same
+    by (asked.Enter name) same = of_place (P 1 0) (λ place. told.One (event.Enter place)) _ outline.terminals line
+        (λ k there. record { of_site = there; singles = refl; rounds = refl }) same
+    by (asked.Deliver place) same =
+        same_line (P 1 0) _ line (record { of_site = tt; singles = refl; rounds = refl }) same
     by (asked.Lose place) same = same_line (P 1 0) _ line (record { of_site = tt; singles = refl; rounds = refl }) same
-    by (asked.Repeat place) same = same_line (P 1 0) _ line (record { of_site = tt; singles = refl; rounds = refl }) same
-    by (asked.Tick node) same = of_test (P 1 0) _ (told.One (event.Tick node)) line (λ e. record { of_site = tick_of outline.processors node e; singles = refl; rounds = refl }) same
-    by (asked.Fail processor) same = of_test (P 1 0) _ (told.One (event.Fail processor)) line (λ e. record { of_site = ltb-true _ _ e; singles = refl; rounds = refl }) same
-    by (asked.Drain rounds) same = same_line (P 0 rounds) _ line (record { of_site = tt; singles = refl; rounds = refl }) same
-    by (asked.Mix start rounds) same = same_line (P 0 rounds) _ line (record { of_site = tt; singles = refl; rounds = refl }) same
-    by (asked.Mute processor rounds) same = of_test (P 0 rounds) _ (told.Mute processor rounds) line (λ e. record { of_site = ltb-true _ _ e; singles = refl; rounds = refl }) same
-    by (asked.Until writes count rounds) same = same_line (P 0 rounds) _ line (record { of_site = tt; singles = refl; rounds = refl }) same
+    by (asked.Repeat place) same =
+        same_line (P 1 0) _ line (record { of_site = tt; singles = refl; rounds = refl }) same
+    by (asked.Tick node) same = of_test (P 1 0) _ (told.One (event.Tick node)) line
+        (λ e. record { of_site = tick_of outline.processors node e; singles = refl; rounds = refl }) same
+    by (asked.Fail processor) same = of_test (P 1 0) _ (told.One (event.Fail processor)) line
+        (λ e. record { of_site = ltb-true _ _ e; singles = refl; rounds = refl }) same
+    by (asked.Drain rounds) same =
+        same_line (P 0 rounds) _ line (record { of_site = tt; singles = refl; rounds = refl }) same
+    by (asked.Mix start rounds) same =
+        same_line (P 0 rounds) _ line (record { of_site = tt; singles = refl; rounds = refl }) same
+    by (asked.Mute processor rounds) same =
+        of_test (P 0 rounds) _ (told.Mute processor rounds) line
+        (λ e. record { of_site = ltb-true _ _ e; singles = refl; rounds = refl }) same
+    by (asked.Until writes count rounds) same =
+        same_line (P 0 rounds) _ line (record { of_site = tt; singles = refl; rounds = refl }) same

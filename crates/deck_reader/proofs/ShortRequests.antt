@@ -1,5 +1,7 @@
 -- No request of a deck has more than 16 words.
-use Rattle.std.proofs.Common.{◌≡◌, ℕ, ◌+◌, ◌≤◌, Bool, true, false, not, cond, nat_le, nat_lt, List, [], ◌∷◌, ◌++◌, length, Option, Some, None, Result, Ok, Err, option_map, option_and_then, refl, subst, arith, ℤ}
+use Rattle.std.proofs.Common.{◌≡◌, ℕ, ◌+◌, ◌≤◌, Bool, true, false, not, cond, nat_le, nat_lt, List, [], ◌∷◌, ◌++◌}
+use Rattle.std.proofs.Common.{length, Option, Some, None, Result, Ok, Err, option_map, option_and_then, refl, subst}
+use Rattle.std.proofs.Common.{arith, ℤ}
 use Rattle.std.specs.List.{All}
 use Rattle.std.specs.Prelude.{codes}
 use Rattle.std.specs.Str.{bytes_eq}
@@ -11,8 +13,11 @@ use Rattle.deck_lines.specs.EventSayingOf.{event_said}
 use Rattle.deck_reader.specs.LineFaults.{asks, disc_of, is_new, outline_with, terminal_of}
 use Rattle.deck_lines.specs.Lines.{words_of, is_blank, is_printable, one_word, two_words, three_words, four_words}
 use Rattle.deck_lines.specs.Numbers.{written_number, word_of}
-use Rattle.deck_reader.specs.Outlined.{asked, at_end, broken, disc_told, ended, in_blocks, in_program, in_requests, in_schedule, led_on, next_stage, opening, program_ended, site_told, terminal_told, told_after, outline_of, with_terminal}
-use Rattle.deck_lines.specs.SayingOf.{are_words, is_remark, keyword_of, or_formless, or_long, parts_say, placing_of, request_of, request_words, said_by, saying_of, terminal_said}
+use Rattle.deck_reader.specs.Outlined.{asked, at_end, broken, disc_told, ended, in_blocks, in_program, in_requests}
+use Rattle.deck_reader.specs.Outlined.{in_schedule, led_on, next_stage, opening, program_ended, site_told}
+use Rattle.deck_reader.specs.Outlined.{terminal_told, told_after, outline_of, with_terminal}
+use Rattle.deck_lines.specs.SayingOf.{are_words, is_remark, keyword_of, or_formless, or_long, parts_say, placing_of}
+use Rattle.deck_lines.specs.SayingOf.{request_of, request_words, said_by, saying_of, terminal_said}
 use Rattle.deck_lines.specs.declared.event_saying.EventSaying.{EventSaying}
 use Rattle.deck_reader.specs.declared.line_fault.LineFault.{LineFault}
 use Rattle.deck_reader.specs.declared.line_fault.LineFault.TheVariants as fault
@@ -52,7 +57,8 @@ abbrev SaidShort : Option Saying → Type 0
 SaidShort None = Unit {0}
 SaidShort (Some saying) = SayingShort saying
 
-short_then : {X : Type 0} (f : X → Option Saying) → ((x : X) → SaidShort (f x)) → (o : Option X) → SaidShort (option_and_then f o)
+short_then : {X : Type 0} (f : X → Option Saying) → ((x : X) → SaidShort (f x)) → (o : Option X)
+    → SaidShort (option_and_then f o)
 short_then f h None = tt
 short_then f h (Some x) = h x
 
@@ -94,17 +100,22 @@ terminal_short : (parts : List (List ℕ)) (o : _) → two_words parts ≡ o →
 terminal_short parts None e = rw e tt
 terminal_short parts (Some words) e = by (name_of words.0) (name_of words.1) refl refl
   where
-    by : (name target : Option (List ℕ)) → name_of words.0 ≡ name → name_of words.1 ≡ target → SaidShort (terminal_said parts)
+    by : (name target : Option (List ℕ)) → name_of words.0 ≡ name → name_of words.1 ≡ target
+        → SaidShort (terminal_said parts)
     by None target p q = rw (e, p) tt
     by (Some name) None p q = rw (e, p, q) tt
     by (Some name) (Some target) p q = rw (e, p, q) tt
 
 parts_short : (parts : List (List ℕ)) (word : Keyword) → SaidShort (parts_say parts word)
-parts_short parts key.Processors = short_then _ (λ word. short_map said.Processors (λ count. tt) (written_number word)) (one_word parts)
+parts_short parts key.Processors =
+    short_then _ (λ word. short_map said.Processors (λ count. tt) (written_number word)) (one_word parts)
 parts_short parts key.Disc =
-    short_then _ (λ words. short_then _ (λ placing. short_map (λ sectors. said.Disc placing sectors) (λ sectors. tt) (written_number words.3)) (placing_of words.0 words.1 words.2))
+    short_then _ (λ words. short_then _ (λ placing.
+    short_map (λ sectors. said.Disc placing sectors) (λ sectors. tt) (written_number words.3))
+    (placing_of words.0 words.1 words.2))
     (four_words parts)
-parts_short parts key.Pair = short_then _ (λ words. short_map said.Pair (λ placing. tt) (placing_of words.0 words.1 words.2)) (three_words parts)
+parts_short parts key.Pair =
+    short_then _ (λ words. short_map said.Pair (λ placing. tt) (placing_of words.0 words.1 words.2)) (three_words parts)
 parts_short parts key.Terminal = terminal_short parts (two_words parts) refl
 parts_short parts key.Send = short_if (are_words parts) (or_long (request_of parts)) (request_short parts)
 parts_short parts key.Schedule = short_if (is_blank parts) said.Schedule tt
@@ -146,7 +157,8 @@ StepShort (step.Broken breach) = Unit {0}
 all_more : {X : Type 0} (P : X → Type 0) (xs : List X) (x : X) → All P xs → P x → All P (xs ++ x ∷ [])
 all_more P xs x all one = All-append P xs (x ∷ []) all (All-cons P x [] one (All-nil P))
 
-disc_short : (outline : Outline) (number : ℕ) (o : Result (Named ProcessLines) LineFault) → HaveShort outline → StepShort (disc_told outline number o)
+disc_short : (outline : Outline) (number : ℕ) (o : Result (Named ProcessLines) LineFault) → HaveShort outline
+    → StepShort (disc_told outline number o)
 disc_short outline number (Err why) short = tt
 disc_short outline number (Ok process) short = short
 
@@ -155,68 +167,86 @@ terminal_begins : (outline : Outline) (number : ℕ) (name target : List ℕ) �
 terminal_begins outline number name target short = by (not (is_new outline name)) (nat_le 16 (length outline.terminals))
   where
     by : (a b : Bool)
-        → StepShort (terminal_told outline number name (cond a (Err fault.NameTwice) (cond b (Err (fault.Limit 2)) (Ok (record { line = number; target = target; requests = [] })))))
+        → StepShort (terminal_told outline number name
+        (cond a (Err fault.NameTwice) (cond b (Err (fault.Limit 2))
+        (Ok (record { line = number; target = target; requests = [] })))))
     by true b = tt
     by false true = tt
     by false false = (short, All-nil IsShort)
 
-blocks_short : (outline : Outline) (number : ℕ) (saying : Saying) → HaveShort outline → StepShort (in_blocks outline number saying)
+blocks_short : (outline : Outline) (number : ℕ) (saying : Saying) → HaveShort outline
+    → StepShort (in_blocks outline number saying)
 blocks_short outline number said.Nothing short = short
-blocks_short outline number (said.Disc placing sectors) short = disc_short outline number (disc_of outline placing sectors) short
+blocks_short outline number (said.Disc placing sectors) short =
+    disc_short outline number (disc_of outline placing sectors) short
 blocks_short outline number (said.Pair placing) short = short
 blocks_short outline number (said.Terminal name target) short = terminal_begins outline number name target short
 blocks_short outline number said.Schedule short = short
 blocks_short outline number _ short = tt
 
-requests_short : (outline : Outline) (name : List ℕ) (terminal : TerminalLines) (number : ℕ) (saying : Saying) → SayingShort saying → HaveShort outline → HasShort (name, terminal)
+requests_short : (outline : Outline) (name : List ℕ) (terminal : TerminalLines) (number : ℕ) (saying : Saying)
+    → SayingShort saying → HaveShort outline → HasShort (name, terminal)
     → StepShort (in_requests outline name terminal number saying)
 requests_short outline name terminal number said.Nothing one short own = (short, own)
-requests_short outline name terminal number (said.Send words) one short own = by (nat_le 1000 (length terminal.requests))
+requests_short outline name terminal number (said.Send words) one short own =
+    by (nat_le 1000 (length terminal.requests))
   where
     by : (b : Bool)
-        → StepShort (cond b (step.Broken (broken outline number (fault.Limit 3))) (step.Next (at.Requests outline name (record terminal { requests = terminal.requests ++ words ∷ [] }))))
+        → StepShort (cond b (step.Broken (broken outline number (fault.Limit 3)))
+        (step.Next (at.Requests outline name (record terminal { requests = terminal.requests ++ words ∷ [] }))))
     by true = tt
     by false = (short, all_more IsShort terminal.requests words own one)
 requests_short outline name terminal number said.LongSend one short own = by (nat_le 1000 (length terminal.requests))
   where
-    by : (b : Bool) → StepShort (cond b (step.Broken (broken outline number (fault.Limit 3))) (step.Broken (broken outline number (fault.Limit 4))))
+    by : (b : Bool) → StepShort (cond b (step.Broken (broken outline number (fault.Limit 3)))
+        (step.Broken (broken outline number (fault.Limit 4))))
     by true = tt
     by false = tt
 requests_short outline name terminal number (said.Disc placing sectors) one short own =
-    blocks_short (with_terminal outline name terminal) number (said.Disc placing sectors) (all_more HasShort outline.terminals (name, terminal) short own)
+    blocks_short (with_terminal outline name terminal) number (said.Disc placing sectors)
+    (all_more HasShort outline.terminals (name, terminal) short own)
 requests_short outline name terminal number (said.Pair placing) one short own =
-    blocks_short (with_terminal outline name terminal) number (said.Pair placing) (all_more HasShort outline.terminals (name, terminal) short own)
+    blocks_short (with_terminal outline name terminal) number (said.Pair placing)
+    (all_more HasShort outline.terminals (name, terminal) short own)
 requests_short outline name terminal number (said.Terminal other target) one short own =
-    blocks_short (with_terminal outline name terminal) number (said.Terminal other target) (all_more HasShort outline.terminals (name, terminal) short own)
+    blocks_short (with_terminal outline name terminal) number (said.Terminal other target)
+    (all_more HasShort outline.terminals (name, terminal) short own)
 requests_short outline name terminal number said.Schedule one short own =
-    blocks_short (with_terminal outline name terminal) number said.Schedule (all_more HasShort outline.terminals (name, terminal) short own)
+    blocks_short (with_terminal outline name terminal) number said.Schedule
+    (all_more HasShort outline.terminals (name, terminal) short own)
 requests_short outline name terminal number _ one short own = tt
 
 opening_short : (number : ℕ) (saying : Saying) → StepShort (opening number saying)
 opening_short number said.Nothing = tt
 opening_short number (said.Processors count) = by (nat_lt count 2) (nat_lt 16 count)
   where
-    by : (a b : Bool) → StepShort (site_told number (cond a (Err (fault.Limit 8)) (cond b (Err (fault.Limit 8)) (Ok (outline_with count)))))
+    by : (a b : Bool) → StepShort (site_told number
+        (cond a (Err (fault.Limit 8)) (cond b (Err (fault.Limit 8)) (Ok (outline_with count)))))
     by true b = tt
     by false true = tt
     by false false = All-nil HasShort
 opening_short number _ = tt
 
-event_short : (outline : Outline) (number : ℕ) (saying : EventSaying) (o : Result Sums LineFault) → HaveShort outline → StepShort (asked outline number saying o)
+event_short : (outline : Outline) (number : ℕ) (saying : EventSaying) (o : Result Sums LineFault) → HaveShort outline
+    → StepShort (asked outline number saying o)
 event_short outline number saying (Err why) short = tt
 event_short outline number saying (Ok sums) short = short
 
-schedule_short : (outline : Outline) (number : ℕ) (saying : Saying) → HaveShort outline → StepShort (in_schedule outline number saying)
+schedule_short : (outline : Outline) (number : ℕ) (saying : Saying) → HaveShort outline
+    → StepShort (in_schedule outline number saying)
 schedule_short outline number said.Nothing short = short
 schedule_short outline number said.End short = short
-schedule_short outline number (said.Event saying) short = event_short outline number saying (asks outline.processors outline.events.sums saying) short
+schedule_short outline number (said.Event saying) short =
+    event_short outline number saying (asks outline.processors outline.events.sums saying) short
 schedule_short outline number _ short = tt
 
-ended_short : (outline : Outline) (number : ℕ) (saying : Saying) → HaveShort outline → StepShort (ended outline number saying)
+ended_short : (outline : Outline) (number : ℕ) (saying : Saying) → HaveShort outline
+    → StepShort (ended outline number saying)
 ended_short outline number said.Nothing short = short
 ended_short outline number _ short = tt
 
-program_short : (outline : Outline) (heading : Result Heading LineFault) (program : ProgramLines) (line : List ℕ) → HaveShort outline
+program_short : (outline : Outline) (heading : Result Heading LineFault) (program : ProgramLines) (line : List ℕ)
+    → HaveShort outline
     → StepShort (in_program outline heading program line)
 program_short outline heading program line short = by (bytes_eq line (codes "."))
   where
@@ -224,7 +254,8 @@ program_short outline heading program line short = by (bytes_eq line (codes ".")
     at_point (Err why) = tt
     at_point (Ok told) = short
 
-    by : (b : Bool) → StepShort (cond b (program_ended outline heading program) (step.Next (at.Program outline heading (record program { text = program.text ++ line ++ 10 ∷ [] }))))
+    by : (b : Bool) → StepShort (cond b (program_ended outline heading program)
+        (step.Next (at.Program outline heading (record program { text = program.text ++ line ++ 10 ∷ [] }))))
     by true = at_point heading
     by false = short
 
@@ -232,7 +263,8 @@ next_short : (stage : Stage) (number : ℕ) (line : List ℕ) → StageShort sta
 next_short at.Opening number line short = opening_short number (saying_of line)
 next_short (at.Blocks outline) number line short = blocks_short outline number (saying_of line) short
 next_short (at.Program outline heading program) number line short = program_short outline heading program line short
-next_short (at.Requests outline name terminal) number line short = requests_short outline name terminal number (saying_of line) (saying_short line) short.0 short.1
+next_short (at.Requests outline name terminal) number line short =
+    requests_short outline name terminal number (saying_of line) (saying_short line) short.0 short.1
 next_short (at.Schedule outline) number line short = schedule_short outline number (saying_of line) short
 next_short (at.Ended outline) number line short = ended_short outline number (saying_of line) short
 
@@ -249,16 +281,20 @@ end_short (at.Requests outline name terminal) count short = tt
 end_short (at.Schedule outline) count short = tt
 end_short (at.Ended outline) count short = short
 
-lines_short : (stage : Stage) (count : ℕ) (lines : List (List ℕ)) → StageShort stage → ToldShort (told_after stage count lines)
+lines_short : (stage : Stage) (count : ℕ) (lines : List (List ℕ)) → StageShort stage
+    → ToldShort (told_after stage count lines)
 lines_short stage count [] short = end_short stage count short
 lines_short stage count (line ∷ lines) short =
-    by (λ next. lines_short next (count + 1) lines) (next_stage stage (count + 1) line) (next_short stage (count + 1) line short)
+    by (λ next. lines_short next (count + 1) lines) (next_stage stage (count + 1) line)
+    (next_short stage (count + 1) line short)
   where
-    by : ((next : Stage) → StageShort next → ToldShort (told_after next (count + 1) lines)) → (one : LineOutcome) → StepShort one
+    by : ((next : Stage) → StageShort next → ToldShort (told_after next (count + 1) lines)) → (one : LineOutcome)
+        → StepShort one
         → ToldShort (led_on (λ next. told_after next (count + 1) lines) one)
     by later (step.Next next) h = later next h
     by later (step.Broken breach) h = tt
 
 -- the requests of an outline have at most 16 words each
-pub outline_short : (lines : List (List ℕ)) (outline : Outline) → outline_of lines ≡ told.Whole outline → HaveShort outline
+pub outline_short : (lines : List (List ℕ)) (outline : Outline) → outline_of lines ≡ told.Whole outline
+    → HaveShort outline
 outline_short lines outline e = subst ToldShort e (lines_short at.Opening 0 lines tt)

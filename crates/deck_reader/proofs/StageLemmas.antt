@@ -1,5 +1,7 @@
 -- What is told up to a stage keeps the limits of a deck.
-use Rattle.std.proofs.Common.{◌≡◌, ℕ, ◌+◌, ◌<◌, ◌≤◌, Bool, true, false, not, cond, nat_eq, nat_le, nat_lt, List, [], ◌∷◌, ◌++◌, length, Option, Some, None, Result, Ok, Err, refl, sym, ap, ◌∙◌, subst, arith, length-append}
+use Rattle.std.proofs.Common.{◌≡◌, ℕ, ◌+◌, ◌<◌, ◌≤◌, Bool, true, false, not, cond, nat_eq, nat_le, nat_lt, List, []}
+use Rattle.std.proofs.Common.{◌∷◌, ◌++◌, length, Option, Some, None, Result, Ok, Err, refl, sym, ap, ◌∙◌, subst, arith}
+use Rattle.std.proofs.Common.{length-append}
 use Rattle.std.specs.Prelude.{◌≢◌, codes}
 use Rattle.std.specs.List.{All}
 use Rattle.std.specs.Str.{bytes_eq}
@@ -10,8 +12,11 @@ use Rattle.schedule.specs.declared.line.Line.{Line}
 use Rattle.deck_reader.specs.EventLineOf.{event_line}
 use Rattle.deck_reader.specs.Few.{AreFew, HasFew}
 use Rattle.deck_reader.specs.Fresh.{HasNew, IsNewHeading}
-use Rattle.deck_reader.specs.LineFaults.{is_new, asks, disc_of, heading_of, outline_with, process_with, terminal_of, with_sectors}
-use Rattle.deck_reader.specs.Outlined.{asked, at_end, disc_told, ended, in_blocks, in_program, in_requests, in_schedule, led_on, next_stage, opening, program_ended, site_told, terminal_told, told_after, outline_of, with_event, with_process, with_terminal}
+use Rattle.deck_reader.specs.LineFaults.{is_new, asks, disc_of, heading_of, outline_with, process_with, terminal_of}
+use Rattle.deck_reader.specs.LineFaults.{with_sectors}
+use Rattle.deck_reader.specs.Outlined.{asked, at_end, disc_told, ended, in_blocks, in_program, in_requests, in_schedule}
+use Rattle.deck_reader.specs.Outlined.{led_on, next_stage, opening, program_ended, site_told, terminal_told, told_after}
+use Rattle.deck_reader.specs.Outlined.{outline_of, with_event, with_process, with_terminal}
 use Rattle.deck_lines.specs.SayingOf.{saying_of}
 use Rattle.deck_reader.specs.Schedules.{IsLineOf, singles_of, rounds_of}
 use Rattle.deck_lines.specs.declared.event_saying.EventSaying.{EventSaying}
@@ -36,7 +41,8 @@ use Rattle.deck_reader.specs.declared.step.LineOutcome.TheVariants as step
 use Rattle.deck_reader.specs.declared.told.Told.{Told}
 use Rattle.deck_reader.specs.declared.told.Told.TheVariants as told
 use Rattle.deck_reader.proofs.FreshLemmas.{heading_new, new_names}
-use Rattle.deck_reader.proofs.ScheduleLemmas.{AreFewAsked, AsksMore, asks_more, line_asked, rounds_asked, rounds_with, singles_asked, singles_with}
+use Rattle.deck_reader.proofs.ScheduleLemmas.{AreFewAsked, AsksMore, asks_more, line_asked, rounds_asked, rounds_with}
+use Rattle.deck_reader.proofs.ScheduleLemmas.{singles_asked, singles_with}
 
 -- two different processors of the deck
 pub record HeadingKeeps (processors : ℕ) (heading : Heading) : Type 0 where
@@ -54,8 +60,10 @@ pub record LinesKeep (processors : ℕ) (lines : Named ProcessLines) : Type 0 wh
   pub apart : lines.1.primary ≢ lines.1.backup
   pub body : BodyKeeps lines.1.body
 
-pub process_keeps : (processors : ℕ) (heading : Heading) (body : Body) → HeadingKeeps processors heading → BodyKeeps body → LinesKeep processors (process_with heading body)
-process_keeps processors heading body keeps own = record { primary = keeps.primary; backup = keeps.backup; apart = keeps.apart; body = own }
+pub process_keeps : (processors : ℕ) (heading : Heading) (body : Body) → HeadingKeeps processors heading
+    → BodyKeeps body → LinesKeep processors (process_with heading body)
+process_keeps processors heading body keeps own =
+    record { primary = keeps.primary; backup = keeps.backup; apart = keeps.apart; body = own }
 
 abbrev pub TerminalKeeps : Named TerminalLines → Type 0
 TerminalKeeps terminal = length terminal.1.requests ≤ 1000
@@ -69,7 +77,8 @@ pub record BlocksKeep (outline : Outline) : Type 0 where
 
 -- the event lines are of these processes and terminals, and ask for no more than is counted, which keeps the limits
 pub record EventsFit (outline : Outline) : Type 0 where
-  pub each_line : All (IsLineOf outline.processors (length outline.processes) (length outline.terminals)) outline.events.lines
+  pub each_line : All (IsLineOf outline.processors (length outline.processes) (length outline.terminals))
+      outline.events.lines
   pub singles : singles_of outline.events.lines ≤ outline.events.sums.singles
   pub rounds : rounds_of outline.events.lines ≤ outline.events.sums.rounds
   pub few : AreFewAsked outline.events.sums
@@ -92,8 +101,10 @@ pub record TerminalFits (outline : Outline) (name : List ℕ) (terminal : Termin
 abbrev pub StageKeeps : Stage → Type 0
 StageKeeps at.Opening = Unit {0}
 StageKeeps (at.Blocks outline) = BlocksKeep outline × (outline.events ≡ no_events)
-StageKeeps (at.Program outline heading program) = BlocksKeep outline × (outline.events ≡ no_events) × PairKeeps outline heading × IsNewHeading outline heading
-StageKeeps (at.Requests outline name terminal) = BlocksKeep outline × (outline.events ≡ no_events) × TerminalFits outline name terminal
+StageKeeps (at.Program outline heading program) =
+    BlocksKeep outline × (outline.events ≡ no_events) × PairKeeps outline heading × IsNewHeading outline heading
+StageKeeps (at.Requests outline name terminal) =
+    BlocksKeep outline × (outline.events ≡ no_events) × TerminalFits outline name terminal
 StageKeeps (at.Schedule outline) = BlocksKeep outline × EventsFit outline
 StageKeeps (at.Ended outline) = BlocksKeep outline × EventsFit outline
 
@@ -121,30 +132,42 @@ Keeps (step.Broken breach) = Unit {0}
 all_more : {X : Type 0} (P : X → Type 0) (xs : List X) (x : X) → All P xs → P x → All P (xs ++ x ∷ [])
 all_more P xs x all one = All-append P xs (x ∷ []) all (All-cons P x [] one (All-nil P))
 
-process_kept : (outline : Outline) (lines : Named ProcessLines) → BlocksKeep outline → length outline.processes < 16 → LinesKeep outline.processors lines → BlocksKeep (with_process outline lines)
+process_kept : (outline : Outline) (lines : Named ProcessLines) → BlocksKeep outline → length outline.processes < 16
+    → LinesKeep outline.processors lines → BlocksKeep (with_process outline lines)
 process_kept outline lines keeps room one = record {
   processors = keeps.processors;
-  few = record { processes = omega (arith, room, length-append outline.processes (lines ∷ [])); terminals = keeps.few.terminals };
+  few = record {
+    processes = omega (arith, room, length-append outline.processes (lines ∷ []));
+    terminals = keeps.few.terminals;
+  };
   each_process = all_more (LinesKeep outline.processors) outline.processes lines keeps.each_process one;
   each_terminal = keeps.each_terminal;
 }
 
-terminal_kept : (outline : Outline) (name : List ℕ) (terminal : TerminalLines) → BlocksKeep outline → TerminalFits outline name terminal → BlocksKeep (with_terminal outline name terminal)
+terminal_kept : (outline : Outline) (name : List ℕ) (terminal : TerminalLines) → BlocksKeep outline
+    → TerminalFits outline name terminal → BlocksKeep (with_terminal outline name terminal)
 terminal_kept outline name terminal keeps one = record {
   processors = keeps.processors;
-  few = record { processes = keeps.few.processes; terminals = omega (arith, one.room, length-append outline.terminals ((name, terminal) ∷ [])) };
+  few = record {
+    processes = keeps.few.processes;
+    terminals = omega (arith, one.room, length-append outline.terminals ((name, terminal) ∷ []));
+  };
   each_process = keeps.each_process;
   each_terminal = all_more TerminalKeeps outline.terminals (name, terminal) keeps.each_terminal one.keeps;
 }
 
 heading_kept : (outline : Outline) (placing : Placing) → PairKeeps outline (heading_of outline placing)
 heading_kept outline placing =
-    by (not (is_new outline placing.name)) (nat_eq placing.primary placing.backup) (nat_le outline.processors placing.primary) (nat_le outline.processors placing.backup)
+    by (not (is_new outline placing.name)) (nat_eq placing.primary placing.backup)
+    (nat_le outline.processors placing.primary) (nat_le outline.processors placing.backup)
     (nat_le 16 (length outline.processes)) refl refl refl refl
   where
-    by : (a b c d e : Bool) → nat_eq placing.primary placing.backup ≡ b → nat_le outline.processors placing.primary ≡ c → nat_le outline.processors placing.backup ≡ d → nat_le 16 (length outline.processes) ≡ e
-        → PairKeeps outline (cond a (Err fault.NameTwice) (cond b (Err fault.SameProcessor) (cond c (Err fault.NoProcessor) (cond d (Err fault.NoProcessor)
-        (cond e (Err (fault.Limit 1)) (Ok (record { name = placing.name; primary = placing.primary; backup = placing.backup })))))))
+    by : (a b c d e : Bool) → nat_eq placing.primary placing.backup ≡ b → nat_le outline.processors placing.primary ≡ c
+        → nat_le outline.processors placing.backup ≡ d → nat_le 16 (length outline.processes) ≡ e
+        → PairKeeps outline (cond a (Err fault.NameTwice)
+        (cond b (Err fault.SameProcessor) (cond c (Err fault.NoProcessor) (cond d (Err fault.NoProcessor)
+        (cond e (Err (fault.Limit 1)) (Ok (record
+        { name = placing.name; primary = placing.primary; backup = placing.backup })))))))
     by true b c d e p q r s = tt
     by false true c d e p q r s = tt
     by false false true d e p q r s = tt
@@ -152,39 +175,59 @@ heading_kept outline placing =
     by false false false false true p q r s = tt
     by false false false false false p q r s = (
       grind (arith, nat_tests),
-      record { primary = grind (arith, nat_tests); backup = grind (arith, nat_tests); apart = λ same. absurd (grind (arith, nat_tests)) },
+      record {
+        primary = grind (arith, nat_tests);
+        backup = grind (arith, nat_tests);
+        apart = λ same. absurd (grind (arith, nat_tests));
+      },
     )
 
-disc_kept : (outline : Outline) (number : ℕ) (placing : Placing) (sectors : ℕ) → BlocksKeep outline → outline.events ≡ no_events → Keeps (disc_told outline number (disc_of outline placing sectors))
+disc_kept : (outline : Outline) (number : ℕ) (placing : Placing) (sectors : ℕ) → BlocksKeep outline
+    → outline.events ≡ no_events → Keeps (disc_told outline number (disc_of outline placing sectors))
 disc_kept outline number placing sectors keeps none = by (heading_of outline placing) (heading_kept outline placing)
   where
-    sized : (heading : Heading) → PairKeeps outline (Ok heading) → (a b : Bool) → nat_lt sectors 1 ≡ a → nat_lt 64 sectors ≡ b
-        → Keeps (disc_told outline number (cond a (Err (fault.Limit 5)) (cond b (Err (fault.Limit 5)) (Ok (process_with heading (body.Disc sectors))))))
+    sized : (heading : Heading) → PairKeeps outline (Ok heading) → (a b : Bool) → nat_lt sectors 1 ≡ a
+        → nat_lt 64 sectors ≡ b
+        → Keeps (disc_told outline number (cond a (Err (fault.Limit 5))
+        (cond b (Err (fault.Limit 5)) (Ok (process_with heading (body.Disc sectors))))))
     sized heading pair true b p q = tt
     sized heading pair false true p q = tt
     sized heading pair false false p q = (
       process_kept outline (process_with heading (body.Disc sectors)) keeps pair.0
-          (process_keeps outline.processors heading (body.Disc sectors) pair.1 (grind (arith, nat_tests), grind (arith, nat_tests))),
+          (process_keeps outline.processors heading (body.Disc sectors) pair.1
+          (grind (arith, nat_tests), grind (arith, nat_tests))),
       none,
     )
 
-    by : (o : Result Heading LineFault) → PairKeeps outline o → Keeps (disc_told outline number (with_sectors sectors o))
+    by : (o : Result Heading LineFault) → PairKeeps outline o
+        → Keeps (disc_told outline number (with_sectors sectors o))
     by (Err why) pair = tt
     by (Ok heading) pair = sized heading pair (nat_lt sectors 1) (nat_lt 64 sectors) refl refl
 
-terminal_begun : (outline : Outline) (number : ℕ) (name target : List ℕ) → BlocksKeep outline → outline.events ≡ no_events → Keeps (terminal_told outline number name (terminal_of outline number name target))
-terminal_begun outline number name target keeps none = by (not (is_new outline name)) (nat_le 16 (length outline.terminals)) refl refl
+terminal_begun : (outline : Outline) (number : ℕ) (name target : List ℕ) → BlocksKeep outline
+    → outline.events ≡ no_events → Keeps (terminal_told outline number name (terminal_of outline number name target))
+terminal_begun outline number name target keeps none =
+    by (not (is_new outline name)) (nat_le 16 (length outline.terminals)) refl refl
   where
     by : (a b : Bool) → not (is_new outline name) ≡ a → nat_le 16 (length outline.terminals) ≡ b
-        → Keeps (terminal_told outline number name (cond a (Err fault.NameTwice) (cond b (Err (fault.Limit 2)) (Ok (record { line = number; target = target; requests = [] })))))
+        → Keeps (terminal_told outline number name
+        (cond a (Err fault.NameTwice) (cond b (Err (fault.Limit 2))
+        (Ok (record { line = number; target = target; requests = [] })))))
     by true b o p = tt
     by false true o p = tt
-    by false false o p = (keeps, none, record { room = grind (arith, nat_tests); keeps = omega arith; fresh = (new_names outline name o).1 })
+    by false false o p = (
+      keeps,
+      none,
+      record
+          { room = grind (arith, nat_tests); keeps = omega arith; fresh = (new_names outline name o).1 },
+    )
 
-blocks_kept : (outline : Outline) (number : ℕ) (saying : Saying) → BlocksKeep outline → outline.events ≡ no_events → Keeps (in_blocks outline number saying)
+blocks_kept : (outline : Outline) (number : ℕ) (saying : Saying) → BlocksKeep outline → outline.events ≡ no_events
+    → Keeps (in_blocks outline number saying)
 blocks_kept outline number said.Nothing keeps none = (keeps, none)
 blocks_kept outline number (said.Disc placing sectors) keeps none = disc_kept outline number placing sectors keeps none
-blocks_kept outline number (said.Pair placing) keeps none = (keeps, none, heading_kept outline placing, heading_new outline placing)
+blocks_kept outline number (said.Pair placing) keeps none =
+    (keeps, none, heading_kept outline placing, heading_new outline placing)
 blocks_kept outline number (said.Terminal name target) keeps none = terminal_begun outline number name target keeps none
 blocks_kept outline number said.Schedule keeps none =
     let of = IsLineOf outline.processors (length outline.processes) (length outline.terminals) in (
@@ -201,31 +244,57 @@ blocks_kept outline number said.Schedule keeps none =
     )
 blocks_kept outline number _ keeps none = tt
 
-request_kept : (outline : Outline) (name : List ℕ) (terminal : TerminalLines) (number : ℕ) (saying : Saying) → StageKeeps (at.Requests outline name terminal) → Keeps (in_requests outline name terminal number saying)
+request_kept : (outline : Outline) (name : List ℕ) (terminal : TerminalLines) (number : ℕ) (saying : Saying)
+    → StageKeeps (at.Requests outline name terminal) → Keeps (in_requests outline name terminal number saying)
 request_kept outline name terminal number said.Nothing keeps = keeps
 request_kept outline name terminal number (said.Send words) keeps = by (nat_le 1000 (length terminal.requests)) refl
   where
     by : (b : Bool) → nat_le 1000 (length terminal.requests) ≡ b
-        → Keeps (cond b (step.Broken (record { processes = outline.processes; own = None; line = number; why = fault.Limit 3 })) (step.Next (at.Requests outline name (record terminal { requests = terminal.requests ++ words ∷ [] }))))
+        → Keeps (cond b (step.Broken (record {
+          processes = outline.processes;
+          own = None;
+          line = number;
+          why = fault.Limit 3;
+        })) (step.Next (at.Requests outline name
+        (record terminal { requests = terminal.requests ++ words ∷ [] }))))
     by true over = tt
-    by false within = let few : length terminal.requests < 1000 = grind (arith, nat_tests) in
-        (keeps.0, keeps.1, record { room = keeps.2.room; keeps = omega (arith, few, length-append terminal.requests (words ∷ [])); fresh = keeps.2.fresh })
+    by false within = let few : length terminal.requests < 1000 = grind (arith, nat_tests) in (
+      keeps.0,
+      keeps.1,
+      record {
+        room = keeps.2.room;
+        keeps = omega (arith, few, length-append terminal.requests (words ∷ []));
+        fresh = keeps.2.fresh;
+      },
+    )
 request_kept outline name terminal number said.LongSend keeps = by (nat_le 1000 (length terminal.requests))
   where
-    by : (b : Bool) → Keeps (cond b (step.Broken (record { processes = outline.processes; own = None; line = number; why = fault.Limit 3 })) (step.Broken (record { processes = outline.processes; own = None; line = number; why = fault.Limit 4 })))
+    by : (b : Bool) → Keeps (cond b (step.Broken
+        (record { processes = outline.processes; own = None; line = number; why = fault.Limit 3 }))
+        (step.Broken (record { processes = outline.processes; own = None; line = number; why = fault.Limit 4 })))
     by true = tt
     by false = tt
-request_kept outline name terminal number (said.Disc placing sectors) keeps = blocks_kept (with_terminal outline name terminal) number (said.Disc placing sectors) (terminal_kept outline name terminal keeps.0 keeps.2) keeps.1
-request_kept outline name terminal number (said.Pair placing) keeps = blocks_kept (with_terminal outline name terminal) number (said.Pair placing) (terminal_kept outline name terminal keeps.0 keeps.2) keeps.1
-request_kept outline name terminal number (said.Terminal other target) keeps = blocks_kept (with_terminal outline name terminal) number (said.Terminal other target) (terminal_kept outline name terminal keeps.0 keeps.2) keeps.1
-request_kept outline name terminal number said.Schedule keeps = blocks_kept (with_terminal outline name terminal) number said.Schedule (terminal_kept outline name terminal keeps.0 keeps.2) keeps.1
+request_kept outline name terminal number (said.Disc placing sectors) keeps =
+    blocks_kept (with_terminal outline name terminal) number (said.Disc placing sectors)
+    (terminal_kept outline name terminal keeps.0 keeps.2) keeps.1
+request_kept outline name terminal number (said.Pair placing) keeps =
+    blocks_kept (with_terminal outline name terminal) number (said.Pair placing)
+    (terminal_kept outline name terminal keeps.0 keeps.2) keeps.1
+request_kept outline name terminal number (said.Terminal other target) keeps =
+    blocks_kept (with_terminal outline name terminal) number (said.Terminal other target)
+    (terminal_kept outline name terminal keeps.0 keeps.2) keeps.1
+request_kept outline name terminal number said.Schedule keeps =
+    blocks_kept (with_terminal outline name terminal) number said.Schedule
+    (terminal_kept outline name terminal keeps.0 keeps.2) keeps.1
 request_kept outline name terminal number _ keeps = tt
 
 opening_kept : (number : ℕ) (saying : Saying) → Keeps (opening number saying)
 opening_kept number said.Nothing = tt
 opening_kept number (said.Processors count) = by (nat_lt count 2) (nat_lt 16 count) refl refl
   where
-    by : (a b : Bool) → nat_lt count 2 ≡ a → nat_lt 16 count ≡ b → Keeps (site_told number (cond a (Err (fault.Limit 8)) (cond b (Err (fault.Limit 8)) (Ok (outline_with count)))))
+    by : (a b : Bool) → nat_lt count 2 ≡ a → nat_lt 16 count ≡ b
+        → Keeps (site_told number (cond a (Err (fault.Limit 8))
+        (cond b (Err (fault.Limit 8)) (Ok (outline_with count)))))
     by true b p q = tt
     by false true p q = tt
     by false false p q = (
@@ -240,48 +309,75 @@ opening_kept number (said.Processors count) = by (nat_lt count 2) (nat_lt 16 cou
 opening_kept number _ = tt
 
 -- one more event line, with what is asked for
-with_line : (outline : Outline) (number : ℕ) (saying : EventSaying) (sums : Sums) → BlocksKeep outline → EventsFit outline → AsksMore outline.events.sums (singles_asked saying) (rounds_asked saying) (Ok sums)
-    → (o : Option Line) → event_line outline saying ≡ o → StageKeeps (at.Schedule (record outline { events = with_event outline.events number sums o }))
+with_line : (outline : Outline) (number : ℕ) (saying : EventSaying) (sums : Sums) → BlocksKeep outline
+    → EventsFit outline → AsksMore outline.events.sums (singles_asked saying) (rounds_asked saying) (Ok sums)
+    → (o : Option Line) → event_line outline saying ≡ o
+    → StageKeeps (at.Schedule (record outline { events = with_event outline.events number sums o }))
 with_line outline number saying sums keeps fit more o e = (
-  record { processors = keeps.processors; few = record { processes = keeps.few.processes; terminals = keeps.few.terminals }; each_process = keeps.each_process; each_terminal = keeps.each_terminal },
+  record {
+    processors = keeps.processors;
+    few = record { processes = keeps.few.processes; terminals = keeps.few.terminals };
+    each_process =
+        keeps.each_process;
+    each_terminal = keeps.each_terminal;
+  },
   by o e,
 )
   where
-    by : (o : Option Line) → event_line outline saying ≡ o → EventsFit (record outline { events = with_event outline.events number sums o })
-    by None e = record { each_line = fit.each_line; singles = omega (arith, fit.singles, more.singles); rounds = omega (arith, fit.rounds, more.rounds); few = more.few }
+    by : (o : Option Line) → event_line outline saying ≡ o
+        → EventsFit (record outline { events = with_event outline.events number sums o })
+    by None e = record {
+      each_line = fit.each_line;
+      singles = omega (arith, fit.singles, more.singles);
+      rounds = omega (arith, fit.rounds, more.rounds);
+      few = more.few;
+    }
     by (Some line) e =
         let one = line_asked outline saying line e in record {
-          each_line = all_more (IsLineOf outline.processors (length outline.processes) (length outline.terminals)) outline.events.lines line fit.each_line one.of_site;
+          each_line = all_more (IsLineOf outline.processors (length outline.processes) (length outline.terminals))
+              outline.events.lines line fit.each_line one.of_site;
           singles = omega (arith, fit.singles, more.singles, one.singles, singles_with outline.events.lines line);
           rounds = omega (arith, fit.rounds, more.rounds, one.rounds, rounds_with outline.events.lines line);
           few = more.few;
         }
 
-event_kept : (outline : Outline) (number : ℕ) (saying : EventSaying) → BlocksKeep outline → EventsFit outline → Keeps (asked outline number saying (asks outline.processors outline.events.sums saying))
-event_kept outline number saying keeps fit = by (asks outline.processors outline.events.sums saying) (asks_more outline.processors outline.events.sums saying fit.few)
+event_kept : (outline : Outline) (number : ℕ) (saying : EventSaying) → BlocksKeep outline → EventsFit outline
+    → Keeps (asked outline number saying (asks outline.processors outline.events.sums saying))
+event_kept outline number saying keeps fit =
+    by (asks outline.processors outline.events.sums saying)
+    (asks_more outline.processors outline.events.sums saying fit.few)
   where
-    by : (o : Result Sums LineFault) → AsksMore outline.events.sums (singles_asked saying) (rounds_asked saying) o → Keeps (asked outline number saying o)
+    by : (o : Result Sums LineFault) → AsksMore outline.events.sums (singles_asked saying) (rounds_asked saying) o
+        → Keeps (asked outline number saying o)
     by (Err why) more = tt
     by (Ok sums) more = with_line outline number saying sums keeps fit more (event_line outline saying) refl
 
-schedule_kept : (outline : Outline) (number : ℕ) (saying : Saying) → BlocksKeep outline → EventsFit outline → Keeps (in_schedule outline number saying)
+schedule_kept : (outline : Outline) (number : ℕ) (saying : Saying) → BlocksKeep outline → EventsFit outline
+    → Keeps (in_schedule outline number saying)
 schedule_kept outline number said.Nothing keeps fit = (keeps, fit)
 schedule_kept outline number (said.Event saying) keeps fit = event_kept outline number saying keeps fit
 schedule_kept outline number said.End keeps fit = (keeps, fit)
 schedule_kept outline number _ keeps fit = tt
 
-ended_kept : (outline : Outline) (number : ℕ) (saying : Saying) → BlocksKeep outline → EventsFit outline → Keeps (ended outline number saying)
+ended_kept : (outline : Outline) (number : ℕ) (saying : Saying) → BlocksKeep outline → EventsFit outline
+    → Keeps (ended outline number saying)
 ended_kept outline number said.Nothing keeps fit = (keeps, fit)
 ended_kept outline number _ keeps fit = tt
 
-program_kept : (outline : Outline) (heading : Result Heading LineFault) (program : ProgramLines) (line : List ℕ) → StageKeeps (at.Program outline heading program) → Keeps (in_program outline heading program line)
+program_kept : (outline : Outline) (heading : Result Heading LineFault) (program : ProgramLines) (line : List ℕ)
+    → StageKeeps (at.Program outline heading program) → Keeps (in_program outline heading program line)
 program_kept outline heading program line keeps = by (bytes_eq line (codes "."))
   where
     at_point : (o : Result Heading LineFault) → PairKeeps outline o → Keeps (program_ended outline o program)
     at_point (Err why) pair = tt
-    at_point (Ok told) pair = (process_kept outline (process_with told (body.Pair program)) keeps.0 pair.0 (process_keeps outline.processors told (body.Pair program) pair.1 tt), keeps.1)
+    at_point (Ok told) pair = (
+      process_kept outline (process_with told (body.Pair program)) keeps.0 pair.0
+          (process_keeps outline.processors told (body.Pair program) pair.1 tt),
+      keeps.1,
+    )
 
-    by : (b : Bool) → Keeps (cond b (program_ended outline heading program) (step.Next (at.Program outline heading (record program { text = program.text ++ line ++ 10 ∷ [] }))))
+    by : (b : Bool) → Keeps (cond b (program_ended outline heading program)
+        (step.Next (at.Program outline heading (record program { text = program.text ++ line ++ 10 ∷ [] }))))
     by true = at_point heading keeps.2
     by false = keeps
 
@@ -290,22 +386,28 @@ pub next_kept : (stage : Stage) (number : ℕ) (line : List ℕ) → StageKeeps 
 next_kept at.Opening number line keeps = opening_kept number (saying_of line)
 next_kept (at.Blocks outline) number line keeps = blocks_kept outline number (saying_of line) keeps.0 keeps.1
 next_kept (at.Program outline heading program) number line keeps = program_kept outline heading program line keeps
-next_kept (at.Requests outline name terminal) number line keeps = request_kept outline name terminal number (saying_of line) keeps
+next_kept (at.Requests outline name terminal) number line keeps =
+    request_kept outline name terminal number (saying_of line) keeps
 next_kept (at.Schedule outline) number line keeps = schedule_kept outline number (saying_of line) keeps.0 keeps.1
 next_kept (at.Ended outline) number line keeps = ended_kept outline number (saying_of line) keeps.0 keeps.1
 
-pub stage_kept : (stage next : Stage) (number : ℕ) (line : List ℕ) → StageKeeps stage → step.Next next ≡ next_stage stage number line → StageKeeps next
+pub stage_kept : (stage next : Stage) (number : ℕ) (line : List ℕ) → StageKeeps stage
+    → step.Next next ≡ next_stage stage number line → StageKeeps next
 stage_kept stage next number line keeps e = subst Keeps (sym e) (next_kept stage number line keeps)
 
 -- the lines after one lead from its stage where they lead with it
-pub one_line_on : (stage next : Stage) (count : ℕ) (line : List ℕ) (rest lines : List (List ℕ)) → lines ≡ line ∷ rest → step.Next next ≡ next_stage stage (count + 1) line
+pub one_line_on : (stage next : Stage) (count : ℕ) (line : List ℕ) (rest lines : List (List ℕ)) → lines ≡ line ∷ rest
+    → step.Next next ≡ next_stage stage (count + 1) line
     → told_after next (count + 1) rest ≡ told_after stage count lines
-one_line_on stage next count line rest lines is e = ap (led_on (λ later. told_after later (count + 1) rest)) e ∙ sym (ap (told_after stage count) is)
+one_line_on stage next count line rest lines is e =
+    ap (led_on (λ later. told_after later (count + 1) rest)) e ∙ sym (ap (told_after stage count) is)
 
 -- the line that can't stand ends what is told
-pub line_broken : (stage : Stage) (count : ℕ) (line : List ℕ) (rest lines : List (List ℕ)) (breach : _) → lines ≡ line ∷ rest → step.Broken breach ≡ next_stage stage (count + 1) line
+pub line_broken : (stage : Stage) (count : ℕ) (line : List ℕ) (rest lines : List (List ℕ)) (breach : _)
+    → lines ≡ line ∷ rest → step.Broken breach ≡ next_stage stage (count + 1) line
     → told.Broken breach ≡ told_after stage count lines
-line_broken stage count line rest lines breach is e = ap (led_on (λ later. told_after later (count + 1) rest)) e ∙ sym (ap (told_after stage count) is)
+line_broken stage count line rest lines breach is e =
+    ap (led_on (λ later. told_after later (count + 1) rest)) e ∙ sym (ap (told_after stage count) is)
 
 -- the limits are kept where all is told
 abbrev TellsKept : Told → Type 0
@@ -321,14 +423,19 @@ end_kept (at.Requests outline name terminal) count keeps = tt
 end_kept (at.Schedule outline) count keeps = tt
 end_kept (at.Ended outline) count keeps = keeps
 
-lines_kept : (stage : Stage) (count : ℕ) (lines : List (List ℕ)) → StageKeeps stage → TellsKept (told_after stage count lines)
+lines_kept : (stage : Stage) (count : ℕ) (lines : List (List ℕ)) → StageKeeps stage
+    → TellsKept (told_after stage count lines)
 lines_kept stage count [] keeps = end_kept stage count keeps
-lines_kept stage count (line ∷ lines) keeps = by (λ next. lines_kept next (count + 1) lines) (next_stage stage (count + 1) line) (next_kept stage (count + 1) line keeps)
+lines_kept stage count (line ∷ lines) keeps =
+    by (λ next. lines_kept next (count + 1) lines) (next_stage stage (count + 1) line)
+    (next_kept stage (count + 1) line keeps)
   where
-    by : ((next : Stage) → StageKeeps next → TellsKept (told_after next (count + 1) lines)) → (one : LineOutcome) → Keeps one → TellsKept (led_on (λ next. told_after next (count + 1) lines) one)
+    by : ((next : Stage) → StageKeeps next → TellsKept (told_after next (count + 1) lines)) → (one : LineOutcome)
+        → Keeps one → TellsKept (led_on (λ next. told_after next (count + 1) lines) one)
     by later (step.Next next) h = later next h
     by later (step.Broken breach) h = tt
 
 -- an outline keeps the limits
-pub outline_kept : (lines : List (List ℕ)) (outline : Outline) → outline_of lines ≡ told.Whole outline → BlocksKeep outline × EventsFit outline
+pub outline_kept : (lines : List (List ℕ)) (outline : Outline) → outline_of lines ≡ told.Whole outline
+    → BlocksKeep outline × EventsFit outline
 outline_kept lines outline e = subst TellsKept e (lines_kept at.Opening 0 lines tt)

@@ -41,7 +41,8 @@ abbrev pub AreProcessesOf : List (Named ProcessLines) → List ProcessSpec → T
 AreProcessesOf lines processes = EachWith IsProcessOf lines processes
 
 -- the terminal of its name and its lines asks the process that they name
-pub record IsTerminalOf (processes : List (Named ProcessLines)) (lines : Named TerminalLines) (terminal : TerminalSpec) : Type 0 where
+pub record IsTerminalOf (processes : List (Named ProcessLines)) (lines : Named TerminalLines)
+    (terminal : TerminalSpec) : Type 0 where
   pub name : terminal.name ≡ lines.0
   pub target : place_of processes lines.1.target ≡ Some terminal.target
   pub requests : terminal.requests ≡ lines.1.requests

@@ -14,7 +14,8 @@ run_line outline name = option_map (λ place. line.One (event.Run place)) (place
 
 -- at least one step of a process that is there
 abbrev pub run_times_line : Outline → List ℕ → ℕ → Option Line
-run_times_line outline name times = if nat_lt times 1 then None else option_map (λ place. line.Many (event.Run place) times) (place_of outline.processes name)
+run_times_line outline name times = if nat_lt times 1 then None else option_map
+    (λ place. line.Many (event.Run place) times) (place_of outline.processes name)
 
 -- the next request of a terminal that is there
 abbrev pub enter_line : Outline → List ℕ → Option Line

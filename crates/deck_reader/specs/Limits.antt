@@ -36,10 +36,12 @@ pub record IsSiteWithinLimits (site : Site) : Type 0 where
   pub terminals : length site.terminals ≤ 16
   pub each_terminal : All (IsTerminalWithinLimits (length site.processes)) site.terminals
 
--- a deck has at most 1,000,000 single events and 100,000 rounds, and each line asks for events of the site or for rounds
+-- a deck has at most 1,000,000 single events and 100,000 rounds, and each line asks for events of the site or for
+-- rounds
 pub record IsWithinDeckLimits (deck : Deck) : Type 0 where
   pub site : IsSiteWithinLimits deck.site
-  pub each_line : All (IsLineOf deck.site.processors (length deck.site.processes) (length deck.site.terminals)) deck.lines
+  pub each_line : All (IsLineOf deck.site.processors (length deck.site.processes) (length deck.site.terminals))
+      deck.lines
   pub singles : singles_of deck.lines ≤ 1000000
   pub rounds : rounds_of deck.lines ≤ 100000
 

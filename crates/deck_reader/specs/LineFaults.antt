@@ -1,8 +1,9 @@
--- What one more line of a deck adds, or why it can't stand where it does: a rule for each form of line, with its faults in
--- their order. The forms and their limits are our own. The numbers of limits: 1 processes (16), 2 terminals (16), 3 requests of
--- a terminal (1,000), 4 words of a request (16), 5 sectors (1 to 64), 6 single events (1,000,000), 7 rounds (100,000),
--- 8 processors (2 to 16).
-use Rattle.std.specs.Prelude.{ℕ, ◌+◌, Bool, not, ◌&&◌, ◌||◌, ◌==◌, nat_lt, nat_le, List, [], length, Result, Ok, Err, None, if◌then◌else◌}
+-- What one more line of a deck adds, or why it can't stand where it does: a rule for each form of line, with its faults
+-- in their order. The forms and their limits are our own. The numbers of limits: 1 processes (16), 2 terminals (16), 3
+-- requests of a terminal (1,000), 4 words of a request (16), 5 sectors (1 to 64), 6 single events (1,000,000), 7 rounds
+-- (100,000), 8 processors (2 to 16).
+use Rattle.std.specs.Prelude.{ℕ, ◌+◌, Bool, not, ◌&&◌, ◌||◌, ◌==◌, nat_lt, nat_le, List, [], length, Result, Ok, Err}
+use Rattle.std.specs.Prelude.{None, if◌then◌else◌}
 use Rattle.name_table.specs.Entries.{Named, has_name}
 use Rattle.deck_lines.specs.declared.event_saying.EventSaying.{EventSaying}
 use Rattle.deck_lines.specs.declared.event_saying.EventSaying.TheVariants as said
@@ -19,7 +20,12 @@ use Rattle.deck_lines.specs.declared.saying.Placing.{Placing}
 
 -- `processors N`: a site of 2 to 16 processors, with nothing else yet
 abbrev pub outline_with : ℕ → Outline
-outline_with processors = record { processors = processors; processes = []; terminals = []; events = record { lines = []; sums = record { singles = 0; rounds = 0 }; unknown = None } }
+outline_with processors = record {
+  processors = processors;
+  processes = [];
+  terminals = [];
+  events = record { lines = []; sums = record { singles = 0; rounds = 0 }; unknown = None };
+}
 
 abbrev pub processors_of : ℕ → Result Outline LineFault
 processors_of count =
@@ -67,11 +73,13 @@ terminal_of outline line name target =
 -- so many more single events, or rounds
 abbrev pub more_singles : Sums → ℕ → Result Sums LineFault
 more_singles sums more =
-    if nat_lt 1000000 (sums.singles + more) then Err (fault.Limit 6) else Ok (record { singles = sums.singles + more; rounds = sums.rounds })
+    if nat_lt 1000000 (sums.singles + more) then Err (fault.Limit 6) else Ok
+    (record { singles = sums.singles + more; rounds = sums.rounds })
 
 abbrev pub more_rounds : Sums → ℕ → Result Sums LineFault
 more_rounds sums more =
-    if nat_lt 100000 (sums.rounds + more) then Err (fault.Limit 7) else Ok (record { singles = sums.singles; rounds = sums.rounds + more })
+    if nat_lt 100000 (sums.rounds + more) then Err (fault.Limit 7) else Ok
+    (record { singles = sums.singles; rounds = sums.rounds + more })
 
 -- `run NAME TIMES`: at least once
 abbrev pub run_times_asks : Sums → ℕ → Result Sums LineFault
@@ -79,7 +87,8 @@ run_times_asks sums times = if nat_lt times 1 then Err fault.Form else more_sing
 
 -- `tick N`: a processor of the site, or node 16, which is that of the terminals
 abbrev pub tick_asks : ℕ → Sums → ℕ → Result Sums LineFault
-tick_asks processors sums node = if nat_lt node processors || node == 16 then more_singles sums 1 else Err fault.NoProcessor
+tick_asks processors sums node =
+    if nat_lt node processors || node == 16 then more_singles sums 1 else Err fault.NoProcessor
 
 -- `fail P`: a processor of the site
 abbrev pub fail_asks : ℕ → Sums → ℕ → Result Sums LineFault
@@ -87,7 +96,8 @@ fail_asks processors sums processor = if nat_lt processor processors then more_s
 
 -- `mute P R`: a processor of the site
 abbrev pub mute_asks : ℕ → Sums → ℕ → ℕ → Result Sums LineFault
-mute_asks processors sums processor rounds = if nat_lt processor processors then more_rounds sums rounds else Err fault.NoProcessor
+mute_asks processors sums processor rounds =
+    if nat_lt processor processors then more_rounds sums rounds else Err fault.NoProcessor
 
 -- what event lines ask for together with one more, on a site with so many processors
 abbrev pub asks : ℕ → Sums → EventSaying → Result Sums LineFault

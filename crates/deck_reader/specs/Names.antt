@@ -1,6 +1,7 @@
--- The first line of a deck that names what isn't there, or whose program opens its own pair. Names are looked up only where no
--- line has another fault; a name may be used before its line.
-use Rattle.std.specs.Prelude.{◌≡◌, ℕ, Bool, true, false, not, nat_lt, List, [], ◌∷◌, Option, Some, None, is_some, if◌then◌else◌}
+-- The first line of a deck that names what isn't there, or whose program opens its own pair. Names are looked up only
+-- where no line has another fault; a name may be used before its line.
+use Rattle.std.specs.Prelude.{◌≡◌, ℕ, Bool, true, false, not, nat_lt, List, [], ◌∷◌, Option, Some, None, is_some}
+use Rattle.std.specs.Prelude.{if◌then◌else◌}
 use Rattle.std.specs.List.{list_all}
 use Rattle.std.specs.Str.{bytes_eq}
 use Rattle.name_table.specs.Entries.{Named, place_of}
@@ -34,8 +35,10 @@ is_other own (target.Process name) = not (bytes_eq name own)
 -- the pair on this line, of this name: it opens files to processes that are there, and to none that is itself
 abbrev pub files_misnamed : List (Named ProcessLines) → ℕ → List ℕ → List FileUse → Option NameFault
 files_misnamed processes line own files =
-    if not (list_all (λ (file : FileUse). is_known processes file.target) files) then Some (record { line = line; own = false })
-    else if not (list_all (λ (file : FileUse). is_other own file.target) files) then Some (record { line = line; own = true })
+    if not (list_all (λ (file : FileUse). is_known processes file.target) files) then Some
+    (record { line = line; own = false })
+    else if not (list_all (λ (file : FileUse). is_other own file.target) files) then Some
+    (record { line = line; own = true })
     else None
 
 -- a pair with its program; a disc names nothing
@@ -63,10 +66,12 @@ pairs_misnamed all (lines ∷ rest) (process ∷ processes) =
 abbrev pub targets_misnamed : List (Named ProcessLines) → List (Named TerminalLines) → Option NameFault
 targets_misnamed processes [] = None
 targets_misnamed processes (terminal ∷ rest) =
-    if is_process processes terminal.1.target then targets_misnamed processes rest else Some (record { line = terminal.1.line; own = false })
+    if is_process processes terminal.1.target then targets_misnamed processes rest else Some
+    (record { line = terminal.1.line; own = false })
 
 -- this is the line of a terminal of these lines, whose target is no process
-pub record IsMisnamedTarget (processes : List (Named ProcessLines)) (terminal : TerminalLines) (misnamed : NameFault) : Type 0 where
+pub record IsMisnamedTarget (processes : List (Named ProcessLines)) (terminal : TerminalLines) (misnamed : NameFault) :
+    Type 0 where
   pub unknown : place_of processes terminal.target ≡ None
   pub same : misnamed ≡ record { line = terminal.line; own = false }
 
@@ -87,5 +92,6 @@ earlier (Some one) other = Some (earlier_than one other)
 -- the first line of all
 abbrev pub misnamed_in : Outline → List ProcessSpec → Option NameFault
 misnamed_in outline processes =
-    earlier (earlier (pairs_misnamed outline.processes outline.processes processes) (targets_misnamed outline.processes outline.terminals))
+    earlier (earlier (pairs_misnamed outline.processes outline.processes processes)
+    (targets_misnamed outline.processes outline.terminals))
     (event_misnamed outline.events.unknown)

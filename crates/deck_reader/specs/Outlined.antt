@@ -1,5 +1,6 @@
 -- What the lines of a deck say together, line by line, up to the first that can't stand where it does.
-use Rattle.std.specs.Prelude.{ℕ, ◌+◌, nat_le, List, [], ◌∷◌, ◌++◌, length, codes, Option, Some, None, Result, Ok, Err, if◌then◌else◌, ℤ}
+use Rattle.std.specs.Prelude.{ℕ, ◌+◌, nat_le, List, [], ◌∷◌, ◌++◌, length, codes, Option, Some, None, Result, Ok, Err}
+use Rattle.std.specs.Prelude.{if◌then◌else◌, ℤ}
 use Rattle.std.specs.Str.{bytes_eq}
 use Rattle.name_table.specs.Entries.{Named}
 use Rattle.schedule.specs.declared.line.Line.{Line}
@@ -58,20 +59,24 @@ abbrev pub terminal_told : Outline → ℕ → List ℕ → Result TerminalLines
 terminal_told outline number name (Err why) = step.Broken (broken outline number why)
 terminal_told outline number name (Ok terminal) = step.Next (at.Requests outline name terminal)
 
--- where a process, a terminal or the schedule may begin. A fault of a pair's line waits for the end of its program, since a
--- fault of the program goes before it
+-- where a process, a terminal or the schedule may begin. A fault of a pair's line waits for the end of its program,
+-- since a fault of the program goes before it
 abbrev pub in_blocks : Outline → ℕ → Saying → LineOutcome
 in_blocks outline number said.Nothing = step.Next (at.Blocks outline)
 in_blocks outline number (said.Disc placing sectors) = disc_told outline number (disc_of outline placing sectors)
-in_blocks outline number (said.Pair placing) = step.Next (at.Program outline (heading_of outline placing) (record { line = number; text = [] }))
-in_blocks outline number (said.Terminal name target) = terminal_told outline number name (terminal_of outline number name target)
+in_blocks outline number (said.Pair placing) =
+    step.Next (at.Program outline (heading_of outline placing) (record { line = number; text = [] }))
+in_blocks outline number (said.Terminal name target) =
+    terminal_told outline number name (terminal_of outline number name target)
 in_blocks outline number said.Schedule = step.Next (at.Schedule outline)
 in_blocks outline number _ = step.Broken (broken outline number fault.Form)
 
 -- the end of a program
 abbrev pub program_ended : Outline → Result Heading LineFault → ProgramLines → LineOutcome
-program_ended outline (Err why) program = step.Broken (record { processes = outline.processes; own = Some program; line = program.line; why = why })
-program_ended outline (Ok heading) program = step.Next (at.Blocks (with_process outline (process_with heading (body.Pair program))))
+program_ended outline (Err why) program =
+    step.Broken (record { processes = outline.processes; own = Some program; line = program.line; why = why })
+program_ended outline (Ok heading) program =
+    step.Next (at.Blocks (with_process outline (process_with heading (body.Pair program))))
 
 -- a program ends before the first line that is a point alone
 abbrev pub in_program : Outline → Result Heading LineFault → ProgramLines → List ℕ → LineOutcome
@@ -88,7 +93,8 @@ request_told outline name terminal number words =
 -- a request of more than 16 words
 abbrev pub long_request_told : Outline → TerminalLines → ℕ → LineOutcome
 long_request_told outline terminal number =
-    if nat_le 1000 (length terminal.requests) then step.Broken (broken outline number (fault.Limit 3)) else step.Broken (broken outline number (fault.Limit 4))
+    if nat_le 1000 (length terminal.requests) then step.Broken (broken outline number (fault.Limit 3)) else step.Broken
+    (broken outline number (fault.Limit 4))
 
 -- the terminal stands in the outline once its requests are told
 abbrev pub with_terminal : Outline → List ℕ → TerminalLines → Outline
@@ -108,18 +114,25 @@ first_noted (Some first) number = first
 
 -- one more event line, with what all ask for together; none where what it names isn't there
 abbrev pub with_event : EventLines → ℕ → Sums → Option Line → EventLines
-with_event events number sums (Some line) = record { lines = events.lines ++ line ∷ []; sums = sums; unknown = events.unknown }
-with_event events number sums None = record { lines = events.lines; sums = sums; unknown = Some (first_noted events.unknown number) }
+with_event events number sums (Some line) =
+    record { lines = events.lines ++ line ∷ []; sums = sums; unknown = events.unknown }
+with_event events number sums None =
+    record { lines = events.lines; sums = sums; unknown = Some (first_noted events.unknown number) }
 
 abbrev pub asked : Outline → ℕ → EventSaying → Result Sums LineFault → LineOutcome
 asked outline number saying (Err why) = step.Broken (broken outline number why)
-asked outline number saying (Ok sums) = step.Next (at.Schedule (record outline { events = with_event outline.events number sums (event_line outline saying) }))
+asked outline number saying (Ok sums) =
+    step.Next (at.Schedule (record outline {
+      events =
+          with_event outline.events number sums (event_line outline saying);
+    }))
 
 -- one more event line, or END
 abbrev pub in_schedule : Outline → ℕ → Saying → LineOutcome
 in_schedule outline number said.Nothing = step.Next (at.Schedule outline)
 in_schedule outline number said.End = step.Next (at.Ended outline)
-in_schedule outline number (said.Event saying) = asked outline number saying (asks outline.processors outline.events.sums saying)
+in_schedule outline number (said.Event saying) =
+    asked outline number saying (asks outline.processors outline.events.sums saying)
 in_schedule outline number _ = step.Broken (broken outline number fault.Form)
 
 -- after END only lines that say nothing
@@ -158,7 +171,8 @@ led_on from (step.Broken breach) = told.Broken breach
 -- all lines, one after another, from a stage to which so many lines led
 abbrev pub told_after : Stage → ℕ → List (List ℕ) → Told
 told_after stage count [] = at_end stage count
-told_after stage count (line ∷ lines) = led_on (λ next. told_after next (count + 1) lines) (next_stage stage (count + 1) line)
+told_after stage count (line ∷ lines) =
+    led_on (λ next. told_after next (count + 1) lines) (next_stage stage (count + 1) line)
 
 -- what all lines say
 abbrev pub outline_of : List (List ℕ) → Told

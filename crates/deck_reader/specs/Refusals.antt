@@ -1,7 +1,9 @@
--- The fault for which bytes are refused that spell no deck. First there may be too many of them. Then all lines are gone through,
--- up to the first that can't stand where it does, and the programs of the pairs up to that line: the fault of a program stands on
--- its pair's line, and goes before another fault of that line. Where all lines stand and all programs read, names are looked up.
-use Rattle.std.specs.Prelude.{◌≡◌, ◌≢◌, ◌⊎◌, ◌<◌, ◌≤◌, ℕ, List, [], ◌∷◌, length, Option, Some, None, option_map, if◌then◌else◌}
+-- The fault for which bytes are refused that spell no deck. First there may be too many of them. Then all lines are
+-- gone through, up to the first that can't stand where it does, and the programs of the pairs up to that line: the
+-- fault of a program stands on its pair's line, and goes before another fault of that line. Where all lines stand and
+-- all programs read, names are looked up.
+use Rattle.std.specs.Prelude.{◌≡◌, ◌≢◌, ◌⊎◌, ◌<◌, ◌≤◌, ℕ, List, [], ◌∷◌, length, Option, Some, None, option_map}
+use Rattle.std.specs.Prelude.{if◌then◌else◌}
 use Rattle.gd_words.specs.Memory.{no_memory}
 use Rattle.name_table.specs.Entries.{Named}
 use Rattle.tal_reader.specs.Reads.{Reads, IsRefused}
@@ -35,7 +37,8 @@ IsRefusedAs _ _ = ⊥
 -- the first of these programs that is refused: those before it all read
 abbrev pub IsFirstProgramFault : List (Named ProcessLines) → DeckFault → Type 0
 IsFirstProgramFault [] why = ⊥
-IsFirstProgramFault (lines ∷ rest) why = IsRefusedAs lines.1.body why ⊎ ((what : Kind) × IsKindOf lines.1.body what × IsFirstProgramFault rest why)
+IsFirstProgramFault (lines ∷ rest) why =
+    IsRefusedAs lines.1.body why ⊎ ((what : Kind) × IsKindOf lines.1.body what × IsFirstProgramFault rest why)
 
 -- the fault of a line that can't stand
 abbrev pub fault_at : ℕ → LineFault → DeckFault
@@ -49,13 +52,15 @@ fault_at number line.NoEnd = fault.NoEnd number
 -- that fault, or where the line is a pair's that of its program, if it is refused
 abbrev pub IsOwnFault : Option ProgramLines → DeckFault → DeckFault → Type 0
 IsOwnFault None own why = why ≡ own
-IsOwnFault (Some lines) own why = IsRefusedAs (body.Pair lines) why ⊎ ((program : Program) × Reads lines.text program × (why ≡ own))
+IsOwnFault (Some lines) own why =
+    IsRefusedAs (body.Pair lines) why ⊎ ((program : Program) × Reads lines.text program × (why ≡ own))
 
 -- where a line can't stand: the first program before it that is refused, or else its own fault
 abbrev pub IsBreachFault : Breach → DeckFault → Type 0
 IsBreachFault breach why =
     IsFirstProgramFault breach.processes why
-    ⊎ ((processes : List ProcessSpec) × AreProcessesOf breach.processes processes × IsOwnFault breach.own (fault_at breach.line breach.why) why)
+    ⊎ ((processes : List ProcessSpec) × AreProcessesOf breach.processes processes
+    × IsOwnFault breach.own (fault_at breach.line breach.why) why)
 
 -- the fault of a name
 abbrev pub name_fault : NameFault → DeckFault
@@ -65,7 +70,8 @@ name_fault misnamed = if misnamed.own then fault.OpensItself misnamed.line else 
 abbrev pub IsOutlineFault : Outline → DeckFault → Type 0
 IsOutlineFault outline why =
     IsFirstProgramFault outline.processes why
-    ⊎ ((processes : List ProcessSpec) × AreProcessesOf outline.processes processes × (option_map name_fault (misnamed_in outline processes) ≡ Some why))
+    ⊎ ((processes : List ProcessSpec) × AreProcessesOf outline.processes processes
+    × (option_map name_fault (misnamed_in outline processes) ≡ Some why))
 
 -- the fault of what lines say
 abbrev pub IsFaultOf : Told → DeckFault → Type 0

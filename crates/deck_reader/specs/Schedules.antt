@@ -38,8 +38,8 @@ IsRunBelow processes _ = ⊥
 abbrev pub IsNodeOf : ℕ → ℕ → Type 0
 IsNodeOf processors node = (node < processors) ⊎ (node ≡ 16)
 
--- an event of a site with so many processors, processes and terminals: a step of a process, the next request of a terminal,
--- what becomes of a packet, the tick of a node or the stop of a processor
+-- an event of a site with so many processors, processes and terminals: a step of a process, the next request of a
+-- terminal, what becomes of a packet, the tick of a node or the stop of a processor
 abbrev pub IsEventOf : ℕ → ℕ → ℕ → Event → Type 0
 IsEventOf processors processes terminals (event.Run place) = place < processes
 IsEventOf processors processes terminals (event.Enter place) = place < terminals

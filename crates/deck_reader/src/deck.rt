@@ -1,4 +1,5 @@
-ghost use Rattle.std.specs.Prelude.{◌≡◌, ◌≢◌, ◌<◌, ◌≤◌, ◌↔◌, ℕ, Some, option_map, length, IfOk, IfErr, Err, MatchResult};
+ghost use Rattle.std.specs.Prelude.{◌≡◌, ◌≢◌, ◌<◌, ◌≤◌, ◌↔◌, ℕ, Some, option_map, length, IfOk, IfErr, Err};
+ghost use Rattle.std.specs.Prelude.{MatchResult};
 ghost use Rattle.gd_words.specs.Memory.{no_memory};
 ghost use Rattle.deck_reader.specs.Decks.{Decks, IsDeckOf, AreTerminalsOf, IsTerminalOf};
 ghost use Rattle.deck_reader.specs.Names.{IsMisnamedTarget, earlier, targets_misnamed};
@@ -93,7 +94,8 @@ fn terminals_of(
     terminals: NameTable<TerminalLines>,
 ) -> Result<Result<List<TerminalSpec>, NameFault>, NoMemory>
     requires few { length processes.now ≤ 16 }
-    ensures { IfOk result (λ specs. MatchResult specs (λ specs. AreTerminalsOf processes.now terminals specs) (λ target. targets_misnamed processes.now terminals ≡ Some target)) }
+    ensures { IfOk result (λ specs. MatchResult specs (λ specs. AreTerminalsOf processes.now terminals specs)
+        (λ target. targets_misnamed processes.now terminals ≡ Some target)) }
 {
     let mut specs = List::new(alloc);
     for (name, lines) in terminals.into_entries() {
@@ -112,7 +114,8 @@ fn terminal_of(
     lines: TerminalLines,
 ) -> Result<TerminalSpec, NameFault>
     requires few { length processes.now ≤ 16 }
-    ensures { MatchResult result (λ terminal. IsTerminalOf processes.now (name, lines) terminal) (λ target. IsMisnamedTarget processes.now lines target) }
+    ensures { MatchResult result (λ terminal. IsTerminalOf processes.now (name, lines) terminal)
+        (λ target. IsMisnamedTarget processes.now lines target) }
 {
     let TerminalLines {
         line,

@@ -1,7 +1,8 @@
 ghost use Rattle.std.specs.Prelude.{◌≡◌, ◌≤◌, length, Some};
 ghost use Rattle.schedule.specs.declared.event.Event.TheVariants as event;
 ghost use Rattle.schedule.specs.declared.line.Line.TheVariants as line;
-ghost use Rattle.deck_reader.specs.EventLineOf.{run_line, run_times_line, enter_line, tick_line, fail_line, mute_line, event_line};
+ghost use Rattle.deck_reader.specs.EventLineOf.{run_line, run_times_line, enter_line, tick_line, fail_line, mute_line};
+ghost use Rattle.deck_reader.specs.EventLineOf.{event_line};
 ghost use Rattle.deck_reader.specs.Few.{AreFew};
 
 use crate::outline::{Outline, place_of};
@@ -12,8 +13,8 @@ use schedule::{Event, Line};
 /// The number of the terminals' node.
 const TERMINAL_NODE: u32 = 16;
 
-/// The event line that is said; none where it names no process to run or no terminal to enter at, a processor or node that
-/// isn't there, or no steps.
+/// The event line that is said; none where it names no process to run or no terminal to enter at, a processor or node
+/// that isn't there, or no steps.
 pub fn event_line(outline: &Outline, saying: EventSaying) -> Option<Line>
     requires few { AreFew outline.now }
     ensures { result ≡ event_line outline.now saying }

@@ -38,5 +38,6 @@ pub fn requests_of_a_deck_are_short()
 /// The program of each pair of a deck is what some text reads as.
 pub fn a_deck_reads_its_programs()
     ensures { (bytes : List ℕ) (deck : Deck) (number : ℕ) (spec : ProcessSpec) (program : Program) → Decks bytes deck
-        → slice_get deck.site.processes number ≡ Some spec → spec.what ≡ Pair program → (text : List ℕ) × Reads text program }
+        → slice_get deck.site.processes number ≡ Some spec → spec.what ≡ Pair program
+        → (text : List ℕ) × Reads text program }
 {}

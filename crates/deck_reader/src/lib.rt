@@ -1,12 +1,13 @@
-//! Reads a deck: the processors, the processes with their programs, the terminals with their requests, and the schedule.
+//! Reads a deck: the processors, the processes with their programs, the terminals with their requests, and the
+//! schedule.
 //!
-//! Below stand `deck_lines`, which tells what a line says, `tal_reader`, which reads the programs, `tal_laws`, `tal_tree` for the site
-//! and the faults, `schedule` for the event lines, and `name_table`, in which processes and terminals stand by their names. The layer
-//! above uses the clauses of `read_deck`: what is taken is a deck, every deck is taken, and what is refused is refused for its one
-//! fault; and the law `a_deck_keeps_the_limits`.
+//! Below stand `deck_lines`, which tells what a line says, `tal_reader`, which reads the programs, `tal_laws`,
+//! `tal_tree` for the site and the faults, `schedule` for the event lines, and `name_table`, in which processes and
+//! terminals stand by their names. The layer above uses the clauses of `read_deck`: what is taken is a deck, every deck
+//! is taken, and what is refused is refused for its one fault; and the law `a_deck_keeps_the_limits`.
 //!
-//! `line_fault` tells what a line adds or why it can't stand, `event_line` the event line that it is, `step` and `told` go from line to
-//! line, `programs` reads the programs, and `names` looks up names.
+//! `line_fault` tells what a line adds or why it can't stand, `event_line` the event line that it is, `step` and `told`
+//! go from line to line, `programs` reads the programs, and `names` looks up names.
 #![tactic(auto)]
 
 pub mod deck;

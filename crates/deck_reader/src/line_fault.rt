@@ -1,5 +1,6 @@
 ghost use Rattle.std.specs.Prelude.{◌≡◌};
-ghost use Rattle.deck_reader.specs.LineFaults.{heading_of, disc_of, terminal_of, more_singles, more_rounds, tick_asks, fail_asks, mute_asks, run_times_asks, asks};
+ghost use Rattle.deck_reader.specs.LineFaults.{heading_of, disc_of, terminal_of, more_singles, more_rounds, tick_asks};
+ghost use Rattle.deck_reader.specs.LineFaults.{fail_asks, mute_asks, run_times_asks, asks};
 
 use crate::outline::{
     Body, Heading, Outline, ProcessLines, Sums, TerminalLines, is_new, process_with,

@@ -1,6 +1,7 @@
 ghost use Rattle.std.specs.Prelude.{◌≡◌};
 ghost use Rattle.std.specs.List.{list_all};
-ghost use Rattle.deck_reader.specs.Names.{is_process, is_known, is_other, files_misnamed, kind_misnamed, process_misnamed, first_of, event_misnamed, earlier_than, earlier};
+ghost use Rattle.deck_reader.specs.Names.{is_process, is_known, is_other, files_misnamed, kind_misnamed};
+ghost use Rattle.deck_reader.specs.Names.{process_misnamed, first_of, event_misnamed, earlier_than, earlier};
 ghost use Rattle.deck_reader.specs.Refusals.{name_fault};
 
 use crate::outline::{Body, ProcessLines, is_process};

@@ -53,8 +53,8 @@ pub struct Sums {
     pub rounds: u32,
 }
 
-/// The event lines whose names are there, what all event lines ask for, and the number of the first that names what isn't
-/// there.
+/// The event lines whose names are there, what all event lines ask for, and the number of the first that names what
+/// isn't there.
 #[derive(Drop)]
 pub struct EventLines {
     pub lines: List<Line>,

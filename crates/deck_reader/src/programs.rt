@@ -1,7 +1,8 @@
 ghost use Rattle.std.specs.Prelude.{◌≡◌, ◌<◌, ◌≤◌, length, IfOk, IfErr};
 ghost use Rattle.deck_reader.specs.Decks.{AreProcessesOf, IsKindOf, IsProcessOf};
 ghost use Rattle.deck_reader.specs.Names.{pairs_misnamed};
-ghost use Rattle.deck_reader.specs.Refusals.{IsBreachFault, IsFirstProgramFault, IsOwnFault, IsRefusedAs, Tells, fault_at};
+ghost use Rattle.deck_reader.specs.Refusals.{IsBreachFault, IsFirstProgramFault, IsOwnFault, IsRefusedAs, Tells};
+ghost use Rattle.deck_reader.specs.Refusals.{fault_at};
 ghost use Rattle.deck_reader.specs.Sizes.{body_size, breach_size, text_size};
 
 use crate::line_fault::LineFault;

@@ -5,7 +5,10 @@ ghost use Rattle.deck_reader.specs.declared.step.LineOutcome.TheVariants as step
 ghost use Rattle.deck_reader.specs.LineFaults.{processors_of, disc_of, heading_of, terminal_of};
 ghost use Rattle.deck_reader.specs.Few.{AreFew, HasFew};
 ghost use Rattle.deck_reader.specs.Fresh.{HasNew, IsNewHeading};
-ghost use Rattle.deck_reader.specs.Outlined.{broken, broken_at_start, opening, with_process, with_terminal, disc_told, terminal_told, program_ended, in_program, in_blocks, in_requests, first_noted, with_event, request_told, long_request_told, in_schedule, ended, next_stage};
+ghost use Rattle.deck_reader.specs.Outlined.{broken, broken_at_start, opening, with_process, with_terminal, disc_told};
+ghost use Rattle.deck_reader.specs.Outlined.{terminal_told, program_ended, in_program, in_blocks, in_requests};
+ghost use Rattle.deck_reader.specs.Outlined.{first_noted, with_event, request_told, long_request_told, in_schedule};
+ghost use Rattle.deck_reader.specs.Outlined.{ended, next_stage};
 
 use crate::event_line::event_line;
 use crate::line_fault::{LineFault, asks, disc_of, heading_of, terminal_of};
@@ -85,7 +88,12 @@ pub fn broken_at_start(alloc: Global, line: u32, why: LineFault) -> Breach
 }
 
 /// What comes of one more line, which has this number.
-pub fn next_stage(alloc: Global, stage: Stage, number: u32, line: &[u8]) -> Result<LineOutcome, NoMemory>
+pub fn next_stage(
+    alloc: Global,
+    stage: Stage,
+    number: u32,
+    line: &[u8],
+) -> Result<LineOutcome, NoMemory>
     requires few { HasFew stage }
     requires new { HasNew stage }
     ensures { IfOk result (λ next. next ≡ next_stage stage number line.now) }
@@ -127,7 +135,12 @@ fn processors_of(alloc: Global, count: u32) -> Result<Outline, LineFault>
     Ok(Outline::new(alloc, count as u8))
 }
 
-fn in_blocks(alloc: Global, outline: Outline, number: u32, saying: Saying) -> Result<LineOutcome, NoMemory>
+fn in_blocks(
+    alloc: Global,
+    outline: Outline,
+    number: u32,
+    saying: Saying,
+) -> Result<LineOutcome, NoMemory>
     ensures { IfOk result (λ next. next ≡ in_blocks outline number saying) }
 {
     match saying {
@@ -171,7 +184,8 @@ fn with_process(outline: Outline, process: (Name, ProcessLines)) -> Result<Outli
 }
 
 fn pair_told(alloc: Global, outline: Outline, number: u32, placing: Placing) -> LineOutcome
-    ensures { result ≡ step.Next (at.Program outline (heading_of outline placing) (record { line = number; text = [] })) }
+    ensures { result ≡ step.Next (at.Program outline (heading_of outline placing)
+        (record { line = number; text = [] })) }
 {
     let heading = heading_of(&outline, placing);
     let program = ProgramLines {
@@ -181,7 +195,13 @@ fn pair_told(alloc: Global, outline: Outline, number: u32, placing: Placing) -> 
     LineOutcome::Next(Stage::Program(outline, heading, program))
 }
 
-fn terminal_told(alloc: Global, outline: Outline, number: u32, name: Name, target: Name) -> LineOutcome
+fn terminal_told(
+    alloc: Global,
+    outline: Outline,
+    number: u32,
+    name: Name,
+    target: Name,
+) -> LineOutcome
     ensures { result ≡ terminal_told outline number name (terminal_of outline number name target) }
 {
     match terminal_of(alloc, &outline, number, &name, target) {
@@ -328,8 +348,14 @@ fn in_schedule(outline: Outline, number: u32, saying: Saying) -> Result<LineOutc
 }
 
 /// The next stage after an event line, with what all lines ask for together.
-fn asked(outline: Outline, number: u32, sums: Sums, line: Option<Line>) -> Result<LineOutcome, NoMemory>
-    ensures { IfOk result (λ next. next ≡ step.Next (at.Schedule (record outline { events = with_event outline.events number sums line }))) }
+fn asked(
+    outline: Outline,
+    number: u32,
+    sums: Sums,
+    line: Option<Line>,
+) -> Result<LineOutcome, NoMemory>
+    ensures { IfOk result (λ next. next ≡ step.Next
+        (at.Schedule (record outline { events = with_event outline.events number sums line }))) }
 {
     let Outline {
         processors,

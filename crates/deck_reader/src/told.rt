@@ -4,7 +4,7 @@ ghost use Rattle.deck_reader.specs.Outlined.{unended, at_end, outline_of};
 
 use crate::line_fault::LineFault;
 use crate::outline::{Heading, Outline};
-use crate::step::{Breach, Stage, LineOutcome, broken, broken_at_start, next_stage};
+use crate::step::{Breach, LineOutcome, Stage, broken, broken_at_start, next_stage};
 use deck_lines::next_line;
 use gd_words::NoMemory;
 use std::alloc::Global;

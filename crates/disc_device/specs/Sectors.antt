@@ -1,5 +1,6 @@
 -- The sectors of a disc's device, and what a write makes of them.
-use Rattle.std.specs.Prelude.{ℕ, ◌==◌, ℤ, pos, Bool, false, if◌then◌else◌, List, replicate, slice_get, slice_set, Option, Some, None}
+use Rattle.std.specs.Prelude.{ℕ, ◌==◌, ℤ, pos, Bool, false, if◌then◌else◌, List, replicate, slice_get, slice_set}
+use Rattle.std.specs.Prelude.{Option, Some, None}
 use Rattle.disc_device.specs.declared.stored.Stored.{Stored}
 
 -- a sector on which nothing was written: zeros, and number 0
@@ -15,7 +16,9 @@ is_of_write (Some stored) number = stored.number == number
 abbrev pub is_written : List Stored → ℕ → ℕ → Bool
 is_written sectors sector number = is_of_write (slice_get sectors sector) number
 
--- the sectors after a write: its words and its number stand on its sector, and a write that was done already changes nothing
+-- the sectors after a write: its words and its number stand on its sector, and a write that was done already changes
+-- nothing
 abbrev pub stored_after : List Stored → ℕ → List ℤ → ℕ → List Stored
 stored_after sectors sector words number =
-    if is_written sectors sector number then sectors else slice_set sectors sector (record { words = words; number = number })
+    if is_written sectors sector number then sectors else slice_set sectors sector
+    (record { words = words; number = number })

@@ -67,7 +67,8 @@ impl Disc {
         self.sectors.as_slice()[usize::from(sector)].number
     }
 
-    /// Writes a sector under a number, and tells whether this is a new write: one whose number stands there was done already.
+    /// Writes a sector under a number, and tells whether this is a new write: one whose number stands there was done
+    /// already.
     pub fn write(&mut self, sector: u8, words: &Sector, number: u32) -> bool
         requires { sector < length self.old }
         ensures sectors { self.new ≡ stored_after self.old sector words.now number }

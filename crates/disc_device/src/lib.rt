@@ -1,8 +1,8 @@
-//! The device of a disc: its sectors, each with its words and the number of the write that put them, so that a write that is
-//! made again changes nothing.
+//! The device of a disc: its sectors, each with its words and the number of the write that put them, so that a write
+//! that is made again changes nothing.
 //!
-//! Below stands `gd_words` with the words of a sector. The layer above uses that `Disc` reads and writes as `specs/Sectors.antt`
-//! says, and the laws of writing in `laws`.
+//! Below stands `gd_words` with the words of a sector. The layer above uses that `Disc` reads and writes as
+//! `specs/Sectors.antt` says, and the laws of writing in `laws`.
 #![tactic(auto)]
 
 pub mod disc;

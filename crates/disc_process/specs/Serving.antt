@@ -13,6 +13,9 @@ pub record Serving : Type 0 where
 -- the state of a disc at a phase, whose last write has this number
 abbrev pub disc_at : Phase → ℕ → DiscState
 disc_at Idle number = record { label = point.Take; request = None; reply = None; last_write = number }
-disc_at (Marking request) number = record { label = point.AtCheckpoint; request = Some request; reply = None; last_write = number }
-disc_at (Acting request) number = record { label = point.Device; request = Some request; reply = None; last_write = number }
-disc_at (Answering request reply) number = record { label = point.Answer; request = Some request; reply = Some reply; last_write = number }
+disc_at (Marking request) number =
+    record { label = point.AtCheckpoint; request = Some request; reply = None; last_write = number }
+disc_at (Acting request) number =
+    record { label = point.Device; request = Some request; reply = None; last_write = number }
+disc_at (Answering request reply) number =
+    record { label = point.Answer; request = Some request; reply = Some reply; last_write = number }

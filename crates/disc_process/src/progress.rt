@@ -1,8 +1,10 @@
 ghost use Rattle.std.specs.Option.{option_copied};
 ghost use Rattle.std.specs.Prelude.{◌≡◌, ◌≢◌, ◌<◌, ◌+◌, ◌^◌};
 ghost use Rattle.gd_words.specs.Ranges.{HasNext};
-ghost use Rattle.process_semantics.specs.Disc.{disc_start, disc_took, disc_checkpointed, disc_call, disc_done, disc_answer, disc_answered};
-ghost use Rattle.process_semantics.specs.declared.point.Point.TheVariants.{Inner, Take, Ask, Await, Answer, AtCheckpoint, Device};
+ghost use Rattle.process_semantics.specs.Disc.{disc_start, disc_took, disc_checkpointed, disc_call, disc_done};
+ghost use Rattle.process_semantics.specs.Disc.{disc_answer, disc_answered};
+ghost use Rattle.process_semantics.specs.declared.point.Point.TheVariants.{Inner, Take, Ask, Await, Answer};
+ghost use Rattle.process_semantics.specs.declared.point.Point.TheVariants.{AtCheckpoint, Device};
 
 use crate::calls::{call_of, last_write_after, reply_of};
 use crate::phase::Phase;

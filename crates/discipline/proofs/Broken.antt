@@ -1,5 +1,6 @@
 -- Whether a path that is walked breaks.
-use Rattle.std.proofs.Common.{◌≡◌, ◌≢◌, ◌≤◌, ◌<◌, ◌⊎◌, inl, inr, ℕ, zero, suc, ◌&&◌, ◌==◌, Bool, true, false, arith, List, [], ◌∷◌, length, Option, Some, None, slice_get, refl, ap, subst, sym, ◌∙◌}
+use Rattle.std.proofs.Common.{◌≡◌, ◌≢◌, ◌≤◌, ◌<◌, ◌⊎◌, inl, inr, ℕ, zero, suc, ◌&&◌, ◌==◌, Bool, true, false, arith}
+use Rattle.std.proofs.Common.{List, [], ◌∷◌, length, Option, Some, None, slice_get, refl, ap, subst, sym, ◌∙◌}
 use Rattle.std.specs.Prelude.{IsTrue, nat_le, is_some}
 use Rattle.std.specs.Option.{option_map}
 use Rattle.std.proofs.lemmas.Bool.{eqb-true}
@@ -32,11 +33,13 @@ known-there program (SyncBlock file) there = tt
 known-there program Input there = tt
 known-there program (Depth file) there = by_file (slice_get program.files file) refl there
   where
-    by_file : (one : Option FileUse) → slice_get program.files file ≡ one → is_some one ≡ true → file < length program.files
+    by_file : (one : Option FileUse) → slice_get program.files file ≡ one → is_some one ≡ true
+        → file < length program.files
     by_file None is none = absurd (cc)
     by_file (Some one) is some = slice_get_within program.files file one is
 
-pub not-there : (program : Program) (reason : Reason) → is_there program reason ≡ false → (path : List ℕ) → Breaks program path reason → ⊥
+pub not-there : (program : Program) (reason : Reason) → is_there program reason ≡ false → (path : List ℕ)
+    → Breaks program path reason → ⊥
 not-there program (Data item) none path broken = absurd (cc)
 not-there program (SyncBlock file) none path broken = absurd (cc)
 not-there program Input none path broken = absurd (cc)
@@ -66,17 +69,20 @@ module _ (program : Program) (reason : Reason) (positions : List Position) (due 
   pub no-top : None ≡ slice_get positions 0 → BreaksNext program reason positions due false
   no-top none stand own at numbered = absurd (by_place positions stand.place at.tells none numbered)
     where
-      by_place : (ps : List Position) (place : Place) → Tells program ps place → None ≡ slice_get ps 0 → option_map entry_number (next_in place) ≡ Some own → ⊥
+      by_place : (ps : List Position) (place : Place) → Tells program ps place → None ≡ slice_get ps 0
+          → option_map entry_number (next_in place) ≡ Some own → ⊥
       by_place (first ∷ below) place tells empty has = cc
       by_place [] [] tells empty has = cc
       by_place [] (frame ∷ callers) tells empty has = tells
 
   module _ (position : Position) (top : Some position ≡ slice_get positions 0) where
-    next-entry : (result : Option Found) → IsNext program position result → (stand : Stand) (own : ℕ) → IsAt program reason positions due stand → number_at stand ≡ Some own
+    next-entry : (result : Option Found) → IsNext program position result → (stand : Stand) (own : ℕ)
+        → IsAt program reason positions due stand → number_at stand ≡ Some own
         → (found : Found) × (result ≡ Some found) × (next_in stand.place ≡ Some (entry_of found.entry))
     next-entry result next stand own at numbered = by_place positions stand.place at.tells top numbered
       where
-        by_place : (ps : List Position) (place : Place) → Tells program ps place → Some position ≡ slice_get ps 0 → option_map entry_number (next_in place) ≡ Some own
+        by_place : (ps : List Position) (place : Place) → Tells program ps place → Some position ≡ slice_get ps 0
+            → option_map entry_number (next_in place) ≡ Some own
             → (found : Found) × (result ≡ Some found) × (next_in place ≡ Some (entry_of found.entry))
         by_place [] place tells top_is has = absurd (cc)
         by_place (first ∷ below) [] tells top_is has = absurd tells
@@ -87,10 +93,13 @@ module _ (program : Program) (reason : Reason) (positions : List Position) (due 
             (found.0, found.1, ap Some (sym found.2))
 
     pub no-next : IsNext program position None → BreaksNext program reason positions due false
-    no-next next stand own at numbered = let found = next-entry None next stand own at numbered in absurd (let none : None ≡ Some found.0 = found.1 in cc)
+    no-next next stand own at numbered = let found = next-entry None next stand own at numbered in
+        absurd (let none : None ≡ Some found.0 = found.1 in cc)
 
-    pub next-breaks : (found : Found) (most : ℕ) (result : Bool) → IsNext program position (Some found) → most ≡ most_of program reason → is_there program reason ≡ true
-        → result ≡ (may_break_at reason (entry_of found.entry) && nat_le most due) → BreaksNext program reason positions due result
+    pub next-breaks : (found : Found) (most : ℕ) (result : Bool) → IsNext program position (Some found)
+        → most ≡ most_of program reason → is_there program reason ≡ true
+        → result ≡ (may_break_at reason (entry_of found.entry) && nat_le most due)
+        → BreaksNext program reason positions due result
     next-breaks found most result next is_most there is stand own at numbered =
         let at_next = next-entry (Some found) next stand own at numbered in
         let same : found ≡ at_next.0 = let both : Some found ≡ Some at_next.0 = at_next.1 in cc in
@@ -98,16 +107,21 @@ module _ (program : Program) (reason : Reason) (positions : List Position) (due 
         is ∙ ap (λ (m : ℕ). may_break_at reason entry && nat_le m due) is_most
         ∙ ap (λ (b : Bool). may_break_at reason entry && (b && nat_le (most_of program reason) due)) (sym there)
         ∙ ap (breaks_with program reason entry) at.cut ∙ sym (breaks-is program reason stand.dues entry)
-        ∙ ap (breaks_entry program reason stand.dues) (sym (at_next.2 ∙ ap (λ (f : Found). Some (entry_of f.entry)) (sym same)))
+        ∙ ap (breaks_entry program reason stand.dues)
+        (sym (at_next.2 ∙ ap (λ (f : Found). Some (entry_of f.entry)) (sym same)))
 
 module _ (program : Program) (reason : Reason) (path : List ℕ) where
   -- what is walked is a path
   pub walked-is-path : (walker : Walker) → HasWalked program reason path walker → IsPath program path
   walked-is-path walker walked =
-      let step = step-on program walked.stand walked.number walked.next in
-      (step.0, subst (λ (p : List ℕ). Leads program p step.0) (sym walked.split) (leads-more program walked.front walked.stand step.0 walked.number walked.leads step.1))
+      let step = step-on program walked.stand walked.number walked.next in (
+        step.0,
+        subst (λ (p : List ℕ). Leads program p step.0) (sym walked.split)
+            (leads-more program walked.front walked.stand step.0 walked.number walked.leads step.1),
+      )
 
-  pub path-breaks : IsOrdered program → (walker : Walker) (result : Bool) → HasWalked program reason path walker → BreaksNext program reason walker.stack walker.due result
+  pub path-breaks : IsOrdered program → (walker : Walker) (result : Bool) → HasWalked program reason path walker
+      → BreaksNext program reason walker.stack walker.due result
       → (IsTrue result → Breaks program path reason) × (Breaks program path reason → IsTrue result)
   path-breaks ordered walker result walked next = (forth, back)
     where
@@ -127,18 +141,28 @@ module _ (program : Program) (reason : Reason) (path : List ℕ) where
 
       back : Breaks program path reason → IsTrue result
       back broken =
-          let both = last-same walked.front broken.front walked.number broken.number (sym walked.split ∙ broken.split) in
-          let same : broken.stand ≡ walked.stand = path-fixes program ordered broken.front broken.stand walked.stand broken.leads
-          (subst (λ (front : List ℕ). Leads program front walked.stand) both.0 walked.leads) (broken.next ∙ ap Some (sym both.1) ∙ sym walked.next) in
+          let both = last-same walked.front broken.front walked.number broken.number
+          (sym walked.split ∙ broken.split) in
+          let same : broken.stand ≡ walked.stand =
+          path-fixes program ordered broken.front broken.stand walked.stand broken.leads
+          (subst (λ (front : List ℕ). Leads program front walked.stand) both.0 walked.leads)
+          (broken.next ∙ ap Some (sym both.1) ∙ sym walked.next) in
           subst IsTrue (ap (breaks_at program reason) same ∙ sym is) broken.breaks
 
-pub empty-path : (program : Program) (path : List ℕ) → true ≡ (length path == 0) → (IsTrue true → IsPath program path) × (IsPath program path → IsTrue true)
+pub empty-path : (program : Program) (path : List ℕ) → true ≡ (length path == 0)
+    → (IsTrue true → IsPath program path) × (IsPath program path → IsTrue true)
 empty-path program [] is = ((λ _. (first_stand program, refl)), (λ _. refl))
-empty-path program (number ∷ path) is = absurd (let none : length (number ∷ path) ≡ 0 = eqb-true (length (number ∷ path)) 0 (sym is) in omega arith)
+empty-path program (number ∷ path) is =
+    absurd (let none : length (number ∷ path) ≡ 0 = eqb-true (length (number ∷ path)) 0 (sym is) in omega arith)
 
 -- where there is no walk no path breaks
-pub no-walk : (program : Program) (path : List ℕ) (reason : Reason) → (path ≢ [] → IsPath program path → ⊥) → (IsTrue false → Breaks program path reason) × (Breaks program path reason → IsTrue false)
-no-walk program path reason none = ((λ holds. absurd (let no : false ≡ true = holds in cc)), (λ broken. absurd (none (not-empty broken) (break-is-path program path reason broken))))
+pub no-walk : (program : Program) (path : List ℕ) (reason : Reason) → (path ≢ [] → IsPath program path → ⊥)
+    → (IsTrue false → Breaks program path reason) × (Breaks program path reason → IsTrue false)
+no-walk program path reason none = (
+  (λ holds. absurd (let no : false ≡ true = holds in cc)),
+  (λ broken. absurd (none (not-empty broken) (break-is-path program path reason broken))),
+)
   where
     not-empty : Breaks program path reason → path ≢ []
-    not-empty broken empty = nothing-breaks program reason (subst (λ (p : List ℕ). Breaks program p reason) empty broken)
+    not-empty broken empty =
+        nothing-breaks program reason (subst (λ (p : List ℕ). Breaks program p reason) empty broken)

@@ -32,9 +32,11 @@ le-cut most n = grind arith
 
 -- an entry breaks exactly where so much is due, also when that is cut
 pub breaks-is : (program : Program) (reason : Reason) (dues : Dues) (entry : Entry)
-    → breaks_entry program reason dues (Some entry) ≡ breaks_with program reason entry (min (most_of program reason) (amount reason dues))
+    → breaks_entry program reason dues (Some entry)
+    ≡ breaks_with program reason entry (min (most_of program reason) (amount reason dues))
 breaks-is program reason dues (Run statement) =
     ap (λ (b : Bool). may_break reason (out-What statement.what) && b)
-    (enough-is program reason dues ∙ ap (λ (b : Bool). is_there program reason && b) (sym (le-cut (most_of program reason) (amount reason dues))))
+    (enough-is program reason dues ∙ ap (λ (b : Bool). is_there program reason && b)
+    (sym (le-cut (most_of program reason) (amount reason dues))))
 breaks-is program reason dues (Test statement) = refl
 breaks-is program reason dues (Last statement) = refl

@@ -17,7 +17,10 @@ too-few : (most : ℕ) → 1 ≤ most → nat_le most 0 ≡ false
 too-few most some = grind arith
 
 -- nothing breaks where nothing is due
-pub none-due : (program : Program) (reason : Reason) (entry : Entry) → 1 ≤ most_of program reason → breaks_with program reason entry 0 ≡ false
+pub none-due : (program : Program) (reason : Reason) (entry : Entry) → 1 ≤ most_of program reason
+    → breaks_with program reason entry 0 ≡ false
 none-due program reason entry some =
-    ap (λ (b : Bool). may_break_at reason entry && (is_there program reason && b)) (too-few (most_of program reason) some)
-    ∙ ap (λ (b : Bool). may_break_at reason entry && b) (and-false (is_there program reason)) ∙ and-false (may_break_at reason entry)
+    ap (λ (b : Bool). may_break_at reason entry && (is_there program reason && b))
+    (too-few (most_of program reason) some)
+    ∙ ap (λ (b : Bool). may_break_at reason entry && b) (and-false (is_there program reason))
+    ∙ and-false (may_break_at reason entry)

@@ -1,5 +1,6 @@
 -- Reasons that are tried one after the other.
-use Rattle.std.proofs.Common.{◌≡◌, ◌≤◌, ◌<◌, ◌⊎◌, inl, inr, ℕ, zero, suc, ◌+◌, ◌&&◌, Bool, true, arith, List, [], ◌∷◌, length, Option, Some, None, slice_get, refl, ap, subst, sym, ◌∙◌}
+use Rattle.std.proofs.Common.{◌≡◌, ◌≤◌, ◌<◌, ◌⊎◌, inl, inr, ℕ, zero, suc, ◌+◌, ◌&&◌, Bool, true, arith, List, [], ◌∷◌}
+use Rattle.std.proofs.Common.{length, Option, Some, None, slice_get, refl, ap, subst, sym, ◌∙◌}
 use Rattle.std.specs.Prelude.{is_some, nat_le}
 use Rattle.gd_words.proofs.Among.{among-at}
 use Rattle.tal_tree.specs.Limits.{IsWithinLimits}
@@ -43,7 +44,8 @@ module _ (program : Program) (reason : Reason) (there : is_there program reason 
   ends-is dues None = refl
   ends-is dues (Some entry) =
       ends-cut aim entry dues
-      ∙ ap (λ (b : Bool). may_break_at reason entry && (b && nat_le (most_of program reason) (counted aim dues))) (sym there)
+      ∙ ap (λ (b : Bool). may_break_at reason entry && (b && nat_le (most_of program reason) (counted aim dues)))
+      (sym there)
       ∙ sym (breaks-is program reason dues entry)
 
   end-breaks : (path : List ℕ) → IsEnd program aim path → Breaks program path reason
@@ -68,15 +70,21 @@ module _ (program : Program) (reason : Reason) (there : is_there program reason 
     ends = ends-is broken.stand.dues (next_entry broken.stand) ∙ broken.breaks;
   }
 
-  module _ (nodes : List Node) (flow : IsFlow program nodes) (most : ℕ) (is_most : most ≡ most_of program reason) (queue : List Visit) where
+  module _ (nodes : List Node) (flow : IsFlow program nodes) (most : ℕ) (is_most : most ≡ most_of program reason)
+      (queue : List Visit) where
     pub found-none : HasFound nodes (aim_with reason most) queue None → NoneFor program reason
     found-none reached path broken =
-        none-ends program nodes flow aim queue (subst (λ (m : ℕ). AreReached nodes (aim_with reason m) queue) is_most reached) path (breaks-end path broken)
+        none-ends program nodes flow aim queue (subst (λ (m : ℕ). AreReached nodes (aim_with reason m) queue) is_most
+        reached) path (breaks-end path broken)
 
-    pub found-some : (path : List ℕ) → HasFound nodes (aim_with reason most) queue (Some path) → IsLeast program reason path
+    pub found-some : (path : List ℕ) → HasFound nodes (aim_with reason most) queue (Some path)
+        → IsLeast program reason path
     found-some path found =
         let first = subst (λ (m : ℕ). IsFirstEnd program (aim_with reason m) path) is_most (found program flow) in
-        record { breaks = end-breaks path first.ends; least = λ other broken. first.least other (breaks-end other broken) }
+        record {
+          breaks = end-breaks path first.ends;
+          least = λ other broken. first.least other (breaks-end other broken);
+        }
 
 -- What is known of how much breaks
 
@@ -85,7 +93,8 @@ pub record HasMost (program : Program) (reason : Reason) : Type 0 where
   pub some : 1 ≤ most_of program reason
   pub few : most_of program reason ≤ 4
 
-pub has-most : (program : Program) (reason : Reason) → IsWithinLimits program → IsKnown program reason → HasMost program reason
+pub has-most : (program : Program) (reason : Reason) → IsWithinLimits program → IsKnown program reason
+    → HasMost program reason
 has-most program (Data item) limits known = record { there = refl; some = omega arith; few = omega arith }
 has-most program (SyncBlock file) limits known = record { there = refl; some = omega arith; few = omega arith }
 has-most program Input limits known = record { there = refl; some = omega arith; few = omega arith }
@@ -117,7 +126,8 @@ before-first program (SyncBlock file) path earlier broken = earlier
 before-first program Input path earlier broken = earlier
 before-first program (Depth file) path earlier broken = earlier
 
-pub before-item : (program : Program) (n : ℕ) → NoneBefore program (Data n) → NoneFor program (Data n) → NoneBefore program (Data (n + 1))
+pub before-item : (program : Program) (n : ℕ) → NoneBefore program (Data n) → NoneFor program (Data n)
+    → NoneBefore program (Data (n + 1))
 before-item program n before none (Data item) path earlier broken = by_case (less-or-same item n earlier)
   where
     by_case : (item < n) ⊎ (item ≡ n) → ⊥
@@ -127,7 +137,8 @@ before-item program n before none (SyncBlock file) path earlier broken = earlier
 before-item program n before none Input path earlier broken = earlier
 before-item program n before none (Depth file) path earlier broken = earlier
 
-pub before-files : (program : Program) (n : ℕ) → IsRegular program → length program.items ≤ n → NoneBefore program (Data n) → NoneBefore program (SyncBlock 0)
+pub before-files : (program : Program) (n : ℕ) → IsRegular program → length program.items ≤ n
+    → NoneBefore program (Data n) → NoneBefore program (SyncBlock 0)
 before-files program n regular all before (Data item) path earlier broken = by_case (below-or-past item n)
   where
     by_case : (item < n) ⊎ (n ≤ item) → ⊥
@@ -137,7 +148,8 @@ before-files program n regular all before (SyncBlock file) path earlier broken =
 before-files program n regular all before Input path earlier broken = earlier
 before-files program n regular all before (Depth file) path earlier broken = earlier
 
-pub before-file : (program : Program) (n : ℕ) → NoneBefore program (SyncBlock n) → NoneFor program (SyncBlock n) → NoneBefore program (SyncBlock (n + 1))
+pub before-file : (program : Program) (n : ℕ) → NoneBefore program (SyncBlock n) → NoneFor program (SyncBlock n)
+    → NoneBefore program (SyncBlock (n + 1))
 before-file program n before none (Data item) path earlier broken = before (Data item) path tt broken
 before-file program n before none (SyncBlock file) path earlier broken = by_case (less-or-same file n earlier)
   where
@@ -147,7 +159,8 @@ before-file program n before none (SyncBlock file) path earlier broken = by_case
 before-file program n before none Input path earlier broken = earlier
 before-file program n before none (Depth file) path earlier broken = earlier
 
-pub before-input : (program : Program) (n : ℕ) → IsRegular program → length program.files ≤ n → NoneBefore program (SyncBlock n) → NoneBefore program Input
+pub before-input : (program : Program) (n : ℕ) → IsRegular program → length program.files ≤ n
+    → NoneBefore program (SyncBlock n) → NoneBefore program Input
 before-input program n regular all before (Data item) path earlier broken = before (Data item) path tt broken
 before-input program n regular all before (SyncBlock file) path earlier broken = by_case (below-or-past file n)
   where
@@ -157,13 +170,15 @@ before-input program n regular all before (SyncBlock file) path earlier broken =
 before-input program n regular all before Input path earlier broken = earlier
 before-input program n regular all before (Depth file) path earlier broken = earlier
 
-pub before-depths : (program : Program) → NoneBefore program Input → NoneFor program Input → NoneBefore program (Depth 0)
+pub before-depths : (program : Program) → NoneBefore program Input → NoneFor program Input
+    → NoneBefore program (Depth 0)
 before-depths program before none (Data item) path earlier broken = before (Data item) path tt broken
 before-depths program before none (SyncBlock file) path earlier broken = before (SyncBlock file) path tt broken
 before-depths program before none Input path earlier broken = none path broken
 before-depths program before none (Depth file) path earlier broken = omega arith
 
-pub before-depth : (program : Program) (n : ℕ) → NoneBefore program (Depth n) → NoneFor program (Depth n) → NoneBefore program (Depth (n + 1))
+pub before-depth : (program : Program) (n : ℕ) → NoneBefore program (Depth n) → NoneFor program (Depth n)
+    → NoneBefore program (Depth (n + 1))
 before-depth program n before none (Data item) path earlier broken = before (Data item) path tt broken
 before-depth program n before none (SyncBlock file) path earlier broken = before (SyncBlock file) path tt broken
 before-depth program n before none Input path earlier broken = before Input path tt broken
@@ -174,8 +189,10 @@ before-depth program n before none (Depth file) path earlier broken = by_case (l
     by_case (inr same) = none path (subst (λ (k : ℕ). Breaks program path (Depth k)) same broken)
 
 -- all reasons are tried
-pub all-tried : (program : Program) (n : ℕ) → IsWithinBounds program → length program.files ≤ n → NoneBefore program (Depth n) → IsAccepted program
-all-tried program n bounds all before = record { bounds = bounds; unbroken = λ path reason broken. none reason path broken }
+pub all-tried : (program : Program) (n : ℕ) → IsWithinBounds program → length program.files ≤ n
+    → NoneBefore program (Depth n) → IsAccepted program
+all-tried program n bounds all before =
+    record { bounds = bounds; unbroken = λ path reason broken. none reason path broken }
   where
     none : (reason : Reason) (path : List ℕ) → Breaks program path reason → ⊥
     none (Data item) path broken = before (Data item) path tt broken

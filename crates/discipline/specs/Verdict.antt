@@ -9,7 +9,8 @@ use Rattle.path_semantics.specs.Accepted.{IsAccepted}
 use Rattle.path_semantics.specs.Bounds.{IsWithinBounds, HasTooDeepCalls, IsTooLarge}
 use Rattle.path_semantics.specs.Break.{Breaks}
 
--- the order in which reasons are tried: globals as they are declared, then files as they are opened, then input, then depths as files are opened
+-- the order in which reasons are tried: globals as they are declared, then files as they are opened, then input, then
+-- depths as files are opened
 abbrev pub IsEarlier : Reason → Reason → Type 0
 IsEarlier (Data item) (Data other) = item < other
 IsEarlier (Data item) (SyncBlock file) = Unit {0}
@@ -35,7 +36,8 @@ pub record IsLeast (program : Program) (reason : Reason) (path : List ℕ) : Typ
 
 -- no path breaks for an earlier reason
 abbrev pub NoneBefore : Program → Reason → Type 0
-NoneBefore program reason = (earlier : Reason) (path : List ℕ) → IsEarlier earlier reason → Breaks program path earlier → ⊥
+NoneBefore program reason =
+    (earlier : Reason) (path : List ℕ) → IsEarlier earlier reason → Breaks program path earlier → ⊥
 
 -- in a program within bounds: such a path, where no path breaks for an earlier reason
 pub record IsFirst (program : Program) (reason : Reason) (path : List ℕ) : Type 0 where
@@ -43,8 +45,8 @@ pub record IsFirst (program : Program) (reason : Reason) (path : List ℕ) : Typ
   pub shortest : IsLeast program reason path
   pub first : NoneBefore program reason
 
--- the verdict: accepted, or calls too deep, or else too many statements with the calls written out, or else the first reason with a shortest path that breaks
--- for it. Want of memory is free
+-- the verdict: accepted, or calls too deep, or else too many statements with the calls written out, or else the first
+-- reason with a shortest path that breaks for it. Want of memory is free
 abbrev pub IsVerdict : Program → Result ⊤ RefusalFault → Type 0
 IsVerdict program (Ok _) = IsAccepted program
 IsVerdict program (Err TooDeep) = HasTooDeepCalls program
@@ -59,7 +61,8 @@ Agree _ (Err (NoMemory _)) = Unit {0}
 Agree (Ok _) (Ok _) = Unit {0}
 Agree (Err TooDeep) (Err TooDeep) = Unit {0}
 Agree (Err (TooLarge n)) (Err (TooLarge m)) = n ≡ m
-Agree (Err (Broken reason path)) (Err (Broken other_reason other)) = (reason ≡ other_reason) × (length path ≡ length other)
+Agree (Err (Broken reason path)) (Err (Broken other_reason other)) =
+    (reason ≡ other_reason) × (length path ≡ length other)
 Agree _ _ = ⊥
 
 -- what comes of trying a reason: no path breaks for it, or the program is refused

@@ -19,9 +19,9 @@ use reason_dues::{Reasons, most_of};
 use std::alloc::Global;
 use tal_tree::Program;
 
-/// The verdict on a program: whether it keeps the checkpoint discipline, or the first cause for which it doesn't. Among causes
-/// too deep calls come first, then too many statements, then globals as they are declared, files as they are opened, input, and
-/// the files' depths.
+/// The verdict on a program: whether it keeps the checkpoint discipline, or the first cause for which it doesn't. Among
+/// causes too deep calls come first, then too many statements, then globals as they are declared, files as they are
+/// opened, input, and the files' depths.
 pub fn check(alloc: Global, program: &Program) -> Result<(), RefusalFault>
     requires ordered { IsOrdered program.now }
     requires limits { IsWithinLimits program.now }

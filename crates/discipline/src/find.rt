@@ -86,7 +86,8 @@ fn find_test(statement: &Statement, after: u32, number: u32) -> Option<Found<'_>
 /// The last assignment of a FOR, where it has this number.
 fn find_last(statement: &Statement, last: u32, number: u32) -> Option<Found<'_>>
     requires { last ≡ next_number (Last statement.now ∷ []) }
-    ensures { (after : ℕ) → IsFoundIn (λ later. (Last statement.now ∷ Test statement.now ∷ later) ∷ []) after number result }
+    ensures { (after : ℕ) → IsFoundIn (λ later. (Last statement.now ∷ Test statement.now ∷ later) ∷ []) after number
+        result }
 {
     if last == number {
         let entry = Entry::Last(statement);

@@ -10,8 +10,9 @@ use gd_words::NoMemory;
 use reason_dues::Reasons;
 use std::alloc::Global;
 
-/// How often sets are spread over a graph at most. Once suffices without loops, and twice with loops, however deep they stand in
-/// one another; but each call that a RETURN leaves out of a loop may take one more, and at most 15 are in progress.
+/// How often sets are spread over a graph at most. Once suffices without loops, and twice with loops, however deep they
+/// stand in one another; but each call that a RETURN leaves out of a loop may take one more, and at most 15 are in
+/// progress.
 const MOST_ROUNDS: u32 = 32;
 
 /// For each node the reasons of which something may be due there.
@@ -20,8 +21,8 @@ struct Sets {
     sets: Vec<Reasons>,
 }
 
-/// The reasons for which a program with this graph may break, found at all nodes at once: for no other it does. Where that takes
-/// too many rounds these are all.
+/// The reasons for which a program with this graph may break, found at all nodes at once: for no other it does. Where
+/// that takes too many rounds these are all.
 pub(crate) fn suspects(alloc: Global, flow: &Flow<'_>) -> Result<Reasons, NoMemory>
     ensures suspects { IfOk result (λ suspects. AreSuspects flow.now suspects) }
     ensures some { IfOk result (λ suspects. HaveNodes flow.now suspects) }
@@ -48,8 +49,8 @@ impl Sets {
         Ok(Sets { sets })
     }
 
-    /// Spreads along each edge what may be due, node by node. What comes back to a node before is spread on from there at once:
-    /// where a loop ends, it leaves that loop and all others that end with it.
+    /// Spreads along each edge what may be due, node by node. What comes back to a node before is spread on from there
+    /// at once: where a loop ends, it leaves that loop and all others that end with it.
     fn spread(&mut self, flow: &Flow<'_>)
         requires { length self.old.sets.items ≡ length flow.now }
         ensures { length self.new.sets.items ≡ length self.old.sets.items }
@@ -62,7 +63,8 @@ impl Sets {
         }
     }
 
-    /// Spreads along the edges of a node what may be due there; and the node before it, if any, at which more may be due now.
+    /// Spreads along the edges of a node what may be due there; and the node before it, if any, at which more may be
+    /// due now.
     #[inline(always)]
     fn spread_from(&mut self, flow: &Flow<'_>, k: u16) -> Option<u16>
         requires count { length self.old.sets.items ≡ length flow.now }
@@ -82,8 +84,8 @@ impl Sets {
         }
     }
 
-    /// Spreads along an edge of a node what may be due after it; and where it leads, if to a node before at which more may be
-    /// due now.
+    /// Spreads along an edge of a node what may be due after it; and where it leads, if to a node before at which more
+    /// may be due now.
     #[inline(always)]
     fn spread_along(&mut self, k: u16, after: Reasons, edge: &Edge) -> Option<u16>
         requires { (j : ℕ) → edge.now.goal ≡ At j → j < length self.old.sets.items }

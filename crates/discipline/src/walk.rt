@@ -59,7 +59,8 @@ impl Course<'_> {
         requires limits { IsWithinLimits self.program.now }
         requires most { self.most ≡ most_of self.program.now self.reason }
         requires few { self.most ≤ 4 }
-        ensures { IsAt self.entry.program.now self.entry.reason result.stack result.due (first_stand self.entry.program.now) }
+        ensures { IsAt self.entry.program.now self.entry.reason result.stack result.due
+            (first_stand self.entry.program.now) }
     {
         let mut stack = Stack::new();
         let procedure = self.program.main;

@@ -12,7 +12,8 @@ use Rattle.process_semantics.specs.Process.{ProcessState, Runs, Serves}
 use Rattle.process_images.specs.Images.{Agrees}
 use Rattle.plain_semantics.specs.Openers.{openers_of}
 use Rattle.whole_states.specs.Processes.{IsRegularKind}
-use Rattle.world_semantics.specs.Core.{Core, Deed, Went, Checkpointed, Took, Asked, Got, Answered, Acted, Advances, goes, marks, takes, asks, gets, answers, acts, after_passing, carried, put_in}
+use Rattle.world_semantics.specs.Core.{Core, Deed, Went, Checkpointed, Took, Asked, Got, Answered, Acted, Advances}
+use Rattle.world_semantics.specs.Core.{goes, marks, takes, asks, gets, answers, acts, after_passing, carried, put_in}
 use Rattle.process_histories.specs.Bounds.{AreBounded}
 use Rattle.process_histories.specs.Histories.{HasDone, one_more, kind_of}
 use Rattle.process_histories.specs.Words.{requests_on}
@@ -35,7 +36,8 @@ module _ (site : Site) (number sectors : ℕ) (spec : ProcessSpec) (is : spec.wh
   regular : IsRegularKind spec.what
   regular = rw is tt
 
-  serves : {deeds : List Deed} {core : Core} → HasDone site number spec deeds core → (s : DiscState) × (core.state ≡ Serves sectors s)
+  serves : {deeds : List Deed} {core : Core} → HasDone site number spec deeds core
+      → (s : DiscState) × (core.state ≡ Serves sectors s)
   serves {core = core} done = by core.state (done-kind done ∙ is)
     where
       by : (state : ProcessState) → kind_of state ≡ kind.Disc sectors → (s : DiscState) × (state ≡ Serves sectors s)
@@ -43,7 +45,8 @@ module _ (site : Site) (number sectors : ℕ) (spec : ProcessSpec) (is : spec.wh
       by (Serves n s) same = let e : n ≡ sectors = cc in (s, rw e refl)
 
   -- a disc asks nothing
-  none-asked : (since before : List Deed) {core : Core} → HasDone site number spec (since ++ before) core → (file : ℕ) → length (requests_on file since) ≡ 0
+  none-asked : (since before : List Deed) {core : Core} → HasDone site number spec (since ++ before) core → (file : ℕ)
+      → length (requests_on file since) ≡ 0
   none-asked [] before done file = refl
   none-asked (Went ∷ since) before (one_more done moves) file = none-asked since before done file
   none-asked (Checkpointed ∷ since) before (one_more done moves) file = none-asked since before done file
@@ -56,8 +59,10 @@ module _ (site : Site) (number sectors : ℕ) (spec : ProcessSpec) (is : spec.wh
   none-asked (Answered place words ∷ since) before (one_more done moves) file = none-asked since before done file
   none-asked (Acted call found ∷ since) before (one_more done moves) file = none-asked since before done file
 
-  disc-resume : (since before : List Deed) (core stale : Core) → HasDone site number spec (since ++ before) core → AreUncheckpointed since → AreBounded (since ++ before)
-      → process.point core.state ≡ point.AtCheckpoint → HasDone site number spec before stale → put_in stale (carried core) ≡ Some (after_passing core)
+  disc-resume : (since before : List Deed) (core stale : Core) → HasDone site number spec (since ++ before) core
+      → AreUncheckpointed since → AreBounded (since ++ before)
+      → process.point core.state ≡ point.AtCheckpoint → HasDone site number spec before stale
+      → put_in stale (carried core) ≡ Some (after_passing core)
   disc-resume since before core stale done unmarked bounded at old =
       let s = serves done in
       let t = serves old in
@@ -65,24 +70,29 @@ module _ (site : Site) (number sectors : ℕ) (spec : ProcessSpec) (is : spec.wh
       resume-from since before regular done bounded at old agrees (λ file apart. none-asked since before done file)
 
   -- after a take a disc stands at its checkpoint
-  after-take : (since before : List Deed) (place : ℕ) (words : List ℤ) {core : Core} → HasDone site number spec (since ++ Took place words ∷ before) core → AreUncheckpointed since
+  after-take : (since before : List Deed) (place : ℕ) (words : List ℤ) {core : Core}
+      → HasDone site number spec (since ++ Took place words ∷ before) core → AreUncheckpointed since
       → (since ≡ []) × (process.point core.state ≡ point.AtCheckpoint)
-  after-take [] before place words (one_more {before = core} done (takes block at there)) unmarked = let s = serves done in (refl, rw s.1 refl)
+  after-take [] before place words (one_more {before = core} done (takes block at there)) unmarked =
+      let s = serves done in (refl, rw s.1 refl)
   after-take (deed ∷ since) before place words (one_more done moves) unmarked =
       let here = after-take since before place words done unmarked.1 in
       let mark : deed ≡ Checkpointed = mark-only deed (sym (stands-there moves) ∙ here.1) in
       absurd (unmarked.0 (subst IsCheckpoint (sym mark) tt))
 
   -- after a call a disc isn't at its device until its next checkpoint
-  after-call : (since before : List Deed) (call : DeviceCall) (found : List ℤ) {core : Core} → HasDone site number spec (since ++ Acted call found ∷ before) core → AreUncheckpointed since
+  after-call : (since before : List Deed) (call : DeviceCall) (found : List ℤ) {core : Core}
+      → HasDone site number spec (since ++ Acted call found ∷ before) core → AreUncheckpointed since
       → AreIdle since × (process.point core.state ≢ point.Device)
-  after-call [] before call found (one_more {before = core} done (acts at named)) unmarked = let s = serves done in (tt, rw s.1 (λ e. cc))
+  after-call [] before call found (one_more {before = core} done (acts at named)) unmarked =
+      let s = serves done in (tt, rw s.1 (λ e. cc))
   after-call (deed ∷ since) before call found (one_more {before = core} done moves) unmarked =
       let old = after-call since before call found done unmarked.1 in
       let s = serves done in
       ((no-call deed moves old.1, old.0), later s.0 s.1 moves old.1 unmarked.0)
     where
-      no-call : (deed : Deed) {next : Core} → Advances (openers_of site number) core deed next → process.point core.state ≢ point.Device → IsCall deed → ⊥
+      no-call : (deed : Deed) {next : Core} → Advances (openers_of site number) core deed next
+          → process.point core.state ≢ point.Device → IsCall deed → ⊥
       no-call (Acted call found) moves away is = away (stands-there moves)
       no-call Went moves away is = is
       no-call Checkpointed moves away is = is
@@ -91,7 +101,8 @@ module _ (site : Site) (number sectors : ℕ) (spec : ProcessSpec) (is : spec.wh
       no-call (Got file words) moves away is = is
       no-call (Answered place words) moves away is = is
 
-      later : (s : DiscState) → core.state ≡ Serves sectors s → {deed : Deed} {next : Core} → Advances (openers_of site number) core deed next
+      later : (s : DiscState) → core.state ≡ Serves sectors s → {deed : Deed} {next : Core}
+          → Advances (openers_of site number) core deed next
           → process.point core.state ≢ point.Device → (IsCheckpoint deed → ⊥) → process.point next.state ≢ point.Device
       later s same (goes at) away mark = rw same (λ e. away (ap process.point same ∙ e))
       later s same (marks at) away mark = absurd (mark tt)
@@ -104,7 +115,9 @@ module _ (site : Site) (number sectors : ℕ) (spec : ProcessSpec) (is : spec.wh
   pub disc-disciplined : IsDisciplined site number spec
   disc-disciplined = record {
     resume = disc-resume;
-    quiet = λ since before place words core done unmarked. subst AreInner (sym (after-take since before place words done unmarked).0) tt;
+    quiet = λ since before place words core done unmarked.
+        subst AreInner (sym (after-take since before place words done unmarked).0) tt;
     once = λ since before call found core done unmarked. (after-call since before call found done unmarked).0;
-    depth = λ since before file use_of core done unmarked there. let none = none-asked since before done file in omega (arith, none);
+    depth = λ since before file use_of core done unmarked there. let none =
+        none-asked since before done file in omega (arith, none);
   }

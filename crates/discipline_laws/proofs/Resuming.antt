@@ -1,5 +1,7 @@
--- What a process carries at a checkpoint restores it in any of its cores since the checkpoint before, where that lacks nothing that isn't named.
-use Rattle.std.proofs.Common.{◌≡◌, ℕ, ◌==◌, ◌&&◌, not, ℤ, Bool, true, false, List, [], ◌∷◌, ◌++◌, length, count_by, Option, Some, None, slice_get, refl, ap, subst, sym, ◌∙◌, arith}
+-- What a process carries at a checkpoint restores it in any of its cores since the checkpoint before, where that lacks
+-- nothing that isn't named.
+use Rattle.std.proofs.Common.{◌≡◌, ℕ, ◌==◌, ◌&&◌, not, ℤ, Bool, true, false, List, [], ◌∷◌, ◌++◌, length, count_by}
+use Rattle.std.proofs.Common.{Option, Some, None, slice_get, refl, ap, subst, sym, ◌∙◌, arith}
 use Rattle.std.specs.Prelude.{cond}
 use Rattle.std.proofs.lemmas.Bool.{or_parts}
 use Rattle.std.proofs.lemmas.List.{length-append}
@@ -58,14 +60,17 @@ unlisted due false e f = e
 
 module _ {site : Site} {number : ℕ} {spec : ProcessSpec} where
   -- the next number on a file on which nothing was asked since
-  pub same-next : (since before : List Deed) {core stale : Core} → HasDone site number spec (since ++ before) core → HasDone site number spec before stale → (file : ℕ)
+  pub same-next : (since before : List Deed) {core stale : Core} → HasDone site number spec (since ++ before) core
+      → HasDone site number spec before stale → (file : ℕ)
       → length (requests_on file since) ≡ 0 → slice_get stale.next file ≡ slice_get core.next file
-  same-next since before {core = core} {stale = stale} done old file none = by (slice_get stale.next file) (slice_get core.next file) refl refl
+  same-next since before {core = core} {stale = stale} done old file none =
+      by (slice_get stale.next file) (slice_get core.next file) refl refl
     where
       as-long : length stale.next ≡ length core.next
       as-long = files-same old ∙ sym (files-same done)
 
-      by : (o c : Option ℕ) → slice_get stale.next file ≡ o → slice_get core.next file ≡ c → slice_get stale.next file ≡ slice_get core.next file
+      by : (o c : Option ℕ) → slice_get stale.next file ≡ o → slice_get core.next file ≡ c
+          → slice_get stale.next file ≡ slice_get core.next file
       by None None was is = was ∙ sym is
       by None (Some n) was is = absurd (let there = slice_get_within core.next file n is in
           let some = slice_get-get_or stale.next file 0 (omega (arith, there, as-long)) in let f = sym was ∙ some in cc)
@@ -74,29 +79,44 @@ module _ {site : Site} {number : ℕ} {spec : ProcessSpec} where
       by (Some m) (Some n) was is =
           let first = next-number old file m was in
           let now = next-number done file n is in
-          let all = ap (length {A = List ℤ}) (filter_map-append (ask_on file) since before) ∙ length-append (requests_on file since) (requests_on file before) in
+          let all = ap (length {A = List ℤ}) (filter_map-append (ask_on file) since before)
+          ∙ length-append (requests_on file since) (requests_on file before) in
           let same : m ≡ n = omega (arith, first, now, all, none) in was ∙ ap Some same ∙ sym is
 
   -- what isn't named differs nowhere
-  pub resume-from : (since before : List Deed) {core stale : Core} → IsRegularKind spec.what → HasDone site number spec (since ++ before) core → AreBounded (since ++ before)
-      → process.point core.state ≡ point.AtCheckpoint → HasDone site number spec before stale → Agrees (listed_items core.state) stale.state core.state
-      → ((file : ℕ) → (IsAmong file (listed_files core.state) → ⊥) → length (requests_on file since) ≡ 0) → put_in stale (carried core) ≡ Some (after_passing core)
+  pub resume-from : (since before : List Deed) {core stale : Core} → IsRegularKind spec.what
+      → HasDone site number spec (since ++ before) core → AreBounded (since ++ before)
+      → process.point core.state ≡ point.AtCheckpoint → HasDone site number spec before stale
+      → Agrees (listed_items core.state) stale.state core.state
+      → ((file : ℕ) → (IsAmong file (listed_files core.state) → ⊥) → length (requests_on file since) ≡ 0)
+      → put_in stale (carried core) ≡ Some (after_passing core)
   resume-from since before {core = core} {stale = stale} regular done bounded at old agrees none =
-      put-whole core stale (done-whole regular done bounded) (done-whole regular old (bounded-since since before bounded)) at (done-stands done).hand
-      (record { state = agrees; files = files-same old ∙ sym (files-same done); next = λ file apart. same-next since before done old file (none file apart) })
+      put-whole core stale (done-whole regular done bounded)
+      (done-whole regular old (bounded-since since before bounded)) at (done-stands done).hand
+      (record {
+        state = agrees;
+        files = files-same old ∙ sym (files-same done);
+        next = λ file apart. same-next since before done old file (none file apart);
+      })
 
-module _ (site : Site) (number : ℕ) (spec : ProcessSpec) (program : Program) (is : spec.what ≡ kind.Pair program) (regular : IsRegular program) where
-  resume-at : (since before : List Deed) {core stale : Core} (done : HasDone site number spec (since ++ before) core) → AreUncheckpointed since → AreBounded (since ++ before)
-      → process.point core.state ≡ point.AtCheckpoint → HasDone site number spec before stale → (here : IsSafe site number spec program is point.AtCheckpoint done)
-      → IsCheckpointOf (out-What here.stands.statement.what) → (old : ProgramState) → stale.state ≡ Runs program old → put_in stale (carried core) ≡ Some (after_passing core)
+module _ (site : Site) (number : ℕ) (spec : ProcessSpec) (program : Program) (is : spec.what ≡ kind.Pair program)
+    (regular : IsRegular program) where
+  resume-at : (since before : List Deed) {core stale : Core} (done : HasDone site number spec (since ++ before) core)
+      → AreUncheckpointed since → AreBounded (since ++ before)
+      → process.point core.state ≡ point.AtCheckpoint → HasDone site number spec before stale
+      → (here : IsSafe site number spec program is point.AtCheckpoint done)
+      → IsCheckpointOf (out-What here.stands.statement.what) → (old : ProgramState) → stale.state ≡ Runs program old
+      → put_in stale (carried core) ≡ Some (after_passing core)
   resume-at since before {core = core} {stale = stale} done unmarked bounded at again here listed old was =
       resume-from since before (rw is regular) done bounded at again agrees none-asked
     where
       items : listed_items (Runs program here.s) ≡ listed.items
-      items = in-next [] listed_items_in here.s.frames here.stands.statement here.stands.next ∙ ap listed_items_in listed.names
+      items = in-next [] listed_items_in here.s.frames here.stands.statement here.stands.next
+          ∙ ap listed_items_in listed.names
 
       files : listed_files core.state ≡ listed.files
-      files = ap listed_files here.same ∙ in-next [] listed_files_in here.s.frames here.stands.statement here.stands.next ∙ ap listed_files_in listed.names
+      files = ap listed_files here.same ∙ in-next [] listed_files_in here.s.frames here.stands.statement
+          here.stands.next ∙ ap listed_files_in listed.names
 
       due-item : (item : ℕ) → is_among item listed.items ≡ false → is_among item here.covered.dues.globals ≡ false
       due-item item e =
@@ -106,7 +126,8 @@ module _ (site : Site) (number : ℕ) (spec : ProcessSpec) (program : Program) (
       due-file : (file : ℕ) → is_among file listed.files ≡ false → is_among file here.covered.dues.asked ≡ false
       due-file file e =
           unlisted (is_among file here.covered.dues.asked) (is_among file listed.files)
-          (ap (breaks_by program (SyncBlock file) here.covered.dues) (sym listed.names) ∙ here.unbroken (SyncBlock file)) e
+          (ap (breaks_by program (SyncBlock file) here.covered.dues) (sym listed.names)
+          ∙ here.unbroken (SyncBlock file)) e
 
       same-words : AgreeBut program (listed_items (Runs program here.s)) old.globals here.s.globals
       same-words item may apart =
@@ -118,14 +139,18 @@ module _ (site : Site) (number : ℕ) (spec : ProcessSpec) (program : Program) (
 
       none-asked : (file : ℕ) → (IsAmong file (listed_files core.state) → ⊥) → length (requests_on file since) ≡ 0
       none-asked file apart =
-          let free = due-file file (not_among file listed.files (λ among. apart (subst (IsAmong file) (sym files) among))) in
+          let free = due-file file (not_among file listed.files
+          (λ among. apart (subst (IsAmong file) (sym files) among))) in
           let few = here.covered.asked since before file refl unmarked in
-          let none = none-more program here.covered.dues here.s file (λ e. let f : point.AtCheckpoint ≡ point.Await = sym at ∙ ap process.point here.same ∙ e in cc) in
+          let none = none-more program here.covered.dues here.s file
+          (λ e. let f : point.AtCheckpoint ≡ point.Await = sym at ∙ ap process.point here.same ∙ e in cc) in
           let count = none-counted file here.covered.dues.asked free in
           omega (arith, few, none, count)
 
-  pub resume : IsAccepted program → (since before : List Deed) {core stale : Core} → HasDone site number spec (since ++ before) core → AreUncheckpointed since
-      → AreBounded (since ++ before) → process.point core.state ≡ point.AtCheckpoint → HasDone site number spec before stale → put_in stale (carried core) ≡ Some (after_passing core)
+  pub resume : IsAccepted program → (since before : List Deed) {core stale : Core}
+      → HasDone site number spec (since ++ before) core → AreUncheckpointed since
+      → AreBounded (since ++ before) → process.point core.state ≡ point.AtCheckpoint
+      → HasDone site number spec before stale → put_in stale (carried core) ≡ Some (after_passing core)
   resume accepted since before done unmarked bounded at again =
       let here = safe site number spec program is regular accepted point.AtCheckpoint done (λ e. cc) (λ e. cc) at in
       let old = runs site number spec program is again in

@@ -15,16 +15,21 @@ use Rattle.process_histories.specs.Histories.{HasDone}
 use Rattle.process_histories.specs.Words.{requests_on, awaits_on, one_if}
 use Rattle.discipline_laws.specs.Disciplined.{AreUncheckpointed}
 
--- some path leads to where the program stands, on which all is due that differs from any of its states since its last checkpoint: each global whose words were
--- others then; each file as often as it was asked since, but for the request that is awaited; and a request, if one was taken since
-pub record IsCovered (site : Site) (number : ℕ) (spec : ProcessSpec) (program : Program) (deeds : List Deed) (s : ProgramState) : Type 0 where
+-- some path leads to where the program stands, on which all is due that differs from any of its states since its last
+-- checkpoint: each global whose words were others then; each file as often as it was asked since, but for the request
+-- that is awaited; and a request, if one was taken since
+pub record IsCovered (site : Site) (number : ℕ) (spec : ProcessSpec) (program : Program) (deeds : List Deed)
+    (s : ProgramState) : Type 0 where
   pub dues : Dues
   pub path : List ℕ
   pub leads : Leads program path (stand_of dues s)
-  pub globals : (since before : List Deed) (core : Core) (old : ProgramState) → deeds ≡ since ++ before → AreUncheckpointed since
-      → HasDone site number spec before core → core.state ≡ Runs program old → (item : ℕ) → is_among item dues.globals ≡ false
+  pub globals : (since before : List Deed) (core : Core) (old : ProgramState) → deeds ≡ since ++ before
+      → AreUncheckpointed since
+      → HasDone site number spec before core → core.state ≡ Runs program old → (item : ℕ)
+      → is_among item dues.globals ≡ false
       → words_of s.globals item ≡ words_of old.globals item
   pub asked : (since before : List Deed) (file : ℕ) → deeds ≡ since ++ before → AreUncheckpointed since
       → length (requests_on file since) ≤ asked_count file dues + one_if (awaits_on (Runs program s) file)
-  pub read : (since before : List Deed) (place : ℕ) (words : List ℤ) → deeds ≡ since ++ Took place words ∷ before → AreUncheckpointed since
+  pub read : (since before : List Deed) (place : ℕ) (words : List ℤ) → deeds ≡ since ++ Took place words ∷ before
+      → AreUncheckpointed since
       → dues.read ≡ true

@@ -4,8 +4,8 @@ ghost use Rattle.world_semantics.specs.Core.{Went, Checkpointed, Took, Asked, Go
 ghost use Rattle.discipline_laws.specs.Careless.{process_of, site_of, hasty, forgetful};
 ghost use Rattle.discipline_laws.specs.Disciplined.{AreUncheckpointed, AreInner, AreIdle, IsDisciplined};
 
-/// A program that replies without a CHECKPOINT after it took the request doesn't keep the discipline, nor does one whose CHECKPOINT doesn't name all that the
-/// request changed.
+/// A program that replies without a CHECKPOINT after it took the request doesn't keep the discipline, nor does one
+/// whose CHECKPOINT doesn't name all that the request changed.
 pub fn a_careless_program_is_not_disciplined()
     ensures hasty { IsDisciplined (site_of hasty) 0 (process_of hasty) → ⊥ }
     ensures forgetful { IsDisciplined (site_of forgetful) 0 (process_of forgetful) → ⊥ }
@@ -13,7 +13,8 @@ pub fn a_careless_program_is_not_disciplined()
 
 /// What may be done since a checkpoint, after a take, and between two calls of a device.
 pub fn deeds_are_told_apart()
-    ensures unmarked { AreUncheckpointed (Went ∷ Took 0 [] ∷ Asked 0 [] ∷ Got 0 [] ∷ Answered 0 [] ∷ Acted Nothing [] ∷ []) }
+    ensures unmarked { AreUncheckpointed (Went ∷ Took 0 [] ∷ Asked 0 [] ∷ Got 0 [] ∷ Answered 0 [] ∷ Acted Nothing []
+        ∷ []) }
     ensures marked { AreUncheckpointed (Went ∷ Checkpointed ∷ []) → ⊥ }
     ensures inner { AreInner (Went ∷ Went ∷ []) }
     ensures not_inner { AreInner (Went ∷ Got 0 [] ∷ []) → ⊥ }

@@ -14,17 +14,21 @@ ghost use Rattle.discipline_laws.specs.Disciplined.{IsDisciplined};
 
 /// What a program did since its last checkpoint is due on some path to where it stands.
 pub fn what_was_done_is_due()
-    ensures { (site : Site) (number : ℕ) (spec : ProcessSpec) (program : Program) (deeds : List Deed) (core : Core) (s : ProgramState) → spec.what ≡ Pair program
-        → IsRegular program → HasDone site number spec deeds core → core.state ≡ Runs program s → s.ended ≡ false → IsCovered site number spec program deeds s }
+    ensures { (site : Site) (number : ℕ) (spec : ProcessSpec) (program : Program) (deeds : List Deed) (core : Core)
+        (s : ProgramState) → spec.what ≡ Pair program
+        → IsRegular program → HasDone site number spec deeds core → core.state ≡ Runs program s → s.ended ≡ false
+        → IsCovered site number spec program deeds s }
 {}
 
 /// An accepted program that is regular keeps the checkpoint discipline.
 pub fn accepted_programs_are_disciplined()
-    ensures { (site : Site) (number : ℕ) (spec : ProcessSpec) (program : Program) → spec.what ≡ Pair program → IsRegular program → IsAccepted program
+    ensures { (site : Site) (number : ℕ) (spec : ProcessSpec) (program : Program) → spec.what ≡ Pair program
+        → IsRegular program → IsAccepted program
         → IsDisciplined site number spec }
 {}
 
 /// A disc keeps the checkpoint discipline.
 pub fn discs_are_disciplined()
-    ensures { (site : Site) (number sectors : ℕ) (spec : ProcessSpec) → spec.what ≡ Disc sectors → IsDisciplined site number spec }
+    ensures { (site : Site) (number sectors : ℕ) (spec : ProcessSpec) → spec.what ≡ Disc sectors
+        → IsDisciplined site number spec }
 {}

@@ -1,5 +1,6 @@
 -- What a search finds: the nodes to which walks lead, and a shortest path that ends it.
-use Rattle.std.specs.Prelude.{◌≡◌, ◌≤◌, ◌<◌, ℕ, Bool, false, min, IsTrue, List, [], ◌∷◌, ◌++◌, length, slice_get, Option, Some, None}
+use Rattle.std.specs.Prelude.{◌≡◌, ◌≤◌, ◌<◌, ℕ, Bool, false, min, IsTrue, List, [], ◌∷◌, ◌++◌, length, slice_get}
+use Rattle.std.specs.Prelude.{Option, Some, None}
 use Rattle.tal_tree.specs.declared.program.Program.{Program}
 use Rattle.process_semantics.specs.Rests.{entry_number}
 use Rattle.process_semantics.specs.State.{Entry}
@@ -41,7 +42,8 @@ pub record IsFirstEnd (program : Program) (aim : Aim) (path : List ℕ) : Type 0
 
 -- the entries to which walks lead have numbers of a text
 abbrev pub AreNumbered : List Node → Type 0
-AreNumbered nodes = (path : List ℕ) (k : ℕ) (dues : Dues) (node : Node) → Goes nodes 0 no_dues path k dues → slice_get nodes k ≡ Some node → entry_number node.entry ≤ 2000
+AreNumbered nodes = (path : List ℕ) (k : ℕ) (dues : Dues) (node : Node) → Goes nodes 0 no_dues path k dues
+    → slice_get nodes k ≡ Some node → entry_number node.entry ≤ 2000
 
 module _ (nodes : List Node) (aim : Aim) where
   -- a walk from the first node leads to the node of a visit, with as much due
@@ -63,10 +65,13 @@ module _ (nodes : List Node) (aim : Aim) where
   pub record AreReached (queue : List Visit) : Type 0 where
     pub there : (place : ℕ) (visit : Visit) → slice_get queue place ≡ Some visit → visit.node < length nodes
     pub walked : (place : ℕ) (visit : Visit) → slice_get queue place ≡ Some visit → IsWalked visit
-    pub met : (path : List ℕ) (k : ℕ) (dues : Dues) (node : Node) → Goes nodes 0 no_dues path k dues → slice_get nodes k ≡ Some node → IsMet queue k (counted aim dues)
-    pub goes_on : (place : ℕ) (visit : Visit) (node : Node) → slice_get queue place ≡ Some visit → slice_get nodes visit.node ≡ Some node → ends_with aim node.entry visit.due ≡ false
+    pub met : (path : List ℕ) (k : ℕ) (dues : Dues) (node : Node) → Goes nodes 0 no_dues path k dues
+        → slice_get nodes k ≡ Some node → IsMet queue k (counted aim dues)
+    pub goes_on : (place : ℕ) (visit : Visit) (node : Node) → slice_get queue place ≡ Some visit
+        → slice_get nodes visit.node ≡ Some node → ends_with aim node.entry visit.due ≡ false
 
-  -- a search has stopped with such visits, or at the first of them that ends it; only the clauses of private functions cite it
+  -- a search has stopped with such visits, or at the first of them that ends it; only the clauses of private functions
+  -- cite it
   abbrev pub HasStopped : List Visit → Option ℕ → Type 0
   HasStopped queue None = AreReached queue
   HasStopped queue (Some place) = IsSearched nodes aim queue place × EndsAt nodes aim queue place

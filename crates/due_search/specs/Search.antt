@@ -1,5 +1,6 @@
 -- A search by levels through a program's graph: a queue of visits, each to a node with how much is due there.
-use Rattle.std.specs.Prelude.{◌≡◌, ◌≤◌, ◌<◌, ◌⊎◌, ℕ, zero, suc, ◌+◌, ◌*◌, Bool, true, false, ◌&&◌, nat_le, List, [], ◌∷◌, ◌++◌, length, min, count_by, slice_get, Option, Some, None}
+use Rattle.std.specs.Prelude.{◌≡◌, ◌≤◌, ◌<◌, ◌⊎◌, ℕ, zero, suc, ◌+◌, ◌*◌, Bool, true, false, ◌&&◌, nat_le, List, []}
+use Rattle.std.specs.Prelude.{◌∷◌, ◌++◌, length, min, count_by, slice_get, Option, Some, None}
 use Rattle.gd_words.specs.Members.{IsAmong}
 use Rattle.process_semantics.specs.Rests.{entry_number}
 use Rattle.process_semantics.specs.State.{Entry}
@@ -35,7 +36,8 @@ number_at nodes queue place = number_in (slice_get nodes (node_in (slice_get que
 -- so many numbers on the way back from a place of the queue
 abbrev pub back : List Node → List Visit → ℕ → ℕ → List ℕ
 back nodes queue zero place = []
-back nodes queue (suc count) place = number_at nodes queue place ∷ back nodes queue count (from_in (slice_get queue place))
+back nodes queue (suc count) place =
+    number_at nodes queue place ∷ back nodes queue count (from_in (slice_get queue place))
 
 -- a visit to this node with so much due stands in the queue, so many steps or fewer from the start
 pub record IsVisited (queue : List Visit) (node due steps : ℕ) : Type 0 where
@@ -52,7 +54,9 @@ Extends old new = (place : ℕ) (visit : Visit) → slice_get old place ≡ Some
 
 -- a visit comes to a queue: it stands last, or one to the same node with as much due stands there already
 abbrev pub Comes : List Visit → List Visit → Visit → Type 0
-Comes old new visit = (new ≡ old ++ visit ∷ []) ⊎ ((new ≡ old) × (place : ℕ) × (one : Visit) × (slice_get old place ≡ Some one) × (one.node ≡ visit.node) × (one.due ≡ visit.due))
+Comes old new visit = (new ≡ old ++ visit ∷ [])
+    ⊎ ((new ≡ old) × (place : ℕ) × (one : Visit) × (slice_get old place ≡ Some one) × (one.node ≡ visit.node)
+    × (one.due ≡ visit.due))
 
 -- where an edge leads to a node this visit to it comes to a queue, and nothing else changes
 abbrev pub ComesBy : List Visit → List Visit → Goal → (ℕ → Visit) → Type 0
@@ -62,12 +66,14 @@ ComesBy old new Ended visit = new ≡ old
 
 -- the visit to a node from this one, by an edge with these targets, where so much is due after its entry
 abbrev pub visit_after : Reason → ℕ → ℕ → List ℕ → ℕ → Visit → ℕ → Visit
-visit_after reason most after targets place visit k = record { node = k; due = min most (after_changed reason targets after); from = place; steps = visit.steps + 1 }
+visit_after reason most after targets place visit k =
+    record { node = k; due = min most (after_changed reason targets after); from = place; steps = visit.steps + 1 }
 
 -- the same where there is an edge, and nothing changes where there is none
 abbrev pub ComesByEach : List Visit → List Visit → Reason → ℕ → ℕ → ℕ → Visit → Option Edge → Type 0
 ComesByEach old new reason most after place visit None = new ≡ old
-ComesByEach old new reason most after place visit (Some edge) = ComesBy old new edge.goal (visit_after reason most after edge.targets place visit)
+ComesByEach old new reason most after place visit (Some edge) =
+    ComesBy old new edge.goal (visit_after reason most after edge.targets place visit)
 
 -- the place of a visit in the marks
 abbrev pub mark_of : Visit → ℕ
@@ -78,11 +84,13 @@ pub record IsMarked (seen : List Bool) (queue : List Visit) : Type 0 where
   pub count : length queue ≡ count_by (λ mark. mark) seen
   pub small : (place : ℕ) (visit : Visit) → slice_get queue place ≡ Some visit → visit.due ≤ 4
   pub inside : (place : ℕ) (visit : Visit) → slice_get queue place ≡ Some visit → mark_of visit < length seen
-  pub there : (mark : ℕ) → slice_get seen mark ≡ Some true → (place : ℕ) × (visit : Visit) × (slice_get queue place ≡ Some visit) × (mark ≡ mark_of visit)
+  pub there : (mark : ℕ) → slice_get seen mark ≡ Some true
+      → (place : ℕ) × (visit : Visit) × (slice_get queue place ≡ Some visit) × (mark ≡ mark_of visit)
 
 -- what is still marked stands in the queue at this place or later
 abbrev pub IsMarkedFrom : List Bool → List Visit → ℕ → Type 0
-IsMarkedFrom seen queue from = (mark : ℕ) → slice_get seen mark ≡ Some true → (place : ℕ) × (visit : Visit) × (from ≤ place) × (slice_get queue place ≡ Some visit) × (mark ≡ mark_of visit)
+IsMarkedFrom seen queue from = (mark : ℕ) → slice_get seen mark ≡ Some true
+    → (place : ℕ) × (visit : Visit) × (from ≤ place) × (slice_get queue place ≡ Some visit) × (mark ≡ mark_of visit)
 
 -- a node to which a goal leads has room in so many marks
 abbrev pub HasRoom : Goal → ℕ → Type 0
@@ -90,7 +98,8 @@ HasRoom (At k) marks = k * 5 + 4 < marks
 HasRoom Left marks = Unit {0}
 HasRoom Ended marks = Unit {0}
 
--- whether a search ends at an entry where so much is due: if it is to end where the reason breaks, with as much as it counts
+-- whether a search ends at an entry where so much is due: if it is to end where the reason breaks, with as much as it
+-- counts
 abbrev pub ends_with : Aim → Entry → ℕ → Bool
 ends_with aim entry n = aim.ends && (may_break_at aim.reason entry && nat_le aim.most n)
 
@@ -99,7 +108,8 @@ pub record IsTrail (nodes : List Node) (queue : List Visit) : Type 0 where
   pub there : (place : ℕ) (visit : Visit) → slice_get queue place ≡ Some visit → visit.node < length nodes
   pub earlier : (place : ℕ) (visit : Visit) → slice_get queue place ≡ Some visit → visit.from < length queue
   pub steps : (place : ℕ) (visit : Visit) → slice_get queue place ≡ Some visit → visit.steps ≤ place
-  pub numbers : (place : ℕ) (visit : Visit) (node : Node) → slice_get queue place ≡ Some visit → slice_get nodes visit.node ≡ Some node → entry_number node.entry ≤ 2000
+  pub numbers : (place : ℕ) (visit : Visit) (node : Node) → slice_get queue place ≡ Some visit
+      → slice_get nodes visit.node ≡ Some node → entry_number node.entry ≤ 2000
 
 -- nothing is marked
 abbrev pub IsClear : List Bool → Type 0
@@ -118,20 +128,25 @@ module _ (nodes : List Node) (aim : Aim) where
 
   -- a visit is the first, or follows an earlier one
   abbrev pub Stems : List Visit → ℕ → Visit → Type 0
-  Stems queue place visit = (visit ≡ first_visit) ⊎ ((one : Visit) × (visit.from < place) × (slice_get queue visit.from ≡ Some one) × Follows one visit)
+  Stems queue place visit = (visit ≡ first_visit)
+      ⊎ ((one : Visit) × (visit.from < place) × (slice_get queue visit.from ≡ Some one) × Follows one visit)
 
-  -- the queue of a search that has come to this place: visits in the order of their steps, and none more than one step further than the one at this place
+  -- the queue of a search that has come to this place: visits in the order of their steps, and none more than one step
+  -- further than the one at this place
   pub record IsQueue (queue : List Visit) (head : ℕ) : Type 0 where
     pub first : slice_get queue 0 ≡ Some first_visit
     pub stems : (place : ℕ) (visit : Visit) → slice_get queue place ≡ Some visit → Stems queue place visit
     pub low : (place : ℕ) (visit : Visit) → slice_get queue place ≡ Some visit → visit.steps ≤ place
     pub there : (place : ℕ) (visit : Visit) → slice_get queue place ≡ Some visit → visit.node < length nodes
-    pub sorted : (one other : ℕ) (early late : Visit) → one ≤ other → slice_get queue one ≡ Some early → slice_get queue other ≡ Some late → early.steps ≤ late.steps
-    pub near : (place : ℕ) (visit here : Visit) → slice_get queue place ≡ Some visit → slice_get queue head ≡ Some here → visit.steps ≤ here.steps + 1
+    pub sorted : (one other : ℕ) (early late : Visit) → one ≤ other → slice_get queue one ≡ Some early
+        → slice_get queue other ≡ Some late → early.steps ≤ late.steps
+    pub near : (place : ℕ) (visit here : Visit) → slice_get queue place ≡ Some visit → slice_get queue head ≡ Some here
+        → visit.steps ≤ here.steps + 1
 
   -- what a visit leads to by this edge is visited
   abbrev pub IsFollowedBy : List Visit → Visit → Node → Edge → Type 0
-  IsFollowedBy queue visit node edge = (j : ℕ) → edge.goal ≡ At j → IsVisited queue j (cut_after aim.most aim.reason node.entry edge.targets visit.due) (visit.steps + 1)
+  IsFollowedBy queue visit node edge = (j : ℕ) → edge.goal ≡ At j
+      → IsVisited queue j (cut_after aim.most aim.reason node.entry edge.targets visit.due) (visit.steps + 1)
 
   -- a visit doesn't end the search, and all to which it leads is visited
   pub record IsDone (queue : List Visit) (visit : Visit) (node : Node) : Type 0 where
@@ -140,7 +155,8 @@ module _ (nodes : List Node) (aim : Aim) where
 
   -- all visits before this place are done
   abbrev pub AreDone : List Visit → ℕ → Type 0
-  AreDone queue head = (place : ℕ) (visit : Visit) (node : Node) → place < head → slice_get queue place ≡ Some visit → slice_get nodes visit.node ≡ Some node → IsDone queue visit node
+  AreDone queue head = (place : ℕ) (visit : Visit) (node : Node) → place < head → slice_get queue place ≡ Some visit
+      → slice_get nodes visit.node ≡ Some node → IsDone queue visit node
 
   -- the visit at this place ends the search
   pub record EndsAt (queue : List Visit) (place : ℕ) : Type 0 where

@@ -1,9 +1,9 @@
-//! A search through a program's graph for one reason of the checkpoint discipline: which nodes are reached from the first one
-//! with how much due, and a shortest path to where as much is due as breaks.
+//! A search through a program's graph for one reason of the checkpoint discipline: which nodes are reached from the
+//! first one with how much due, and a shortest path to where as much is due as breaks.
 //!
-//! Below stand `flow_paths` with the graph and its walks, and `reason_dues` with what is due for a reason as a number. The layers
-//! above, the checker and what advises, use `Search::run`: its visits are what walks lead to (`HasFound` of `specs/Ends.antt`),
-//! and by the lemmas of `proofs/Paths.antt` what paths lead to.
+//! Below stand `flow_paths` with the graph and its walks, and `reason_dues` with what is due for a reason as a number.
+//! The layers above, the checker and what advises, use `Search::run`: its visits are what walks lead to (`HasFound` of
+//! `specs/Ends.antt`), and by the lemmas of `proofs/Paths.antt` what paths lead to.
 #![tactic(auto)]
 
 pub mod queue;

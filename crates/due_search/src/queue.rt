@@ -1,8 +1,8 @@
 ghost use Rattle.std.specs.Prelude.{◌≡◌};
 ghost use Rattle.due_search.specs.Search.{first_visit, mark_of};
 
-/// A node to which a search comes, with how much is due there, cut at the most that is counted: the place in the queue of the visit from
-/// which it comes, and its steps from the start.
+/// A node to which a search comes, with how much is due there, cut at the most that is counted: the place in the queue
+/// of the visit from which it comes, and its steps from the start.
 #[derive(Clone, Copy)]
 pub struct Visit {
     pub node: u16,

@@ -3,7 +3,8 @@ ghost use Rattle.process_semantics.specs.Rests.{entry_number};
 ghost use Rattle.process_semantics.specs.SeenEntries.{entry_of};
 ghost use Rattle.due_search.specs.declared.queue.Visit.{Visit};
 ghost use Rattle.due_search.specs.Ends.{AreNumbered, HasFound, HasStopped};
-ghost use Rattle.due_search.specs.Search.{first_visit, mark_of, ends_with, HasRoom, IsMarked, IsClear, Comes, ComesBy, visit_after, back, IsTrail, IsSearched, Advances};
+ghost use Rattle.due_search.specs.Search.{first_visit, mark_of, ends_with, HasRoom, IsMarked, IsClear, Comes, ComesBy};
+ghost use Rattle.due_search.specs.Search.{visit_after, back, IsTrail, IsSearched, Advances};
 
 use crate::queue::Visit;
 use flow_paths::{Edge, Flow, Goal};
@@ -13,16 +14,16 @@ use process_semantics::Entry;
 use reason_dues::{after_entry, cut_changed, may_break_at};
 use std::alloc::Global;
 
-/// A search by levels: the visits in the order in which they come, and for each node and each amount due whether such a visit
-/// has come.
+/// A search by levels: the visits in the order in which they come, and for each node and each amount due whether such a
+/// visit has come.
 #[derive(Drop)]
 pub struct Search {
     queue: Vec<Visit>,
     seen: Vec<bool>,
 }
 
-/// What is searched: a reason, up to how much of it is counted, at most 4, and whether the search ends where as much is due at
-/// an entry that may break for it.
+/// What is searched: a reason, up to how much of it is counted, at most 4, and whether the search ends where as much is
+/// due at an entry that may break for it.
 #[derive(Clone, Copy)]
 pub struct Aim {
     pub reason: Reason,
@@ -54,8 +55,9 @@ impl Search {
         Ok(Search { queue, seen })
     }
 
-    /// Searches a graph: visits each node with each amount that is due there at the end of some walk from the first node, until a
-    /// visit ends the search. Gives the numbers of a shortest path to such a visit, its own last; none if none ends it.
+    /// Searches a graph: visits each node with each amount that is due there at the end of some walk from the first
+    /// node, until a visit ends the search. Gives the numbers of a shortest path to such a visit, its own last; none if
+    /// none ends it.
     pub fn run(
         &mut self,
         alloc: Global,
@@ -122,7 +124,8 @@ impl Search {
         requires searched { IsSearched flow.now aim self.old.queue.items head }
         requires marked { IsMarked self.old.seen.items self.old.queue.items }
         requires room { length self.old.seen.items ≡ length flow.now * 5 }
-        ensures advances { IfOk result (λ ends. Advances flow.now aim self.old.queue.items self.new.queue.items head ends) }
+        ensures advances { IfOk result (λ ends.
+            Advances flow.now aim self.old.queue.items self.new.queue.items head ends) }
         ensures marked { IfOk result (λ _. IsMarked self.new.seen.items self.new.queue.items) }
         ensures room { length self.new.seen.items ≡ length self.old.seen.items }
     {
@@ -154,7 +157,8 @@ impl Search {
         requires steps { visit.steps < 65535 }
         requires goal { HasRoom edge.now.goal (length self.old.seen.items) }
         requires marked { IsMarked self.old.seen.items self.old.queue.items }
-        ensures comes { OnOk result (ComesBy self.old.queue.items self.new.queue.items edge.now.goal (visit_after aim.reason aim.most after edge.now.targets from visit)) }
+        ensures comes { OnOk result (ComesBy self.old.queue.items self.new.queue.items edge.now.goal
+            (visit_after aim.reason aim.most after edge.now.targets from visit)) }
         ensures marked { OnOk result (IsMarked self.new.seen.items self.new.queue.items) }
         ensures room { length self.new.seen.items ≡ length self.old.seen.items }
     {
@@ -211,7 +215,8 @@ impl Search {
     fn path_to(&self, alloc: Global, flow: &Flow<'_>, place: usize) -> Result<List<u16>, NoMemory>
         requires place { place < length self.now.queue.items }
         requires trail { IsTrail flow.now self.now.queue.items }
-        ensures { IfOk result (λ path. (visit : Visit) → slice_get self.now.queue.items place ≡ Some visit → path ≡ reverse (back flow.now self.now.queue.items (visit.steps + 1) place)) }
+        ensures { IfOk result (λ path. (visit : Visit) → slice_get self.now.queue.items place ≡ Some visit
+            → path ≡ reverse (back flow.now self.now.queue.items (visit.steps + 1) place)) }
     {
         let count = usize::from(self.queue[place].steps) + 1;
         let mut at = place;

@@ -42,7 +42,8 @@ arrival_by InHand waiting request = Dropped
 arrival_by (Kept words) waiting request = Again (reply_to request words)
 arrival_by Old waiting request = Dropped
 
--- a request that comes to a copy that acts may wait where it stands Next or Ahead; a reply that is kept to it is sent again; any other is dropped
+-- a request that comes to a copy that acts may wait where it stands Next or Ahead; a reply that is kept to it is sent
+-- again; any other is dropped
 abbrev pub arrival_of : ReceiveBlock → List Request → Request → Arrival
 arrival_of table waiting request = arrival_by (standing table request) waiting request
 

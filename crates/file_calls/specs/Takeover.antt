@@ -24,14 +24,16 @@ settled_by InHand request rest later = later
 settled_by Old request rest later = later
 settled_by (Kept words) request rest later = record { reply = Some (reply_to request words); rest = rest }
 
--- the reply is that kept to the first request that has one. This request goes, and so does each before it that stands InHand or Old; where no reply is kept,
--- all that stand InHand or Old go
+-- the reply is that kept to the first request that has one. This request goes, and so does each before it that stands
+-- InHand or Old; where no reply is kept, all that stand InHand or Old go
 abbrev pub settled : ReceiveBlock → List Request → Settled
 settled table [] = record { reply = None; rest = [] }
 settled table (request ∷ rest) = settled_by (standing table request) request rest (settled table rest)
 
 -- the replies that are sent again until there is none, and the requests that wait then
 pub data Settles (table : ReceiveBlock) : List Request → List Reply → List Request → Type 0 where
-  no_more : {waiting : List Request} → (settled table waiting).reply ≡ None → Settles table waiting [] (settled table waiting).rest
-  one_more : {waiting end : List Request} {reply : Reply} {replies : List Reply} → (settled table waiting).reply ≡ Some reply
+  no_more : {waiting : List Request} → (settled table waiting).reply ≡ None
+      → Settles table waiting [] (settled table waiting).rest
+  one_more : {waiting end : List Request} {reply : Reply} {replies : List Reply}
+      → (settled table waiting).reply ≡ Some reply
       → Settles table (settled table waiting).rest replies end → Settles table waiting (reply ∷ replies) end

@@ -1,6 +1,8 @@
-ghost use Rattle.std.specs.Prelude.{◌≡◌, ◌<◌, ◌↔◌, not, [], filter, length, slice_get, vec_capacity, IfOk, IsSome, IsTrue};
+ghost use Rattle.std.specs.Prelude.{◌≡◌, ◌<◌, ◌↔◌, not, [], filter, length, slice_get, vec_capacity, IfOk, IsSome};
+ghost use Rattle.std.specs.Prelude.{IsTrue};
 ghost use Rattle.std.specs.Option.{option_copied, option_map};
-ghost use Rattle.checkpoint_image.specs.Receive.{came, chosen, is_next, is_outdone, is_same_opener, repeated, reply_to, standing, waits};
+ghost use Rattle.checkpoint_image.specs.Receive.{came, chosen, is_next, is_outdone, is_same_opener, repeated, reply_to};
+ghost use Rattle.checkpoint_image.specs.Receive.{standing, waits};
 ghost use Rattle.file_calls.specs.Queue.{IsOnePerOpener, arrival_of, left_by, queue_of, sent_again, watched_arrival};
 ghost use Rattle.file_calls.specs.Takeover.{settled};
 
@@ -37,7 +39,8 @@ impl Model for Waiting {
 
     ghost view = { λ waiting. queue_of waiting.openers waiting.requests.items };
 
-    ghost invariant = { λ waiting. IsOnePerOpener (queue_of waiting.openers waiting.requests.items) × (waiting.openers ≤ vec_capacity waiting.requests) };
+    ghost invariant = { λ waiting. IsOnePerOpener (queue_of waiting.openers waiting.requests.items)
+        × (waiting.openers ≤ vec_capacity waiting.requests) };
 }
 
 impl Waiting {
@@ -123,8 +126,8 @@ impl Waiting {
         false
     }
 
-    /// Takes out the first request that stands Kept and gives the kept reply; each one before it that stands InHand or Old goes too.
-    /// Where none stands Kept, all that stand InHand or Old go.
+    /// Takes out the first request that stands Kept and gives the kept reply; each one before it that stands InHand or
+    /// Old goes too. Where none stands Kept, all that stand InHand or Old go.
     pub fn settle(&mut self, receive: &Receive) -> Option<Reply>
         requires { length receive.now.depths ≡ self.old.openers }
         ensures reply { result ≡ (settled receive.now.table self.old.requests).reply }

@@ -1,5 +1,5 @@
-//! Tests of the requests that wait at a copy of a process: which one waits of an opener, which come again, which is taken next, what
-//! a takeover settles, and which reply is the awaited one.
+//! Tests of the requests that wait at a copy of a process: which one waits of an opener, which come again, which is
+//! taken next, what a takeover settles, and which reply is the awaited one.
 //!
 //! Below stand the crates that are tested; nothing stands above.
 #![tactic(auto)]

@@ -38,8 +38,9 @@ fn block(alloc: Global, taken: u32, replies: &[i16]) -> Result<OpenerBlock, Fail
     Ok(OpenerBlock { taken, kept })
 }
 
-/// Five openers. Of opener 0 the requests 2 and 3 are kept and 1 is old, of opener 1 request 1 is in hand, of opener 2 request 5 is
-/// kept and those before are old, of opener 3 nothing was taken, and of opener 4 the requests 1 and 2 are kept.
+/// Five openers. Of opener 0 the requests 2 and 3 are kept and 1 is old, of opener 1 request 1 is in hand, of opener 2
+/// request 5 is kept and those before are old, of opener 3 nothing was taken, and of opener 4 the requests 1 and 2 are
+/// kept.
 pub fn receive(alloc: Global) -> Result<Receive, Fail>
     ensures { IfOk result (λ receive. length receive.table.openers ≡ 5) }
 {

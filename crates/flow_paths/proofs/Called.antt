@@ -1,5 +1,6 @@
 -- What statements call, by layers, and how large they are: by rows, and as the sizes of programs count it.
-use Rattle.std.proofs.Common.{◌≡◌, inl, ℕ, suc, ◌+◌, arith, List, [], ◌∷◌, ◌++◌, map, length, flat_map, refl, ap, ap₂, subst, sym, ◌∙◌}
+use Rattle.std.proofs.Common.{◌≡◌, inl, ℕ, suc, ◌+◌, arith, List, [], ◌∷◌, ◌++◌, map, length, flat_map, refl, ap, ap₂}
+use Rattle.std.proofs.Common.{subst, sym, ◌∙◌}
 use Rattle.std.specs.Prelude.{sum}
 use Rattle.std.proofs.lemmas.Grind.{flat_map-append}
 use Rattle.std.proofs.lemmas.List.{length-append}
@@ -11,7 +12,10 @@ use Rattle.tal_tree.specs.Rows.{if-is, while-is, for-is}
 use Rattle.tal_tree.specs.Statements.{within, all_of, numbers_within, numbers_of, call_in, own_calls, calls_of}
 use Rattle.tal_tree.specs.declared.statement.Statement.{Statement}
 use Rattle.tal_tree.specs.declared.statement.What.{What, What-F, out-What, roll-What, roll-out-What}
-use Rattle.tal_tree.specs.declared.statement.What.TheViews.{rolls-Assign, rolls-AssignCall, rolls-If, rolls-While, rolls-For, rolls-Call, rolls-Return, rolls-ReadUpdate, rolls-Reply, rolls-WriteRead, rolls-Checkpoint, rolls-CheckMonitor, rolls-Open, rolls-Stop}
+use Rattle.tal_tree.specs.declared.statement.What.TheViews.{rolls-Assign, rolls-AssignCall, rolls-If, rolls-While}
+use Rattle.tal_tree.specs.declared.statement.What.TheViews.{rolls-For, rolls-Call, rolls-Return, rolls-ReadUpdate}
+use Rattle.tal_tree.specs.declared.statement.What.TheViews.{rolls-Reply, rolls-WriteRead, rolls-Checkpoint}
+use Rattle.tal_tree.specs.declared.statement.What.TheViews.{rolls-CheckMonitor, rolls-Open, rolls-Stop}
 use Rattle.tal_tree.proofs.Within.{within_of, within-is}
 use Rattle.path_semantics.specs.Bounds.{size_from}
 use Rattle.flow_paths.specs.Layout.{size_in, size_at}
@@ -30,13 +34,20 @@ CallsBy Good (What-F.AssignCall to procedure arguments) = Good procedure
 CallsBy Good (What-F.Call procedure arguments) = Good procedure
 CallsBy Good _ = Unit {0}
 
-calls-more : (statement : Statement) (rest : List Statement) → calls_of (statement ∷ rest) ≡ (own_calls statement ++ flat_map own_calls (within statement.what)) ++ calls_of rest
+calls-more : (statement : Statement) (rest : List Statement)
+    → calls_of (statement ∷ rest) ≡ (own_calls statement ++ flat_map own_calls (within statement.what)) ++ calls_of rest
 calls-more statement rest = flat_map-append own_calls (statement ∷ within statement.what) (all_of rest)
 
-calls-layer : (Good : ℕ → Type 0) (layer : What-F What Statement) → ((procedure : ℕ) → IsAmong procedure (call_in layer ++ flat_map own_calls (within_of layer)) → Good procedure) → CallsBy Good layer
+calls-layer : (Good : ℕ → Type 0) (layer : What-F What Statement)
+    → ((procedure : ℕ) → IsAmong procedure (call_in layer ++ flat_map own_calls (within_of layer)) → Good procedure)
+    → CallsBy Good layer
 calls-layer Good (What-F.If test first second) good = (
-  (λ procedure among. good procedure (subst (IsAmong procedure) (sym (flat_map-append own_calls (all_of first) (all_of second))) (among-left procedure (calls_of first) (calls_of second) among))),
-  (λ procedure among. good procedure (subst (IsAmong procedure) (sym (flat_map-append own_calls (all_of first) (all_of second))) (among-right procedure (calls_of first) (calls_of second) among))),
+  (λ procedure among. good procedure (subst (IsAmong procedure)
+      (sym (flat_map-append own_calls (all_of first) (all_of second)))
+      (among-left procedure (calls_of first) (calls_of second) among))),
+  (λ procedure among. good procedure (subst (IsAmong procedure)
+      (sym (flat_map-append own_calls (all_of first) (all_of second)))
+      (among-right procedure (calls_of first) (calls_of second) among))),
 )
 calls-layer Good (What-F.While test body) good = good
 calls-layer Good (What-F.For variable from to body last) good = good
@@ -44,14 +55,19 @@ calls-layer Good (What-F.AssignCall to procedure arguments) good = good procedur
 calls-layer Good (What-F.Call procedure arguments) good = good procedure (inl refl)
 calls-layer Good _ good = tt
 
-pub calls-first : (Good : ℕ → Type 0) (statement : Statement) (rest : List Statement) → Calls Good (statement ∷ rest) → CallsBy Good (out-What statement.what)
+pub calls-first : (Good : ℕ → Type 0) (statement : Statement) (rest : List Statement) → Calls Good (statement ∷ rest)
+    → CallsBy Good (out-What statement.what)
 calls-first Good statement rest good =
-    calls-layer Good (out-What statement.what) (λ procedure among. good procedure (subst (IsAmong procedure) (sym (calls-more statement rest))
+    calls-layer Good (out-What statement.what)
+    (λ procedure among. good procedure (subst (IsAmong procedure) (sym (calls-more statement rest))
     (among-left procedure (own_calls statement ++ flat_map own_calls (within statement.what)) (calls_of rest)
-    (subst (λ (parts : List Statement). IsAmong procedure (own_calls statement ++ flat_map own_calls parts)) (sym (within-is statement.what)) among))))
+    (subst (λ (parts : List Statement). IsAmong procedure (own_calls statement ++ flat_map own_calls parts))
+    (sym (within-is statement.what)) among))))
 
-pub calls-rest : (Good : ℕ → Type 0) (statement : Statement) (rest : List Statement) → Calls Good (statement ∷ rest) → Calls Good rest
-calls-rest Good statement rest good = λ procedure among. good procedure (subst (IsAmong procedure) (sym (calls-more statement rest))
+pub calls-rest : (Good : ℕ → Type 0) (statement : Statement) (rest : List Statement) → Calls Good (statement ∷ rest)
+    → Calls Good rest
+calls-rest Good statement rest good =
+    λ procedure among. good procedure (subst (IsAmong procedure) (sym (calls-more statement rest))
     (among-right procedure (own_calls statement ++ flat_map own_calls (within statement.what)) (calls_of rest) among))
 
 -- Sizes
@@ -62,11 +78,13 @@ total f (x ∷ xs) = f x + total f xs
 
 pub total-is : (f : ℕ → ℕ) (xs : List ℕ) → total f xs ≡ sum (map f xs)
 total-is f [] = refl
-total-is f (x ∷ xs) = ap (λ (n : ℕ). f x + n) (total-is f xs ∙ sum-map f xs) ∙ sym (sum_by-cons f x xs) ∙ sym (sum-map f (x ∷ xs))
+total-is f (x ∷ xs) =
+    ap (λ (n : ℕ). f x + n) (total-is f xs ∙ sum-map f xs) ∙ sym (sum_by-cons f x xs) ∙ sym (sum-map f (x ∷ xs))
 
 total-append : (f : ℕ → ℕ) (xs ys : List ℕ) → total f (xs ++ ys) ≡ total f xs + total f ys
 total-append f [] ys = omega arith
-total-append f (x ∷ xs) ys = let rest : total f (xs ++ ys) ≡ total f xs + total f ys = total-append f xs ys in omega arith
+total-append f (x ∷ xs) ys =
+    let rest : total f (xs ++ ys) ≡ total f xs + total f ys = total-append f xs ys in omega arith
 
 -- the numbers within a statement, by one layer of it
 abbrev numbers_by : ℕ → What-F What Statement → List ℕ
@@ -75,17 +93,22 @@ numbers_by number (What-F.While test body) = numbers_of body
 numbers_by number (What-F.For variable from to body last) = (number + 1) ∷ numbers_of body ++ last ∷ []
 numbers_by number _ = []
 
-numbers-roll : (number : ℕ) (layer : What-F What Statement) → numbers_within number (roll-What layer) ≡ numbers_by number layer
-numbers-roll number (What-F.If test first second) = ap (numbers_within number) (rolls-If test first second ∙ if-is test first second)
+numbers-roll : (number : ℕ) (layer : What-F What Statement)
+    → numbers_within number (roll-What layer) ≡ numbers_by number layer
+numbers-roll number (What-F.If test first second) =
+    ap (numbers_within number) (rolls-If test first second ∙ if-is test first second)
 numbers-roll number (What-F.While test body) = ap (numbers_within number) (rolls-While test body ∙ while-is test body)
-numbers-roll number (What-F.For variable from to body last) = ap (numbers_within number) (rolls-For variable from to body last ∙ for-is variable from to body last)
+numbers-roll number (What-F.For variable from to body last) =
+    ap (numbers_within number) (rolls-For variable from to body last ∙ for-is variable from to body last)
 numbers-roll number (What-F.Assign to value) = ap (numbers_within number) (rolls-Assign to value)
-numbers-roll number (What-F.AssignCall to procedure arguments) = ap (numbers_within number) (rolls-AssignCall to procedure arguments)
+numbers-roll number (What-F.AssignCall to procedure arguments) =
+    ap (numbers_within number) (rolls-AssignCall to procedure arguments)
 numbers-roll number (What-F.Call procedure arguments) = ap (numbers_within number) (rolls-Call procedure arguments)
 numbers-roll number (What-F.Return value) = ap (numbers_within number) (rolls-Return value)
 numbers-roll number (What-F.ReadUpdate buffer most got) = ap (numbers_within number) (rolls-ReadUpdate buffer most got)
 numbers-roll number (What-F.Reply buffer count) = ap (numbers_within number) (rolls-Reply buffer count)
-numbers-roll number (What-F.WriteRead file buffer send room got) = ap (numbers_within number) (rolls-WriteRead file buffer send room got)
+numbers-roll number (What-F.WriteRead file buffer send room got) =
+    ap (numbers_within number) (rolls-WriteRead file buffer send room got)
 numbers-roll number (What-F.Checkpoint items files) = ap (numbers_within number) (rolls-Checkpoint items files)
 numbers-roll number What-F.CheckMonitor = ap (numbers_within number) rolls-CheckMonitor
 numbers-roll number (What-F.Open file) = ap (numbers_within number) (rolls-Open file)
@@ -99,21 +122,28 @@ module _ (before : List ℕ) where
   called_sizes procedures = total (size_at before) procedures
 
   abbrev Sized : List Statement → Type 0
-  Sized statements = size_of (size_at before) statements ≡ length (numbers_of statements) + called_sizes (calls_of statements)
+  Sized statements =
+      size_of (size_at before) statements ≡ length (numbers_of statements) + called_sizes (calls_of statements)
 
   sized-by : (number : ℕ) (layer : What-F What Statement) → HoldsInside Sized layer
-      → size_by (size_at before) layer ≡ suc (length (numbers_by number layer)) + called_sizes (call_in layer ++ flat_map own_calls (within_of layer))
+      → size_by (size_at before) layer ≡ suc (length (numbers_by number layer))
+      + called_sizes (call_in layer ++ flat_map own_calls (within_of layer))
   sized-by number (What-F.If test first second) parts =
-      let calls : called_sizes (flat_map own_calls (all_of first ++ all_of second)) ≡ called_sizes (calls_of first) + called_sizes (calls_of second) =
-      ap called_sizes (flat_map-append own_calls (all_of first) (all_of second)) ∙ total-append (size_at before) (calls_of first) (calls_of second) in
-      let numbers : length (numbers_of first ++ numbers_of second) ≡ length (numbers_of first) + length (numbers_of second) = length-append (numbers_of first) (numbers_of second) in
+      let calls : called_sizes (flat_map own_calls (all_of first ++ all_of second))
+      ≡ called_sizes (calls_of first) + called_sizes (calls_of second) =
+      ap called_sizes (flat_map-append own_calls (all_of first) (all_of second))
+      ∙ total-append (size_at before) (calls_of first) (calls_of second) in
+      let numbers : length (numbers_of first ++ numbers_of second)
+      ≡ length (numbers_of first) + length (numbers_of second) =
+      length-append (numbers_of first) (numbers_of second) in
       let one : Sized first = parts.0 in
       let two : Sized second = parts.1 in
       omega arith
   sized-by number (What-F.While test body) parts = let one : Sized body = parts in omega arith
   sized-by number (What-F.For variable from to body last) parts =
       let one : Sized body = parts in
-      let numbers : length (numbers_of body ++ last ∷ []) ≡ length (numbers_of body) + 1 = length-append (numbers_of body) (last ∷ []) in
+      let numbers : length (numbers_of body ++ last ∷ []) ≡ length (numbers_of body) + 1 =
+      length-append (numbers_of body) (last ∷ []) in
       omega arith
   sized-by number (What-F.AssignCall to procedure arguments) parts = omega arith
   sized-by number (What-F.Call procedure arguments) parts = omega arith
@@ -127,16 +157,21 @@ module _ (before : List ℕ) where
   sized-by number (What-F.Open file) parts = refl
   sized-by number What-F.Stop parts = refl
 
-  sized-more : (statement : Statement) (rest : List Statement) → HoldsInside Sized (out-What statement.what) → Sized rest → Sized (statement ∷ rest)
+  sized-more : (statement : Statement) (rest : List Statement) → HoldsInside Sized (out-What statement.what)
+      → Sized rest → Sized (statement ∷ rest)
   sized-more statement rest parts later =
       let own : List ℕ = own_calls statement ++ flat_map own_calls (within statement.what) in
-      let first : size_in (size_at before) statement.what ≡ suc (length (numbers_within statement.number statement.what)) + called_sizes own =
+      let first : size_in (size_at before) statement.what
+      ≡ suc (length (numbers_within statement.number statement.what)) + called_sizes own =
       size-is (size_at before) statement.what ∙ sized-by statement.number (out-What statement.what) parts
-      ∙ ap₂ (λ (numbers calls : List ℕ). suc (length numbers) + called_sizes calls) (sym (numbers-are statement.number statement.what))
-      (ap (λ (inside : List Statement). own_calls statement ++ flat_map own_calls inside) (sym (within-is statement.what))) in
+      ∙ ap₂ (λ (numbers calls : List ℕ). suc (length numbers) + called_sizes calls)
+      (sym (numbers-are statement.number statement.what))
+      (ap (λ (inside : List Statement). own_calls statement ++ flat_map own_calls inside)
+      (sym (within-is statement.what))) in
       let calls : called_sizes (calls_of (statement ∷ rest)) ≡ called_sizes own + called_sizes (calls_of rest) =
       ap called_sizes (calls-more statement rest) ∙ total-append (size_at before) own (calls_of rest) in
-      let numbers : length (numbers_within statement.number statement.what ++ numbers_of rest) ≡ length (numbers_within statement.number statement.what) + length (numbers_of rest) =
+      let numbers : length (numbers_within statement.number statement.what ++ numbers_of rest)
+      ≡ length (numbers_within statement.number statement.what) + length (numbers_of rest) =
       length-append (numbers_within statement.number statement.what) (numbers_of rest) in
       omega arith
 

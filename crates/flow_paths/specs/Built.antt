@@ -7,8 +7,8 @@ use Rattle.flow_paths.specs.declared.fault.FlowFault.TheVariants.{TooDeep, TooLa
 use Rattle.flow_paths.specs.Flow.{IsFlow}
 use Rattle.flow_paths.specs.Graph.{Node}
 
--- the graph, or that calls go too deep, or else that the program is too large, with its size as far as it is told; a program that is within bounds has a
--- graph, where memory suffices
+-- the graph, or that calls go too deep, or else that the program is too large, with its size as far as it is told; a
+-- program that is within bounds has a graph, where memory suffices
 abbrev pub IsBuilt : Program → Result (List Node) FlowFault → Type 0
 IsBuilt program (Ok nodes) = IsWithinBounds program × IsFlow program nodes
 IsBuilt program (Err TooDeep) = HasTooDeepCalls program

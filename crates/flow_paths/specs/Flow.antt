@@ -1,4 +1,5 @@
--- What it means that nodes are the graph of a program: its edges are the ways of the entries, over whole stands, places and dues at once.
+-- What it means that nodes are the graph of a program: its edges are the ways of the entries, over whole stands, places
+-- and dues at once.
 use Rattle.std.specs.Prelude.{◌≡◌, ◌<◌, ℕ, List, [], ◌∷◌, drop, length, slice_get, Option, Some, None}
 use Rattle.tal_tree.specs.declared.program.Program.{Program}
 use Rattle.path_semantics.specs.declared.dues.Dues.{Dues}
@@ -28,7 +29,8 @@ module _ (count : ℕ) (place : ℕ → Place) where
   AllArrive dues (edge ∷ edges) (stand ∷ stands) = Arrives dues edge stand × AllArrive dues edges stands
   AllArrive dues _ _ = ⊥
 
-  -- the caller of a procedure that runs above these: none where it is MAIN, and else the node that stands at the call in progress
+  -- the caller of a procedure that runs above these: none where it is MAIN, and else the node that stands at the call
+  -- in progress
   abbrev pub IsCaller : Option ℕ → Place → Type 0
   IsCaller None callers = callers ≡ []
   IsCaller (Some k) callers = (k < count) × (callers ≡ place k)
@@ -37,11 +39,14 @@ module _ (count : ℕ) (place : ℕ → Place) where
   pub record IsRight (program : Program) (node : Node) (here : Place) : Type 0 where
     pub next : next_in here ≡ Some node.entry
     pub caller : IsCaller node.caller (drop 1 here)
-    pub leads : (dues : Dues) → AllArrive (after_entry dues node.entry) (edges_of node) (successors program (record { place = here; dues = dues }))
+    pub leads : (dues : Dues) → AllArrive (after_entry dues node.entry) (edges_of node)
+        (successors program (record { place = here; dues = dues }))
 
--- the graph of a program: a node for each number of MAIN with all calls written out, each at a place, the first where MAIN's body begins
+-- the graph of a program: a node for each number of MAIN with all calls written out, each at a place, the first where
+-- MAIN's body begins
 pub record IsFlow (program : Program) (nodes : List Node) : Type 0 where
   pub count : length nodes ≡ size_of program
   pub place : ℕ → Place
   pub start : IsStand (length nodes) place (start_of nodes) no_dues (first_stand program)
-  pub right : (k : ℕ) (node : Node) → slice_get nodes k ≡ Some node → IsRight (length nodes) place program node (place k)
+  pub right : (k : ℕ) (node : Node) → slice_get nodes k ≡ Some node
+      → IsRight (length nodes) place program node (place k)

@@ -1,9 +1,11 @@
--- How the graph of a procedure is written out, from the graphs of those that it calls: its nodes in the order of the text, those of a called procedure behind
--- the call. What makes it the right graph, `Flow` says without any of this.
+-- How the graph of a procedure is written out, from the graphs of those that it calls: its nodes in the order of the
+-- text, those of a called procedure behind the call. What makes it the right graph, `Flow` says without any of this.
 use Rattle.std.specs.Prelude.{ℕ, zero, suc, ◌+◌, List, [], ◌∷◌, ◌++◌, map, length, slice_get, Option, Some, None}
 use Rattle.std.specs.Option.{option_map, unwrap_or}
 use Rattle.tal_tree.specs.declared.statement.Statement.{Statement}
-use Rattle.tal_tree.specs.declared.statement.What.{What, Assign, AssignCall, If', While', For', Call, Return, ReadUpdate, Reply, WriteRead, Checkpoint, CheckMonitor, Open, Stop, Row_of-Statement, end_of-Statement, more_of-Statement}
+use Rattle.tal_tree.specs.declared.statement.What.{What, Assign, AssignCall, If', While', For', Call, Return}
+use Rattle.tal_tree.specs.declared.statement.What.{ReadUpdate, Reply, WriteRead, Checkpoint, CheckMonitor, Open, Stop}
+use Rattle.tal_tree.specs.declared.statement.What.{Row_of-Statement, end_of-Statement, more_of-Statement}
 use Rattle.process_semantics.specs.State.{Entry, Run, Test, Last}
 use Rattle.path_semantics.specs.Dues.{global_of_spot}
 use Rattle.flow_paths.specs.declared.graph.Edge.{Edge}
@@ -108,21 +110,28 @@ moved_node call after node = record {
 
 -- a call and its procedure
 abbrev pub lay_call : List Node → Statement → ℕ → Edge → List Node
-lay_call called self base after = one_way (Run self) (start_in called (base + 1) after) ∷ map (moved_node base after) called
+lay_call called self base after =
+    one_way (Run self) (start_in called (base + 1) after) ∷ map (moved_node base after) called
 
 abbrev mutual
   -- the nodes of a statement that begin here, where it goes on so
   pub lay_in : (ℕ → List Node) → What → Statement → ℕ → Edge → List Node
   lay_in called (If' test _ first _ second) self base after =
-      two_ways (Run self) (start_row first (base + 1) after) (start_row second (base + 1 + size_row (λ k. length (called k)) first) after)
-      ∷ (lay_row called first (base + 1) after ++ lay_row called second (base + 1 + size_row (λ k. length (called k)) first) after)
+      two_ways (Run self) (start_row first (base + 1) after)
+      (start_row second (base + 1 + size_row (λ k. length (called k)) first) after)
+      ∷ (lay_row called first (base + 1) after
+      ++ lay_row called second (base + 1 + size_row (λ k. length (called k)) first) after)
   lay_in called (While' test _ body) self base after =
-      two_ways (Run self) (start_row body (base + 1) (to_node base)) after ∷ lay_row called body (base + 1) (to_node base)
+      two_ways (Run self) (start_row body (base + 1) (to_node base)) after
+      ∷ lay_row called body (base + 1) (to_node base)
   lay_in called (For' variable from to _ body last) self base after =
       one_way (Run self) (to_node (base + 1))
-      ∷ two_ways (Test self) (start_row body (base + 2) (to_node (base + 2 + size_row (λ k. length (called k)) body))) after
-      ∷ (lay_row called body (base + 2) (to_node (base + 2 + size_row (λ k. length (called k)) body)) ++ one_way (Last self) (to_node (base + 1)) ∷ [])
-  lay_in called (AssignCall to procedure arguments) self base after = lay_call (called procedure) self base (with_targets (global_of_spot to) after)
+      ∷ two_ways (Test self) (start_row body (base + 2) (to_node (base + 2 + size_row (λ k. length (called k)) body)))
+      after
+      ∷ (lay_row called body (base + 2) (to_node (base + 2 + size_row (λ k. length (called k)) body))
+      ++ one_way (Last self) (to_node (base + 1)) ∷ [])
+  lay_in called (AssignCall to procedure arguments) self base after =
+      lay_call (called procedure) self base (with_targets (global_of_spot to) after)
   lay_in called (Call procedure arguments) self base after = lay_call (called procedure) self base after
   lay_in called (Return value) self base after = one_way (Run self) leaving ∷ []
   lay_in called Stop self base after = one_way (Run self) ending ∷ []
@@ -138,7 +147,8 @@ abbrev mutual
   pub lay_row : (ℕ → List Node) → {n : _} → Row_of-Statement n → ℕ → Edge → List Node
   lay_row called end_of-Statement base next = []
   lay_row called (more_of-Statement number line what rest) base next =
-      lay_in called what (record { number = number; line = line; what = what }) base (start_row rest (base + size_in (λ k. length (called k)) what) next)
+      lay_in called what (record { number = number; line = line; what = what }) base
+      (start_row rest (base + size_in (λ k. length (called k)) what) next)
       ++ lay_row called rest (base + size_in (λ k. length (called k)) what) next
 
 -- Graphs

@@ -23,7 +23,8 @@ module _ (nodes : List Node) where
   -- a walk by these numbers from node to node
   abbrev pub Goes : ℕ → Dues → List ℕ → ℕ → Dues → Type 0
   Goes k dues [] j later = (k ≡ j) × (dues ≡ later)
-  Goes k dues (number ∷ path) j later = (next : ℕ) × (due : Dues) × StepsTo k dues number next due × Goes next due path j later
+  Goes k dues (number ∷ path) j later =
+      (next : ℕ) × (due : Dues) × StepsTo k dues number next due × Goes next due path j later
 
   -- a stand is one of this node: its entry comes next there
   pub record StandsAt (k : ℕ) (stand : Stand) : Type 0 where
@@ -34,7 +35,8 @@ module _ (nodes : List Node) where
   -- what holds after so many entries at a node with these dues holds at the start, and goes on along each edge
   pub record IsKept (Holds : ℕ → ℕ → Dues → Type 0) : Type 0 where
     pub first : 0 < length nodes → Holds 0 0 no_dues
-    pub step : (n k j number : ℕ) (dues later : Dues) → Holds n k dues → StepsTo k dues number j later → Holds (n + 1) j later
+    pub step : (n k j number : ℕ) (dues later : Dues) → Holds n k dues → StepsTo k dues number j later
+        → Holds (n + 1) j later
 
   -- it holds at a stand: the program has ended there, or it stands at a node for which it holds
   abbrev pub IsMet : (ℕ → ℕ → Dues → Type 0) → ℕ → Stand → Type 0

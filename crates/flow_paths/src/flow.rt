@@ -44,8 +44,8 @@ impl<'a> Model for Flow<'a> {
 }
 
 impl<'a> Flow<'a> {
-    /// The graph of a program, unless its calls go too deep or it is too large. Each procedure before the main one is laid out
-    /// once, but for those that are too large themselves: the program calls none of them.
+    /// The graph of a program, unless its calls go too deep or it is too large. Each procedure before the main one is
+    /// laid out once, but for those that are too large themselves: the program calls none of them.
     pub fn of(alloc: Global, program: &'a Program) -> Result<Flow<'a>, FlowFault>
         requires ordered { IsOrdered program.now }
         requires limits { IsWithinLimits program.now }

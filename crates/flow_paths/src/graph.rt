@@ -3,7 +3,8 @@ ghost use Rattle.std.specs.Option.{option_copied};
 ghost use Rattle.process_semantics.specs.SeenEntries.{entry_of};
 ghost use Rattle.path_semantics.specs.Dues.{global_of_spot};
 ghost use Rattle.flow_paths.specs.Graph.{IsWithin};
-ghost use Rattle.flow_paths.specs.Layout.{to_node, leaving, ending, with_targets, moved, one_way, two_ways, caller_from, moved_node};
+ghost use Rattle.flow_paths.specs.Layout.{to_node, leaving, ending, with_targets, moved, one_way, two_ways};
+ghost use Rattle.flow_paths.specs.Layout.{caller_from, moved_node};
 ghost use Rattle.flow_paths.specs.declared.graph.Goal.TheVariants.{At};
 
 use gd_words::{List, NoMemory};
@@ -104,7 +105,8 @@ impl Edge {
     }
 }
 
-/// A node: an entry as it stands in the calls in progress above it, and the one or two edges on which the program goes on.
+/// A node: an entry as it stands in the calls in progress above it, and the one or two edges on which the program goes
+/// on.
 #[derive(Drop)]
 pub struct Node<'a> {
     entry: Entry<'a>,
@@ -123,7 +125,12 @@ impl<'a> Model for Node<'a> {
 
     ghost coded = { Prim.hlevel (codes, statement.the_row.coded) };
 
-    ghost view = { λ node. record { entry = entry_of node.entry; caller = node.caller; first = node.first; second = node.second } };
+    ghost view = { λ node. record {
+      entry = entry_of node.entry;
+      caller = node.caller;
+      first = node.first;
+      second = node.second;
+    } };
 }
 
 impl<'a> Node<'a> {

@@ -8,11 +8,14 @@ ghost use Rattle.flow_paths.specs.Flow.{IsFlow};
 ghost use Rattle.flow_paths.specs.Graph.{Node};
 ghost use Rattle.flow_paths.specs.Walk.{Goes, StandsAt};
 
-/// The paths of a program are the walks along the edges of its graph from the first node on: where a path leads, a walk by the
-/// same numbers goes, with the same dues, unless the program has ended there; and where a walk goes, a path leads.
+/// The paths of a program are the walks along the edges of its graph from the first node on: where a path leads, a walk
+/// by the same numbers goes, with the same dues, unless the program has ended there; and where a walk goes, a path
+/// leads.
 pub fn paths_are_walks()
-    ensures walked { (program : Program) (nodes : List Node) (path : List ℕ) (stand : Stand) → IsFlow program nodes → Leads program path stand
+    ensures walked { (program : Program) (nodes : List Node) (path : List ℕ) (stand : Stand) → IsFlow program nodes
+        → Leads program path stand
         → (stand.place ≡ []) ⊎ ((k : ℕ) × Goes nodes 0 no_dues path k stand.dues × StandsAt nodes k stand) }
-    ensures led { (program : Program) (nodes : List Node) (path : List ℕ) (k : ℕ) (dues : Dues) → IsFlow program nodes → k < length nodes → Goes nodes 0 no_dues path k dues
+    ensures led { (program : Program) (nodes : List Node) (path : List ℕ) (k : ℕ) (dues : Dues) → IsFlow program nodes
+        → k < length nodes → Goes nodes 0 no_dues path k dues
         → (stand : Stand) × Leads program path stand × StandsAt nodes k stand × (stand.dues ≡ dues) }
 {}

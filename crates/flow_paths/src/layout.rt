@@ -6,7 +6,8 @@ ghost use Rattle.tal_tree.specs.declared.expression.Variable.{Variable};
 ghost use Rattle.tal_tree.specs.declared.statement.What.{If, While, For};
 ghost use Rattle.process_semantics.specs.State.{Run};
 ghost use Rattle.flow_paths.specs.Graph.{AreClosed};
-ghost use Rattle.flow_paths.specs.Layout.{size_in, size_row, leaving, start_at, one_way, lay_call, lay_in, lay_row, graph_at, graph_sizes};
+ghost use Rattle.flow_paths.specs.Layout.{size_in, size_row, leaving, start_at, one_way, lay_call, lay_in, lay_row};
+ghost use Rattle.flow_paths.specs.Layout.{graph_at, graph_sizes};
 
 use crate::flow::Flow;
 use crate::graph::{Edge, Node};
@@ -100,7 +101,8 @@ impl<'a> Graphs<'a> {
         nodes: &mut Vec<Node<'a>>,
     ) -> Result<(), NoMemory>
         requires room { at + size_row (graph_sizes self.now) (rows statements.now) ≤ 8192 }
-        ensures { OnOk result (nodes.new.items ≡ nodes.old.items ++ lay_row (graph_at self.now) (rows statements.now) at after.now) }
+        ensures { OnOk result (nodes.new.items ≡ nodes.old.items
+            ++ lay_row (graph_at self.now) (rows statements.now) at after.now) }
     {
         let mut next = at;
         let mut left = statements.len();
@@ -124,7 +126,8 @@ impl<'a> Graphs<'a> {
         nodes: &mut Vec<Node<'a>>,
     ) -> Result<(), NoMemory>
         requires room { at + size_in (graph_sizes self.now) statement.now.what ≤ 8192 }
-        ensures { OnOk result (nodes.new.items ≡ nodes.old.items ++ lay_in (graph_at self.now) statement.now.what statement.now at after.now) }
+        ensures { OnOk result (nodes.new.items ≡ nodes.old.items
+            ++ lay_in (graph_at self.now) statement.now.what statement.now at after.now) }
     {
         match &statement.what {
             What::If { test: _, yes, no } => {
@@ -168,8 +171,10 @@ impl<'a> Graphs<'a> {
         after: &Edge,
         nodes: &mut Vec<Node<'a>>,
     ) -> Result<(), NoMemory>
-        requires room { at + 1 + size_row (graph_sizes self.now) (rows yes.now) + size_row (graph_sizes self.now) (rows no.now) ≤ 8192 }
-        ensures { OnOk result ((test : Cond) → nodes.new.items ≡ nodes.old.items ++ lay_in (graph_at self.now) (If test yes.now no.now) statement.now at after.now) }
+        requires room { at + 1 + size_row (graph_sizes self.now) (rows yes.now)
+            + size_row (graph_sizes self.now) (rows no.now) ≤ 8192 }
+        ensures { OnOk result ((test : Cond) → nodes.new.items
+            ≡ nodes.old.items ++ lay_in (graph_at self.now) (If test yes.now no.now) statement.now at after.now) }
     {
         let middle = at + 1 + self.size_of_all(yes);
         let first = start(self.alloc, yes.len(), at + 1, after)?;
@@ -189,7 +194,8 @@ impl<'a> Graphs<'a> {
         nodes: &mut Vec<Node<'a>>,
     ) -> Result<(), NoMemory>
         requires room { at + 1 + size_row (graph_sizes self.now) (rows body.now) ≤ 8192 }
-        ensures { OnOk result ((test : Cond) → nodes.new.items ≡ nodes.old.items ++ lay_in (graph_at self.now) (While test body.now) statement.now at after.now) }
+        ensures { OnOk result ((test : Cond) → nodes.new.items
+            ≡ nodes.old.items ++ lay_in (graph_at self.now) (While test body.now) statement.now at after.now) }
     {
         let again = Edge::to_node(self.alloc, at);
         let first = start(self.alloc, body.len(), at + 1, &again)?;
@@ -208,7 +214,9 @@ impl<'a> Graphs<'a> {
         nodes: &mut Vec<Node<'a>>,
     ) -> Result<(), NoMemory>
         requires room { at + 3 + size_row (graph_sizes self.now) (rows body.now) ≤ 8192 }
-        ensures { OnOk result ((variable : Variable) (from to : Expr) (last : ℕ) → nodes.new.items ≡ nodes.old.items ++ lay_in (graph_at self.now) (For variable from to body.now last) statement.now at after.now) }
+        ensures { OnOk result ((variable : Variable) (from to : Expr) (last : ℕ)
+            → nodes.new.items ≡ nodes.old.items ++ lay_in (graph_at self.now) (For variable from to body.now last)
+            statement.now at after.now) }
     {
         let count = at + 2 + self.size_of_all(body);
         let counts = Edge::to_node(self.alloc, count);
@@ -231,7 +239,8 @@ impl<'a> Graphs<'a> {
         nodes: &mut Vec<Node<'a>>,
     ) -> Result<(), NoMemory>
         requires room { at + 1 + graph_sizes self.now procedure ≤ 8192 }
-        ensures { OnOk result (nodes.new.items ≡ nodes.old.items ++ lay_call (graph_at self.now procedure) statement.now at after.now) }
+        ensures { OnOk result (nodes.new.items ≡ nodes.old.items
+            ++ lay_call (graph_at self.now procedure) statement.now at after.now) }
     {
         let Some(graph) = self.graphs.get(usize::from(procedure)) else {
             return push_one(nodes, statement, after.copy(self.alloc)?);

@@ -4,7 +4,8 @@ use std::alloc::Global;
 use std::test::Fail;
 use worked_programs::program_of;
 
-/// A procedure: its name, and how often it calls the one before it, or how many assignments it has where it is the first.
+/// A procedure: its name, and how often it calls the one before it, or how many assignments it has where it is the
+/// first.
 #[derive(Drop)]
 struct Link {
     name: u8,

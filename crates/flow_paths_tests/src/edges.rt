@@ -3,8 +3,8 @@ use path_semantics::entry_number;
 use std::test::Fail;
 use worked_programs::program_of;
 
-/// A program with each kind of statement that leads elsewhere: calls with a target, one of which ends two procedures and one of
-/// which is of an empty procedure, RETURN, WHILE, FOR, IF and STOP.
+/// A program with each kind of statement that leads elsewhere: calls with a target, one of which ends two procedures
+/// and one of which is of an empty procedure, RETURN, WHILE, FOR, IF and STOP.
 const TEXT: &[u8] = b"INT x, y;
 INT PROC f; BEGIN RETURN 1 END;
 INT PROC g; BEGIN x := f END;

@@ -1,5 +1,6 @@
 -- Texts written one after the other.
-use Rattle.std.specs.Prelude.{ℕ, ◌+◌, ◌≤◌, List, [], ◌++◌, Option, Some, None, Result, Ok, Err, ⊤, IsOk, IsErr, OnErr, length, take, refl}
+use Rattle.std.specs.Prelude.{ℕ, ◌+◌, ◌≤◌, List, [], ◌++◌, Option, Some, None, Result, Ok, Err, ⊤, IsOk, IsErr, OnErr}
+use Rattle.std.specs.Prelude.{length, take, refl}
 use Rattle.std.proofs.Common.{sym, ap, ◌∙◌, subst, arith, inl, inr, append-nil, append_assoc, length-append}
 use Rattle.std.proofs.lemmas.List.{take-append-le}
 use Rattle.std.proofs.Math.Nat.{eq-or-lt_of_le}
@@ -13,7 +14,8 @@ pub Appends-none : (held : Option (List ℕ)) → Appends held held []
 Appends-none None = tt
 Appends-none (Some xs) = sym (append-nil xs)
 
-pub Appends-more : (old mid new : Option (List ℕ)) (bs cs : List ℕ) → Appends old mid bs → Appends mid new cs → Appends old new (bs ++ cs)
+pub Appends-more : (old mid new : Option (List ℕ)) (bs cs : List ℕ) → Appends old mid bs → Appends mid new cs
+    → Appends old new (bs ++ cs)
 Appends-more None mid new bs cs h k = tt
 Appends-more (Some xs) None new bs cs h k = absurd h
 Appends-more (Some xs) (Some ys) None bs cs h k = absurd k
@@ -56,11 +58,13 @@ puts_both held faults sure old mid new first second result h k =
       bytes = Grows-more (held old) (held mid) (held new) first second result h.bytes k.bytes;
       later = omega arith;
       cause = rose result k.cause;
-      still = λ n s. k.still n (h.never (length second + n) (sure_first n s)).1 ∙ h.still (length second + n) (sure_first n s);
+      still = λ n s. k.still n (h.never (length second + n) (sure_first n s)).1
+          ∙ h.still (length second + n) (sure_first n s);
       never = λ n s. k.never n (h.never (length second + n) (sure_first n s)).1;
     }
   where
-    rose : (result : Result ⊤ WriteFault) → OnErr result (HasRisen (faults mid) (faults new)) → OnErr result (HasRisen (faults old) (faults new))
+    rose : (result : Result ⊤ WriteFault) → OnErr result (HasRisen (faults mid) (faults new))
+        → OnErr result (HasRisen (faults old) (faults new))
     rose (Ok done) c = tt
     rose (Err fault) c = HasRisen-later (faults old) (faults mid) (faults new) h.later k.later c
 

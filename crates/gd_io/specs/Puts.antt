@@ -9,9 +9,10 @@ abbrev pub Grows : Option (List ℕ) → Option (List ℕ) → List ℕ → Resu
 Grows old new text (Ok done) = Appends old new text
 Grows old new text (Err fault) = (n : ℕ) × (n < length text) × Appends old new (take n text)
 
--- the text goes out: all of it, or at a fault, which the sink counts, its first part; a sink that was sure of the text and n
--- bytes more has no fault and is sure of n more
-pub record Puts {K : Type 0} (held : K → Option (List ℕ)) (faults : K → ℕ) (sure : K → ℕ → Type 0) (old new : K) (text : List ℕ)
+-- the text goes out: all of it, or at a fault, which the sink counts, its first part; a sink that was sure of the text
+-- and n bytes more has no fault and is sure of n more
+pub record Puts {K : Type 0} (held : K → Option (List ℕ)) (faults : K → ℕ) (sure : K → ℕ → Type 0) (old new : K)
+    (text : List ℕ)
     (result : Result ⊤ WriteFault) : Type 0 where
   pub bytes : Grows (held old) (held new) text result
   pub later : faults old ≤ faults new

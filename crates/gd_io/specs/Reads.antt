@@ -18,4 +18,5 @@ ReadsAll most bytes rest (Err (NoMemory _)) = (n : ℕ) × (n ≤ most + 1) × (
 
 -- the bytes that are left, which are the told ones where the source tells them, are read so
 abbrev pub ReadsFrom : ℕ → Option (List ℕ) → Option (List ℕ) → Result (List ℕ) SourceFault → Type 0
-ReadsFrom most old new result = (bytes : List ℕ) × (rest : List ℕ) × Leaves old new bytes rest × ReadsAll most bytes rest result
+ReadsFrom most old new result =
+    (bytes : List ℕ) × (rest : List ℕ) × Leaves old new bytes rest × ReadsAll most bytes rest result

@@ -1,9 +1,9 @@
-//! Reading and writing through two small traits, so that the work above can be proved over any source of bytes and any sink: the
-//! ends over std's readers and writers, ends in memory whose calls fail where a test asks for it, and the two calls that read
-//! all and write all.
+//! Reading and writing through two small traits, so that the work above can be proved over any source of bytes and any
+//! sink: the ends over std's readers and writers, ends in memory whose calls fail where a test asks for it, and the two
+//! calls that read all and write all.
 //!
-//! Below stands `gd_words`. The crates above use the clauses of `read_all`, and of `put_all` the relation `Puts`, which is
-//! what each call that writes a text says of its sink.
+//! Below stands `gd_words`. The crates above use the clauses of `read_all`, and of `put_all` the relation `Puts`, which
+//! is what each call that writes a text says of its sink.
 #![tactic(auto)]
 
 pub mod memory_sink;

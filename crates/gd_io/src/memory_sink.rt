@@ -17,8 +17,8 @@ pub struct MemorySink {
 }
 
 impl MemorySink {
-    /// An empty sink with room for `room` bytes. The calls with the numbers in `failing`, counted from 1, fail; so does a put
-    /// of more than nothing where no room is left.
+    /// An empty sink with room for `room` bytes. The calls with the numbers in `failing`, counted from 1, fail; so does
+    /// a put of more than nothing where no room is left.
     pub fn new(alloc: Global, room: usize, failing: List<u64>) -> Result<MemorySink, NoMemory>
         ensures held { IfOk result (λ sink. ⟦<MemorySink as Sink>⟧.held sink ≡ Some []) }
         ensures faults { IfOk result (λ sink. ⟦<MemorySink as Sink>⟧.faults sink ≡ 0) }
@@ -57,10 +57,13 @@ impl Sink for MemorySink {
         ensures bytes { GivesTo (Some self.old.held.items) (Some self.new.held.items) piece.now result }
         ensures later { self.old.faults ≤ self.new.faults }
         ensures cause { result ≡ Gave.Failed → HasRisen self.old.faults self.new.faults }
-        ensures still { (n : ℕ) → (self.old.failing ≡ []) × (length self.old.held.items + (length piece.now + n) ≤ self.old.room)
+        ensures still { (n : ℕ) → (self.old.failing ≡ [])
+            × (length self.old.held.items + (length piece.now + n) ≤ self.old.room)
             → self.new.faults ≡ self.old.faults }
-        ensures never { (n : ℕ) → (self.old.failing ≡ []) × (length self.old.held.items + (length piece.now + n) ≤ self.old.room)
-            → StaysSure (λ k. (self.new.failing ≡ []) × (length self.new.held.items + k ≤ self.new.room)) piece.now n result }
+        ensures never { (n : ℕ) → (self.old.failing ≡ [])
+            × (length self.old.held.items + (length piece.now + n) ≤ self.old.room)
+            → StaysSure (λ k. (self.new.failing ≡ []) × (length self.new.held.items + k ≤ self.new.room)) piece.now n
+            result }
         ensures number { self.new.calls ≡ min (self.old.calls + 1) (2 ^ 64 - 1) }
         ensures told { result ≡ Gave.Failed ↔ (Contains self.old.failing self.new.calls
             ⊎ ((length self.old.held.items ≡ self.old.room) × (0 < length piece.now))) }

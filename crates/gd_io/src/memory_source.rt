@@ -31,7 +31,8 @@ impl MemorySource {
 }
 
 impl Source for MemorySource {
-    ghost use Rattle.std.specs.Prelude.{◌≡◌, ◌≢◌, ℕ, ◌+◌, ◌-◌, ◌^◌, ◌<◌, ◌≤◌, ◌↔◌, [], Some, Contains, drop, length, min};
+    ghost use Rattle.std.specs.Prelude.{◌≡◌, ◌≢◌, ℕ, ◌+◌, ◌-◌, ◌^◌, ◌<◌, ◌≤◌, ◌↔◌, [], Some, Contains, drop, length};
+    ghost use Rattle.std.specs.Prelude.{min};
     ghost use Rattle.gd_io.specs.Faults.{HasRisen};
     ghost use Rattle.gd_io.specs.Source.{TakesInto};
 
@@ -43,7 +44,8 @@ impl Source for MemorySource {
 
     fn take(&mut self, room: &mut [u8]) -> Took
         requires { 0 < length room.old }
-        ensures bytes { TakesInto (Some (drop self.old.at self.old.bytes)) (Some (drop self.new.at self.new.bytes)) room.new result }
+        ensures bytes { TakesInto (Some (drop self.old.at self.old.bytes)) (Some (drop self.new.at self.new.bytes))
+            room.new result }
         ensures later { self.old.faults ≤ self.new.faults }
         ensures cause { result ≡ Took.Failed → HasRisen self.old.faults self.new.faults }
         ensures still { self.old.failing ≡ [] → (self.new.failing ≡ []) × (self.new.faults ≡ self.old.faults) }

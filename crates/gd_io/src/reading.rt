@@ -21,8 +21,8 @@ pub enum SourceFault {
 
 const CHUNK: usize = 4096;
 
-/// All bytes that are left, up to `most` of them. Of a longer source one byte more is taken, which shows that it is longer.
-/// Nothing that was taken is put back.
+/// All bytes that are left, up to `most` of them. Of a longer source one byte more is taken, which shows that it is
+/// longer. Nothing that was taken is put back.
 pub fn read_all<S: Source>(
     alloc: Global,
     source: &mut S,

@@ -2,8 +2,8 @@ ghost use Rattle.std.specs.Prelude.{◌≡◌, ◌≢◌, ℕ, ◌<◌, ◌≤�
 ghost use Rattle.gd_io.specs.Faults.{HasRisen};
 ghost use Rattle.gd_io.specs.Source.{TakesInto};
 
-/// What a call for bytes gave: this many at the start of the room, none because the end is reached, or none because of a
-/// fault.
+/// What a call for bytes gave: this many at the start of the room, none because the end is reached, or none because of
+/// a fault.
 #[derive(Clone, Copy, PartialEq, Eq)]
 pub enum Took {
     Got(usize),

@@ -4,7 +4,8 @@ use Rattle.std.specs.Prelude.{◌||◌, ◌==◌}
 use Rattle.std.proofs.lemmas.Bool.{eq-eqb, eqb-true}
 use Rattle.gd_words.specs.Members.{IsAmong, is_among}
 
-step_there : (n m : ℕ) (ms : List ℕ) (b : Bool) → (m == n) ≡ b → (b || is_among n ms) ≡ true → (is_among n ms ≡ true → IsAmong n ms) → (n ≡ m) ⊎ IsAmong n ms
+step_there : (n m : ℕ) (ms : List ℕ) (b : Bool) → (m == n) ≡ b → (b || is_among n ms) ≡ true
+    → (is_among n ms ≡ true → IsAmong n ms) → (n ≡ m) ⊎ IsAmong n ms
 step_there n m ms true e h there = inl (sym (eqb-true m n e))
 step_there n m ms false e h there = inr (there h)
 

@@ -23,7 +23,8 @@ high_word m high fits =
     rw test (ap negsuc (omega arith))
 
 -- m is the number's remainder
-apart_from : (z w : ℤ) (m : ℕ) → m < 65536 → w ≡ cast_signed w16 m → (q : ℤ) → z ≡ pos m +ℤ (q *ℤ pos 65536) → (k : ℤ) × (z ≡ w +ℤ (k *ℤ pos 65536))
+apart_from : (z w : ℤ) (m : ℕ) → m < 65536 → w ≡ cast_signed w16 m → (q : ℤ) → z ≡ pos m +ℤ (q *ℤ pos 65536)
+    → (k : ℤ) × (z ≡ w +ℤ (k *ℤ pos 65536))
 apart_from z w m fits e q h = elim (low_or_high m 32768) [
   | inl low ↦ (q, rw (e, low_word m low) h)
   | inr high ↦ (q +ℤ pos 1, rw (e, high_word m high fits) (omega (arith, ints)))
@@ -32,7 +33,8 @@ apart_from z w m fits e q h = elim (low_or_high m 32768) [
 apart : (z : ℤ) → (k : ℤ) × (z ≡ wrap z +ℤ (k *ℤ pos 65536))
 unfolding int_wrap
 apart (pos n) = apart_from (pos n) (wrap (pos n)) (n % 65536) (omega arith) refl (pos (n / 65536)) (omega (arith, ints))
-apart (negsuc n) = apart_from (negsuc n) (wrap (negsuc n)) (65535 - n % 65536) (omega arith) refl (negsuc (n / 65536)) (omega (arith, ints))
+apart (negsuc n) = apart_from (negsuc n) (wrap (negsuc n)) (65535 - n % 65536) (omega arith) refl (negsuc (n / 65536))
+    (omega (arith, ints))
 
 pub is_wrap : (z : ℤ) → IsWrapOf z (wrap z)
 is_wrap z = record { word = SFits-int_wrap w16 z; apart = apart z }

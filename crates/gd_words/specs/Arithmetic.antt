@@ -1,4 +1,5 @@
--- Words of 16 bits and their wrapped arithmetic. That signed arithmetic wraps without an overflow trap is this project's own rule.
+-- Words of 16 bits and their wrapped arithmetic. That signed arithmetic wraps without an overflow trap is this
+-- project's own rule.
 use Rattle.std.specs.Prelude.{◌≡◌, ℤ, pos, negsuc, zero, suc, Option, Some, None, FitsSigned, int_div}
 use Rattle.std.specs.Int.{int_wrap, w16}
 use lib.IntN.{◌+ℤ◌, ◌*ℤ◌}

@@ -35,5 +35,6 @@ front_too a b = by (pointwise nat_eq a b) refl
 pub ident_ties : (a b : List ℕ) → pointwise nat_eq a b ≡ is_eq (ident_cmp a b)
 ident_ties a b =
     front_too a b
-    ∙ both_tied (nat_eq (front a) (front b)) (pointwise nat_eq a b) (nat_cmp (front a) (front b)) (slice_cmp nat_cmp a b)
+    ∙ both_tied (nat_eq (front a) (front b)) (pointwise nat_eq a b) (nat_cmp (front a) (front b))
+    (slice_cmp nat_cmp a b)
     (unsigned_ties (front a) (front b)) (texts_ties a b)

@@ -5,5 +5,8 @@ use Rattle.gd_words.specs.declared.name.Name.TheInside.{Inside}
 use Rattle.gd_words.specs.PaddedText.{length-kept}
 
 pub name_again : (name : Inside) → name.len ≤ 6 → name.bytes ≡ padded 6 (take name.len name.bytes)
-    → ◌≡◌ {A = Inside} (record { bytes = padded 6 (take name.len name.bytes); len = length (take name.len name.bytes) }) name
+    → ◌≡◌ {A = Inside} (record {
+      bytes = padded 6 (take name.len name.bytes);
+      len = length (take name.len name.bytes);
+    }) name
 name_again name h e = λ i. record { bytes = sym e i; len = length-kept 6 name.len name.bytes h e i }

@@ -1,4 +1,5 @@
--- The ranges of numbers: request numbers, checkpoint numbers, eras, packets and the like have 32 bits, positions and counts of letters 64. The ranges are our own.
+-- The ranges of numbers: request numbers, checkpoint numbers, eras, packets and the like have 32 bits, positions and
+-- counts of letters 64. The ranges are our own.
 use Rattle.std.specs.Prelude.{ℕ, ◌<◌}
 
 -- a number of 32 bits that isn't the last one

@@ -1,9 +1,10 @@
 //! The words of the machine and the small values that everything above passes on: 16-bit words with wrapped
-//! arithmetic, lists of at most 16 words, names, requests and replies, sectors, decimal numbers, and `List` and `Boxed`,
-//! the list and the box that contracts see as plain values.
+//! arithmetic, lists of at most 16 words, names, requests and replies, sectors, decimal numbers, and `List` and
+//! `Boxed`, the list and the box that contracts see as plain values.
 //!
 //! Below stand `std`, `arrayvec` for short lists and `itoa` for digits. The crates above use the clauses of wrapped
-//! arithmetic (`wrap`, `quotient`), of `Name::read` and `Ident::read`, and that a `List` is its items and a `Boxed` its value.
+//! arithmetic (`wrap`, `quotient`), of `Name::read` and `Ident::read`, and that a `List` is its items and a `Boxed` its
+//! value.
 #![tactic(auto)]
 
 pub mod arithmetic;

@@ -1,7 +1,7 @@
 //! The program: the words of the command line, standard input, standard output and the top call of `runner`.
 //!
-//! Below stand `runner`, whose `exit_number` does all the work, and `gd_io` with the ends. Nothing is written to standard
-//! error.
+//! Below stand `runner`, whose `exit_number` does all the work, and `gd_io` with the ends. Nothing is written to
+//! standard error.
 #![tactic(auto)]
 
 use gd_io::{StdSink, StdSource};
@@ -15,7 +15,8 @@ use std::{env, io};
 /// The number with which the program ends where the memory for its words is wanting.
 const NO_MEMORY: u8 = 8;
 
-/// The words that the program is called with, its name first. Where one isn't UTF-8 there are none, which ask for no command.
+/// The words that the program is called with, its name first. Where one isn't UTF-8 there are none, which ask for no
+/// command.
 fn called_words<R: Env + AllocGlobal>(rt: &R) -> Result<Vec<String>, NoMemory> {
     match env::args(rt) {
         Ok(words) => Ok(words.collect(rt.alloc())?),

@@ -1,5 +1,6 @@
 -- Requests that are awaited at an idle end: each is at its server's copy that acts.
-use Rattle.std.proofs.Common.{◌≡◌, ◌⊎◌, ◌<◌, inl, inr, ℕ, true, false, List, length, Some, slice_get, refl, sym, ◌∙◌, subst}
+use Rattle.std.proofs.Common.{◌≡◌, ◌⊎◌, ◌<◌, inl, inr, ℕ, true, false, List, length, Some, slice_get, refl, sym, ◌∙◌}
+use Rattle.std.proofs.Common.{subst}
 use Rattle.tal_tree.specs.declared.site.ProcessSpec.{ProcessSpec}
 use Rattle.tal_tree.specs.declared.site.Site.{Site}
 use Rattle.tal_tree.specs.declared.site.Who.{Who}
@@ -25,10 +26,12 @@ use Rattle.idle_end.proofs.Unanswered.{not-answered}
 -- a copy has a request that is awaited of it: it stands next there and waits, or it is in hand
 abbrev pub HasRequest : Copy → Opener → ℕ → Type 0
 HasRequest copy opener n =
-    ((standing_at copy.core.receive opener.place n ≡ Next) × WaitsFor copy.waiting opener n) ⊎ (standing_at copy.core.receive opener.place n ≡ InHand)
+    ((standing_at copy.core.receive opener.place n ≡ Next) × WaitsFor copy.waiting opener n)
+    ⊎ (standing_at copy.core.receive opener.place n ≡ InHand)
 
 -- so it isn't answered
-pub unanswered : {site : Site} {spec : ProcessSpec} {deeds : List Deed} (copy : Copy) (opener : Opener) (n : ℕ) → HasDone site opener.server spec deeds copy.core
+pub unanswered : {site : Site} {spec : ProcessSpec} {deeds : List Deed} (copy : Copy) (opener : Opener) (n : ℕ)
+    → HasDone site opener.server spec deeds copy.core
     → HasRequest copy opener n → length (answered_to opener.place deeds) < n
 unanswered copy opener n done (inl (next, waits)) = not-answered opener n done (inl next)
 unanswered copy opener n done (inr hand) = not-answered opener n done (inr hand)
@@ -42,10 +45,13 @@ module _ {site : Site} {events : ℕ} {post : Post} (end : IsEnd site events pos
   same-seat number pair Second First there same = absurd ((end.seated.pairs number pair there).apart (sym same))
 
   -- a request that is awaited is at its server's copy that acts: no letter is owed that could bring it or its reply
-  pub at-server : (asker : ℕ) (one : Who) (n : ℕ) (opener : Opener) (pair : Pair) (k : Which) → opener_of site one ≡ Some opener
-      → slice_get post.world.processes opener.server ≡ Some pair → (copy_of k pair).role ≡ Acting → IsAwaited site post.world asker one n
+  pub at-server : (asker : ℕ) (one : Who) (n : ℕ) (opener : Opener) (pair : Pair) (k : Which)
+      → opener_of site one ≡ Some opener
+      → slice_get post.world.processes opener.server ≡ Some pair → (copy_of k pair).role ≡ Acting
+      → IsAwaited site post.world asker one n
       → HasRequest (copy_of k pair) opener n
-  at-server asker one n opener pair k opens there role awaited = by (end.served asker one n opener pair opens there awaited)
+  at-server asker one n opener pair k opens there role awaited =
+      by (end.served asker one n opener pair opens there awaited)
     where
       here : is_running post.world.stopped asker ≡ true
       here = asker-runs end awaited
@@ -56,7 +62,8 @@ module _ {site : Site} {events : ℕ} {post : Post} (end : IsEnd site events pos
       route : route_of post.world.marks asker pair ≡ (copy_of k pair).processor
       route = route-acts end asker opener.server pair k here there role
 
-      seen : HasSeen post asker one (copy_of k pair) opener n → StandsThere (copy_of k pair).core opener.place n → HasRequest (copy_of k pair) opener n
+      seen : HasSeen post asker one (copy_of k pair) opener n → StandsThere (copy_of k pair).core opener.place n
+          → HasRequest (copy_of k pair) opener n
       seen has (inl next) = inl (next, has.next role next)
       seen has (inr (inl hand)) = inr hand
       seen has (inr (inr (words, kept))) = absurd (elim (has.kept role words kept) [
@@ -69,7 +76,10 @@ module _ {site : Site} {events : ℕ} {post : Post} (end : IsEnd site events pos
           let down : is_running post.world.stopped (copy_of k pair).processor ≡ false =
           subst (λ node. is_running post.world.stopped node ≡ false) route stopped in
           let up = runs in absurd (cc)
-      by (is_owed words letter) = absurd (end.idle.owed _ letter here (subst (λ node. is_running post.world.stopped node ≡ true) (sym route) runs))
+      by (is_owed words letter) = absurd (end.idle.owed _ letter here
+          (subst (λ node. is_running post.world.stopped node ≡ true) (sym route) runs))
       by (is_seen j at has) =
-          seen (subst (λ i. HasSeen post asker one (copy_of i pair) opener n) (same-seat opener.server pair j k there (at ∙ route)) has)
-          (awaited-stands site end.fit events post.world end.good.invariant asker one n opener pair k opens there awaited (λ gone. absurd (cc)))
+          seen (subst (λ i. HasSeen post asker one (copy_of i pair) opener n)
+          (same-seat opener.server pair j k there (at ∙ route)) has)
+          (awaited-stands site end.fit events post.world end.good.invariant asker one n opener pair k opens there
+          awaited (λ gone. absurd (cc)))

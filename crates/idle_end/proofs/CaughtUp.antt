@@ -1,6 +1,8 @@
--- Where each process that is behind its deeds awaits a reply that its server hasn't given, none is behind. This is the one place where the order of the kept acts
--- of different processes matters: it excludes that processes wait for each other, each of them behind.
-use Rattle.std.proofs.Common.{◌≡◌, ◌⊎◌, inl, inr, ℕ, ◌+◌, ◌<◌, ◌≤◌, List, [], ◌∷◌, ◌++◌, length, Some, slice_get, refl, ap, sym, ◌∙◌, subst, arith, length-append, eq-eqb}
+-- Where each process that is behind its deeds awaits a reply that its server hasn't given, none is behind. This is the
+-- one place where the order of the kept acts of different processes matters: it excludes that processes wait for each
+-- other, each of them behind.
+use Rattle.std.proofs.Common.{◌≡◌, ◌⊎◌, inl, inr, ℕ, ◌+◌, ◌<◌, ◌≤◌, List, [], ◌∷◌, ◌++◌, length, Some, slice_get, refl}
+use Rattle.std.proofs.Common.{ap, sym, ◌∙◌, subst, arith, length-append, eq-eqb}
 use Rattle.std.proofs.lemmas.Bool.{cases_lt}
 use Rattle.std.proofs.lemmas.Bool.Decides.{eqb_tells}
 use Rattle.tal_tree.specs.declared.act.Act.{Act}
@@ -32,17 +34,21 @@ shorter : (more xs rest ys : List Deed) → more ++ xs ≡ rest ++ ys → length
 shorter [] xs [] ys same less = ([], sym same)
 shorter [] xs (deed ∷ rest) ys same less = absurd (omega (arith, ap length same, length-append rest ys, less))
 shorter (deed ∷ more) xs [] ys same less = (deed ∷ more, sym same)
-shorter (deed ∷ more) xs (other ∷ rest) ys same less = let tails : more ++ xs ≡ rest ++ ys = cc in shorter more xs rest ys tails less
+shorter (deed ∷ more) xs (other ∷ rest) ys same less =
+    let tails : more ++ xs ≡ rest ++ ys = cc in shorter more xs rest ys tails less
 
-grown-between : {xs ys whole : List Deed} → HasGrown xs whole → HasGrown ys whole → length xs ≤ length ys → HasGrown xs ys
+grown-between : {xs ys whole : List Deed} → HasGrown xs whole → HasGrown ys whole → length xs ≤ length ys
+    → HasGrown xs ys
 grown-between {xs = xs} {ys = ys} one other less = shorter one.0 xs other.0 ys (sym one.1 ∙ other.1) less
 
 pub grown-same : {xs ys : List Deed} → HasGrown xs ys → length ys ≤ length xs → ys ≡ xs
 grown-same ([], same) most = same
 grown-same {xs = xs} (deed ∷ more, same) most = absurd (omega (arith, ap length same, length-append more xs, most))
 
-answered-grown : (place : ℕ) {before after : List Deed} → HasGrown before after → length (answered_to place before) ≤ length (answered_to place after)
-answered-grown place {before = before} (more, same) = let count = count-join (answer_to place) more before in rw same (omega (arith, count))
+answered-grown : (place : ℕ) {before after : List Deed} → HasGrown before after
+    → length (answered_to place before) ≤ length (answered_to place after)
+answered-grown place {before = before} (more, same) =
+    let count = count-join (answer_to place) more before in rw same (omega (arith, count))
 
 -- how far a process is with its deeds: it has done all but the newest ones
 pub record HasPast (site : Site) (number : ℕ) (spec : ProcessSpec) (deeds : List Deed) : Type 0 where
@@ -52,45 +58,59 @@ pub record HasPast (site : Site) (number : ℕ) (spec : ProcessSpec) (deeds : Li
   pub done : HasDone site number spec past core
 
 module _ (site : Site) (regular : AreRegular site) (end : Ledger)
-    (at : (number : ℕ) (spec : ProcessSpec) → slice_get site.processes number ≡ Some spec → HasPast site number spec (end.deeds number)) where
+    (at : (number : ℕ) (spec : ProcessSpec) → slice_get site.processes number ≡ Some spec
+    → HasPast site number spec (end.deeds number)) where
   -- a process that has done these deeds awaits a reply: its server has answered fewer than it asked
   abbrev pub AwaitsMore : ℕ → List Deed → Core → Type 0
   AwaitsMore number past core =
       (process.point core.state ≡ point.Await)
       × ((opener : Opener) (server : ProcessSpec) (known : slice_get site.processes opener.server ≡ Some server)
       → opener_of site (who.File number (process.asked_file core.state)) ≡ Some opener
-      → length (answered_to opener.place (at opener.server server known).past) < length (requests_on (process.asked_file core.state) past))
+      → length (answered_to opener.place (at opener.server server known).past)
+      < length (requests_on (process.asked_file core.state) past))
 
   -- a process has done all of its deeds, or awaits a reply
   abbrev pub IsStuck : (number : ℕ) (spec : ProcessSpec) → slice_get site.processes number ≡ Some spec → Type 0
   IsStuck number spec there =
-      (end.deeds number ≡ (at number spec there).past) ⊎ AwaitsMore number (at number spec there).past (at number spec there).core
+      (end.deeds number ≡ (at number spec there).past)
+      ⊎ AwaitsMore number (at number spec there).past (at number spec there).core
 
   -- no process has done fewer deeds than this ledger has
   abbrev AreWithin : Ledger → Type 0
   AreWithin ledger =
-      (number : ℕ) (spec : ProcessSpec) (there : slice_get site.processes number ≡ Some spec) → length (ledger.deeds number) ≤ length (at number spec there).past
+      (number : ℕ) (spec : ProcessSpec) (there : slice_get site.processes number ≡ Some spec)
+      → length (ledger.deeds number) ≤ length (at number spec there).past
 
-  module _ (stuck : (number : ℕ) (spec : ProcessSpec) (there : slice_get site.processes number ≡ Some spec) → IsStuck number spec there) where
+  module _ (stuck : (number : ℕ) (spec : ProcessSpec) (there : slice_get site.processes number ≡ Some spec)
+      → IsStuck number spec there) where
     -- where a process has done just the deeds of a ledger, none of them is next
-    no-next : (ledger : Ledger) (number : ℕ) (spec : ProcessSpec) (there : slice_get site.processes number ≡ Some spec) {deed : Deed} {before after : Core}
-        → ((other : ℕ) → HasGrown (ledger.deeds other) (end.deeds other)) → AreWithin ledger → HasDone site number spec (ledger.deeds number) before
-        → Advances (openers_of site number) before deed after → IsAllowed site ledger number spec deed → HasGrown (deed ∷ ledger.deeds number) (end.deeds number)
+    no-next : (ledger : Ledger) (number : ℕ) (spec : ProcessSpec) (there : slice_get site.processes number ≡ Some spec)
+        {deed : Deed} {before after : Core}
+        → ((other : ℕ) → HasGrown (ledger.deeds other) (end.deeds other)) → AreWithin ledger
+        → HasDone site number spec (ledger.deeds number) before
+        → Advances (openers_of site number) before deed after → IsAllowed site ledger number spec deed
+        → HasGrown (deed ∷ ledger.deeds number) (end.deeds number)
         → length (at number spec there).past ≡ length (ledger.deeds number) → ⊥
-    no-next ledger number spec there {deed = deed} {before = before} grown within done advances allowed last level = by (stuck number spec there)
+    no-next ledger number spec there {deed = deed} {before = before} grown within done advances allowed last level =
+        by (stuck number spec there)
       where
         same : (at number spec there).past ≡ ledger.deeds number
-        same = grown-same (grown-between (grown number) (at number spec there).grown (within number spec there)) (omega (arith, level))
+        same = grown-same (grown-between (grown number) (at number spec there).grown (within number spec there))
+            (omega (arith, level))
 
         core_same : (at number spec there).core ≡ before
-        core_same = done-one (subst (λ deeds. HasDone site number spec deeds (at number spec there).core) same (at number spec there).done) done
+        core_same = done-one (subst (λ deeds. HasDone site number spec deeds (at number spec there).core) same
+            (at number spec there).done) done
 
         fewer : (opener : Opener) (server : ProcessSpec) (known : slice_get site.processes opener.server ≡ Some server)
-            → length (answered_of ledger opener) ≤ length (answered_to opener.place (at opener.server server known).past)
+            → length (answered_of ledger opener) ≤ length
+            (answered_to opener.place (at opener.server server known).past)
         fewer opener server known =
-            answered-grown opener.place (grown-between (grown opener.server) (at opener.server server known).grown (within opener.server server known))
+            answered-grown opener.place (grown-between (grown opener.server) (at opener.server server known).grown
+            (within opener.server server known))
 
-        got : {deed : Deed} {after : Core} → Advances (openers_of site number) before deed after → IsAllowed site ledger number spec deed
+        got : {deed : Deed} {after : Core} → Advances (openers_of site number) before deed after
+            → IsAllowed site ledger number spec deed
             → AwaitsMore number (ledger.deeds number) before → ⊥
         got (goes stands) allowed awaits = let at = awaits.0 in cc
         got (marks stands) allowed awaits = let at = awaits.0 in cc
@@ -101,18 +121,24 @@ module _ (site : Site) (regular : AreRegular site) (end : Ledger)
         got (gets {file = file} {words = words} stands named) (opener, opens, answered) awaits =
             let is = opener-is site (who.File number file) opener opens in
             let one : one_if (awaits_on before.state file) ≡ 1 = rw (stands, ← named, eq-eqb file file refl) refl in
-            let few = awaits.1 opener is.server is.named (subst (λ f. opener_of site (who.File number f) ≡ Some opener) named opens) in
-            let few_on : length (answered_to opener.place (at opener.server is.server is.named).past) < length (requests_on file (ledger.deeds number)) =
-            subst (λ f. length (answered_to opener.place (at opener.server is.server is.named).past) < length (requests_on f (ledger.deeds number))) (sym named) few in
+            let few = awaits.1 opener is.server is.named
+            (subst (λ f. opener_of site (who.File number f) ≡ Some opener) named opens) in
+            let few_on : length (answered_to opener.place (at opener.server is.server is.named).past)
+            < length (requests_on file (ledger.deeds number)) =
+            subst (λ f. length (answered_to opener.place (at opener.server is.server is.named).past)
+            < length (requests_on f (ledger.deeds number))) (sym named) few in
             let most = fewer opener is.server is.named in
-            let all : length (answered_of ledger opener) ≡ length (words ∷ replies_of ledger (who.File number file)) = ap length answered in
+            let all : length (answered_of ledger opener) ≡ length (words ∷ replies_of ledger (who.File number file)) =
+            ap length answered in
             let count = asked-count (regular number spec there) done file in
             omega (arith, few_on, most, all, count, one)
 
         by : IsStuck number spec there → ⊥
-        by (inl all) = omega (arith, ap length all, ap length last.1, length-append last.0 (deed ∷ ledger.deeds number), level)
+        by (inl all) =
+            omega (arith, ap length all, ap length last.1, length-append last.0 (deed ∷ ledger.deeds number), level)
         by (inr awaits) = got advances allowed
-            (subst (λ deeds. AwaitsMore number deeds before) same (subst (λ core. AwaitsMore number (at number spec there).past core) core_same awaits))
+            (subst (λ deeds. AwaitsMore number deeds before) same
+            (subst (λ core. AwaitsMore number (at number spec there).past core) core_same awaits))
 
     -- so all processes have done what any ledger has that came before the last
     pub caught : {acts : List Act} {shown : List Shown} {ledger : Ledger} → AreBooked site acts shown ledger
@@ -120,15 +146,19 @@ module _ (site : Site) (regular : AreRegular site) (end : Ledger)
     caught none_booked grown = λ number spec there. omega arith
     caught (entry_booked terminal opener words booked is even next) grown = caught booked grown
     caught (reply_booked terminal opener words booked is ready) grown = caught booked grown
-    caught (deed_booked {ledger = ledger} number spec deed before after booked there done advances allowed) grown = by (caught booked old)
+    caught (deed_booked {ledger = ledger} number spec deed before after booked there done advances allowed) grown =
+        by (caught booked old)
       where
         last : HasGrown (deed ∷ ledger.deeds number) (end.deeds number)
-        last = subst (λ deeds. HasGrown deeds (end.deeds number)) (changed-same number (deed ∷ ledger.deeds number) ledger.deeds) (grown number)
+        last = subst (λ deeds. HasGrown deeds (end.deeds number))
+            (changed-same number (deed ∷ ledger.deeds number) ledger.deeds) (grown number)
 
         old : (other : ℕ) → HasGrown (ledger.deeds other) (end.deeds other)
         old other = elim (eqb_tells number other) [
-          | inl t ↦ subst (λ k. HasGrown (ledger.deeds k) (end.deeds k)) t.1 (grown-both (grown-one deed (ledger.deeds number)) last)
-          | inr t ↦ subst (λ deeds. HasGrown deeds (end.deeds other)) (changed-other number other (deed ∷ ledger.deeds number) ledger.deeds t.1) (grown other)
+          | inl t ↦ subst (λ k. HasGrown (ledger.deeds k) (end.deeds k)) t.1
+              (grown-both (grown-one deed (ledger.deeds number)) last)
+          | inr t ↦ subst (λ deeds. HasGrown deeds (end.deeds other))
+              (changed-other number other (deed ∷ ledger.deeds number) ledger.deeds t.1) (grown other)
         ]
 
         by : AreWithin ledger → AreWithin (with_deed number deed ledger)
@@ -147,7 +177,8 @@ module _ (site : Site) (regular : AreRegular site) (end : Ledger)
                 elim (cases_lt (length (ledger.deeds number)) (length (at number one known).past)) [
                   | inl less ↦ omega (arith, size, less)
                   | inr most ↦ absurd (no-next ledger number one known old within
-                      (subst (λ (s : ProcessSpec). HasDone site number s (ledger.deeds number) before) same done) advances
+                      (subst (λ (s : ProcessSpec). HasDone site number s (ledger.deeds number) before) same done)
+                      advances
                       (subst (λ (s : ProcessSpec). IsAllowed site ledger number s deed) same allowed) last
                       (let under = within number one known in omega (arith, most, under)))
                 ]

@@ -1,5 +1,7 @@
--- The held acts after the kept ones, process after process: they are possible, show nothing, and leave each process as its copy that acts is.
-use Rattle.std.proofs.Common.{◌≡◌, ℕ, zero, suc, ◌+◌, ◌<◌, List, [], ◌∷◌, ◌++◌, length, reverse, Some, slice_get, refl, ap, sym, ◌∙◌, subst, arith, append_assoc, append-nil, length-append}
+-- The held acts after the kept ones, process after process: they are possible, show nothing, and leave each process as
+-- its copy that acts is.
+use Rattle.std.proofs.Common.{◌≡◌, ℕ, zero, suc, ◌+◌, ◌<◌, List, [], ◌∷◌, ◌++◌, length, reverse, Some, slice_get, refl}
+use Rattle.std.proofs.Common.{ap, sym, ◌∙◌, subst, arith, append_assoc, append-nil, length-append}
 use Rattle.std.proofs.lemmas.List.{reverse-append}
 use Rattle.std.specs.List.{flat_map}
 use Rattle.tal_tree.specs.declared.act.Act.{Act}
@@ -41,7 +43,8 @@ pub record HasClosed (site : Site) (ledger closed : Ledger) (number : ℕ) (copy
   pub count : length (closed.deeds number) ≡ length copy.held + length (ledger.deeds number)
 
 -- what the kept acts and the held ones of processes, from a number on, make
-pub record AreClosed (site : Site) (kept : List Act) (shown : List Shown) (ledger : Ledger) (from : ℕ) (pairs : List Pair) (who : Pair → Which) : Type 0 where
+pub record AreClosed (site : Site) (kept : List Act) (shown : List Shown) (ledger : Ledger) (from : ℕ)
+    (pairs : List Pair) (who : Pair → Which) : Type 0 where
   pub acts : List Act
   pub closed : Ledger
   pub booked : AreBooked site acts shown closed
@@ -49,13 +52,16 @@ pub record AreClosed (site : Site) (kept : List Act) (shown : List Shown) (ledge
   pub entered : closed.entered ≡ ledger.entered
   pub printed : closed.printed ≡ ledger.printed
   pub before : (number : ℕ) → number < from → closed.deeds number ≡ ledger.deeds number
-  pub each : (place : ℕ) (pair : Pair) → slice_get pairs place ≡ Some pair → HasClosed site ledger closed (from + place) (copy_of (who pair) pair)
+  pub each : (place : ℕ) (pair : Pair) → slice_get pairs place ≡ Some pair
+      → HasClosed site ledger closed (from + place) (copy_of (who pair) pair)
 
-held-order : (pair : Pair) (k : Which) → (copy_of (other_of k) pair).held ≡ [] → held_by pair ≡ reverse (copy_of k pair).held
+held-order : (pair : Pair) (k : Which) → (copy_of (other_of k) pair).held ≡ []
+    → held_by pair ≡ reverse (copy_of k pair).held
 held-order pair First free = rw free (append-nil (reverse pair.first.held))
 held-order pair Second free = rw free refl
 
-still-closes : {site : Site} {ledger more : Ledger} {number : ℕ} {pair : Pair} {k : Which} → IsLeft site ledger more number → CanClose site ledger number pair k
+still-closes : {site : Site} {ledger more : Ledger} {number : ℕ} {pair : Pair} {k : Which}
+    → IsLeft site ledger more number → CanClose site ledger number pair k
     → CanClose site more number pair k
 still-closes left can = record {
   spec = can.spec;
@@ -67,17 +73,21 @@ still-closes left can = record {
 }
 
 -- where the later ledger has just the held acts more
-closes-now : {site : Site} {ledger closed : Ledger} {number : ℕ} {pair : Pair} {k : Which} (can : CanClose site ledger number pair k)
+closes-now : {site : Site} {ledger closed : Ledger} {number : ℕ} {pair : Pair} {k : Which}
+    (can : CanClose site ledger number pair k)
     → closed.deeds number ≡ can.more ++ ledger.deeds number → HasClosed site ledger closed number (copy_of k pair)
 closes-now {ledger = ledger} {number = number} can same = record {
   spec = can.spec;
   there = can.there;
   done = rw same can.done;
-  sectors = ap (sectors_after can.spec.what) same ∙ idle-sectors can.spec.what can.more (ledger.deeds number) (held-idle can.held);
-  count = (let long = held-length can.held in let both = length-append can.more (ledger.deeds number) in omega (arith, ap length same, long, both));
+  sectors = ap (sectors_after can.spec.what) same
+      ∙ idle-sectors can.spec.what can.more (ledger.deeds number) (held-idle can.held);
+  count = (let long = held-length can.held in let both = length-append can.more (ledger.deeds number) in
+      omega (arith, ap length same, long, both));
 }
 
-closes-after : {site : Site} {ledger next closed : Ledger} {number : ℕ} {copy : Copy} → next.deeds number ≡ ledger.deeds number → HasClosed site next closed number copy
+closes-after : {site : Site} {ledger next closed : Ledger} {number : ℕ} {copy : Copy}
+    → next.deeds number ≡ ledger.deeds number → HasClosed site next closed number copy
     → HasClosed site ledger closed number copy
 closes-after {copy = copy} same has = record {
   spec = has.spec;
@@ -89,7 +99,8 @@ closes-after {copy = copy} same has = record {
 
 module _ (site : Site) (regular : AreRegular site) (shown : List Shown) (who : Pair → Which) where
   pub close : (from : ℕ) (pairs : List Pair) (kept : List Act) (ledger : Ledger) → AreBooked site kept shown ledger
-      → ((place : ℕ) (pair : Pair) → slice_get pairs place ≡ Some pair → CanClose site ledger (from + place) pair (who pair))
+      → ((place : ℕ) (pair : Pair) → slice_get pairs place ≡ Some pair
+      → CanClose site ledger (from + place) pair (who pair))
       → AreClosed site kept shown ledger from pairs who
   close from [] kept ledger booked can = record {
     acts = kept;
@@ -101,10 +112,12 @@ module _ (site : Site) (regular : AreRegular site) (shown : List Shown) (who : P
     before = λ number less. refl;
     each = λ place pair there. absurd (cc);
   }
-  close from (pair ∷ pairs) kept ledger booked can = by (close (from + 1) pairs ((copy_of (who pair) pair).held ++ kept) next settled.booked later)
+  close from (pair ∷ pairs) kept ledger booked can =
+      by (close (from + 1) pairs ((copy_of (who pair) pair).held ++ kept) next settled.booked later)
     where
       first : CanClose site ledger from pair (who pair)
-      first = let same : from + 0 ≡ from = omega arith in subst (λ n. CanClose site ledger n pair (who pair)) same (can 0 pair refl)
+      first = let same : from + 0 ≡ from =
+          omega arith in subst (λ n. CanClose site ledger n pair (who pair)) same (can 0 pair refl)
 
       next : Ledger
       next = with_deeds from first.more ledger
@@ -112,35 +125,42 @@ module _ (site : Site) (regular : AreRegular site) (shown : List Shown) (who : P
       settled : IsSettled site ((copy_of (who pair) pair).held ++ kept) shown ledger from first.more
       settled = settled-held site regular ledger from first.spec first.there booked first.held first.done
 
-      later : (place : ℕ) (other : Pair) → slice_get pairs place ≡ Some other → CanClose site next (from + 1 + place) other (who other)
+      later : (place : ℕ) (other : Pair) → slice_get pairs place ≡ Some other
+          → CanClose site next (from + 1 + place) other (who other)
       later place other there =
           let same : from + suc place ≡ from + 1 + place = omega arith in
           still-closes (settled.left (from + 1 + place) (λ e. absurd (omega (arith, e))))
           (subst (λ n. CanClose site ledger n other (who other)) same (can (suc place) other there))
 
-      by : AreClosed site ((copy_of (who pair) pair).held ++ kept) shown next (from + 1) pairs who → AreClosed site kept shown ledger from (pair ∷ pairs) who
+      by : AreClosed site ((copy_of (who pair) pair).held ++ kept) shown next (from + 1) pairs who
+          → AreClosed site kept shown ledger from (pair ∷ pairs) who
       by rest = record {
         acts = rest.acts;
         closed = rest.closed;
         booked = rest.booked;
         order = rest.order
             ∙ ap (λ acts. acts ++ flat_map held_by pairs)
-            (reverse-append (copy_of (who pair) pair).held kept ∙ ap (λ acts. reverse kept ++ acts) (sym (held-order pair (who pair) first.free)))
+            (reverse-append (copy_of (who pair) pair).held kept
+            ∙ ap (λ acts. reverse kept ++ acts) (sym (held-order pair (who pair) first.free)))
             ∙ append_assoc (reverse kept) (held_by pair) (flat_map held_by pairs);
         entered = rest.entered ∙ settled.entered;
         printed = rest.printed ∙ settled.printed;
-        before = λ number less. rest.before number (omega (arith, less)) ∙ (settled.left number (λ e. absurd (omega (arith, e, less)))).deeds;
+        before = λ number less. rest.before number (omega (arith, less))
+            ∙ (settled.left number (λ e. absurd (omega (arith, e, less)))).deeds;
         each = each;
       }
         where
-          each : (place : ℕ) (other : Pair) → slice_get (pair ∷ pairs) place ≡ Some other → HasClosed site ledger rest.closed (from + place) (copy_of (who other) other)
+          each : (place : ℕ) (other : Pair) → slice_get (pair ∷ pairs) place ≡ Some other
+              → HasClosed site ledger rest.closed (from + place) (copy_of (who other) other)
           each zero other there =
               let same : pair ≡ other = some-same there in
               let here : from ≡ from + 0 = omega arith in
-              let deeds : rest.closed.deeds from ≡ first.more ++ ledger.deeds from = rest.before from (omega arith) ∙ deeds-same from first.more ledger in
+              let deeds : rest.closed.deeds from ≡ first.more ++ ledger.deeds from =
+              rest.before from (omega arith) ∙ deeds-same from first.more ledger in
               subst (λ p. HasClosed site ledger rest.closed (from + 0) (copy_of (who p) p)) same
               (subst (λ n. HasClosed site ledger rest.closed n (copy_of (who pair) pair)) here (closes-now first deeds))
           each (suc place) other there =
               let same : from + 1 + place ≡ from + suc place = omega arith in
               subst (λ n. HasClosed site ledger rest.closed n (copy_of (who other) other)) same
-              (closes-after (settled.left (from + 1 + place) (λ e. absurd (omega (arith, e)))).deeds (rest.each place other there))
+              (closes-after (settled.left (from + 1 + place) (λ e. absurd (omega (arith, e)))).deeds
+              (rest.each place other there))

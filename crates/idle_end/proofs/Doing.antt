@@ -1,4 +1,5 @@
--- What copies that act can do at an idle end: nothing but take a request or get a reply, and so only what others bring them.
+-- What copies that act can do at an idle end: nothing but take a request or get a reply, and so only what others bring
+-- them.
 use Rattle.std.proofs.Common.{◌≡◌, inl, inr, ℕ, ◌||◌, Bool, true, false, Some, slice_get, refl}
 use Rattle.std.proofs.lemmas.Bool.{cases_lt}
 use Rattle.gd_words.specs.declared.device.DeviceCall.{DeviceCall}
@@ -27,16 +28,20 @@ TakesIn (Got file words) = Unit {0}
 TakesIn _ = ⊥
 
 module _ {site : Site} {events : ℕ} {post : Post} (end : IsEnd site events post) where
-  marks-none : (number : ℕ) (pair : Pair) (k : Which) → slice_get post.world.processes number ≡ Some pair → (copy_of k pair).role ≡ Acting
+  marks-none : (number : ℕ) (pair : Pair) (k : Which) → slice_get post.world.processes number ≡ Some pair
+      → (copy_of k pair).role ≡ Acting
       → process.point (copy_of k pair).core.state ≡ point.AtCheckpoint → ⊥
-  marks-none number pair k there role at = by (has_noted post.world.marks (copy_of k pair).processor (copy_of (other_of k) pair).processor) refl
+  marks-none number pair k there role at =
+      by (has_noted post.world.marks (copy_of k pair).processor (copy_of (other_of k) pair).processor) refl
     where
       or-else : (one : Bool) {other : Bool} → other ≡ true → (one || other) ≡ true
       or-else true is = refl
       or-else false is = is
 
-      by : (marked : Bool) → has_noted post.world.marks (copy_of k pair).processor (copy_of (other_of k) pair).processor ≡ marked → ⊥
-      by false is = end.idle.runs number _ _ (by_checkpoint number pair there (by_send k role at (end.idle.waits number pair k there role) is))
+      by : (marked : Bool) → has_noted post.world.marks (copy_of k pair).processor
+          (copy_of (other_of k) pair).processor ≡ marked → ⊥
+      by false is = end.idle.runs number _ _ (by_checkpoint number pair there
+          (by_send k role at (end.idle.waits number pair k there role) is))
       by true is =
           let may : may_pass post.world.marks k pair ≡ true = or-else (copy_of k pair).acknowledged is in
           elim (cases_lt (copy_of k pair).position (own_acts number post.world.kept)) [
@@ -44,28 +49,36 @@ module _ {site : Site} {events : ℕ} {post : Post} (end : IsEnd site events pos
             | inr most ↦ end.idle.runs number _ _ (by_checkpoint number pair there (by_pass k role at may most))
           ]
 
-  calls-none : (number : ℕ) (pair : Pair) (k : Which) → slice_get post.world.processes number ≡ Some pair → (copy_of k pair).role ≡ Acting
-      → process.point (copy_of k pair).core.state ≡ point.Device → (asked : DeviceCall) → asked ≡ process.call_of (copy_of k pair).core.state
+  calls-none : (number : ℕ) (pair : Pair) (k : Which) → slice_get post.world.processes number ≡ Some pair
+      → (copy_of k pair).role ≡ Acting
+      → process.point (copy_of k pair).core.state ≡ point.Device → (asked : DeviceCall)
+      → asked ≡ process.call_of (copy_of k pair).core.state
       → (new : Bool) → is_new_write pair.sectors asked ≡ new → ⊥
   calls-none number pair k there role at asked same false is =
-      end.idle.runs number _ _ (by_own number k pair there role (by_device is) (acts at same) (enters-as number (Step number) post.world.kept (copy_of k pair)))
+      end.idle.runs number _ _ (by_own number k pair there role (by_device is) (acts at same)
+      (enters-as number (Step number) post.world.kept (copy_of k pair)))
   calls-none number pair k there role at (call.Write sector words write) same true is =
-      end.idle.runs number _ _ (by_own number k pair there role (by_write is) (acts at same) (enters-as number (Step number) post.world.kept (copy_of k pair)))
+      end.idle.runs number _ _ (by_own number k pair there role (by_write is) (acts at same)
+      (enters-as number (Step number) post.world.kept (copy_of k pair)))
   calls-none number pair k there role at call.Nothing same true is = cc
   calls-none number pair k there role at (call.Read sector) same true is = cc
 
   -- a copy that acts can do nothing but take something in
-  pub takes-in : (number : ℕ) (pair : Pair) (k : Which) {deed : Deed} {next : Core} → slice_get post.world.processes number ≡ Some pair → (copy_of k pair).role ≡ Acting
+  pub takes-in : (number : ℕ) (pair : Pair) (k : Which) {deed : Deed} {next : Core}
+      → slice_get post.world.processes number ≡ Some pair → (copy_of k pair).role ≡ Acting
       → Advances (openers_of site number) (copy_of k pair).core deed next → TakesIn deed
   takes-in number pair k there role (goes at) =
-      absurd (end.idle.runs number _ _ (by_own number k pair there role by_inner (goes at) (enters-as number (Step number) post.world.kept (copy_of k pair))))
+      absurd (end.idle.runs number _ _ (by_own number k pair there role by_inner (goes at)
+      (enters-as number (Step number) post.world.kept (copy_of k pair))))
   takes-in number pair k there role (marks at) = absurd (marks-none number pair k there role at)
   takes-in number pair k there role (takes block at known) = tt
   takes-in number pair k there role (asks at named said) =
-      absurd (end.idle.runs number _ _ (by_own number k pair there role by_ask (asks at named said) (enters-as number (Step number) post.world.kept (copy_of k pair))))
+      absurd (end.idle.runs number _ _ (by_own number k pair there role by_ask (asks at named said)
+      (enters-as number (Step number) post.world.kept (copy_of k pair))))
   takes-in number pair k there role (gets at named) = tt
   takes-in number pair k there role (answers opener block at hand known placed said) =
-      absurd (end.idle.runs number _ _ (by_own number k pair there role (by_answer placed) (answers opener block at hand known placed said)
+      absurd (end.idle.runs number _ _ (by_own number k pair there role (by_answer placed)
+      (answers opener block at hand known placed said)
       (enters-as number (Step number) post.world.kept (copy_of k pair))))
   takes-in number pair k there role (acts {call = asked} at same) =
       absurd (calls-none number pair k there role at asked same (is_new_write pair.sectors asked) refl)

@@ -1,5 +1,6 @@
 -- An idle end: each process has a copy that acts, and each node that runs sends what is for the process to it.
-use Rattle.std.proofs.Common.{◌≡◌, ◌≢◌, ◌<◌, ◌≤◌, ℕ, Bool, true, false, if◌then◌else◌, List, length, get_or, Some, slice_get, refl, ap, sym, arith}
+use Rattle.std.proofs.Common.{◌≡◌, ◌≢◌, ◌<◌, ◌≤◌, ℕ, Bool, true, false, if◌then◌else◌, List, length, get_or, Some}
+use Rattle.std.proofs.Common.{slice_get, refl, ap, sym, arith}
 use Rattle.std.proofs.lemmas.Option.{slice_get_past, slice_get-get_or}
 use Rattle.tal_tree.specs.declared.site.Site.{Site}
 use Rattle.tal_tree.specs.declared.site.Who.{Who}
@@ -32,7 +33,8 @@ pub record IsEnd (site : Site) (events : ℕ) (post : Post) : Type 0 where
 
 -- Nodes
 
-runs-there : (stopped : List Bool) (node : ℕ) → node < length stopped → (slice_get stopped node ≡ Some true → ⊥) → is_running stopped node ≡ true
+runs-there : (stopped : List Bool) (node : ℕ) → node < length stopped → (slice_get stopped node ≡ Some true → ⊥)
+    → is_running stopped node ≡ true
 runs-there stopped node within running = by (get_or stopped node true) (slice_get-get_or stopped node true within)
   where
     by : (down : Bool) → slice_get stopped node ≡ Some down → is_running stopped node ≡ true
@@ -55,36 +57,45 @@ abbrev pub who_acts : Pair → Which
 who_acts pair = acting_by pair.first.role
 
 module _ {site : Site} {events : ℕ} {post : Post} (end : IsEnd site events post) where
-  pub copy-runs : (number : ℕ) (pair : Pair) (k : Which) → slice_get post.world.processes number ≡ Some pair → (copy_of k pair).role ≢ Gone
+  pub copy-runs : (number : ℕ) (pair : Pair) (k : Which) → slice_get post.world.processes number ≡ Some pair
+      → (copy_of k pair).role ≢ Gone
       → is_running post.world.stopped (copy_of k pair).processor ≡ true
   copy-runs number pair k there stays =
-      runs-there post.world.stopped (copy_of k pair).processor (by k) (λ down. stays ((gone-is post.world.stopped pair (end.good.roles number pair there) k).1 down))
+      runs-there post.world.stopped (copy_of k pair).processor (by k)
+      (λ down. stays ((gone-is post.world.stopped pair (end.good.roles number pair there) k).1 down))
     where
       by : (k : Which) → (copy_of k pair).processor < length post.world.stopped
       by First = (end.seated.pairs number pair there).first
       by Second = (end.seated.pairs number pair there).second
 
-  pub acts-runs : (number : ℕ) (pair : Pair) (k : Which) → slice_get post.world.processes number ≡ Some pair → (copy_of k pair).role ≡ Acting
+  pub acts-runs : (number : ℕ) (pair : Pair) (k : Which) → slice_get post.world.processes number ≡ Some pair
+      → (copy_of k pair).role ≡ Acting
       → is_running post.world.stopped (copy_of k pair).processor ≡ true
   acts-runs number pair k there acting = copy-runs number pair k there (λ gone. absurd (cc))
 
   -- each process has a copy that acts: one that watches where the other one is gone would have taken over
-  pub acting : (number : ℕ) (pair : Pair) → slice_get post.world.processes number ≡ Some pair → (copy_of (who_acts pair) pair).role ≡ Acting
+  pub acting : (number : ℕ) (pair : Pair) → slice_get post.world.processes number ≡ Some pair
+      → (copy_of (who_acts pair) pair).role ≡ Acting
   acting number pair there = by pair.first.role refl pair.second.role refl
     where
-      by : (one : Role) → pair.first.role ≡ one → (two : Role) → pair.second.role ≡ two → (copy_of (acting_by one) pair).role ≡ Acting
+      by : (one : Role) → pair.first.role ≡ one → (two : Role) → pair.second.role ≡ two
+          → (copy_of (acting_by one) pair).role ≡ Acting
       by Acting is two other = is
       by Watching is two other = absurd ((end.good.roles number pair there).first_leads is)
       by Gone is Acting other = other
       by Gone is Gone other = let roles = end.good.roles number pair there in
-          absurd ((end.seated.pairs number pair there).apart (end.one_stops pair.first.processor pair.second.processor (roles.first_lost is) (roles.second_lost other)))
+          absurd ((end.seated.pairs number pair there).apart
+          (end.one_stops pair.first.processor pair.second.processor (roles.first_lost is)
+          (roles.second_lost other)))
       by Gone is Watching other =
           let runs = copy-runs number pair Second there (λ gone. absurd (cc)) in
-          let marked = end.idle.marked pair.second.processor pair.first.processor runs ((end.good.roles number pair there).first_lost is) in
+          let marked = end.idle.marked pair.second.processor pair.first.processor runs
+          ((end.good.roles number pair there).first_lost is) in
           let unmarked = (end.seated.pairs number pair there).unmarked other in absurd (cc)
 
   -- and no other one
-  pub only-acts : (number : ℕ) (pair : Pair) (k : Which) → slice_get post.world.processes number ≡ Some pair → (copy_of k pair).role ≡ Acting → k ≡ who_acts pair
+  pub only-acts : (number : ℕ) (pair : Pair) (k : Which) → slice_get post.world.processes number ≡ Some pair
+      → (copy_of k pair).role ≡ Acting → k ≡ who_acts pair
   only-acts number pair First there acts = sym (ap acting_by acts)
   only-acts number pair Second there acts = by pair.first.role refl
     where
@@ -96,7 +107,8 @@ module _ {site : Site} {events : ℕ} {post : Post} (end : IsEnd site events pos
   -- Routes
 
   -- the route of a node that runs leads to the copy that acts
-  pub route-acts : (node number : ℕ) (pair : Pair) (k : Which) → is_running post.world.stopped node ≡ true → slice_get post.world.processes number ≡ Some pair
+  pub route-acts : (node number : ℕ) (pair : Pair) (k : Which) → is_running post.world.stopped node ≡ true
+      → slice_get post.world.processes number ≡ Some pair
       → (copy_of k pair).role ≡ Acting → route_of post.world.marks node pair ≡ (copy_of k pair).processor
   route-acts node number pair First runs there acts = by (has_noted post.world.marks node pair.first.processor) refl
     where
@@ -104,19 +116,25 @@ module _ {site : Site} {events : ℕ} {post : Post} (end : IsEnd site events pos
           → (if marked then pair.second.processor else pair.first.processor) ≡ pair.first.processor
       by false is = refl
       by true is =
-          let gone = (end.good.roles number pair there).first_gone (marked-down post.world.stopped post.world.marks node pair.first.processor end.good.stopped is) in absurd (cc)
+          let gone = (end.good.roles number pair there).first_gone
+          (marked-down post.world.stopped post.world.marks node pair.first.processor end.good.stopped is) in
+          absurd (cc)
   route-acts node number pair Second runs there acts =
       rw (end.idle.marked node pair.first.processor runs ((end.good.roles number pair there).second_alone acts)) refl
 
   -- Who awaits a reply
 
-  pub asker-runs : {asker : ℕ} {one : Who} {n : ℕ} → IsAwaited site post.world asker one n → is_running post.world.stopped asker ≡ true
+  pub asker-runs : {asker : ℕ} {one : Who} {n : ℕ} → IsAwaited site post.world asker one n
+      → is_running post.world.stopped asker ≡ true
   asker-runs (by_copy {number = number} pair k there acts at file next) = acts-runs number pair k there acts
   asker-runs (by_terminal terminal there waits) =
-      let count = end.seated.processors in let few = end.laid_out.few in terminals-run post.world.stopped (omega (arith, count, few))
+      let count = end.seated.processors in let few =
+      end.laid_out.few in terminals-run post.world.stopped (omega (arith, count, few))
 
   -- a node that runs finds it where it is
-  pub asker-found : {asker : ℕ} {one : Who} {n : ℕ} (node : ℕ) → is_running post.world.stopped node ≡ true → IsAwaited site post.world asker one n
+  pub asker-found : {asker : ℕ} {one : Who} {n : ℕ} (node : ℕ) → is_running post.world.stopped node ≡ true
+      → IsAwaited site post.world asker one n
       → home_of post.world node one ≡ Some asker
-  asker-found node runs (by_copy {number = number} pair k there acts at file next) = rw there (ap Some (route-acts node number pair k runs there acts))
+  asker-found node runs (by_copy {number = number} pair k there acts at file next) =
+      rw there (ap Some (route-acts node number pair k runs there acts))
   asker-found node runs (by_terminal terminal there waits) = refl

@@ -15,12 +15,17 @@ use Rattle.idle_end.specs.Ends.{IsIdleEnd}
 use Rattle.idle_end.proofs.Ends.{IsEnd}
 use Rattle.idle_end.proofs.Resting.{caught-up}
 
-pub end-of : {site : Site} {events : List Event} {post : Post} → IsIdleEnd site events post → IsEnd site (length events) post
+pub end-of : {site : Site} {events : List Event} {post : Post} → IsIdleEnd site events post
+    → IsEnd site (length events) post
 end-of {site = site} {events = events} {post = post} end = record {
   fit = end.fit;
   laid_out = end.laid_out;
   few = end.few;
-  good = record { roles = run-roles end.run; stopped = run-marks end.run; invariant = run-keeps site end.fit events post.world end.few end.run };
+  good = record {
+    roles = run-roles end.run;
+    stopped = run-marks end.run;
+    invariant = run-keeps site end.fit events post.world end.few end.run;
+  };
   one_stops = end.one_stops;
   seated = run-seats site events post.world end.laid_out end.run;
   served = end.served;
@@ -28,6 +33,9 @@ end-of {site = site} {events = events} {post = post} end = record {
 }
 
 -- so each copy that acts has done as many acts as are kept of its process
-pub done-kept : {site : Site} {events : List Event} {post : Post} (end : IsIdleEnd site events post) (number : ℕ) (pair : Pair) (k : Which)
-    → slice_get post.world.processes number ≡ Some pair → (copy_of k pair).role ≡ Acting → (copy_of k pair).position ≡ own_acts number post.world.kept
-done-kept end number pair k there role = caught-up (end-of end) number pair k there role ∙ sym (booked-count (end-of end).good.invariant.booked number)
+pub done-kept : {site : Site} {events : List Event} {post : Post} (end : IsIdleEnd site events post) (number : ℕ)
+    (pair : Pair) (k : Which)
+    → slice_get post.world.processes number ≡ Some pair → (copy_of k pair).role ≡ Acting
+    → (copy_of k pair).position ≡ own_acts number post.world.kept
+done-kept end number pair k there role =
+    caught-up (end-of end) number pair k there role ∙ sym (booked-count (end-of end).good.invariant.booked number)

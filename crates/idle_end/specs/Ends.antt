@@ -11,7 +11,8 @@ use Rattle.letters.specs.Posts.{Post}
 use Rattle.awaited_requests.specs.Seats.{IsLaidOut}
 use Rattle.awaited_requests.specs.Served.{AreServed}
 
--- a run of a fit site that is laid out has come to a post that is idle, at which every awaited request is served and at most one processor has stopped
+-- a run of a fit site that is laid out has come to a post that is idle, at which every awaited request is served and at
+-- most one processor has stopped
 pub record IsIdleEnd (site : Site) (events : List Event) (post : Post) : Type 0 where
   pub fit : IsFit site
   pub laid_out : IsLaidOut site

@@ -1,4 +1,5 @@
--- Worked examples: a disc that nobody asks, a request that was lost on its way to its disc, and one that two copies hold.
+-- Worked examples: a disc that nobody asks, a request that was lost on its way to its disc, and one that two copies
+-- hold.
 use Rattle.std.specs.Prelude.{List, [], ◌∷◌}
 use Rattle.tal_tree.specs.declared.act.Act.{Act}
 use Rattle.tal_tree.specs.declared.act.Act.TheVariants.{Take, Enter}

@@ -16,7 +16,8 @@ pub fn a_quiet_site_is_at_an_idle_end()
     ensures asked { (events : List Event) → IsIdleEnd disc_site events (post_at_boot disc_site) → ⊥ }
 {}
 
-/// To be idle isn't enough: where a request was lost there is nothing left to do, but its take is left on the machine of single processes.
+/// To be idle isn't enough: where a request was lost there is nothing left to do, but its take is left on the machine
+/// of single processes.
 pub fn a_lost_request_leaves_a_take()
     ensures idle { IsIdle disc_site lost }
     ensures left { IsNoneLeft disc_site (closed lost.world) → ⊥ }
@@ -25,8 +26,10 @@ pub fn a_lost_request_leaves_a_take()
 /// A process is as its copy where both have one state, and its sectors have the words that stand there.
 pub fn processes_are_told_apart()
     ensures beginning { IsAsCopy (process_at_first disc_site 0 disc) disc_pair.first disc_pair }
-    ensures state { IsAsCopy (record (process_at_first disc_site 0 disc) { state = after_one.state }) disc_pair.first disc_pair → ⊥ }
-    ensures sectors { IsAsCopy (record (process_at_first disc_site 0 disc) { sectors = [] }) disc_pair.first disc_pair → ⊥ }
+    ensures state { IsAsCopy (record (process_at_first disc_site 0 disc) { state = after_one.state }) disc_pair.first
+        disc_pair → ⊥ }
+    ensures sectors { IsAsCopy (record (process_at_first disc_site 0 disc) { sectors = [] }) disc_pair.first disc_pair
+        → ⊥ }
 {}
 
 /// What a lost copy held can't follow the kept acts beside what the copy that took over holds, so it has to be dropped.

@@ -11,7 +11,8 @@ use Rattle.accepted_sites.specs.Premises.{IsAcceptedSite}
 use Rattle.idle_end.specs.Ends.{IsIdleEnd}
 use Rattle.idle_laws.proofs.Sound.{played-sound}
 
-pub played-ends : (site : Site) (events : List Event) (post : Post) → IsAcceptedSite site → IsLaidOut site → length events < 4294967295
+pub played-ends : (site : Site) (events : List Event) (post : Post) → IsAcceptedSite site → IsLaidOut site
+    → length events < 4294967295
     → HasPlayed site events post → OneStops post.world → IsIdle site post → IsIdleEnd site events post
 played-ends site events post accepted out few played one_stops idle = record {
   fit = accepted-fit site accepted;

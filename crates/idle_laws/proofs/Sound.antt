@@ -18,7 +18,8 @@ use Rattle.letter_laws.specs.Known.{IsKnown}
 use Rattle.letter_laws.proofs.Known.{known-begins, known-plays}
 use Rattle.served_requests.proofs.Played.{served-begins, plays-served}
 
--- a post is sound: its world keeps the invariant, copies are seated, and all is known of its letters by which every awaited request is served
+-- a post is sound: its world keeps the invariant, copies are seated, and all is known of its letters by which every
+-- awaited request is served
 pub record IsSoundPost (site : Site) (events : ℕ) (post : Post) : Type 0 where
   pub good : IsGood site events post.world
   pub seated : AreSeated site post.world
@@ -27,14 +28,21 @@ pub record IsSoundPost (site : Site) (events : ℕ) (post : Post) : Type 0 where
 
 -- where at most one processor has stopped, no more had before
 one-before : {before after : World} → Grows before after → OneStops after → OneStops before
-one-before grows one_stops one other first second = one_stops one other (grows.stopped one first) (grows.stopped other second)
+one-before grows one_stops one other first second =
+    one_stops one other (grows.stopped one first) (grows.stopped other second)
 
 module _ (site : Site) (fit : IsFit site) (out : IsLaidOut site) where
-  played-good : {events : List Event} {post : Post} → length events < 4294967296 → HasPlayed site events post → IsGood site (length events) post.world
+  played-good : {events : List Event} {post : Post} → length events < 4294967296 → HasPlayed site events post
+      → IsGood site (length events) post.world
   played-good {events = events} {post = post} few played =
-      let run = played-run played in record { roles = run-roles run; stopped = run-marks run; invariant = run-keeps site fit events post.world few run }
+      let run = played-run played in record {
+        roles = run-roles run;
+        stopped = run-marks run;
+        invariant = run-keeps site fit events post.world few run;
+      }
 
-  pub played-sound : {events : List Event} {post : Post} → length events < 4294967295 → OneStops post.world → HasPlayed site events post
+  pub played-sound : {events : List Event} {post : Post} → length events < 4294967295 → OneStops post.world
+      → HasPlayed site events post
       → IsSoundPost site (length events) post
   played-sound few one_stops played_none = record {
     good = played-good (omega (arith, few)) played_none;
@@ -44,10 +52,13 @@ module _ (site : Site) (fit : IsFit site) (out : IsLaidOut site) where
   }
   played-sound few one_stops (played_more {event = event} {events = events} {post = post} {next = next} played plays) =
       let count : length (events ++ event ∷ []) ≡ length events + 1 = length-append events (event ∷ []) in
-      let was = played-sound (omega (arith, few, count)) (one-before (follows-keeps (growth site) (plays-permits plays).1) one_stops) played in
+      let was = played-sound (omega (arith, few, count))
+      (one-before (follows-keeps (growth site) (plays-permits plays).1) one_stops) played in
       record {
         good = played-good (omega (arith, few)) (played_more played plays);
         seated = run-seats site (events ++ event ∷ []) next.world out (played-run (played_more played plays));
-        known = known-plays site fit (length events) post next event (omega (arith, few, count)) was.good was.seated one_stops was.known plays;
-        served = plays-served site fit out (length events) post next event (omega (arith, few, count)) was.good was.seated one_stops was.known was.served plays;
+        known = known-plays site fit (length events) post next event (omega (arith, few, count)) was.good was.seated
+            one_stops was.known plays;
+        served = plays-served site fit out (length events) post next event (omega (arith, few, count)) was.good
+            was.seated one_stops was.known was.served plays;
       }

@@ -8,13 +8,16 @@ ghost use Rattle.awaited_requests.specs.Examples.{site_with};
 ghost use Rattle.awaited_requests.specs.Seats.{IsLaidOut};
 ghost use Rattle.accepted_sites.specs.Premises.{IsAcceptedSite};
 
-/// The site of a disc is accepted, and laid out where both of its processors are there. Where both stop, the request that its terminal entered stays with
-/// nobody: nothing is left to do, but its take is left on the machine of single processes. So it is where one stops and the other one isn't there.
+/// The site of a disc is accepted, and laid out where both of its processors are there. Where both stop, the request
+/// that its terminal entered stays with nobody: nothing is left to do, but its take is left on the machine of single
+/// processes. So it is where one stops and the other one isn't there.
 pub fn a_request_may_stay_with_nobody()
     ensures accepted { (processors : ℕ) → IsAcceptedSite (site_with processors 0 1) }
     ensures laid_out { IsLaidOut (site_with 2 0 1) }
-    ensures two_stop { (post : Post) × HasPlayed (site_with 2 0 1) (Enter 0 ∷ Fail 0 ∷ Fail 1 ∷ Tick 16 ∷ []) post × IsIdle (site_with 2 0 1) post
+    ensures two_stop { (post : Post) × HasPlayed (site_with 2 0 1) (Enter 0 ∷ Fail 0 ∷ Fail 1 ∷ Tick 16 ∷ []) post
+        × IsIdle (site_with 2 0 1) post
         × (IsNoneLeft (site_with 2 0 1) (closed post.world) → ⊥) }
-    ensures one_is_there { (post : Post) × HasPlayed (site_with 1 0 1) (Enter 0 ∷ Fail 0 ∷ Tick 16 ∷ []) post × IsIdle (site_with 1 0 1) post × OneStops post.world
+    ensures one_is_there { (post : Post) × HasPlayed (site_with 1 0 1) (Enter 0 ∷ Fail 0 ∷ Tick 16 ∷ []) post
+        × IsIdle (site_with 1 0 1) post × OneStops post.world
         × (IsNoneLeft (site_with 1 0 1) (closed post.world) → ⊥) }
 {}

@@ -13,7 +13,8 @@ closes-one kept pair =
     ∙ ap (λ (acts : List Act). acts ++ reverse pair.second.held) (reverse-append pair.first.held kept)
     ∙ grind (arith, append_assoc)
 
-pub closes-all : (kept : List Act) (pairs : List Pair) → reverse (closed_by_all kept pairs) ≡ reverse kept ++ flat_map held_by pairs
+pub closes-all : (kept : List Act) (pairs : List Pair)
+    → reverse (closed_by_all kept pairs) ≡ reverse kept ++ flat_map held_by pairs
 closes-all kept [] = sym (append-nil (reverse kept))
 closes-all kept (pair ∷ pairs) =
     closes-all (closed_by kept pair) pairs

@@ -1,4 +1,5 @@
--- A table beside the kept acts, from which it is told without a walk how many of them are each process's own. An act names a process by a number below 256.
+-- A table beside the kept acts, from which it is told without a walk how many of them are each process's own. An act
+-- names a process by a number below 256.
 use Rattle.std.specs.Prelude.{◌≡◌, ◌<◌, ℕ, List, slice_get, Some, Option, None}
 use Rattle.tal_tree.specs.declared.act.Act.{Act}
 use Rattle.tal_tree.specs.declared.act.Act.TheVariants.{Step, Take, Enter, Print}

@@ -2,18 +2,21 @@ ghost use Rattle.std.specs.Prelude.{◌≡◌, ◌<◌, ◌≤◌, ℕ, ◌+◌,
 ghost use Rattle.tal_tree.specs.declared.act.Act.{Act};
 ghost use Rattle.tal_tree.specs.declared.act.Act.TheVariants.{Enter, Step, Take};
 ghost use Rattle.world_semantics.specs.Kept.{own_acts};
-ghost use Rattle.world_semantics.specs.Shares.{Share, covered_count, share_after_cover, share_after_act, share_after_pass, share_from};
+ghost use Rattle.world_semantics.specs.Shares.{Share, covered_count, share_after_cover, share_after_act};
+ghost use Rattle.world_semantics.specs.Shares.{share_after_pass, share_from};
 
 /// What a copy does anew that holds nothing adds nothing, whatever act it is: the copy only comes one further.
 pub fn what_is_done_anew_adds_nothing()
     ensures { (number position : ℕ) (act : Act) (kept : List Act) → position < own_acts number kept
-        → share_after_act number act kept (share_from position) ≡ record { share = share_from (position + 1); kept = kept } }
+        → share_after_act number act kept (share_from position)
+        ≡ record { share = share_from (position + 1); kept = kept } }
 {}
 
 /// At the end of the kept acts a step is kept, and a take is held, with all that is done behind it.
 pub fn a_take_is_held_until_the_next_checkpoint()
     ensures step { (number process position : ℕ) (kept : List Act) → own_acts number kept ≤ position
-        → share_after_act number (Step process) kept (share_from position) ≡ record { share = share_from (position + 1); kept = Step process ∷ kept } }
+        → share_after_act number (Step process) kept (share_from position)
+        ≡ record { share = share_from (position + 1); kept = Step process ∷ kept } }
     ensures take { (number process opener position : ℕ) (kept : List Act) → own_acts number kept ≤ position
         → share_after_act number (Take process opener) kept (share_from position)
         ≡ record { share = record { position = position; held = Take process opener ∷ [] }; kept = kept } }
@@ -30,12 +33,16 @@ pub fn a_mark_is_kept_once()
         ≡ record { share = share_from 2; kept = Step 1 ∷ Step 1 ∷ Enter 0 ∷ [] } }
 {}
 
-/// After a checkpoint was applied, it and all before it are kept. The copy that sent it does the checkpoint anew when it passes it.
+/// After a checkpoint was applied, it and all before it are kept. The copy that sent it does the checkpoint anew when
+/// it passes it.
 pub fn a_checkpoint_keeps_its_mark()
     ensures held { share_after_cover 1 (Step 1 ∷ Step 2 ∷ []) (record { position = 1; held = Take 1 0 ∷ [] })
         ≡ record { share = share_from 2; kept = Step 1 ∷ Take 1 0 ∷ Step 1 ∷ Step 2 ∷ [] } }
     ensures base { covered_count 1 (Step 1 ∷ Step 2 ∷ []) (record { position = 1; held = Take 1 0 ∷ [] }) ≡ 3 }
     ensures passed { (number : ℕ) (kept : List Act) (share : Share)
         → share_after_pass number (share_after_cover number kept share).kept (share_after_cover number kept share).share
-        ≡ record { share = share_from (covered_count number kept share); kept = (share_after_cover number kept share).kept } }
+        ≡ record {
+          share = share_from (covered_count number kept share);
+          kept = (share_after_cover number kept share).kept;
+        } }
 {}

@@ -5,18 +5,22 @@ ghost use Rattle.world_semantics.specs.Core.{Core};
 ghost use Rattle.world_semantics.specs.World.{Copy, World, copy_at_boot};
 ghost use Rattle.world_semantics.specs.Kept.{closed};
 ghost use Rattle.world_semantics.specs.Rules.{taken_over};
-ghost use Rattle.world_semantics.specs.Shares.{Share, closed_by_all, covered_count, share_after_cover, share_from, share_of, with_share};
+ghost use Rattle.world_semantics.specs.Shares.{Share, closed_by_all, covered_count, share_after_cover, share_from};
+ghost use Rattle.world_semantics.specs.Shares.{share_of, with_share};
 
-/// A copy of the world of copies has a share, which is its position and its held acts: at the beginning it has done nothing.
+/// A copy of the world of copies has a share, which is its position and its held acts: at the beginning it has done
+/// nothing.
 pub fn a_share_is_of_its_copy()
     ensures of { (share : Share) (copy : Copy) → share_of (with_share share copy) ≡ share }
     ensures same { (copy : Copy) → with_share (share_of copy) copy ≡ copy }
-    ensures boot { (role : Role) (processor : ℕ) (core : Core) → share_of (copy_at_boot role processor core) ≡ share_from 0 }
+    ensures boot { (role : Role) (processor : ℕ) (core : Core)
+        → share_of (copy_at_boot role processor core) ≡ share_from 0 }
 {}
 
 /// A copy that was covered stands right before its checkpoint.
 pub fn a_covered_copy_stands_before_its_mark()
-    ensures { (number : ℕ) (kept : List Act) (share : Share) → covered_count number kept share ≡ (share_after_cover number kept share).share.position + 1 }
+    ensures { (number : ℕ) (kept : List Act) (share : Share)
+        → covered_count number kept share ≡ (share_after_cover number kept share).share.position + 1 }
 {}
 
 /// A copy that took over goes on from the base, and holds nothing.

@@ -1,6 +1,7 @@
 ghost use Rattle.std.specs.Prelude.{◌≡◌, ◌<◌, ◌+◌, ◌^◌, reverse, IfOk, OnOk, OnErr};
 ghost use Rattle.gd_words.specs.Ranges.{HasNextLong};
-ghost use Rattle.world_semantics.specs.Shares.{share_at_close, covered_count, share_after_cover, share_after_act, share_without_held, share_after_pass, share_from};
+ghost use Rattle.world_semantics.specs.Shares.{share_at_close, covered_count, share_after_cover, share_after_act};
+ghost use Rattle.world_semantics.specs.Shares.{share_without_held, share_after_pass, share_from};
 
 use crate::kept::KeptActs;
 use gd_words::NoMemory;
@@ -9,8 +10,8 @@ use std::alloc::Global;
 use std::marker::Model;
 use tal_tree::Act;
 
-/// What a copy has to do with the kept acts: its position, which is how many of its process's kept acts it has done, and the acts that it
-/// did beyond them and holds back.
+/// What a copy has to do with the kept acts: its position, which is how many of its process's kept acts it has done,
+/// and the acts that it did beyond them and holds back.
 #[derive(Drop)]
 pub struct CopyShare {
     position: u64,
@@ -53,7 +54,8 @@ impl CopyShare {
         self.held.as_slice()
     }
 
-    /// An act of a copy of the process enters the kept acts, or is held, or was kept already. The copy's position has a number after it.
+    /// An act of a copy of the process enters the kept acts, or is held, or was kept already. The copy's position has a
+    /// number after it.
     pub fn enter(&mut self, process: u8, done: Act, kept: &mut KeptActs) -> Result<(), NoMemory>
         requires { HasNextLong self.old.position }
         ensures share { OnOk result (self.new ≡ (share_after_act process done kept.old self.old).share) }
@@ -84,7 +86,8 @@ impl CopyShare {
         }
     }
 
-    /// A copy of the process passes its checkpoint: which it did already, or which is kept now, with its held acts before it.
+    /// A copy of the process passes its checkpoint: which it did already, or which is kept now, with its held acts
+    /// before it.
     pub fn pass(&mut self, process: u8, kept: &mut KeptActs) -> Result<(), NoMemory>
         ensures share { OnOk result (self.new ≡ (share_after_pass process kept.old self.old).share) }
         ensures kept { OnOk result (kept.new ≡ (share_after_pass process kept.old self.old).kept) }
@@ -100,8 +103,8 @@ impl CopyShare {
         Ok(())
     }
 
-    /// The other copy of the process applied this copy's checkpoint. Answers the base: how many kept acts of the process the
-    /// checkpoint covers.
+    /// The other copy of the process applied this copy's checkpoint. Answers the base: how many kept acts of the
+    /// process the checkpoint covers.
     pub fn cover(&mut self, process: u8, kept: &mut KeptActs) -> Result<u64, NoMemory>
         ensures base { IfOk result (λ base. base ≡ covered_count process kept.old self.old) }
         ensures share { OnOk result (self.new ≡ (share_after_cover process kept.old self.old).share) }

@@ -1,4 +1,5 @@
--- A small world that the guards name: a bank that awaits a disc's reply, a user of the bank, and a terminal of each of both.
+-- A small world that the guards name: a bank that awaits a disc's reply, a user of the bank, and a terminal of each of
+-- both.
 use Rattle.std.specs.Prelude.{ℕ, ℤ, pos, true, false, List, [], ◌∷◌, codes, Option, None}
 use Rattle.gd_words.specs.declared.message.Request.{Request}
 use Rattle.tal_tree.specs.declared.expression.Expr.{Number}
@@ -39,7 +40,12 @@ asker_keeping server depth = record {
         body =
             record { number = 1; line = 1; what = what.CheckMonitor }
             ∷ record { number = 2; line = 2; what = what.Open 0 }
-            ∷ record { number = 3; line = 3; what = what.WriteRead 0 2 (Number (pos 1)) (Number (pos 1)) (variable.Simple 0) }
+            ∷ record {
+              number = 3;
+              line = 3;
+              what =
+                  what.WriteRead 0 2 (Number (pos 1)) (Number (pos 1)) (variable.Simple 0);
+            }
             ∷ [];
       }
       ∷ [];
@@ -71,9 +77,11 @@ site = record {
 
 -- the same site, where the bank keeps three replies of the user
 abbrev pub deeper_site : Site
-deeper_site = record site { processes = disc ∷ bank ∷ record user { what = kind.Pair (asker_keeping (codes "$BANK") 3) } ∷ [] }
+deeper_site =
+    record site { processes = disc ∷ bank ∷ record user { what = kind.Pair (asker_keeping (codes "$BANK") 3) } ∷ [] }
 
--- the bank where it awaits the reply to its first request. It keeps a reply to the first request of the user, and one to that of its terminal
+-- the bank where it awaits the reply to its first request. It keeps a reply to the first request of the user, and one
+-- to that of its terminal
 abbrev pub awaiting : Core
 awaiting = record {
   state = process.after_asked (process.after_inner (process.after_inner (process.start_of bank.what)));
@@ -95,7 +103,8 @@ bank_at node = record (pair_at_boot site 1 bank) { first = first_copy node }
 abbrev pub lost : Pair → Pair
 lost pair = record pair { first = record pair.first { role = Gone } }
 
--- the world in which processor 2 has stopped and no node has marked it, with the bank's first copy on this node. The disc's terminal awaits its reply
+-- the world in which processor 2 has stopped and no node has marked it, with the bank's first copy on this node. The
+-- disc's terminal awaits its reply
 abbrev pub world_at : ℕ → World
 world_at node = record {
   stopped = false ∷ false ∷ true ∷ false ∷ [];
@@ -142,12 +151,14 @@ abbrev pub post : Post
 post = record {
   world = world;
   owed =
-      letter 0 2 bank_asks ∷ letter terminal_node 2 terminal_asks ∷ letter 2 0 terminal_is_told ∷ letter 0 terminal_node terminal_is_told
+      letter 0 2 bank_asks ∷ letter terminal_node 2 terminal_asks ∷ letter 2 0 terminal_is_told
+      ∷ letter 0 terminal_node terminal_is_told
       ∷ letter 0 1 user_is_told ∷ [];
   sent = [];
 }
 
--- the next request of the user to the bank, and the post in which no processor has stopped, and this one letter is owed to the bank's node
+-- the next request of the user to the bank, and the post in which no processor has stopped, and this one letter is owed
+-- to the bank's node
 abbrev pub next_request : Request
 next_request = record { process = 1; opener = 0; number = 2; words = pos 6 ∷ [] }
 
@@ -161,7 +172,8 @@ owing = record {
 -- a receive table that keeps two replies of one opener, of whose requests the fifth was taken last
 abbrev pub two_kept : Option ℕ → ReceiveBlock
 two_kept in_hand = record {
-  openers = record { taken = 5; kept = (pos 7 ∷ []) ∷ (pos 6 ∷ []) ∷ [] } ∷ record { taken = 1; kept = (pos 8 ∷ []) ∷ [] } ∷ [];
+  openers = record { taken = 5; kept = (pos 7 ∷ []) ∷ (pos 6 ∷ []) ∷ [] }
+      ∷ record { taken = 1; kept = (pos 8 ∷ []) ∷ [] } ∷ [];
   in_hand = in_hand;
 }
 
@@ -169,7 +181,8 @@ two_kept in_hand = record {
 abbrev pub keeping_two : World
 keeping_two = record world {
   processes =
-      lost (pair_at_boot site 0 disc) ∷ record (bank_at 0) { first = record (first_copy 0) { core = record awaiting { receive = two_kept None } } }
+      lost (pair_at_boot site 0 disc) ∷ record (bank_at 0)
+      { first = record (first_copy 0) { core = record awaiting { receive = two_kept None } } }
       ∷ lost (pair_at_boot site 2 user) ∷ [];
 }
 
@@ -185,7 +198,11 @@ abbrev pub kept_and_waiting : Pair
 kept_and_waiting = record (lost (pair_at_boot site 0 disc)) {
   second = record (pair_at_boot site 0 disc).second {
     core = record (pair_at_boot site 0 disc).second.core {
-      receive = record { openers = record { taken = 0; kept = [] } ∷ record { taken = 1; kept = (pos 0 ∷ []) ∷ [] } ∷ []; in_hand = None };
+      receive = record {
+        openers = record { taken = 0; kept = [] } ∷ record { taken = 1; kept = (pos 0 ∷ []) ∷ [] }
+            ∷ [];
+        in_hand = None;
+      };
     };
     waiting = record { process = 0; opener = 1; number = 1; words = pos 2 ∷ pos 1 ∷ pos 5 ∷ [] } ∷ [];
   };

@@ -3,9 +3,11 @@ ghost use Rattle.world_semantics.specs.Messages.{Asking, Replying, Checkpointing
 ghost use Rattle.world_semantics.specs.Passes.{taken_of};
 ghost use Rattle.world_semantics.specs.World.{terminal_node};
 ghost use Rattle.letters.specs.Routes.{route_to, receiver_of, letters_of};
-ghost use Rattle.letter_guards.specs.Worlds.{site, world, marked_by, bank_asks, user_is_told, terminal_is_told, checkpoint, letter};
+ghost use Rattle.letter_guards.specs.Worlds.{site, world, marked_by, bank_asks, user_is_told, terminal_is_told};
+ghost use Rattle.letter_guards.specs.Worlds.{checkpoint, letter};
 
-/// A node sends to the first copy of a process, and once it has marked that one's processor to the second one; other nodes still send to the first.
+/// A node sends to the first copy of a process, and once it has marked that one's processor to the second one; other
+/// nodes still send to the first.
 pub fn routes_change_where_marks_are_made()
     ensures before { route_to world 0 0 ≡ Some 2 }
     ensures after { route_to (marked_by 0 world) 0 0 ≡ Some 3 }
@@ -14,7 +16,8 @@ pub fn routes_change_where_marks_are_made()
     ensures missing { route_to world 0 3 ≡ None }
 {}
 
-/// Requests and replies to files go by the routes, replies to terminals to their node, and what is between two copies to the other one.
+/// Requests and replies to files go by the routes, replies to terminals to their node, and what is between two copies
+/// to the other one.
 pub fn messages_have_their_receivers()
     ensures request { receiver_of site world 0 bank_asks ≡ Some 2 }
     ensures rerouted { receiver_of site (marked_by 0 world) 0 bank_asks ≡ Some 3 }
@@ -22,13 +25,15 @@ pub fn messages_have_their_receivers()
     ensures moved { receiver_of site (marked_by 0 world) 0 user_is_told ≡ Some 3 }
     ensures terminal { receiver_of site world 0 terminal_is_told ≡ Some terminal_node }
     ensures terminal_stays { receiver_of site (marked_by 0 world) 0 terminal_is_told ≡ Some terminal_node }
-    ensures nobody { receiver_of site world 0 (Replying (record { process = 1; opener = 2; number = 1; words = [] })) ≡ None }
+    ensures nobody { receiver_of site world 0 (Replying (record { process = 1; opener = 2; number = 1; words = [] }))
+        ≡ None }
     ensures checkpoint { receiver_of site world 0 (Checkpointing checkpoint) ≡ Some 1 }
     ensures taken { receiver_of site world 1 (Taking (taken_of checkpoint)) ≡ Some 0 }
 {}
 
 /// What is sent becomes letters in order, and a message to nobody none.
 pub fn sendings_become_letters()
-    ensures both { letters_of site world (sent_at 0 (bank_asks ∷ Asking (record { process = 3; opener = 0; number = 1; words = [] }) ∷ user_is_told ∷ []))
+    ensures both { letters_of site world (sent_at 0
+        (bank_asks ∷ Asking (record { process = 3; opener = 0; number = 1; words = [] }) ∷ user_is_told ∷ []))
         ≡ letter 0 2 bank_asks ∷ letter 0 2 user_is_told ∷ [] }
 {}

@@ -1,5 +1,6 @@
 -- No copy that watches awaits a reply: what a checkpoint restores awaits none.
-use Rattle.std.proofs.Common.{◌≡◌, ◌≢◌, ◌==◌, ℕ, ℤ, Bool, true, false, if◌then◌else◌, List, [], ◌∷◌, Option, Some, None, option_map, slice_get, refl, sym, subst, ◌∙◌}
+use Rattle.std.proofs.Common.{◌≡◌, ◌≢◌, ◌==◌, ℕ, ℤ, Bool, true, false, if◌then◌else◌, List, [], ◌∷◌, Option, Some, None}
+use Rattle.std.proofs.Common.{option_map, slice_get, refl, sym, subst, ◌∙◌}
 use Rattle.std.proofs.lemmas.Option.{option_and_then_some}
 use Rattle.tal_tree.specs.declared.program.Program.{Program}
 use Rattle.tal_tree.specs.declared.site.Kind.{Kind}
@@ -38,7 +39,8 @@ abbrev pub Rests : ProcessState → Type 0
 Rests s = process.point s ≢ point.Await
 
 free-rests : (program : Program) (s : ProgramState) → s.awaits ≡ false → Rests (Runs program s)
-free-rests program s free at = let waits = awaits-at (stands-at program s point.Await (λ same. cc) (λ same. cc) at).call in cc
+free-rests program s free at =
+    let waits = awaits-at (stands-at program s point.Await (λ same. cc) (λ same. cc) at).call in cc
 
 pub start-rests : (what : Kind) → Rests (process.start_of what)
 start-rests (kind.Disc sectors) = λ same. cc
@@ -48,29 +50,34 @@ items-free : (program : Program) (s t : ProgramState) (hand : Bool) (frames : Li
     → image.restored_items program s hand frames words ≡ Some t → t.awaits ≡ false
 items-free program s t hand frames words is = by (image.are_called (Some program.main) frames) _ is
   where
-    by : (called : Bool) (globals : Option (List (List ℤ))) → (if called then option_map (image.with_globals hand frames) globals else None) ≡ Some t
+    by : (called : Bool) (globals : Option (List (List ℤ)))
+        → (if called then option_map (image.with_globals hand frames) globals else None) ≡ Some t
         → t.awaits ≡ false
     by false globals is = absurd (cc)
     by true globals is = map-some (image.with_globals hand frames) (λ u. u.awaits ≡ false) globals t (λ _ _. refl) is
 
-disc-rests : (sectors : ℕ) (hand : Bool) (request : List ℤ) (number : ℕ) (reply : List ℤ) (t : DiscState) → image.disc_with hand request number reply ≡ Some t
+disc-rests : (sectors : ℕ) (hand : Bool) (request : List ℤ) (number : ℕ) (reply : List ℤ) (t : DiscState)
+    → image.disc_with hand request number reply ≡ Some t
     → Rests (Serves sectors t)
 disc-rests sectors false [] number [] t is = subst (λ u. Rests (Serves sectors u)) (some-same is) (λ same. cc)
 disc-rests sectors false [] number (word ∷ words) t is = absurd (cc)
 disc-rests sectors false (word ∷ request) number reply t is = absurd (cc)
 disc-rests sectors true request number [] t is = subst (λ u. Rests (Serves sectors u)) (some-same is) (λ same. cc)
-disc-rests sectors true request number (word ∷ words) t is = subst (λ u. Rests (Serves sectors u)) (some-same is) (λ same. cc)
+disc-rests sectors true request number (word ∷ words) t is =
+    subst (λ u. Rests (Serves sectors u)) (some-same is) (λ same. cc)
 
 restored-rests : (s t : ProcessState) (hand : Bool) (words : List ℤ) → image.restored s hand words ≡ Some t → Rests t
 restored-rests (Runs program s) t hand words is =
     map-some (Runs program) Rests (image.restored_program program s hand words) t
-    (λ u there. free-rests program u (option_and_then_some _ _ u there (λ (frames : List Frame × List ℤ) _ next. items-free program s u hand frames.0 frames.1 next))) is
+    (λ u there. free-rests program u (option_and_then_some _ _ u there
+    (λ (frames : List Frame × List ℤ) _ next. items-free program s u hand frames.0 frames.1 next))) is
 restored-rests (Serves sectors s) t hand words is =
     map-some (Serves sectors) Rests (image.restored_disc hand words) t
     (λ u there.
     option_and_then_some _ (reading.counted_in words) u there (λ (request : List ℤ × List ℤ) _ next.
     option_and_then_some _ (reading.long_in request.1) u next (λ (number : ℕ × List ℤ) _ last.
-    option_and_then_some _ _ u last (λ (reply : List ℤ) _ disc. disc-rests sectors hand request.0 number.0 reply u disc)))) is
+    option_and_then_some _ _ u last (λ (reply : List ℤ) _ disc.
+    disc-rests sectors hand request.0 number.0 reply u disc)))) is
 
 put-rests : (core applied : Core) (carries : Image) → put_in core carries ≡ Some applied → Rests applied.state
 put-rests core applied carries is =
@@ -86,10 +93,12 @@ IsCalm copy = copy.role ≡ Watching → Rests copy.core.state
 pub not-both : {role : Role} → role ≡ Acting → role ≡ Watching → ⊥
 not-both acts watches = let same : Acting ≡ Watching = sym acts ∙ watches in cc
 
-becomes-calm : {site : Site} {w : World} {number : ℕ} {pair : Pair} {sent : List ImageMessage} {k : Which} {cause : Cause} {after : Copy}
+becomes-calm : {site : Site} {w : World} {number : ℕ} {pair : Pair} {sent : List ImageMessage} {k : Which}
+    {cause : Cause} {after : Copy}
     → Becomes site w number pair sent k cause after → IsCalm (copy_of k pair) → IsCalm after
 becomes-calm becoming.stays calm = calm
-becomes-calm (becoming.acts role causes advances enters) calm = λ watches. absurd (not-both ((entered-same enters).role ∙ role) watches)
+becomes-calm (becoming.acts role causes advances enters) calm =
+    λ watches. absurd (not-both ((entered-same enters).role ∙ role) watches)
 becomes-calm (becoming.sends role at among) calm = λ watches. absurd (not-both role watches)
 becomes-calm (becoming.passes role) calm = λ watches. absurd (not-both role watches)
 becomes-calm {pair = pair} {k = k} (becoming.applies {applied = applied} message role among era next put) calm =
@@ -102,18 +111,23 @@ becomes-calm {pair = pair} {k = k} (becoming.stops processor) calm = λ watches.
     calm (was-role ((copy_of k pair).processor == processor) (copy_of k pair).role Watching (λ same. cc) watches)
 becomes-calm (becoming.takes_over node processor takes) calm = λ watches. absurd (cc)
 
-pub change-calm : {site : Site} (w next : World) (cause : Cause) (sendings : List Sending) → Change site w cause sendings next → WatchersAreCalm w → WatchersAreCalm next
+pub change-calm : {site : Site} (w next : World) (cause : Cause) (sendings : List Sending)
+    → Change site w cause sendings next → WatchersAreCalm w → WatchersAreCalm next
 change-calm w next cause sendings change all number after k now =
-    let was = change-was w next cause sendings change number after now in becomes-calm (was.copies k) (all number was.before k was.there)
+    let was = change-was w next cause sendings change number after now in
+    becomes-calm (was.copies k) (all number was.before k was.there)
 
-both-start : (site : Site) (number : ℕ) (spec : ProcessSpec) (k : Which) → Rests (copy_of k (pair_at_boot site number spec)).core.state
+both-start : (site : Site) (number : ℕ) (spec : ProcessSpec) (k : Which)
+    → Rests (copy_of k (pair_at_boot site number spec)).core.state
 both-start site number spec First = start-rests spec.what
 both-start site number spec Second = start-rests spec.what
 
 -- at the beginning no copy awaits a reply
-pub begins-resting : (site : Site) (number : ℕ) (pair : Pair) (k : Which) → slice_get (boot site).processes number ≡ Some pair → Rests (copy_of k pair).core.state
+pub begins-resting : (site : Site) (number : ℕ) (pair : Pair) (k : Which)
+    → slice_get (boot site).processes number ≡ Some pair → Rests (copy_of k pair).core.state
 begins-resting site number pair k there =
-    all-begin (λ n p. (k : Which) → Rests (copy_of k p).core.state) site (λ n from spec. both-start site from spec) number pair there k
+    all-begin (λ n p. (k : Which) → Rests (copy_of k p).core.state) site (λ n from spec. both-start site from spec)
+    number pair there k
 
 pub calm-begins : (site : Site) → WatchersAreCalm (boot site)
 calm-begins site number pair k there watches = begins-resting site number pair k there

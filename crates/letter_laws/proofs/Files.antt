@@ -1,5 +1,6 @@
 -- The files that a sent checkpoint names are those of its process.
-use Rattle.std.proofs.Common.{◌≡◌, ◌<◌, inl, inr, ℕ, List, ◌∷◌, length, Option, Some, None, slice_get, ap, sym, subst, ◌∙◌}
+use Rattle.std.proofs.Common.{◌≡◌, ◌<◌, inl, inr, ℕ, List, ◌∷◌, length, Option, Some, None, slice_get, ap, sym, subst}
+use Rattle.std.proofs.Common.{◌∙◌}
 use Rattle.gd_words.specs.Members.{IsAmong}
 use Rattle.tal_tree.specs.declared.act.Act.{Act}
 use Rattle.tal_tree.specs.declared.site.ProcessSpec.{ProcessSpec}
@@ -16,8 +17,10 @@ use Rattle.world_semantics.specs.declared.which.Which.{Which}
 use Rattle.world_semantics.specs.declared.which.Which.TheVariants.{First, Second}
 use Rattle.world_semantics.specs.Core.{Core, next_on, carried}
 use Rattle.world_semantics.specs.Messages.{Sending, Cause}
-use Rattle.world_semantics.specs.Passes.{Passes, by_send, by_pass_again, by_pass, by_apply, by_acknowledge, checkpoint_of}
-use Rattle.world_semantics.specs.Rules.{Change, by_own, by_checkpoint, by_request, by_early_request, by_enter, by_print, by_stop, by_mark, stopped_pair, taker, pair_after_down, pair_at_down}
+use Rattle.world_semantics.specs.Passes.{Passes, by_send, by_pass_again, by_pass, by_apply, by_acknowledge}
+use Rattle.world_semantics.specs.Passes.{checkpoint_of}
+use Rattle.world_semantics.specs.Rules.{Change, by_own, by_checkpoint, by_request, by_early_request, by_enter, by_print}
+use Rattle.world_semantics.specs.Rules.{by_stop, by_mark, stopped_pair, taker, pair_after_down, pair_at_down}
 use Rattle.world_semantics.specs.World.{Copy, Pair, Down, World, boot, copy_of, with_copy}
 use Rattle.world_semantics.proofs.Beginning.{all-begin}
 use Rattle.world_semantics.proofs.Lists.{some-same, set-all, map-all}
@@ -37,21 +40,28 @@ NamesFiles count message = (named : FileNumber) → IsAmong named message.image.
 -- what the copies of a process ever sent names files of the process
 abbrev PairNames : Site → ℕ → Pair → Type 0
 PairNames site number pair =
-    (spec : ProcessSpec) → slice_get site.processes number ≡ Some spec → (message : ImageMessage) → IsAmong message pair.checkpoints
+    (spec : ProcessSpec) → slice_get site.processes number ≡ Some spec → (message : ImageMessage)
+    → IsAmong message pair.checkpoints
     → NamesFiles (length (files_of spec.what)) message
 
 -- the files that a process lists are its own
-listed-within : (s : ProcessState) → IsSteady s → (file : ℕ) → IsAmong file (listed_files s) → file < length (files_of (kind_of s))
-listed-within (Runs program s) is file among = file-there file ((frames-listed program is.0 s.frames is.1.frames).files_there file among)
+listed-within : (s : ProcessState) → IsSteady s → (file : ℕ) → IsAmong file (listed_files s)
+    → file < length (files_of (kind_of s))
+listed-within (Runs program s) is file among =
+    file-there file ((frames-listed program is.0 s.frames is.1.frames).files_there file among)
 listed-within (Serves sectors s) is file none = absurd none
 
 module _ (site : Site) (regular : AreRegular site) where
-  carried-within : (number : ℕ) (core : Core) → IsDone site number core → (spec : ProcessSpec) → slice_get site.processes number ≡ Some spec
+  carried-within : (number : ℕ) (core : Core) → IsDone site number core → (spec : ProcessSpec)
+      → slice_get site.processes number ≡ Some spec
       → (named : FileNumber) → IsAmong named (carried core).files → named.file < length (files_of spec.what)
   carried-within number core is spec there named among =
-      let from = among-map (λ (file : ℕ). record { file = file; next = next_on core file }) (listed_files core.state) named among in
-      let within = listed-within core.state (done-steady (regular number is.spec is.there) is.done) from.item from.among in
-      let same : kind_of core.state ≡ spec.what = done-kind is.done ∙ ap (λ (s : ProcessSpec). s.what) (some-same (sym is.there ∙ there)) in
+      let from = among-map (λ (file : ℕ). record { file = file; next = next_on core file }) (listed_files core.state)
+      named among in
+      let within =
+      listed-within core.state (done-steady (regular number is.spec is.there) is.done) from.item from.among in
+      let same : kind_of core.state ≡ spec.what =
+      done-kind is.done ∙ ap (λ (s : ProcessSpec). s.what) (some-same (sym is.there ∙ there)) in
       rw (ap (λ (f : FileNumber). f.file) from.same, ← same) within
 
   one-more : (number : ℕ) (copy : Copy) (pair : Pair) → IsDone site number copy.core → PairNames site number pair
@@ -60,11 +70,15 @@ module _ (site : Site) (regular : AreRegular site) where
       subst (NamesFiles (length (files_of spec.what))) (sym same) (carried-within number copy.core is spec there)
   one-more number copy pair is all spec there message (inr among) = all spec there message among
 
-  passes-files : {number : ℕ} {marks : List Down} {kept after : List Act} {pair next : Pair} {cause : Cause} {sendings : List Sending}
-      → ((k : Which) → (copy_of k pair).role ≡ Acting → IsDone site number (copy_of k pair).core) → Passes number marks kept pair cause sendings next after
+  passes-files : {number : ℕ} {marks : List Down} {kept after : List Act} {pair next : Pair} {cause : Cause}
+      {sendings : List Sending}
+      → ((k : Which) → (copy_of k pair).role ≡ Acting → IsDone site number (copy_of k pair).core)
+      → Passes number marks kept pair cause sendings next after
       → PairNames site number pair → PairNames site number next
-  passes-files {number = number} {pair = pair} done (by_send First role at unsent unmarked) all = one-more number pair.first pair (done First role) all
-  passes-files {number = number} {pair = pair} done (by_send Second role at unsent unmarked) all = one-more number pair.second pair (done Second role) all
+  passes-files {number = number} {pair = pair} done (by_send First role at unsent unmarked) all =
+      one-more number pair.first pair (done First role) all
+  passes-files {number = number} {pair = pair} done (by_send Second role at unsent unmarked) all =
+      one-more number pair.second pair (done Second role) all
   passes-files done (by_pass_again First role at may less) all = all
   passes-files done (by_pass_again Second role at may less) all = all
   passes-files done (by_pass First role at may most) all = all
@@ -74,40 +88,50 @@ module _ (site : Site) (regular : AreRegular site) where
   passes-files done (by_acknowledge First taken role sent among era same) all = all
   passes-files done (by_acknowledge Second taken role sent among era same) all = all
 
-copy-names : (site : Site) (number : ℕ) (k : Which) (pair : Pair) (copy : Copy) (sectors : List Stored) → PairNames site number pair
+copy-names : (site : Site) (number : ℕ) (k : Which) (pair : Pair) (copy : Copy) (sectors : List Stored)
+    → PairNames site number pair
     → PairNames site number (with_copy k copy (record pair { sectors = sectors }))
 copy-names site number First pair copy sectors all = all
 copy-names site number Second pair copy sectors all = all
 
-marking-names : (site : Site) (number : ℕ) (k : Option Which) (pair : Pair) → PairNames site number pair → PairNames site number (pair_after_down k pair)
+marking-names : (site : Site) (number : ℕ) (k : Option Which) (pair : Pair) → PairNames site number pair
+    → PairNames site number (pair_after_down k pair)
 marking-names site number None pair all = all
 marking-names site number (Some First) pair all = all
 marking-names site number (Some Second) pair all = all
 
-module _ (site : Site) (regular : AreRegular site) (events : ℕ) (w : World) (good : IsGood site events w) (files : CheckpointsNameFiles site w) where
+module _ (site : Site) (regular : AreRegular site) (events : ℕ) (w : World) (good : IsGood site events w)
+    (files : CheckpointsNameFiles site w) where
   pairs-name : (number : ℕ) (pair : Pair) → slice_get w.processes number ≡ Some pair → PairNames site number pair
   pairs-name number pair there spec known = files number pair spec there known
 
   pairs-after : (next : World) (cause : Cause) (sendings : List Sending) → Change site w cause sendings next
       → (number : ℕ) (pair : Pair) → slice_get next.processes number ≡ Some pair → PairNames site number pair
   pairs-after next cause sendings (by_own number k pair there role causes advances enters) =
-      set-all (PairNames site) w.processes number _ pairs-name (copy-names site number k pair _ _ (pairs-name number pair there))
+      set-all (PairNames site) w.processes number _ pairs-name
+      (copy-names site number k pair _ _ (pairs-name number pair there))
   pairs-after next cause sendings (by_checkpoint number pair there passes) =
       set-all (PairNames site) w.processes number _ pairs-name
-      (passes-files site regular (λ k role. acting-done site events w good number pair k there role) passes (pairs-name number pair there))
+      (passes-files site regular (λ k role. acting-done site events w good number pair k there role) passes
+      (pairs-name number pair there))
   pairs-after next cause sendings (by_request request k pair sent there role) =
-      set-all (PairNames site) w.processes request.process _ pairs-name (copy-names site request.process k pair _ _ (pairs-name request.process pair there))
+      set-all (PairNames site) w.processes request.process _ pairs-name
+      (copy-names site request.process k pair _ _ (pairs-name request.process pair there))
   pairs-after next cause sendings (by_early_request request k pair sent there role) =
-      set-all (PairNames site) w.processes request.process _ pairs-name (copy-names site request.process k pair _ _ (pairs-name request.process pair there))
+      set-all (PairNames site) w.processes request.process _ pairs-name
+      (copy-names site request.process k pair _ _ (pairs-name request.process pair there))
   pairs-after next cause sendings (by_enter number terminal opener there even is opens) = pairs-name
   pairs-after next cause sendings (by_print number terminal reply there odd sent opens is) = pairs-name
-  pairs-after next cause sendings (by_stop processor alive) = map-all (PairNames site) (stopped_pair processor) w.processes pairs-name
+  pairs-after next cause sendings (by_stop processor alive) =
+      map-all (PairNames site) (stopped_pair processor) w.processes pairs-name
   pairs-after next cause sendings (by_mark node processor down alive unmarked) =
       map-all (PairNames site) (pair_at_down node processor) w.processes
       (λ number pair there. marking-names site number (taker node processor pair) pair (pairs-name number pair there))
 
-  pub change-files : (next : World) (cause : Cause) (sendings : List Sending) → Change site w cause sendings next → CheckpointsNameFiles site next
-  change-files next cause sendings change number pair spec there known = pairs-after next cause sendings change number pair there spec known
+  pub change-files : (next : World) (cause : Cause) (sendings : List Sending) → Change site w cause sendings next
+      → CheckpointsNameFiles site next
+  change-files next cause sendings change number pair spec there known =
+      pairs-after next cause sendings change number pair there spec known
 
 pub files-begin : (site : Site) → CheckpointsNameFiles site (boot site)
 files-begin site number pair spec there known =

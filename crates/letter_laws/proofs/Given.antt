@@ -1,5 +1,6 @@
 -- Where a letter comes from: the sending whose message it carries.
-use Rattle.std.proofs.Common.{◌≡◌, inl, inr, ℕ, List, [], ◌∷◌, filter_map, Option, Some, None, option_map, refl, ap, sym, subst, ◌∙◌}
+use Rattle.std.proofs.Common.{◌≡◌, inl, inr, ℕ, List, [], ◌∷◌, filter_map, Option, Some, None, option_map, refl, ap}
+use Rattle.std.proofs.Common.{sym, subst, ◌∙◌}
 use Rattle.std.specs.List.{cons_option}
 use Rattle.gd_words.specs.Members.{IsAmong}
 use Rattle.tal_tree.specs.declared.site.Site.{Site}
@@ -25,7 +26,8 @@ among-given {A} {B} f (x ∷ xs) y among = by (among-given f xs y) (f x) refl am
     up : IsGiven f xs y → IsGiven f (x ∷ xs) y
     up given = record { item = given.item; among = inr given.among; gives = given.gives }
 
-    by : (IsAmong y (filter_map f xs) → IsGiven f xs y) → (o : Option B) → f x ≡ o → IsAmong y (cons_option o (filter_map f xs)) → IsGiven f (x ∷ xs) y
+    by : (IsAmong y (filter_map f xs) → IsGiven f xs y) → (o : Option B) → f x ≡ o
+        → IsAmong y (cons_option o (filter_map f xs)) → IsGiven f (x ∷ xs) y
     by rest None is later = up (rest later)
     by rest (Some z) is (inl same) = record { item = x; among = inl refl; gives = is ∙ ap Some (sym same) }
     by rest (Some z) is (inr later) = up (rest later)
@@ -41,13 +43,15 @@ pub record IsFromSending (site : Site) (w : World) (sendings : List Sending) (le
 abbrev as_letter : Sending → ℕ → Letter
 as_letter sending receiver = record { sender = sending.node; receiver = receiver; message = sending.message }
 
-pub letter-from : (site : Site) (w : World) (sendings : List Sending) (letter : Letter) → IsAmong letter (letters_of site w sendings)
+pub letter-from : (site : Site) (w : World) (sendings : List Sending) (letter : Letter)
+    → IsAmong letter (letters_of site w sendings)
     → IsFromSending site w sendings letter
 letter-from site w sendings letter among =
     let given = among-given (letter_of site w) sendings letter among in
     by given.item given.among (receiver_of site w given.item.node given.item.message) refl given.gives
   where
-    by : (sending : Sending) → IsAmong sending sendings → (o : Option ℕ) → receiver_of site w sending.node sending.message ≡ o
+    by : (sending : Sending) → IsAmong sending sendings → (o : Option ℕ)
+        → receiver_of site w sending.node sending.message ≡ o
         → option_map (λ (receiver : ℕ). as_letter sending receiver) o ≡ Some letter
         → IsFromSending site w sendings letter
     by sending there None is gives = absurd (cc)
@@ -62,7 +66,8 @@ letter-from site w sendings letter among =
         }
 
 -- the message of what is sent at a node
-pub message-of : (node : ℕ) (messages : List Message) (sending : Sending) → IsAmong sending (sent_at node messages) → IsAmong sending.message messages
+pub message-of : (node : ℕ) (messages : List Message) (sending : Sending) → IsAmong sending (sent_at node messages)
+    → IsAmong sending.message messages
 message-of node messages sending among =
     let from = among-map (λ (message : Message). record { node = node; message = message }) messages sending among in
     subst (λ m. IsAmong m messages) (sym (ap (λ (s : Sending). s.message) from.same)) from.among
@@ -73,6 +78,8 @@ only x y (inl same) = same
 only x y (inr none) = absurd none
 
 -- where at most one processor has stopped, at most one had before
-pub one-before : {site : Site} (w next : World) (cause : Cause) (sendings : List Sending) → Change site w cause sendings next → OneStops next → OneStops w
+pub one-before : {site : Site} (w next : World) (cause : Cause) (sendings : List Sending)
+    → Change site w cause sendings next → OneStops next → OneStops w
 one-before w next cause sendings change one a b down other =
-    one a b ((change-grows w next cause sendings change).stopped a down) ((change-grows w next cause sendings change).stopped b other)
+    one a b ((change-grows w next cause sendings change).stopped a down)
+    ((change-grows w next cause sendings change).stopped b other)

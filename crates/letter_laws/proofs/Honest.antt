@@ -20,7 +20,11 @@ use Rattle.computed_changes.specs.Laws.{IsSent}
 use Rattle.computed_changes.proofs.Reached.{run-sent}
 use Rattle.letters.proofs.Owed.{rest-there}
 use Rattle.letters.specs.Again.{sent_again}
-use Rattle.letters.specs.Posts.{Post, post_at_boot, with_letters, after_change, without_those_between, post_after_down, NotesLetters, no_mark, one_mark, PlaysEvent, plays_run, plays_no_run, plays_enter, plays_no_enter, plays_nothing, plays_hand, plays_drop, plays_again, plays_mark, plays_loss, plays_repeat, plays_no_tick, plays_tick, plays_tick_stop, plays_fail, plays_no_fail, HasPlayed, played_none, played_more}
+use Rattle.letters.specs.Posts.{Post, post_at_boot, with_letters, after_change, without_those_between, post_after_down}
+use Rattle.letters.specs.Posts.{NotesLetters, no_mark, one_mark, PlaysEvent, plays_run, plays_no_run, plays_enter}
+use Rattle.letters.specs.Posts.{plays_no_enter, plays_nothing, plays_hand, plays_drop, plays_again, plays_mark}
+use Rattle.letters.specs.Posts.{plays_loss, plays_repeat, plays_no_tick, plays_tick, plays_tick_stop, plays_fail}
+use Rattle.letters.specs.Posts.{plays_no_fail, HasPlayed, played_none, played_more}
 use Rattle.letters.specs.Routes.{Letter, letters_of}
 use Rattle.letter_laws.specs.Known.{IsHonest, AwaitedWereSent}
 use Rattle.letter_laws.proofs.Again.{IsAgain, by_copy, by_terminal, by_keeping, again-is}
@@ -39,26 +43,31 @@ abbrev pub WereSent : Post → List Letter → Type 0
 WereSent post letters = (letter : Letter) → IsAmong letter letters → IsAmong letter post.sent
 
 -- what is sent again was sent
-again-sent : (site : Site) (events : ℕ) (w : World) → IsGood site events w → IsReached site w → AwaitedWereSent site w → (message : Message) → IsAgain site w message
+again-sent : (site : Site) (events : ℕ) (w : World) → IsGood site events w → IsReached site w → AwaitedWereSent site w
+    → (message : Message) → IsAgain site w message
     → IsSent w message
 again-sent site events w good reached awaited message (by_copy number pair k request there role among is) =
     subst (IsSent w) (sym is) (awaited.copies number pair k request there role among)
 again-sent site events w good reached awaited message (by_terminal number terminal request there among is) =
     subst (IsSent w) (sym is) (awaited.terminals number terminal request there among)
-again-sent site events w good reached awaited message (by_keeping number pair k place opener reply there role known among is) =
+again-sent site events w good reached awaited message
+    (by_keeping number pair k place opener reply there role known among is) =
     let has = acting-done site events w good number pair k there role in
     let fair = fair-of number w.replies k pair (run-fair reached.1 number pair there) in
     subst (IsSent w) (sym is) (kept-sent has.done w.replies fair.core.kept place opener known reply among)
 
 module _ (site : Site) (fit : IsFit site) where
   -- what a change sends was sent
-  sends-sent : (w next : World) (cause : Cause) (sendings : List Sending) → Change site w cause sendings next → IsReached site w → (sending : Sending)
+  sends-sent : (w next : World) (cause : Cause) (sendings : List Sending) → Change site w cause sendings next
+      → IsReached site w → (sending : Sending)
       → IsAmong sending sendings → IsSent next sending.message
   sends-sent w next cause sendings change reached sending among =
-      run-sent next sending.message (change-reached w next cause sendings change reached).1 (run-sends reached.1 next cause sendings change sending among)
+      run-sent next sending.message (change-reached w next cause sendings change reached).1
+      (run-sends reached.1 next cause sendings change sending among)
 
   -- a change of the world with the letters of what was sent
-  letters-honest : (events : ℕ) (post : Post) (next : World) (owed : List Letter) (cause : Cause) (sendings all : List Sending) → IsGood site events post.world
+  letters-honest : (events : ℕ) (post : Post) (next : World) (owed : List Letter) (cause : Cause)
+      (sendings all : List Sending) → IsGood site events post.world
       → IsHonest site post → WereSent post owed → Change site post.world cause sendings next
       → ((sending : Sending) → IsAmong sending all → IsSent next sending.message)
       → IsHonest site (with_letters (letters_of site next all) (record post { world = next; owed = owed }))
@@ -69,49 +78,69 @@ module _ (site : Site) (fit : IsFit site) where
       | inr new ↦ among-left letter (letters_of site next all) post.sent new
     ];
     letters = λ letter among. elim (among-either letter (letters_of site next all) post.sent among) [
-      | inl new ↦ (let from = letter-from site next all letter new in subst (IsSent next) (sym from.message) (were from.sending from.among))
+      | inl new ↦ (let from = letter-from site next all letter new in
+          subst (IsSent next) (sym from.message) (were from.sending from.among))
       | inr old ↦ sent-stays post.world next cause sendings change letter.message (honest.letters letter old)
     ];
     calm = change-calm post.world next cause sendings change honest.calm;
     entered = change-entered post.world next cause sendings change honest.entered;
-    awaited = change-awaited site fit.regular events post.world good honest.calm honest.awaited next cause sendings change;
+    awaited = change-awaited site fit.regular events post.world good honest.calm honest.awaited next cause sendings
+        change;
     files = change-files site fit.regular events post.world good honest.files next cause sendings change;
   }
 
-  pub honest-change : (events : ℕ) (post : Post) (next : World) (owed : List Letter) (cause : Cause) (sendings : List Sending) → IsGood site events post.world
+  pub honest-change : (events : ℕ) (post : Post) (next : World) (owed : List Letter) (cause : Cause)
+      (sendings : List Sending) → IsGood site events post.world
       → IsHonest site post → WereSent post owed → Change site post.world cause sendings next
       → IsHonest site (after_change site sendings next (record post { owed = owed }))
   honest-change events post next owed cause sendings good honest within change =
-      letters-honest events post next owed cause sendings sendings good honest within change (sends-sent post.world next cause sendings change honest.reached)
+      letters-honest events post next owed cause sendings sendings good honest within change
+      (sends-sent post.world next cause sendings change honest.reached)
 
-  pub honest-mark : (events later : ℕ) (post : Post) (next : World) (node processor : ℕ) (sendings : List Sending) → IsGood site events post.world → IsGood site later next
-      → IsHonest site post → Change site post.world (NotingDown node processor) sendings next → IsHonest site (post_after_down site node processor sendings next post)
+  pub honest-mark : (events later : ℕ) (post : Post) (next : World) (node processor : ℕ) (sendings : List Sending)
+      → IsGood site events post.world → IsGood site later next
+      → IsHonest site post → Change site post.world (NotingDown node processor) sendings next
+      → IsHonest site (post_after_down site node processor sendings next post)
   honest-mark events later post next node processor sendings good after honest change =
-      letters-honest events post next (without_those_between node processor post.owed) (NotingDown node processor) sendings
+      letters-honest events post next (without_those_between node processor post.owed) (NotingDown node processor)
+      sendings
       (sendings ++ sent_again site post.world next node processor) good honest
       (λ letter among. honest.owed letter (among-filter letter _ post.owed among).0) change
       (λ sending among. elim (among-either sending sendings (sent_again site post.world next node processor) among) [
         | inl new ↦ sends-sent post.world next (NotingDown node processor) sendings change honest.reached sending new
-        | inr again ↦ again-sent site later next after reached awaited sending.message (again-is site post.world next node processor sending again)
+        | inr again ↦ again-sent site later next after reached awaited sending.message
+            (again-is site post.world next node processor sending again)
       ])
     where
       reached : IsReached site next
       reached = change-reached post.world next (NotingDown node processor) sendings change honest.reached
 
       awaited : AwaitedWereSent site next
-      awaited = change-awaited site fit.regular events post.world good honest.calm honest.awaited next (NotingDown node processor) sendings change
+      awaited = change-awaited site fit.regular events post.world good honest.calm honest.awaited next
+          (NotingDown node processor) sendings change
 
   -- with other letters owed that were sent
-  pub honest-owed : (post : Post) (owed : List Letter) → IsHonest site post → WereSent post owed → IsHonest site (record post { owed = owed })
+  pub honest-owed : (post : Post) (owed : List Letter) → IsHonest site post → WereSent post owed
+      → IsHonest site (record post { owed = owed })
   honest-owed post owed honest within =
-      record { reached = honest.reached; owed = within; letters = honest.letters; calm = honest.calm; entered = honest.entered; awaited = honest.awaited; files = honest.files }
+      record {
+        reached = honest.reached;
+        owed = within;
+        letters = honest.letters;
+        calm = honest.calm;
+        entered = honest.entered;
+        awaited = honest.awaited;
+        files = honest.files;
+      }
 
   -- a change by which nothing is sent
-  pub honest-stop : (events : ℕ) (post : Post) (next : World) (cause : Cause) → IsGood site events post.world → IsHonest site post → Change site post.world cause [] next
+  pub honest-stop : (events : ℕ) (post : Post) (next : World) (cause : Cause) → IsGood site events post.world
+      → IsHonest site post → Change site post.world cause [] next
       → IsHonest site (record post { world = next })
   honest-stop events post next cause good honest change =
       honest-owed (with_letters [] (record post { world = next })) post.owed
-      (letters-honest events post next post.owed cause [] [] good honest honest.owed change (λ sending none. absurd none)) honest.owed
+      (letters-honest events post next post.owed cause [] [] good honest honest.owed change
+      (λ sending none. absurd none)) honest.owed
 
   pub honest-begins : IsHonest site (post_at_boot site)
   honest-begins = record {
@@ -134,7 +163,12 @@ module _ (site : Site) (fit : IsFit site) where
     pub honest : IsHonest site post
 
   sound-more : (most more : ℕ) (post : Post) → most ≤ more → IsSound most post → IsSound more post
-  sound-more most more post less sound = record { events = sound.events; few = (let few = sound.few in omega (arith, few, less)); good = sound.good; honest = sound.honest }
+  sound-more most more post less sound = record {
+    events = sound.events;
+    few = (let few = sound.few in omega (arith, few, less));
+    good = sound.good;
+    honest = sound.honest;
+  }
 
   acts-most : (cause : Cause) → acts_by cause ≤ 1
   acts-most (Running number) = omega arith
@@ -143,60 +177,82 @@ module _ (site : Site) (fit : IsFit site) where
   acts-most (Stopping processor) = omega arith
   acts-most (NotingDown node processor) = omega arith
 
-  change-sound : (most : ℕ) (post : Post) (next : World) (owed : List Letter) (cause : Cause) (sendings : List Sending) → most < 4294967295 → IsSound most post
-      → WereSent post owed → Change site post.world cause sendings next → IsSound (most + 1) (after_change site sendings next (record post { owed = owed }))
+  change-sound : (most : ℕ) (post : Post) (next : World) (owed : List Letter) (cause : Cause) (sendings : List Sending)
+      → most < 4294967295 → IsSound most post
+      → WereSent post owed → Change site post.world cause sendings next
+      → IsSound (most + 1) (after_change site sendings next (record post { owed = owed }))
   change-sound most post next owed cause sendings low sound within change =
       let few = sound.few in
       let one = acts-most cause in
       record {
         events = sound.events + acts_by cause;
         few = omega (arith, few, one);
-        good = change-good site fit sound.events post.world next cause sendings (omega (arith, few, low)) sound.good change;
+        good = change-good site fit sound.events post.world next cause sendings (omega (arith, few, low)) sound.good
+            change;
         honest = honest-change sound.events post next owed cause sendings sound.good sound.honest within change;
       }
 
-  stop-sound : (most : ℕ) (post : Post) (next : World) (processor : ℕ) → most < 4294967295 → IsSound most post → Change site post.world (Stopping processor) [] next
+  stop-sound : (most : ℕ) (post : Post) (next : World) (processor : ℕ) → most < 4294967295 → IsSound most post
+      → Change site post.world (Stopping processor) [] next
       → IsSound most (record post { world = next })
   stop-sound most post next processor low sound change =
       let few = sound.few in
       record {
         events = sound.events + 0;
         few = omega (arith, few);
-        good = change-good site fit sound.events post.world next (Stopping processor) [] (omega (arith, few, low)) sound.good change;
+        good = change-good site fit sound.events post.world next (Stopping processor) [] (omega (arith, few, low))
+            sound.good change;
         honest = honest-stop sound.events post next (Stopping processor) sound.good sound.honest change;
       }
 
-  mark-sound : (most : ℕ) (post : Post) (next : World) (node processor : ℕ) (sendings : List Sending) → most < 4294967295 → IsSound most post
-      → Change site post.world (NotingDown node processor) sendings next → IsSound most (post_after_down site node processor sendings next post)
+  mark-sound : (most : ℕ) (post : Post) (next : World) (node processor : ℕ) (sendings : List Sending)
+      → most < 4294967295 → IsSound most post
+      → Change site post.world (NotingDown node processor) sendings next
+      → IsSound most (post_after_down site node processor sendings next post)
   mark-sound most post next node processor sendings low sound change =
       let few = sound.few in
-      let after = change-good site fit sound.events post.world next (NotingDown node processor) sendings (omega (arith, few, low)) sound.good change in
+      let after = change-good site fit sound.events post.world next (NotingDown node processor) sendings
+      (omega (arith, few, low)) sound.good change in
       record {
         events = sound.events + 0;
         few = omega (arith, few);
         good = after;
-        honest = honest-mark sound.events (sound.events + 0) post next node processor sendings sound.good after sound.honest change;
+        honest = honest-mark sound.events (sound.events + 0) post next node processor sendings sound.good after
+            sound.honest change;
       }
 
-  marks-sound : (most : ℕ) {node : ℕ} {post end : Post} → most < 4294967295 → IsSound most post → NotesLetters site node post end → IsSound most end
+  marks-sound : (most : ℕ) {node : ℕ} {post end : Post} → most < 4294967295 → IsSound most post
+      → NotesLetters site node post end → IsSound most end
   marks-sound most low sound no_mark = sound
-  marks-sound most {node = node} {post = post} low sound (one_mark {sendings = sendings} {next = next} processor change more) =
+  marks-sound most {node = node} {post = post} low sound
+      (one_mark {sendings = sendings} {next = next} processor change more) =
       marks-sound most low (mark-sound most post next node processor sendings low sound change) more
 
-  owed-sound : (most : ℕ) (post : Post) (owed : List Letter) → IsSound most post → WereSent post owed → IsSound most (record post { owed = owed })
+  owed-sound : (most : ℕ) (post : Post) (owed : List Letter) → IsSound most post → WereSent post owed
+      → IsSound most (record post { owed = owed })
   owed-sound most post owed sound within =
-      record { events = sound.events; few = sound.few; good = sound.good; honest = honest-owed post owed sound.honest within }
+      record {
+        events = sound.events;
+        few = sound.few;
+        good = sound.good;
+        honest = honest-owed post owed sound.honest within;
+      }
 
-  plays-sound : (most : ℕ) {event : Event} (post next : Post) → most < 4294967295 → IsSound most post → PlaysEvent site post event next → IsSound (most + 1) next
-  plays-sound most post next low sound (plays_run {sendings = sendings} {next = w} change) = change-sound most post w post.owed _ sendings low sound sound.honest.owed change
+  plays-sound : (most : ℕ) {event : Event} (post next : Post) → most < 4294967295 → IsSound most post
+      → PlaysEvent site post event next → IsSound (most + 1) next
+  plays-sound most post next low sound (plays_run {sendings = sendings} {next = w} change) =
+      change-sound most post w post.owed _ sendings low sound sound.honest.owed change
   plays-sound most post next low sound (plays_no_run idle) = sound-more most (most + 1) post (omega arith) sound
-  plays-sound most post next low sound (plays_enter {sendings = sendings} {next = w} change) = change-sound most post w post.owed _ sendings low sound sound.honest.owed change
+  plays-sound most post next low sound (plays_enter {sendings = sendings} {next = w} change) =
+      change-sound most post w post.owed _ sendings low sound sound.honest.owed change
   plays-sound most post next low sound (plays_no_enter idle) = sound-more most (most + 1) post (omega arith) sound
   plays-sound most post next low sound plays_nothing = sound-more most (most + 1) post (omega arith) sound
   plays-sound most post next low sound (plays_hand {sendings = sendings} {next = w} {rest = rest} letter taken change) =
-      change-sound most post w rest _ sendings low sound (λ other among. sound.honest.owed other (rest-there other taken among)) change
+      change-sound most post w rest _ sendings low sound
+      (λ other among. sound.honest.owed other (rest-there other taken among)) change
   plays-sound most post next low sound (plays_drop {rest = rest} letter taken running idle) =
-      sound-more most (most + 1) _ (omega arith) (owed-sound most post rest sound (λ other among. sound.honest.owed other (rest-there other taken among)))
+      sound-more most (most + 1) _ (omega arith)
+      (owed-sound most post rest sound (λ other among. sound.honest.owed other (rest-there other taken among)))
   plays-sound most post next low sound (plays_again {sendings = sendings} {next = w} letter among change) =
       change-sound most post w post.owed _ sendings low sound sound.honest.owed change
   plays-sound most post next low sound (plays_mark {sendings = sendings} {next = w} node processor change) =
@@ -204,9 +260,11 @@ module _ (site : Site) (fit : IsFit site) where
   plays-sound most post next low sound plays_loss = sound-more most (most + 1) post (omega arith) sound
   plays-sound most post next low sound plays_repeat = sound-more most (most + 1) post (omega arith) sound
   plays-sound most post next low sound plays_no_tick = sound-more most (most + 1) post (omega arith) sound
-  plays-sound most post next low sound (plays_tick running marks) = sound-more most (most + 1) next (omega arith) (marks-sound most low sound marks)
+  plays-sound most post next low sound (plays_tick running marks) =
+      sound-more most (most + 1) next (omega arith) (marks-sound most low sound marks)
   plays-sound most post next low sound (plays_tick_stop {between = between} processor running other change marks) =
-      sound-more most (most + 1) next (omega arith) (marks-sound most low (stop-sound most post between processor low sound change) marks)
+      sound-more most (most + 1) next (omega arith)
+      (marks-sound most low (stop-sound most post between processor low sound change) marks)
   plays-sound most post next low sound (plays_fail {processor = processor} {next = w} change) =
       sound-more most (most + 1) _ (omega arith) (stop-sound most post w processor low sound change)
   plays-sound most post next low sound (plays_no_fail idle) = sound-more most (most + 1) post (omega arith) sound
@@ -219,13 +277,16 @@ module _ (site : Site) (fit : IsFit site) where
     honest = honest-begins;
   }
 
-  played-sound : {events : List Event} {post : Post} → length events < 4294967296 → HasPlayed site events post → IsSound (length events) post
+  played-sound : {events : List Event} {post : Post} → length events < 4294967296 → HasPlayed site events post
+      → IsSound (length events) post
   played-sound low played_none = begins-sound
   played-sound low (played_more {event = event} {events = events} {post = post} {next = next} before plays) =
       let one = length-append events (event ∷ []) in
       sound-more (length events + 1) (length (events ++ event ∷ [])) next (omega (arith, one))
-      (plays-sound (length events) post next (omega (arith, low, one)) (played-sound (omega (arith, low, one)) before) plays)
+      (plays-sound (length events) post next (omega (arith, low, one)) (played-sound (omega (arith, low, one)) before)
+      plays)
 
   -- each post that is played is honest
-  pub played-honest : (events : List Event) (post : Post) → length events < 4294967296 → HasPlayed site events post → IsHonest site post
+  pub played-honest : (events : List Event) (post : Post) → length events < 4294967296 → HasPlayed site events post
+      → IsHonest site post
   played-honest events post low played = (played-sound low played).honest

@@ -1,5 +1,6 @@
 -- What a change makes of a world that a run reaches, another run reaches.
-use Rattle.std.proofs.Common.{◌≡◌, ℕ, Bool, true, false, List, [], ◌∷◌, ◌++◌, Option, Some, None, slice_get, refl, ap, sym, subst}
+use Rattle.std.proofs.Common.{◌≡◌, ℕ, Bool, true, false, List, [], ◌∷◌, ◌++◌, Option, Some, None, slice_get, refl, ap}
+use Rattle.std.proofs.Common.{sym, subst}
 use Rattle.tal_tree.specs.declared.site.Site.{Site}
 use Rattle.schedule.specs.declared.event.Event.{Event}
 use Rattle.schedule.specs.declared.event.Event.TheVariants.{Fail}
@@ -19,11 +20,14 @@ pub record HasStopped (w next : World) (processor : ℕ) (sendings : List Sendin
   pub stopped : slice_get next.stopped processor ≡ Some true
   pub none : sendings ≡ []
 
-pub stop-is : {site : Site} (w next : World) (processor : ℕ) (sendings : List Sending) → Change site w (Stopping processor) sendings next
+pub stop-is : {site : Site} (w next : World) (processor : ℕ) (sendings : List Sending)
+    → Change site w (Stopping processor) sendings next
     → HasStopped w next processor sendings
-stop-is w next processor sendings change = by (slice_get w.stopped processor) refl (stop-only processor w next sendings change)
+stop-is w next processor sendings change =
+    by (slice_get w.stopped processor) refl (stop-only processor w next sendings change)
   where
-    by : (o : Option Bool) → slice_get w.stopped processor ≡ o → stop_where processor w o ≡ Some (record { world = next; sendings = sendings })
+    by : (o : Option Bool) → slice_get w.stopped processor ≡ o
+        → stop_where processor w o ≡ Some (record { world = next; sendings = sendings })
         → HasStopped w next processor sendings
     by None ran is = absurd (cc)
     by (Some true) ran is = absurd (cc)
@@ -31,7 +35,8 @@ stop-is w next processor sendings change = by (slice_get w.stopped processor) re
         let same = some-same is in
         record {
           ran = ran;
-          stopped = subst (λ (d : Done). slice_get d.world.stopped processor ≡ Some true) same (set-there w.stopped processor false true ran);
+          stopped = subst (λ (d : Done). slice_get d.world.stopped processor ≡ Some true) same
+              (set-there w.stopped processor false true ran);
           none = ap (λ (d : Done). d.sendings) (sym same);
         }
 
@@ -40,16 +45,23 @@ abbrev pub IsReached : Site → World → Type 0
 IsReached site w = (events : List Event) × IsRun site events w
 
 -- a change is what some event permits
-change-permits : {site : Site} (w next : World) (cause : Cause) (sendings : List Sending) → Change site w cause sendings next
+change-permits : {site : Site} (w next : World) (cause : Cause) (sendings : List Sending)
+    → Change site w cause sendings next
     → (event : Event) × Follows site w event sendings next
 change-permits w next (Running number) sendings change = (_, runs change)
 change-permits w next (Entering terminal) sendings change = (_, enters change)
 change-permits w next (Handing node message) sendings change = (_, delivers {y = false} {k = 0} node message change)
-change-permits w next (NotingDown node processor) sendings change = (_, delivers_mark {y = false} {k = 0} node processor change)
+change-permits w next (NotingDown node processor) sendings change =
+    (_, delivers_mark {y = false} {k = 0} node processor change)
 change-permits {site = site} w next (Stopping processor) sendings change =
-    let none = (stop-is w next processor sendings change).none in
-    (_, subst (λ s. Follows site w (Fail processor) s next) (sym none) (fails (subst (λ s. Change site w (Stopping processor) s next) none change)))
+    let none = (stop-is w next processor sendings change).none in (
+      _,
+      subst (λ s. Follows site w (Fail processor) s next) (sym none)
+          (fails (subst (λ s. Change site w (Stopping processor) s next) none change)),
+    )
 
-pub change-reached : {site : Site} (w next : World) (cause : Cause) (sendings : List Sending) → Change site w cause sendings next → IsReached site w → IsReached site next
+pub change-reached : {site : Site} (w next : World) (cause : Cause) (sendings : List Sending)
+    → Change site w cause sendings next → IsReached site w → IsReached site next
 change-reached w next cause sendings change (events, run) =
-    let permitted = change-permits w next cause sendings change in (events ++ permitted.0 ∷ [], leads-on run permitted.1)
+    let permitted =
+    change-permits w next cause sendings change in (events ++ permitted.0 ∷ [], leads-on run permitted.1)

@@ -28,7 +28,10 @@ sent_after_stop = record sent_to_second { world = record entered_and_sent { stop
 -- the request waits at the second copy, while the first one's processor runs
 abbrev pub waits_at_second : Post
 waits_at_second = record {
-  world = record entered_and_sent { processes = record disc_pair { second = record disc_pair.second { waiting = first_request ∷ [] } } ∷ [] };
+  world = record entered_and_sent {
+    processes =
+        record disc_pair { second = record disc_pair.second { waiting = first_request ∷ [] } } ∷ [];
+  };
   owed = [];
   sent = [];
 }
@@ -39,7 +42,11 @@ naming = record {
   process = 0;
   era = 0;
   number = 1;
-  image = record { body = []; files = record { file = 0; next = 1 } ∷ []; receive = record { openers = []; in_hand = None } };
+  image = record {
+    body = [];
+    files = record { file = 0; next = 1 } ∷ [];
+    receive = record { openers = []; in_hand = None };
+  };
 }
 
 abbrev pub has_named : World

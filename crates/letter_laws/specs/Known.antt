@@ -39,7 +39,8 @@ TerminalsEnterTheirs site w =
 
 -- the requests whose replies are awaited were sent: by copies that act, and by terminals
 pub record AwaitedWereSent (site : Site) (w : World) : Type 0 where
-  pub copies : (number : ℕ) (pair : Pair) (k : Which) (request : Request) → slice_get w.processes number ≡ Some pair → (copy_of k pair).role ≡ Acting
+  pub copies : (number : ℕ) (pair : Pair) (k : Which) (request : Request) → slice_get w.processes number ≡ Some pair
+      → (copy_of k pair).role ≡ Acting
       → IsAmong request (awaited_by site number (copy_of k pair).core) → IsAmong request w.requests
   pub terminals : (number : ℕ) (terminal : Terminal) (request : Request) → slice_get w.terminals number ≡ Some terminal
       → IsAmong request (awaited_from site number terminal) → IsAmong request w.requests
@@ -49,8 +50,10 @@ pub record AwaitedWereSent (site : Site) (w : World) : Type 0 where
 -- the files that the checkpoints name which the copies of a process ever sent are the process's
 abbrev pub CheckpointsNameFiles : Site → World → Type 0
 CheckpointsNameFiles site w =
-    (number : ℕ) (pair : Pair) (spec : ProcessSpec) → slice_get w.processes number ≡ Some pair → slice_get site.processes number ≡ Some spec
-    → (message : ImageMessage) → IsAmong message pair.checkpoints → (named : FileNumber) → IsAmong named message.image.files
+    (number : ℕ) (pair : Pair) (spec : ProcessSpec) → slice_get w.processes number ≡ Some pair
+    → slice_get site.processes number ≡ Some spec
+    → (message : ImageMessage) → IsAmong message pair.checkpoints → (named : FileNumber)
+    → IsAmong named message.image.files
     → named.file < length (files_of spec.what)
 
 -- Requests that come to copies that watch
@@ -58,27 +61,33 @@ CheckpointsNameFiles site w =
 -- a request has its asker: if its opener is a file, then a copy of the file's process acts and has asked it
 abbrev pub HasAsker : Site → World → Request → Type 0
 HasAsker site w request =
-    (number file : ℕ) → opener_of site (who.File number file) ≡ Some (record { server = request.process; place = request.opener })
+    (number file : ℕ) → opener_of site (who.File number file)
+    ≡ Some (record { server = request.process; place = request.opener })
     → (pair : Pair) × (k : Which) × (slice_get w.processes number ≡ Some pair) × ((copy_of k pair).role ≡ Acting)
     × (request.number < next_on (copy_of k pair).core file)
 
 -- a request came early: the processor of its process's first copy has stopped, and it has its asker
 pub record IsEarly (site : Site) (w : World) (request : Request) : Type 0 where
-  pub stopped : (pair : Pair) → slice_get w.processes request.process ≡ Some pair → slice_get w.stopped pair.first.processor ≡ Some true
+  pub stopped : (pair : Pair) → slice_get w.processes request.process ≡ Some pair
+      → slice_get w.stopped pair.first.processor ≡ Some true
   pub asker : HasAsker site w request
 
 -- the requests that were ever sent to a copy that watches, and those that wait there, came early
 pub record AreEarly (site : Site) (post : Post) : Type 0 where
-  pub sent : (letter : Letter) (request : Request) (pair : Pair) (k : Which) → IsAmong letter post.sent → letter.message ≡ Asking request
-      → slice_get post.world.processes request.process ≡ Some pair → letter.receiver ≡ (copy_of k pair).processor → (copy_of k pair).role ≡ Watching
+  pub sent : (letter : Letter) (request : Request) (pair : Pair) (k : Which) → IsAmong letter post.sent
+      → letter.message ≡ Asking request
+      → slice_get post.world.processes request.process ≡ Some pair → letter.receiver ≡ (copy_of k pair).processor
+      → (copy_of k pair).role ≡ Watching
       → IsEarly site post.world request
-  pub waiting : (number : ℕ) (pair : Pair) (k : Which) (request : Request) → slice_get post.world.processes number ≡ Some pair
+  pub waiting : (number : ℕ) (pair : Pair) (k : Which) (request : Request)
+      → slice_get post.world.processes number ≡ Some pair
       → (copy_of k pair).role ≡ Watching → IsAmong request (copy_of k pair).waiting → IsEarly site post.world request
 
 -- All of it
 
--- a post is honest, however many processors stop: a run reaches its world; all letters that are owed were sent, and all that were ever sent carry messages
--- that were; no copy that watches awaits a reply; terminals enter their own requests; what is awaited was sent; and checkpoints name files of their process
+-- a post is honest, however many processors stop: a run reaches its world; all letters that are owed were sent, and all
+-- that were ever sent carry messages that were; no copy that watches awaits a reply; terminals enter their own
+-- requests; what is awaited was sent; and checkpoints name files of their process
 pub record IsHonest (site : Site) (post : Post) : Type 0 where
   pub reached : (events : List Event) × IsRun site events post.world
   pub owed : (letter : Letter) → IsAmong letter post.owed → IsAmong letter post.sent

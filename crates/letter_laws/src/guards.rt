@@ -7,8 +7,10 @@ ghost use Rattle.plain_semantics.specs.Openers.{opener_of};
 ghost use Rattle.process_histories.specs.Served.{disc_site};
 ghost use Rattle.world_semantics.specs.World.{World, boot};
 ghost use Rattle.awaited_requests.specs.Examples.{entered, entered_with, letter_to};
-ghost use Rattle.letter_laws.specs.Examples.{entered_and_sent, another_sent, entered_too_much, sent_to_second, sent_after_stop, waits_at_second, has_named};
-ghost use Rattle.letter_laws.specs.Known.{TerminalsEnterTheirs, AwaitedWereSent, CheckpointsNameFiles, HasAsker, AreEarly};
+ghost use Rattle.letter_laws.specs.Examples.{entered_and_sent, another_sent, entered_too_much, sent_to_second};
+ghost use Rattle.letter_laws.specs.Examples.{sent_after_stop, waits_at_second, has_named};
+ghost use Rattle.letter_laws.specs.Known.{TerminalsEnterTheirs, AwaitedWereSent, CheckpointsNameFiles, HasAsker};
+ghost use Rattle.letter_laws.specs.Known.{AreEarly};
 
 /// What a terminal awaits was sent where its very request was, and not where none was or one of another number.
 pub fn what_is_awaited_is_told_apart()
@@ -23,7 +25,8 @@ pub fn a_terminal_enters_what_it_has()
     ensures more { TerminalsEnterTheirs disc_site entered_too_much → ⊥ }
 {}
 
-/// A request to a copy that watches came early after the other copy's processor stopped, and not before; and so did one that waits there.
+/// A request to a copy that watches came early after the other copy's processor stopped, and not before; and so did one
+/// that waits there.
 pub fn early_requests_are_told_apart()
     ensures first { AreEarly disc_site (entered_with (letter_to 0 ∷ [])) }
     ensures second { AreEarly disc_site sent_to_second → ⊥ }
@@ -33,7 +36,8 @@ pub fn early_requests_are_told_apart()
 
 /// Where there is no process, no request of a file has its asker.
 pub fn a_request_of_a_file_has_an_asker()
-    ensures { (site : Site) (w : World) (request : Request) (number file : ℕ) → opener_of site (File number file) ≡ Some (record { server = request.process; place = request.opener })
+    ensures { (site : Site) (w : World) (request : Request) (number file : ℕ)
+        → opener_of site (File number file) ≡ Some (record { server = request.process; place = request.opener })
         → w.processes ≡ [] → HasAsker site w request → ⊥ }
 {}
 

@@ -5,7 +5,11 @@ use Rattle.gd_words.proofs.Among.{among-left, among-right, among-either}
 use Rattle.tal_tree.specs.declared.site.Site.{Site}
 use Rattle.schedule.specs.declared.event.Event.{Event}
 use Rattle.world_semantics.proofs.Members.{among-filter}
-use Rattle.letters.specs.Posts.{Post, with_letters, without_those_between, IsTaken, takes_first, takes_later, NotesLetters, no_mark, one_mark, PlaysEvent, plays_run, plays_no_run, plays_enter, plays_no_enter, plays_nothing, plays_hand, plays_drop, plays_again, plays_mark, plays_loss, plays_repeat, plays_no_tick, plays_tick, plays_tick_stop, plays_fail, plays_no_fail, HasPlayed, played_none, played_more}
+use Rattle.letters.specs.Posts.{Post, with_letters, without_those_between, IsTaken, takes_first, takes_later}
+use Rattle.letters.specs.Posts.{NotesLetters, no_mark, one_mark, PlaysEvent, plays_run, plays_no_run, plays_enter}
+use Rattle.letters.specs.Posts.{plays_no_enter, plays_nothing, plays_hand, plays_drop, plays_again, plays_mark}
+use Rattle.letters.specs.Posts.{plays_loss, plays_repeat, plays_no_tick, plays_tick, plays_tick_stop, plays_fail}
+use Rattle.letters.specs.Posts.{plays_no_fail, HasPlayed, played_none, played_more}
 use Rattle.letters.specs.Routes.{Letter}
 
 -- all that is owed was sent
@@ -23,18 +27,21 @@ pub taken-there : {letter : Letter} {letters rest : List Letter} → IsTaken let
 taken-there takes_first = inl refl
 taken-there (takes_later later) = inr (taken-there later)
 
-pub rest-there : {letter : Letter} {letters rest : List Letter} (other : Letter) → IsTaken letter letters rest → IsAmong other rest → IsAmong other letters
+pub rest-there : {letter : Letter} {letters rest : List Letter} (other : Letter) → IsTaken letter letters rest
+    → IsAmong other rest → IsAmong other letters
 rest-there other takes_first among = inr among
 rest-there other (takes_later later) (inl same) = inl same
 rest-there other (takes_later later) (inr among) = inr (rest-there other later among)
 
-marks-sent : {site : Site} {node : ℕ} {post next : Post} → OwedWasSent post → NotesLetters site node post next → OwedWasSent next
+marks-sent : {site : Site} {node : ℕ} {post next : Post} → OwedWasSent post → NotesLetters site node post next
+    → OwedWasSent next
 marks-sent all no_mark = all
 marks-sent {node = node} {post = post} all (one_mark {next = next} processor change more) =
     marks-sent (letters-sent _ (record post { world = next; owed = without_those_between node processor post.owed })
     (λ letter among. all letter (among-filter letter _ post.owed among).0)) more
 
-plays-sent : {site : Site} {post next : Post} {event : Event} → OwedWasSent post → PlaysEvent site post event next → OwedWasSent next
+plays-sent : {site : Site} {post next : Post} {event : Event} → OwedWasSent post → PlaysEvent site post event next
+    → OwedWasSent next
 plays-sent {post = post} all (plays_run {next = next} change) = letters-sent _ (record post { world = next }) all
 plays-sent all (plays_no_run idle) = all
 plays-sent {post = post} all (plays_enter {next = next} change) = letters-sent _ (record post { world = next }) all
@@ -43,7 +50,8 @@ plays-sent all plays_nothing = all
 plays-sent {post = post} all (plays_hand {next = next} {rest = rest} letter taken change) =
     letters-sent _ (record post { world = next; owed = rest }) (λ other among. all other (rest-there other taken among))
 plays-sent all (plays_drop letter taken running idle) = λ other among. all other (rest-there other taken among)
-plays-sent {post = post} all (plays_again {next = next} letter among change) = letters-sent _ (record post { world = next }) all
+plays-sent {post = post} all (plays_again {next = next} letter among change) =
+    letters-sent _ (record post { world = next }) all
 plays-sent {post = post} all (plays_mark {next = next} node processor change) =
     letters-sent _ (record post { world = next; owed = without_those_between node processor post.owed })
     (λ letter among. all letter (among-filter letter _ post.owed among).0)
@@ -51,7 +59,8 @@ plays-sent all plays_loss = all
 plays-sent all plays_repeat = all
 plays-sent all plays_no_tick = all
 plays-sent all (plays_tick running marks) = marks-sent all marks
-plays-sent all (plays_tick_stop processor running other change marks) = marks-sent (λ letter among. all letter among) marks
+plays-sent all (plays_tick_stop processor running other change marks) =
+    marks-sent (λ letter among. all letter among) marks
 plays-sent all (plays_fail change) = all
 plays-sent all (plays_no_fail idle) = all
 

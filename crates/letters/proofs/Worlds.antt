@@ -6,17 +6,23 @@ use Rattle.world_semantics.specs.Follows.{Follows, NotesDowns, marks_none, marks
 use Rattle.world_semantics.specs.Follows as follows
 use Rattle.world_semantics.specs.Messages.{Sending}
 use Rattle.world_semantics.specs.World.{World}
-use Rattle.letters.specs.Posts.{Post, NotesLetters, no_mark, one_mark, PlaysEvent, plays_run, plays_no_run, plays_enter, plays_no_enter, plays_nothing, plays_hand, plays_drop, plays_again, plays_mark, plays_loss, plays_repeat, plays_no_tick, plays_tick, plays_tick_stop, plays_fail, plays_no_fail, HasPlayed, played_none, played_more}
+use Rattle.letters.specs.Posts.{Post, NotesLetters, no_mark, one_mark, PlaysEvent, plays_run, plays_no_run, plays_enter}
+use Rattle.letters.specs.Posts.{plays_no_enter, plays_nothing, plays_hand, plays_drop, plays_again, plays_mark}
+use Rattle.letters.specs.Posts.{plays_loss, plays_repeat, plays_no_tick, plays_tick, plays_tick_stop, plays_fail}
+use Rattle.letters.specs.Posts.{plays_no_fail, HasPlayed, played_none, played_more}
 
 -- what an event permits in a world leads to another one
 abbrev pub Permits : Site → World → Event → World → Type 0
 Permits site w event next = (sendings : List Sending) × Follows site w event sendings next
 
-marks-made : {site : Site} {node : _} {post next : Post} → NotesLetters site node post next → (sendings : List Sending) × NotesDowns site node post.world sendings next.world
+marks-made : {site : Site} {node : _} {post next : Post} → NotesLetters site node post next
+    → (sendings : List Sending) × NotesDowns site node post.world sendings next.world
 marks-made no_mark = ([], marks_none)
-marks-made (one_mark {sendings = sendings} processor change more) = let rest = marks-made more in (sendings ++ rest.0, marks_one processor change rest.1)
+marks-made (one_mark {sendings = sendings} processor change more) =
+    let rest = marks-made more in (sendings ++ rest.0, marks_one processor change rest.1)
 
-pub plays-permits : {site : Site} {post next : Post} {event : Event} → PlaysEvent site post event next → Permits site post.world event next.world
+pub plays-permits : {site : Site} {post next : Post} {event : Event} → PlaysEvent site post event next
+    → Permits site post.world event next.world
 plays-permits (plays_run change) = (_, follows.runs change)
 plays-permits (plays_no_run idle) = ([], follows.cannot_run idle)
 plays-permits (plays_enter change) = (_, follows.enters change)
@@ -35,11 +41,13 @@ plays-permits (plays_tick_stop processor running other change marks) =
 plays-permits (plays_fail change) = ([], follows.fails change)
 plays-permits (plays_no_fail idle) = ([], follows.cannot_fail idle)
 
-pub leads-on : {site : Site} {w between end : World} {events : List Event} {event : Event} {sendings : List Sending} → Leads site w events between
+pub leads-on : {site : Site} {w between end : World} {events : List Event} {event : Event} {sendings : List Sending}
+    → Leads site w events between
     → Follows site between event sendings end → Leads site w (events ++ event ∷ []) end
 leads-on stays follows = goes_on follows stays
 leads-on (goes_on first more) follows = goes_on first (leads-on more follows)
 
-pub played-run : {site : Site} {events : List Event} {post : Post} → HasPlayed site events post → IsRun site events post.world
+pub played-run : {site : Site} {events : List Event} {post : Post} → HasPlayed site events post
+    → IsRun site events post.world
 played-run played_none = stays
 played-run (played_more before plays) = leads-on (played-run before) (plays-permits plays).1

@@ -1,4 +1,5 @@
--- Posts: a world with its letters. What each event of a schedule does to both together, said once for machines of whole messages and of packets.
+-- Posts: a world with its letters. What each event of a schedule does to both together, said once for machines of whole
+-- messages and of packets.
 use Rattle.std.specs.Prelude.{◌≡◌, ◌≢◌, ℕ, Bool, true, not, List, [], ◌∷◌, ◌++◌}
 use Rattle.std.specs.List.{filter}
 use Rattle.gd_words.specs.Members.{IsAmong}
@@ -12,7 +13,8 @@ use Rattle.world_semantics.specs.Follows.{IsIdleFor}
 use Rattle.letters.specs.Routes.{Letter, is_between, letters_of}
 use Rattle.letters.specs.Again.{sent_again}
 
--- a world, the letters that are owed: sent and not yet handed over, the oldest first, and all letters that were ever sent, in whatever order
+-- a world, the letters that are owed: sent and not yet handed over, the oldest first, and all letters that were ever
+-- sent, in whatever order
 pub record Post : Type 0 where
   pub world : World
   pub owed : List Letter
@@ -33,7 +35,8 @@ after_change site sendings next post = with_letters (letters_of site next sendin
 abbrev pub without_those_between : ℕ → ℕ → List Letter → List Letter
 without_those_between one other letters = filter (λ letter. not (is_between one other letter)) letters
 
--- the post after a node marked a processor: what was owed between both is so no more, and what the mark sends and sends again is owed
+-- the post after a node marked a processor: what was owed between both is so no more, and what the mark sends and sends
+-- again is owed
 abbrev pub post_after_down : Site → ℕ → ℕ → List Sending → World → Post → Post
 post_after_down site node processor sendings next post =
     with_letters (letters_of site next (sendings ++ sent_again site post.world next node processor))
@@ -42,32 +45,41 @@ post_after_down site node processor sendings next post =
 -- a letter and the others of a list, in their order
 pub data IsTaken (letter : Letter) : List Letter → List Letter → Type 0 where
   takes_first : {rest : List Letter} → IsTaken letter (letter ∷ rest) rest
-  takes_later : {other : Letter} {letters rest : List Letter} → IsTaken letter letters rest → IsTaken letter (other ∷ letters) (other ∷ rest)
+  takes_later : {other : Letter} {letters rest : List Letter} → IsTaken letter letters rest
+      → IsTaken letter (other ∷ letters) (other ∷ rest)
 
 -- any number of marks that a node makes, one after the other
 pub data NotesLetters (site : Site) (node : ℕ) : Post → Post → Type 0 where
   no_mark : {post : Post} → NotesLetters site node post post
-  one_mark : {post end : Post} {sendings : List Sending} {next : World} → (processor : ℕ) → Change site post.world (NotingDown node processor) sendings next
-      → NotesLetters site node (post_after_down site node processor sendings next post) end → NotesLetters site node post end
+  one_mark : {post end : Post} {sendings : List Sending} {next : World} → (processor : ℕ)
+      → Change site post.world (NotingDown node processor) sendings next
+      → NotesLetters site node (post_after_down site node processor sendings next post) end
+      → NotesLetters site node post end
 
--- what an event does to a post. A process runs or a terminal enters where it can. A delivery does nothing; or hands over a letter that is owed at its
--- receiver, or drops it there where it changes nothing; or hands over once more one that was ever sent; or makes one mark. A loss or a repeat does nothing:
--- what is lost stays owed. The tick of a node that runs stops at most one other processor and then makes marks. And a processor stops, where it can
+-- what an event does to a post. A process runs or a terminal enters where it can. A delivery does nothing; or hands
+-- over a letter that is owed at its receiver, or drops it there where it changes nothing; or hands over once more one
+-- that was ever sent; or makes one mark. A loss or a repeat does nothing: what is lost stays owed. The tick of a node
+-- that runs stops at most one other processor and then makes marks. And a processor stops, where it can
 pub data PlaysEvent (site : Site) (post : Post) : Event → Post → Type 0 where
-  plays_run : {number : ℕ} {sendings : List Sending} {next : World} → Change site post.world (Running number) sendings next
+  plays_run : {number : ℕ} {sendings : List Sending} {next : World}
+      → Change site post.world (Running number) sendings next
       → PlaysEvent site post (Run number) (after_change site sendings next post)
   plays_no_run : {number : ℕ} → IsIdleFor site post.world (Running number) → PlaysEvent site post (Run number) post
-  plays_enter : {number : ℕ} {sendings : List Sending} {next : World} → Change site post.world (Entering number) sendings next
+  plays_enter : {number : ℕ} {sendings : List Sending} {next : World}
+      → Change site post.world (Entering number) sendings next
       → PlaysEvent site post (Enter number) (after_change site sendings next post)
   plays_no_enter : {number : ℕ} → IsIdleFor site post.world (Entering number) → PlaysEvent site post (Enter number) post
   plays_nothing : {y : Bool} {k : ℕ} → PlaysEvent site post (Deliver y k) post
-  plays_hand : {y : Bool} {k : ℕ} {sendings : List Sending} {next : World} {rest : List Letter} → (letter : Letter) → IsTaken letter post.owed rest
+  plays_hand : {y : Bool} {k : ℕ} {sendings : List Sending} {next : World} {rest : List Letter} → (letter : Letter)
+      → IsTaken letter post.owed rest
       → Change site post.world (Handing letter.receiver letter.message) sendings next
       → PlaysEvent site post (Deliver y k) (after_change site sendings next (record post { owed = rest }))
   plays_drop : {y : Bool} {k : ℕ} {rest : List Letter} → (letter : Letter) → IsTaken letter post.owed rest
-      → is_running post.world.stopped letter.receiver ≡ true → IsIdleFor site post.world (Handing letter.receiver letter.message)
+      → is_running post.world.stopped letter.receiver ≡ true
+      → IsIdleFor site post.world (Handing letter.receiver letter.message)
       → PlaysEvent site post (Deliver y k) (record post { owed = rest })
-  plays_again : {y : Bool} {k : ℕ} {sendings : List Sending} {next : World} → (letter : Letter) → IsAmong letter post.sent
+  plays_again : {y : Bool} {k : ℕ} {sendings : List Sending} {next : World} → (letter : Letter)
+      → IsAmong letter post.sent
       → Change site post.world (Handing letter.receiver letter.message) sendings next
       → PlaysEvent site post (Deliver y k) (after_change site sendings next post)
   plays_mark : {y : Bool} {k : ℕ} {sendings : List Sending} {next : World} → (node processor : ℕ)
@@ -76,16 +88,21 @@ pub data PlaysEvent (site : Site) (post : Post) : Event → Post → Type 0 wher
   plays_loss : {y : Bool} {k : ℕ} → PlaysEvent site post (Lose y k) post
   plays_repeat : {y : Bool} {k : ℕ} → PlaysEvent site post (Repeat y k) post
   plays_no_tick : {node : ℕ} → PlaysEvent site post (Tick node) post
-  plays_tick : {node : ℕ} {next : Post} → is_running post.world.stopped node ≡ true → NotesLetters site node post next → PlaysEvent site post (Tick node) next
-  plays_tick_stop : {node : ℕ} {between : World} {next : Post} → (processor : ℕ) → is_running post.world.stopped node ≡ true → processor ≢ node
-      → Change site post.world (Stopping processor) [] between → NotesLetters site node (record post { world = between }) next
+  plays_tick : {node : ℕ} {next : Post} → is_running post.world.stopped node ≡ true → NotesLetters site node post next
+      → PlaysEvent site post (Tick node) next
+  plays_tick_stop : {node : ℕ} {between : World} {next : Post} → (processor : ℕ)
+      → is_running post.world.stopped node ≡ true → processor ≢ node
+      → Change site post.world (Stopping processor) [] between
+      → NotesLetters site node (record post { world = between }) next
       → PlaysEvent site post (Tick node) next
   plays_fail : {processor : ℕ} {next : World} → Change site post.world (Stopping processor) [] next
       → PlaysEvent site post (Fail processor) (record post { world = next })
-  plays_no_fail : {processor : ℕ} → IsIdleFor site post.world (Stopping processor) → PlaysEvent site post (Fail processor) post
+  plays_no_fail : {processor : ℕ} → IsIdleFor site post.world (Stopping processor)
+      → PlaysEvent site post (Fail processor) post
 
 -- events, one after the other, lead from the beginning to a post
 pub data HasPlayed (site : Site) : List Event → Post → Type 0 where
   played_none : HasPlayed site [] (post_at_boot site)
-  played_more : {event : Event} {events : List Event} {post next : Post} → HasPlayed site events post → PlaysEvent site post event next
+  played_more : {event : Event} {events : List Event} {post next : Post} → HasPlayed site events post
+      → PlaysEvent site post event next
       → HasPlayed site (events ++ event ∷ []) next

@@ -1,5 +1,6 @@
--- The routes of nodes, and letters. That a node sends to the first copy of a process until it has marked that one's processor is Bartlett's: the system
--- keeps a table of where each process is. That a route is read off the marks is our own form of it.
+-- The routes of nodes, and letters. That a node sends to the first copy of a process until it has marked that one's
+-- processor is Bartlett's: the system keeps a table of where each process is. That a route is read off the marks is our
+-- own form of it.
 use Rattle.std.specs.Prelude.{ℕ, ◌==◌, ◌&&◌, ◌||◌, Bool, if◌then◌else◌, List, filter_map, slice_get, Option, Some, None}
 use Rattle.std.specs.Option.{option_map, option_and_then}
 use Rattle.tal_tree.specs.declared.site.Site.{Site}
@@ -10,9 +11,11 @@ use Rattle.plain_semantics.specs.Openers.{openers_of}
 use Rattle.world_semantics.specs.World.{Pair, Down, World, terminal_node, has_noted}
 use Rattle.world_semantics.specs.Messages.{Message, Asking, Replying, Checkpointing, Taking, Sending}
 
--- the processor to which a node sends what is for a process: its first-named one, or the other one once the node has marked that
+-- the processor to which a node sends what is for a process: its first-named one, or the other one once the node has
+-- marked that
 abbrev pub route_of : List Down → ℕ → Pair → ℕ
-route_of marks node pair = if has_noted marks node pair.first.processor then pair.second.processor else pair.first.processor
+route_of marks node pair =
+    if has_noted marks node pair.first.processor then pair.second.processor else pair.first.processor
 
 -- the route of a node to the process of a number, if it is there
 abbrev pub route_to : World → ℕ → ℕ → Option ℕ
@@ -30,8 +33,9 @@ other_end node pair = if pair.first.processor == node then pair.second.processor
 abbrev pub end_of : World → ℕ → ℕ → Option ℕ
 end_of w node number = option_map (λ pair. other_end node pair) (slice_get w.processes number)
 
--- the node to which a node sends a message: a request goes by the route to its process, a reply to where its opener is found, and what is between the two
--- copies of a process to the other one. None where the process or the opener isn't there
+-- the node to which a node sends a message: a request goes by the route to its process, a reply to where its opener is
+-- found, and what is between the two copies of a process to the other one. None where the process or the opener isn't
+-- there
 abbrev pub receiver_of : Site → World → ℕ → Message → Option ℕ
 receiver_of site w node (Asking request) = route_to w node request.process
 receiver_of site w node (Replying reply) =

@@ -1,5 +1,6 @@
 -- Each checkpoint is within the layout, and so is what tells that it was taken.
-use Rattle.std.proofs.Common.{◌≡◌, ◌≤◌, ◌<◌, ◌^◌, inr, ℕ, zero, suc, ◌-◌, ℤ, List, [], ◌∷◌, map, drop, reverse, length, All, Option, Some, None, slice_get, refl, sym, ap, subst, arith}
+use Rattle.std.proofs.Common.{◌≡◌, ◌≤◌, ◌<◌, ◌^◌, inr, ℕ, zero, suc, ◌-◌, ℤ, List, [], ◌∷◌, map, drop, reverse, length}
+use Rattle.std.proofs.Common.{All, Option, Some, None, slice_get, refl, sym, ap, subst, arith}
 use Rattle.std.proofs.lemmas.Bool.{le-leb}
 use Rattle.std.proofs.lemmas.List.{length-drop}
 use Rattle.std.specs.List.{slice_index_or}
@@ -57,7 +58,8 @@ among-drop (suc n) x [] among = among
 among-drop (suc n) x (y ∷ xs) among = inr (among-drop n x xs among)
 
 -- whoever's request is in hand has a place among the openers
-hand-low : {site : Site} {number : ℕ} {spec : ProcessSpec} {deeds : List Deed} {core : Core} → HasDone site number spec deeds core → (place : ℕ) → core.receive.in_hand ≡ Some place
+hand-low : {site : Site} {number : ℕ} {spec : ProcessSpec} {deeds : List Deed} {core : Core}
+    → HasDone site number spec deeds core → (place : ℕ) → core.receive.in_hand ≡ Some place
     → place < length (openers_of site number)
 hand-low nothing_done place e = absurd (cc)
 hand-low (one_more done (goes at)) place e = hand-low done place e
@@ -71,12 +73,15 @@ hand-low (one_more done (gets at named)) place e = hand-low done place e
 hand-low (one_more done (answers opener block at hand known there said)) place e = absurd (cc)
 hand-low (one_more done (acts at call)) place e = hand-low done place e
 
-named-all : (P : FileNumber → Type 0) (next : ℕ → ℕ) (files : List ℕ) → ((file : ℕ) → IsAmong file files → P (record { file = file; next = next file }))
+named-all : (P : FileNumber → Type 0) (next : ℕ → ℕ) (files : List ℕ)
+    → ((file : ℕ) → IsAmong file files → P (record { file = file; next = next file }))
     → All P (map (λ file. record { file = file; next = next file }) files)
-named-all P next files each = at-each P _ (λ n x there. let from = mapped (λ (file : ℕ). record { file = file; next = next file }) files n x there in
+named-all P next files each = at-each P _
+    (λ n x there. let from = mapped (λ (file : ℕ). record { file = file; next = next file }) files n x there in
     subst P (sym from.2) (each from.0 (among-at files n from.0 from.1)))
 
-map-count : (next : ℕ → ℕ) (files : List ℕ) → length {A = FileNumber} (map (λ (file : ℕ). record { file = file; next = next file }) files) ≡ length files
+map-count : (next : ℕ → ℕ) (files : List ℕ)
+    → length {A = FileNumber} (map (λ (file : ℕ). record { file = file; next = next file }) files) ≡ length files
 map-count next [] = refl
 map-count next (file ∷ files) = ap suc (map-count next files)
 
@@ -85,9 +90,11 @@ listed-may : (s : ProcessState) → IsWholeProcess s → MayList s (listed_items
 listed-may (Runs program s) is = frames-listed program is.0 s.frames is.1.frames
 listed-may (Serves sectors s) is = (refl, refl)
 
-module _ (site : Site) (fit : IsFit site) (small : IsSmall site) (n before number : ℕ) (limit : n < 4294967296) (less : before < n) (core : Core) (made : WasMade site before number core) where
+module _ (site : Site) (fit : IsFit site) (small : IsSmall site) (n before number : ℕ) (limit : n < 4294967296)
+    (less : before < n) (core : Core) (made : WasMade site before number core) where
   whole : IsWholeProcess core.state
-  whole = done-whole (fit.regular number made.spec made.there) made.done (record { count = let few = made.few in omega (arith, few, limit, less); short = made.short })
+  whole = done-whole (fit.regular number made.spec made.there) made.done
+      (record { count = let few = made.few in omega (arith, few, limit, less); short = made.short })
 
   within : IsWithinProcess core.state
   within = by core.state (done-kind made.done)
@@ -97,17 +104,23 @@ module _ (site : Site) (fit : IsFit site) (small : IsSmall site) (n before numbe
       by (Serves sectors s) same = tt
 
   body : length (image_of (listed_items core.state) core.state) ≤ 32767
-  body = image-short core.state (listed_items core.state) (listed_files core.state) whole within (listed-may core.state whole)
+  body = image-short core.state (listed_items core.state) (listed_files core.state) whole within
+      (listed-may core.state whole)
 
   files-few : (length (listed_files core.state) ≤ 8) × ((file : ℕ) → IsAmong file (listed_files core.state) → file < 8)
   files-few = by core.state whole within
     where
-      by : (s : ProcessState) → IsWholeProcess s → IsWithinProcess s → (length (listed_files s) ≤ 8) × ((file : ℕ) → IsAmong file (listed_files s) → file < 8)
+      by : (s : ProcessState) → IsWholeProcess s → IsWithinProcess s
+          → (length (listed_files s) ≤ 8) × ((file : ℕ) → IsAmong file (listed_files s) → file < 8)
       by (Runs program s) is limits =
           let listed = frames-listed program is.0 s.frames is.1.frames in
           let most = limits.1.files in
-          let few = distinct-few (listed_files (Runs program s)) (length program.files) listed.distinct_files (λ k among. file-there k (listed.files_there k among)) in
-          (omega (arith, few, most), λ file among. let less = file-there file (listed.files_there file among) in omega (arith, less, most))
+          let few = distinct-few (listed_files (Runs program s)) (length program.files) listed.distinct_files
+          (λ k among. file-there k (listed.files_there k among)) in (
+            omega (arith, few, most),
+            λ file among. let less = file-there file (listed.files_there file among) in
+                omega (arith, less, most),
+          )
       by (Serves sectors s) is limits = (omega arith, λ file among. absurd among)
 
   next-few : (file : ℕ) → next_on core file < 2 ^ 32
@@ -120,7 +133,8 @@ module _ (site : Site) (fit : IsFit site) (small : IsSmall site) (n before numbe
           let few = few-of (ask_on file) made.deeds in
           rw e (let made_few = made.few in omega (arith, is, few, less, limit, made_few))
 
-  taken-few : (place : ℕ) (block : OpenerBlock) → slice_get core.receive.openers place ≡ Some block → block.taken < 2 ^ 32
+  taken-few : (place : ℕ) (block : OpenerBlock) → slice_get core.receive.openers place ≡ Some block
+      → block.taken < 2 ^ 32
   taken-few place block there =
       let is = taken-number made.done place block there in
       let few = few-of (take_from place) made.deeds in
@@ -133,12 +147,14 @@ module _ (site : Site) (fit : IsFit site) (small : IsSmall site) (n before numbe
       let same = openers-same made.done in
       by (openers_of site number) place (omega (arith, low, same))
     where
-      by : (openers : List OpenerSpec) (place : ℕ) → place < length openers → (opener : OpenerSpec) × (slice_get openers place ≡ Some opener)
+      by : (openers : List OpenerSpec) (place : ℕ) → place < length openers
+          → (opener : OpenerSpec) × (slice_get openers place ≡ Some opener)
       by [] place low = absurd (omega (arith, low))
       by (opener ∷ openers) zero low = (opener, refl)
       by (opener ∷ openers) (suc place) low = by openers place (omega (arith, low))
 
-  kept-few : (place : ℕ) (block : OpenerBlock) → slice_get core.receive.openers place ≡ Some block → length block.kept ≤ 32767
+  kept-few : (place : ℕ) (block : OpenerBlock) → slice_get core.receive.openers place ≡ Some block
+      → length block.kept ≤ 32767
   kept-few place block there =
       let opener = opener-there place block there in
       let is = kept-last made.done place block there opener.0 opener.1 in
@@ -148,13 +164,16 @@ module _ (site : Site) (fit : IsFit site) (small : IsSmall site) (n before numbe
       let same = ap (length {A = List ℤ}) is in
       omega (arith, cut, most, same)
 
-  kept-short : (place : ℕ) (block : OpenerBlock) → slice_get core.receive.openers place ≡ Some block → All (λ words. length words ≤ 16) block.kept
+  kept-short : (place : ℕ) (block : OpenerBlock) → slice_get core.receive.openers place ≡ Some block
+      → All (λ words. length words ≤ 16) block.kept
   kept-short place block there = at-each (λ words. length words ≤ 16) block.kept (λ k words at.
       let opener = opener-there place block there in
       let is = kept-last made.done place block there opener.0 opener.1 in
       let all : List (List ℤ) = reverse (answered_to place made.deeds) in
-      let among = among-drop (length all - opener.0.depth) words all (subst (IsAmong words) is (among-at block.kept k words at)) in
-      (done-answers (fit.regular number made.spec made.there) made.done (record { count = let f = made.few in omega (arith, f, limit, less); short = made.short }) place words
+      let among = among-drop (length all - opener.0.depth) words all
+      (subst (IsAmong words) is (among-at block.kept k words at)) in
+      (done-answers (fit.regular number made.spec made.there) made.done
+      (record { count = let f = made.few in omega (arith, f, limit, less); short = made.short }) place words
       (among-reverse words (answered_to place made.deeds) among)).1)
 
   hand-place : IsPlace core.receive.in_hand
@@ -162,40 +181,51 @@ module _ (site : Site) (fit : IsFit site) (small : IsSmall site) (n before numbe
     where
       by : (hand : Option ℕ) → core.receive.in_hand ≡ hand → IsPlace hand
       by None e = tt
-      by (Some place) e = let low = hand-low made.done place e in let few = small.openers number in omega (arith, low, few)
+      by (Some place) e =
+          let low = hand-low made.done place e in let few = small.openers number in omega (arith, low, few)
 
   number-there : number < length site.processes
   number-there = slice_get_within site.processes number made.spec made.there
 
-  image-lies : (message : ImageMessage) → message.process ≡ number → message.era ≤ 1 → message.number ≤ n → message.image ≡ carried core
+  image-lies : (message : ImageMessage) → message.process ≡ number → message.era ≤ 1 → message.number ≤ n
+      → message.image ≡ carried core
       → IsWithinLayout message
   image-lies message same era count is = record {
     short = record {
       body = subst (λ (i : Image). length i.body ≤ 32767) (sym is) body;
       files = subst (λ (i : Image). length i.files ≤ 32767) (sym is)
-          (let l = map-count (next_on core) (listed_files core.state) in let few = files-few.0 in omega (arith, l, few));
-      openers = subst (λ (i : Image). length i.receive.openers ≤ 32767) (sym is) (let l = openers-same made.done in let few = small.openers number in omega (arith, l, few));
-      kept = subst (λ (i : Image). All (λ block. length block.kept ≤ 32767) i.receive.openers) (sym is) (at-each (λ block. length block.kept ≤ 32767) core.receive.openers kept-few);
+          (let l = map-count (next_on core) (listed_files core.state) in let few = files-few.0 in
+          omega (arith, l, few));
+      openers = subst (λ (i : Image). length i.receive.openers ≤ 32767) (sym is)
+          (let l = openers-same made.done in let few = small.openers number in omega (arith, l, few));
+      kept = subst (λ (i : Image). All (λ block. length block.kept ≤ 32767) i.receive.openers) (sym is)
+          (at-each (λ block. length block.kept ≤ 32767) core.receive.openers kept-few);
       in_hand = subst (λ (i : Image). IsPlace i.receive.in_hand) (sym is) hand-place;
     };
     process = let low = number-there in let few = small.processes in omega (arith, same, low, few);
     era = omega (arith, era);
     number = omega (arith, count, limit);
     files = subst (λ (i : Image). All IsFile i.files) (sym is)
-        (named-all IsFile (next_on core) (listed_files core.state) (λ file among. record { file = let l = files-few.1 file among in omega (arith, l); next = next-few file }));
+        (named-all IsFile (next_on core) (listed_files core.state)
+        (λ file among. record { file = let l = files-few.1 file among in omega (arith, l); next = next-few file }));
     openers = subst (λ (i : Image). All IsOpener i.receive.openers) (sym is)
-        (at-each IsOpener core.receive.openers (λ place block there. record { taken = taken-few place block there; replies = kept-short place block there }));
+        (at-each IsOpener core.receive.openers (λ place block there.
+        record { taken = taken-few place block there; replies = kept-short place block there }));
   }
 
-module _ (site : Site) (fit : IsFit site) (small : IsSmall site) (events : List Event) (w : World) (few : length events < 4294967296) (run : IsRun site events w) where
+module _ (site : Site) (fit : IsFit site) (small : IsSmall site) (events : List Event) (w : World)
+    (few : length events < 4294967296) (run : IsRun site events w) where
   there-spec : (number : ℕ) (pair : Pair) → slice_get w.processes number ≡ Some pair → number < length site.processes
   there-spec number pair there =
-      let sound = (run-keeps site fit events w few run).processes number pair there in slice_get_within site.processes number sound.0 sound.1
+      let sound = (run-keeps site fit events w few run).processes number pair there in
+      slice_get_within site.processes number sound.0 sound.1
 
-  pub checkpoint-fits : (message : ImageMessage) → IsSent w (Checkpointing message) → Fits site (Carrying (Checkpointing message))
+  pub checkpoint-fits : (message : ImageMessage) → IsSent w (Checkpointing message)
+      → Fits site (Carrying (Checkpointing message))
   checkpoint-fits message (pair, there, among) =
       let one = (run-known site fit events w few run message.process pair there).checkpoints message among in record {
-        within = image-lies site fit small (length events) one.before message.process few one.less one.core one.made message refl one.era one.count one.same;
+        within = image-lies site fit small (length events) one.before message.process few one.less one.core one.made
+            message refl one.era one.count one.same;
         known = le-leb (suc message.process) (length site.processes) (there-spec message.process pair there);
       }
 
@@ -203,6 +233,11 @@ module _ (site : Site) (fit : IsFit site) (small : IsSmall site) (events : List 
   taken-fits taken (pair, there, among) =
       let one = (run-known site fit events w few run taken.process pair there).takens taken among in
       let low = there-spec taken.process pair there in record {
-        within = record { process = let most = small.processes in omega (arith, low, most); era = let e = one.0 in omega (arith, e); number = let c = one.1 in omega (arith, c, few) };
+        within = record {
+          process = let most = small.processes in omega (arith, low, most);
+          era = let e = one.0 in
+              omega (arith, e);
+          number = let c = one.1 in omega (arith, c, few);
+        };
         known = le-leb (suc taken.process) (length site.processes) low;
       }

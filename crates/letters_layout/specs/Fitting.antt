@@ -16,17 +16,22 @@ use Rattle.letters.specs.Routes.{Letter}
 use Rattle.message_layout.specs.Messages.{Carrying}
 use Rattle.message_layout.specs.Layout.{Fits}
 
--- a site has few processes, each with few openers, of small depths; its terminals send few requests; and its programs are in order and keep their limits
+-- a site has few processes, each with few openers, of small depths; its terminals send few requests; and its programs
+-- are in order and keep their limits
 pub record IsSmall (site : Site) : Type 0 where
   pub processes : length site.processes ≤ 256
   pub openers : (process : ℕ) → length (openers_of site process) ≤ 32767
-  pub depths : (process place : ℕ) (opener : OpenerSpec) → slice_get (openers_of site process) place ≡ Some opener → opener.depth ≤ 32767
-  pub requests : (terminal number : ℕ) (words : List ℤ) → next_request site terminal number ≡ Some words → number < 4294967295
-  pub programs : (number : ℕ) (spec : ProcessSpec) (program : Program) → slice_get site.processes number ≡ Some spec → spec.what ≡ Pair program
+  pub depths : (process place : ℕ) (opener : OpenerSpec) → slice_get (openers_of site process) place ≡ Some opener
+      → opener.depth ≤ 32767
+  pub requests : (terminal number : ℕ) (words : List ℤ) → next_request site terminal number ≡ Some words
+      → number < 4294967295
+  pub programs : (number : ℕ) (spec : ProcessSpec) (program : Program) → slice_get site.processes number ≡ Some spec
+      → spec.what ≡ Pair program
       → IsOrdered program × IsWithinLimits program
 
 -- whatever fewer than 4,294,967,296 events do to a post, each letter that was ever sent fits the site
 abbrev pub HasFittingLetters : Site → Type 0
 HasFittingLetters site =
-    (events : List Event) (post : Post) → length events < 4294967296 → HasPlayed site events post → (letter : Letter) → IsAmong letter post.sent
+    (events : List Event) (post : Post) → length events < 4294967296 → HasPlayed site events post → (letter : Letter)
+    → IsAmong letter post.sent
     → Fits site (Carrying letter.message)

@@ -4,8 +4,8 @@ ghost use Rattle.takeover_laws.specs.Fit.{IsFit};
 ghost use Rattle.awaited_requests.specs.Seats.{IsLaidOut};
 ghost use Rattle.letters_layout.specs.Fitting.{HasFittingLetters, IsSmall};
 
-/// In fewer than 4,294,967,296 events of a fit site within its limits, each letter that is ever sent fits the layout and names what
-/// the site has.
+/// In fewer than 4,294,967,296 events of a fit site within its limits, each letter that is ever sent fits the layout
+/// and names what the site has.
 pub fn letters_fit()
     ensures { (site : Site) → IsFit site → IsSmall site → IsLaidOut site → HasFittingLetters site }
 {}

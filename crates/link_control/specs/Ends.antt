@@ -1,6 +1,8 @@
--- One end of a channel: what it has, and what each call makes of it. That messages go in numbered packets, acknowledged and sent again over two buses, is
--- Bartlett's; one outstanding piece at a time, and when it is sent again, are our own.
-use Rattle.std.specs.Prelude.{◌≡◌, ℕ, ◌+◌, ◌*◌, ◌<◌, ◌==◌, ◌&&◌, not, nat_lt, nat_le, ℤ, Bool, true, false, List, [], ◌∷◌, ◌++◌, length, Option, Some, None, if◌then◌else◌}
+-- One end of a channel: what it has, and what each call makes of it. That messages go in numbered packets, acknowledged
+-- and sent again over two buses, is Bartlett's; one outstanding piece at a time, and when it is sent again, are our
+-- own.
+use Rattle.std.specs.Prelude.{◌≡◌, ℕ, ◌+◌, ◌*◌, ◌<◌, ◌==◌, ◌&&◌, not, nat_lt, nat_le, ℤ, Bool, true, false, List, []}
+use Rattle.std.specs.Prelude.{◌∷◌, ◌++◌, length, Option, Some, None, if◌then◌else◌}
 use Rattle.std.specs.Option.{option_map}
 use Rattle.gd_words.specs.Ranges.{HasNext}
 use Rattle.packet_words.specs.declared.bus_name.BusName.{BusName}
@@ -14,9 +16,10 @@ use Rattle.packet_words.specs.Buses.{other_bus}
 use Rattle.packet_words.specs.Pieces.{piece_at, joined, completed}
 use Rattle.link_control.specs.declared.channel.Resent.{Resent}
 
--- the sender's end of one direction: the messages that aren't acknowledged whole, the oldest first; which piece of the first of them is outstanding,
--- counted from 0; how many pieces were numbered so far, the outstanding one last; whether that one was outstanding at the last tick; and the bus over
--- which it is sent again next. A piece is outstanding exactly where there is such a message
+-- the sender's end of one direction: the messages that aren't acknowledged whole, the oldest first; which piece of the
+-- first of them is outstanding, counted from 0; how many pieces were numbered so far, the outstanding one last; whether
+-- that one was outstanding at the last tick; and the bus over which it is sent again next. A piece is outstanding
+-- exactly where there is such a message
 pub record Sending : Type 0 where
   pub queue : List (List ℤ)
   pub place : ℕ
@@ -29,8 +32,8 @@ pub record Receiving : Type 0 where
   pub kept : ℕ
   pub part : List ℤ
 
--- one node's end of the channel with another: the sender's end of the direction there, the receiver's end of the direction here, and whether this node has
--- marked the other down
+-- one node's end of the channel with another: the sender's end of the direction there, the receiver's end of the
+-- direction here, and whether this node has marked the other down
 pub record End : Type 0 where
   pub here : ℕ
   pub there : ℕ
@@ -61,7 +64,8 @@ new_end here there incarnation = record {
 
 -- the piece at this place of the first message is numbered and becomes outstanding
 abbrev pub numbered_at : ℕ → List (List ℤ) → ℕ → Sending
-numbered_at place queue numbered = record { queue = queue; place = place; numbered = numbered + 1; waited = false; resend_bus = bus.Y }
+numbered_at place queue numbered =
+    record { queue = queue; place = place; numbered = numbered + 1; waited = false; resend_bus = bus.Y }
 
 -- the first piece of the first message becomes outstanding, where there is a message
 abbrev pub begun : List (List ℤ) → ℕ → Sending
@@ -77,13 +81,15 @@ is_idle s = is_none s.queue
 
 -- a message is pushed: it goes at once where nothing is outstanding, and else waits behind the others
 abbrev pub after_push_of : List ℤ → Sending → Sending
-after_push_of message s = if is_idle s then begun (message ∷ []) s.numbered else record s { queue = s.queue ++ message ∷ [] }
+after_push_of message s =
+    if is_idle s then begun (message ∷ []) s.numbered else record s { queue = s.queue ++ message ∷ [] }
 
 -- the next piece becomes outstanding: of the first message, or of the one behind it where no words are left
 abbrev pub moved_on : List (List ℤ) → Sending → Sending
 moved_on [] s = s
 moved_on (message ∷ rest) s =
-    if nat_lt (10 * (s.place + 1)) (length message) then numbered_at (s.place + 1) (message ∷ rest) s.numbered else begun rest s.numbered
+    if nat_lt (10 * (s.place + 1)) (length message) then numbered_at (s.place + 1) (message ∷ rest) s.numbered else
+    begun rest s.numbered
 
 -- whether an acknowledgement is that of the outstanding piece
 abbrev pub is_ended_by : ℕ → Sending → Bool
@@ -99,7 +105,8 @@ is_sent_again s = not (is_idle s) && s.waited
 
 -- a tick: what was outstanding at the last one goes over its bus, and next over the other
 abbrev pub after_tick_of : Sending → Sending
-after_tick_of s = if is_idle s then s else if s.waited then record s { resend_bus = other_bus s.resend_bus } else record s { waited = true }
+after_tick_of s = if is_idle s then s else if s.waited then record s { resend_bus = other_bus s.resend_bus } else
+    record s { waited = true }
 
 -- the outstanding piece
 abbrev pub piece_of : List (List ℤ) → ℕ → Option Piece
@@ -132,7 +139,8 @@ packet_of e kind = record { sender = e.here; receiver = e.there; incarnation = e
 
 -- the packet of the outstanding piece
 abbrev pub packet_outstanding : End → Option Packet
-packet_outstanding e = option_map (λ piece. packet_of e (kind.Piece e.sending.numbered piece)) (piece_of e.sending.queue e.sending.place)
+packet_outstanding e =
+    option_map (λ piece. packet_of e (kind.Piece e.sending.numbered piece)) (piece_of e.sending.queue e.sending.place)
 
 -- a message is pushed; to a node that is marked down it is thrown away
 abbrev pub after_push : List ℤ → End → End
@@ -140,21 +148,25 @@ after_push message e = if e.down then e else record e { sending = after_push_of 
 
 -- what a push sends: the first piece, where nothing was outstanding
 abbrev pub sent_by_push : List ℤ → End → Option Packet
-sent_by_push message e = if e.down then None else if is_idle e.sending then packet_outstanding (after_push message e) else None
+sent_by_push message e =
+    if e.down then None else if is_idle e.sending then packet_outstanding (after_push message e) else None
 
 abbrev pub after_kind : PacketKind → End → End
 after_kind kind.Alive e = e
 after_kind (kind.Piece number piece) e = record e { receiving = kept number piece e.receiving }
 after_kind (kind.Acknowledgement number) e = record e { sending = after_acknowledgement number e.sending }
 
--- a packet comes: a piece concerns the receiver's end, an acknowledgement the sender's; of a node that is marked down it is dropped
+-- a packet comes: a piece concerns the receiver's end, an acknowledgement the sender's; of a node that is marked down
+-- it is dropped
 abbrev pub after_packet : Packet → End → End
 after_packet packet e = if e.down then e else after_kind packet.kind e
 
 abbrev pub sent_by_kind : PacketKind → End → Option Packet
 sent_by_kind kind.Alive e = None
-sent_by_kind (kind.Piece number piece) e = if is_kept number (kept number piece e.receiving) then Some (packet_of e (kind.Acknowledgement number)) else None
-sent_by_kind (kind.Acknowledgement number) e = if is_ended_by number e.sending then packet_outstanding (after_kind (kind.Acknowledgement number) e) else None
+sent_by_kind (kind.Piece number piece) e =
+    if is_kept number (kept number piece e.receiving) then Some (packet_of e (kind.Acknowledgement number)) else None
+sent_by_kind (kind.Acknowledgement number) e =
+    if is_ended_by number e.sending then packet_outstanding (after_kind (kind.Acknowledgement number) e) else None
 
 -- what a packet makes this end send: a piece that is kept its acknowledgement, an acknowledgement the next piece
 abbrev pub sent_by_packet : Packet → End → Option Packet
@@ -177,11 +189,13 @@ after_tick e = if e.down then e else record e { sending = after_tick_of e.sendin
 abbrev pub sent_by_tick : End → Option Resent
 sent_by_tick e =
     if e.down then None
-    else if is_sent_again e.sending then option_map (λ packet. record { bus = e.sending.resend_bus; packet = packet }) (packet_outstanding e) else None
+    else if is_sent_again e.sending then option_map (λ packet. record { bus = e.sending.resend_bus; packet = packet })
+    (packet_outstanding e) else None
 
 -- the other node is marked down: what is queued, outstanding or kept in part is thrown away
 abbrev pub after_down : End → End
-after_down e = record e { sending = idle_after e.sending.numbered; receiving = nothing_in_part e.receiving.kept; down = true }
+after_down e =
+    record e { sending = idle_after e.sending.numbered; receiving = nothing_in_part e.receiving.kept; down = true }
 
 -- the packet that tells the other node that this one is alive; none goes to a node that is marked down
 abbrev pub alive_of : End → Option Packet

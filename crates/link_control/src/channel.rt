@@ -1,13 +1,17 @@
-ghost use Rattle.std.specs.Prelude.{◌≡◌, ◌<◌, ◌↔◌, IsTrue, List as Items, length, IfOk, OnOk, OnErr, Some, None, if◌then◌else◌};
+ghost use Rattle.std.specs.Prelude.{◌≡◌, ◌<◌, ◌↔◌, IsTrue, List as Items, length, IfOk, OnOk, OnErr, Some, None};
+ghost use Rattle.std.specs.Prelude.{if◌then◌else◌};
 ghost use Rattle.gd_words.specs.Ranges.{HasNext};
 ghost use Rattle.packet_words.specs.declared.packet.PacketKind.TheVariants as kind;
-ghost use Rattle.link_control.specs.Ends.{End, new_end, after_push, sent_by_push, after_packet, sent_by_packet, handed_by_packet, after_tick, sent_by_tick, after_down, alive_of, is_empty, HasNumberForPush, HasNumbersLeft, packet_outstanding, packet_of, is_kept, kept, message_of_piece};
+ghost use Rattle.link_control.specs.Ends.{End, new_end, after_push, sent_by_push, after_packet, sent_by_packet};
+ghost use Rattle.link_control.specs.Ends.{handed_by_packet, after_tick, sent_by_tick, after_down, alive_of, is_empty};
+ghost use Rattle.link_control.specs.Ends.{HasNumberForPush, HasNumbersLeft, packet_outstanding, packet_of, is_kept};
+ghost use Rattle.link_control.specs.Ends.{kept, message_of_piece};
 
 use crate::sender::Sender;
 use gd_words::{List, NoMemory};
+use packet_words::{BusName, Incarnation, Joiner, Packet, PacketKind, Piece};
 use std::alloc::Global;
 use std::marker::Model;
-use packet_words::{BusName, Incarnation, Joiner, Packet, PacketKind, Piece};
 
 /// What a packet that came makes a channel send and hand over.
 #[derive(Drop)]
@@ -86,8 +90,8 @@ impl Channel {
         }
     }
 
-    /// Treats a packet that came from the other node. A piece that it sends goes over bus X, an acknowledgement over the bus by
-    /// which the packet came. Without memory nothing changes.
+    /// Treats a packet that came from the other node. A piece that it sends goes over bus X, an acknowledgement over
+    /// the bus by which the packet came. Without memory nothing changes.
     pub fn on_packet(&mut self, packet: &Packet) -> Result<Arrived, NoMemory>
         requires numbered { HasNext self.old.sending.numbered }
         requires kept { HasNext self.old.receiving.kept }
@@ -193,7 +197,8 @@ impl Channel {
     }
 
     fn answer(&self, number: u32) -> Option<Packet>
-        ensures { result ≡ (if is_kept number self.now.receiving then Some (packet_of self.now (kind.Acknowledgement number)) else None) }
+        ensures { result ≡ (if is_kept number self.now.receiving then Some
+            (packet_of self.now (kind.Acknowledgement number)) else None) }
     {
         if number <= self.kept {
             Some(self.packet_of(PacketKind::Acknowledgement { number }))
@@ -205,7 +210,8 @@ impl Channel {
     fn keep(&mut self, number: u32, piece: &Piece) -> Result<Option<List<i16>>, NoMemory>
         requires { HasNext self.old.receiving.kept }
         ensures delivered { IfOk result (λ message. message ≡ message_of_piece number piece.now self.old.receiving) }
-        ensures after { OnOk result (self.new ≡ record self.old { receiving = kept number piece.now self.old.receiving }) }
+        ensures after { OnOk result (self.new ≡ record self.old
+            { receiving = kept number piece.now self.old.receiving }) }
         ensures err { OnErr result (self.new ≡ self.old) }
     {
         if number == self.kept + 1 {

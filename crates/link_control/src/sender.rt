@@ -1,15 +1,16 @@
 ghost use Rattle.std.specs.Prelude.{◌≡◌, ◌<◌, ◌≤◌, ◌+◌, true, OnOk, OnErr};
 ghost use Rattle.gd_words.specs.Ranges.{HasNext};
-ghost use Rattle.link_control.specs.Ends.{Sending, idle_after, begun, is_idle, after_push_of, is_ended_by, after_acknowledgement, is_sent_again, after_tick_of, piece_of, moved_on};
+ghost use Rattle.link_control.specs.Ends.{Sending, idle_after, begun, is_idle, after_push_of, is_ended_by};
+ghost use Rattle.link_control.specs.Ends.{after_acknowledgement, is_sent_again, after_tick_of, piece_of, moved_on};
 
 use gd_words::{List, NoMemory};
+use packet_words::{BusName, Piece, cut};
 use std::alloc::Global;
 use std::collections::VecDeque;
 use std::marker::Model;
-use packet_words::{BusName, Piece, cut};
 
-/// The sender's end of one direction: the messages that aren't acknowledged whole, and which piece of the first is outstanding.
-/// Each piece is cut anew when its packet goes out.
+/// The sender's end of one direction: the messages that aren't acknowledged whole, and which piece of the first is
+/// outstanding. Each piece is cut anew when its packet goes out.
 #[derive(Drop)]
 pub struct Sender {
     queue: VecDeque<List<i16>>,
@@ -25,7 +26,13 @@ impl Model for Sender {
 
     ghost Value = { Sending };
 
-    ghost view = { λ s. record { queue = s.queue.items; place = s.place; numbered = s.numbered; waited = s.waited; resend_bus = s.resend_bus } };
+    ghost view = { λ s. record {
+      queue = s.queue.items;
+      place = s.place;
+      numbered = s.numbered;
+      waited = s.waited;
+      resend_bus = s.resend_bus;
+    } };
 
     ghost invariant = { λ s. s.place ≤ s.numbered };
 }

@@ -1,6 +1,7 @@
 ghost use Rattle.std.specs.Prelude.{◌≡◌, ◌≤◌, ◌++◌, ◌%◌, IfOk, OnOk};
 ghost use Rattle.std.specs.Fmt.{decimal};
-ghost use Rattle.load_deck.specs.LoadText.{bank_text, banks, line, load_text, program_head, program_middle, program_tail, request_text, requests, terminal_text, terminals};
+ghost use Rattle.load_deck.specs.LoadText.{bank_text, banks, line, load_text, program_head, program_middle};
+ghost use Rattle.load_deck.specs.LoadText.{program_tail, request_text, requests, terminal_text, terminals};
 
 use gd_words::{NoMemory, decimal_of};
 use std::alloc::Global;
@@ -47,7 +48,8 @@ fn put_bank(text: &mut Vec<u8>, number: u32) -> Result<(), NoMemory>
 }
 
 fn put_program(text: &mut Vec<u8>, number: u32) -> Result<(), NoMemory>
-    ensures { OnOk result (text.new.items ≡ text.old.items ++ program_head ++ decimal (number % 2) ++ program_middle ++ decimal number ++ program_tail) }
+    ensures { OnOk result (text.new.items ≡ text.old.items ++ program_head ++ decimal (number % 2) ++ program_middle
+        ++ decimal number ++ program_tail) }
 {
     put_head(text)?;
     put_number(text, number % 2)?;

@@ -1,8 +1,10 @@
--- The syntax of a bank's program: the lines are named by what stands on them. Those behind the number of the sector stand as far on as that is long.
+-- The syntax of a bank's program: the lines are named by what stands on them. Those behind the number of the sector
+-- stand as far on as that is long.
 use Rattle.std.proofs.Common.{ℕ, ◌+◌, pos, [], ◌∷◌, length, codes}
 use Rattle.std.specs.Fmt.{decimal}
 use Rattle.tal_syntax.specs.Grammar as g
-use Rattle.accepted_sites.proofs.Syntaxes.{Line, line, alone, digit, item, array, a_name, a_digit, process, call, reads_request, adds, puts, total, replies, opens_receive}
+use Rattle.accepted_sites.proofs.Syntaxes.{Line, line, alone, digit, item, array, a_name, a_digit, process, call}
+use Rattle.accepted_sites.proofs.Syntaxes.{reads_request, adds, puts, total, replies, opens_receive}
 use Rattle.load_laws.specs.LoadDeck.{name_with}
 
 -- what stands on a line behind so many spaces
@@ -77,7 +79,8 @@ globals =
     g.more_lines
     (g.int_line (items 1 3) (item items 5 (codes "TOTAL"))
     (g.more_items (items 10 1) (item items 12 (codes "GOT"))
-    (g.more_items (items 15 1) (item items 17 (codes "RCV")) (g.more_items (items 20 1) (item items 22 (codes "DISK")) g.no_items)))
+    (g.more_items (items 15 1) (item items 17 (codes "RCV"))
+    (g.more_items (items 20 1) (item items 22 (codes "DISK")) g.no_items)))
     (items 26 1))
     (g.more_lines (g.int_line (buffer 1 3) (array buffer 5 (codes "BUF") 0) g.no_items (buffer 13 1))
     (g.more_lines (g.int_line (out 1 3) (array out 5 (codes "OUT") 2) g.no_items (out 13 1)) g.no_lines))
@@ -88,12 +91,14 @@ serving sector wide =
     g.block (round 1 5) (reads_request take)
     (g.more_row (take 34 1) (adds add)
     (g.more_row (add 24 1)
-    (call keep 1 (codes "CHECKPOINT") (a_name (codes "BUF") ∷ a_name (codes "OUT") ∷ a_name (codes "GOT") ∷ a_name (codes "TOTAL") ∷ a_name (codes "DISK") ∷ []))
+    (call keep 1 (codes "CHECKPOINT") (a_name (codes "BUF") ∷ a_name (codes "OUT") ∷ a_name (codes "GOT")
+    ∷ a_name (codes "TOTAL") ∷ a_name (codes "DISK") ∷ []))
     (g.more_row (keep 44 1) (puts first_out (codes "OUT") 0 (λ at column. digit at column 2))
     (g.more_row (first_out 12 1) (puts second_out (codes "OUT") 1 (λ at column. g.number (at column wide) (pos sector)))
     (g.more_row (second_out (11 + wide) 1) (puts (third_out wide) (codes "OUT") 2 total)
     (g.more_row (third_out wide 16 1)
-    (call (ask wide) 1 (codes "WRITEREAD") (a_name (codes "DISK") ∷ a_name (codes "OUT") ∷ a_digit 3 ∷ a_digit 1 ∷ a_name (codes "GOT") ∷ []))
+    (call (ask wide) 1 (codes "WRITEREAD") (a_name (codes "DISK") ∷ a_name (codes "OUT") ∷ a_digit 3 ∷ a_digit 1
+    ∷ a_name (codes "GOT") ∷ []))
     (g.more_row (ask wide 37 1) (puts (put wide) (codes "BUF") 0 total)
     (g.more_row (put wide 16 1) (replies (answer wide)) (g.more_row (answer wide 19 1) g.nothing g.no_row)))))))))
     (round_end wide 1 3)
@@ -102,10 +107,12 @@ abbrev pub syntax_with : ℕ → ℕ → ℕ → g.Text
 syntax_with number sector wide =
     g.text globals
     (g.more_procedures
-    (g.procedure (g.heading g.gives_nothing (head 1 4) (head 6 4) (codes "BANK") g.no_parameters (g.is_main (head 11 4)) (head 15 1)) g.no_locals
+    (g.procedure (g.heading g.gives_nothing (head 1 4) (head 6 4) (codes "BANK") g.no_parameters
+    (g.is_main (head 11 4)) (head 15 1)) g.no_locals
     (start 1 5) g.no_locals (call monitor 1 (codes "CHECKMONITOR") [])
     (g.more_row (monitor 18 1) (opens_receive receive)
-    (g.more_row (receive 30 1) (call disc 1 (codes "OPEN") (process (name_with (codes "D") number) ∷ a_name (codes "DISK") ∷ a_digit 1 ∷ []))
+    (g.more_row (receive 30 1) (call disc 1 (codes "OPEN")
+    (process (name_with (codes "D") number) ∷ a_name (codes "DISK") ∷ a_digit 1 ∷ []))
     (g.more_row (disc 26 1) (g.while_do (turn 1 5) (alone (digit turn 7 1)) (turn 9 2) (serving sector wide))
     (g.more_row (round_end wide 4 1) g.nothing g.no_row))))
     (end wide 1 3) (end wide 4 1))

@@ -21,7 +21,13 @@ bank-told : (number : ℕ) → IsRead number → IsBankOf number
 bank-told number read = record { name = refl; primary = refl; backup = refl; what = read }
 
 processes-told : (count : ℕ) → AreProcessesOf (load_outline count).processes (load_site count).processes
-processes-told count = (disc-told 0, (disc-told 1, each-with IsProcessOf bank_lines bank 12 (so-below IsRead IsBankOf bank-told 12 each-read)))
+processes-told count = (
+  disc-told 0,
+  (
+    disc-told 1,
+    each-with IsProcessOf bank_lines bank 12 (so-below IsRead IsBankOf bank-told 12 each-read),
+  ),
+)
 
 -- the bank that a terminal asks stands behind the two discs
 abbrev IsAsked : ℕ → Type 0
@@ -29,11 +35,25 @@ IsAsked number = place_of (load_outline 0).processes (name_with (codes "B") (num
 
 each-asked : AllBelow IsAsked 16
 unfolding digits
-each-asked = ((((((((((((((((tt, refl), refl), refl), refl), refl), refl), refl), refl), refl), refl), refl), refl), refl), refl), refl), refl)
+each-asked = (
+  (
+    (
+      (
+        ((((((((((((tt, refl), refl), refl), refl), refl), refl), refl), refl), refl), refl), refl), refl),
+        refl,
+      ),
+      refl,
+    ),
+    refl,
+  ),
+  refl,
+)
 
-terminals-told : (count : ℕ) → AreTerminalsOf (load_outline count).processes (load_outline count).terminals (load_site count).terminals
+terminals-told : (count : ℕ) → AreTerminalsOf (load_outline count).processes (load_outline count).terminals
+    (load_site count).terminals
 terminals-told count =
-    let IsSaid : ℕ → Type 0 = λ number. IsTerminalOf (load_outline count).processes (named_terminal count number) (terminal count number) in
+    let IsSaid : ℕ → Type 0 =
+    λ number. IsTerminalOf (load_outline count).processes (named_terminal count number) (terminal count number) in
     each-with (IsTerminalOf (load_outline count).processes) (named_terminal count) (terminal count) 16
     (so-below IsAsked IsSaid (λ number asked. record { name = refl; target = asked; requests = refl }) 16 each-asked)
 
@@ -47,6 +67,12 @@ load-decks count few = record {
   outlined = (
     load_outline count,
     load-told count (omega arith),
-    record { processors = refl; processes = processes-told count; terminals = terminals-told count; lines = refl; named = all-named count },
+    record {
+      processors = refl;
+      processes = processes-told count;
+      terminals = terminals-told count;
+      lines = refl;
+      named = all-named count;
+    },
   );
 }

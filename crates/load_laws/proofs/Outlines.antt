@@ -20,7 +20,8 @@ use Rattle.load_laws.proofs.Sends.{asked_so_far, sent}
 
 -- the lines of a disc, and of a bank
 abbrev pub disc_lines : ℕ → Named ProcessLines
-disc_lines number = (name_with (codes "D") number, record { primary = 2 * number; backup = 2 * number + 1; body = body.Disc 64 })
+disc_lines number =
+    (name_with (codes "D") number, record { primary = 2 * number; backup = 2 * number + 1; body = body.Disc 64 })
 
 abbrev pub bank_lines : ℕ → Named ProcessLines
 bank_lines number = (
@@ -41,7 +42,8 @@ site_outline banks = record {
   events = record { lines = []; sums = record { singles = 0; rounds = 0 }; unknown = None };
 }
 
-heading-told : (rest : List ℕ) → outline_of (lines_of (heading ++ rest)) ≡ told_after (at.Blocks (site_outline 0)) 3 (lines_of rest)
+heading-told : (rest : List ℕ) → outline_of (lines_of (heading ++ rest))
+    ≡ told_after (at.Blocks (site_outline 0)) 3 (lines_of rest)
 unfolding digits
 heading-told rest = refl
 
@@ -53,13 +55,33 @@ IsBankTold number = (rest : List ℕ)
 
 each-bank : AllBelow IsBankTold 12
 unfolding digits
-each-bank = ((((((((((((tt, λ rest. refl), λ rest. refl), λ rest. refl), λ rest. refl), λ rest. refl), λ rest. refl), λ rest. refl), λ rest. refl), λ rest. refl), λ rest. refl), λ rest. refl), λ rest. refl)
+each-bank = (
+  (
+    (
+      (
+        (
+          (
+            ((((((tt, λ rest. refl), λ rest. refl), λ rest. refl), λ rest. refl), λ rest. refl), λ rest. refl),
+            λ rest. refl,
+          ),
+          λ rest. refl,
+        ),
+        λ rest. refl,
+      ),
+      λ rest. refl,
+    ),
+    λ rest. refl,
+  ),
+  λ rest. refl,
+)
 
 banks-told : (bound : ℕ) → AllBelow IsBankTold bound → (rest : List ℕ)
-    → told_after (at.Blocks (site_outline 0)) 3 (lines_of (banks bound ++ rest)) ≡ told_after (at.Blocks (site_outline bound)) (3 + 23 * bound) (lines_of rest)
+    → told_after (at.Blocks (site_outline 0)) 3 (lines_of (banks bound ++ rest))
+    ≡ told_after (at.Blocks (site_outline bound)) (3 + 23 * bound) (lines_of rest)
 banks-told zero all rest = refl
 banks-told (suc number) all rest =
-    ap (λ (text : List ℕ). told_after (at.Blocks (site_outline 0)) 3 (lines_of text)) (append_assoc (banks number) (bank_text number) rest)
+    ap (λ (text : List ℕ). told_after (at.Blocks (site_outline 0)) 3 (lines_of text))
+    (append_assoc (banks number) (bank_text number) rest)
     ∙ banks-told number all.0 (bank_text number ++ rest)
     ∙ all.1 rest
 
@@ -88,34 +110,79 @@ with_terminals count number = record (site_outline 12) { terminals = each_below 
 -- where the lines of the terminal of a number begin
 abbrev stage_before : ℕ → ℕ → Stage
 stage_before count zero = at.Blocks (with_terminals count zero)
-stage_before count (suc number) = at.Requests (with_terminals count number) (terminal_name number) (terminal_lines count number)
+stage_before count (suc number) =
+    at.Requests (with_terminals count number) (terminal_name number) (terminal_lines count number)
 
 -- the line of the terminal itself, with its requests yet to come
 abbrev IsOpened : ℕ → Type 0
 IsOpened number = (count : ℕ) (rest : List ℕ)
     → told_after (stage_before count number) (lines_before count number) (lines_of (terminal_text count number ++ rest))
-    ≡ told_after (at.Requests (with_terminals count number) (terminal_name number) (asked_so_far (terminal_lines count number) number 0)) (lines_before count number + 1)
+    ≡ told_after (at.Requests (with_terminals count number) (terminal_name number)
+    (asked_so_far (terminal_lines count number) number 0)) (lines_before count number + 1)
     (lines_of (requests number count ++ rest))
 
 each-opened : AllBelow IsOpened 16
 unfolding digits
-each-opened = ((((((((((((((((tt, λ count rest. refl), λ count rest. refl), λ count rest. refl), λ count rest. refl), λ count rest. refl), λ count rest. refl), λ count rest. refl), λ count rest. refl), λ count rest. refl), λ count rest. refl), λ count rest. refl), λ count rest. refl), λ count rest. refl), λ count rest. refl), λ count rest. refl), λ count rest. refl)
+each-opened = (
+  (
+    (
+      (
+        (
+          (
+            (
+              (
+                (
+                  (
+                    (
+                      (
+                        ((((tt, λ count rest. refl), λ count rest. refl), λ count rest. refl), λ count rest. refl),
+                        λ count rest. refl,
+                      ),
+                      λ count rest. refl,
+                    ),
+                    λ count rest. refl,
+                  ),
+                  λ count rest. refl,
+                ),
+                λ count rest. refl,
+              ),
+              λ count rest. refl,
+            ),
+            λ count rest. refl,
+          ),
+          λ count rest. refl,
+        ),
+        λ count rest. refl,
+      ),
+      λ count rest. refl,
+    ),
+    λ count rest. refl,
+  ),
+  λ count rest. refl,
+)
 
 terminals-told : (count bound : ℕ) → count ≤ 1000 → AllBelow IsOpened bound → (rest : List ℕ)
-    → told_after (stage_before count zero) 279 (lines_of (terminals count bound ++ rest)) ≡ told_after (stage_before count bound) (lines_before count bound) (lines_of rest)
+    → told_after (stage_before count zero) 279 (lines_of (terminals count bound ++ rest))
+    ≡ told_after (stage_before count bound) (lines_before count bound) (lines_of rest)
 terminals-told count zero few all rest = refl
 terminals-told count (suc number) few all rest =
-    ap (λ (text : List ℕ). told_after (stage_before count zero) 279 (lines_of text)) (append_assoc (terminals count number) (terminal_text count number) rest)
+    ap (λ (text : List ℕ). told_after (stage_before count zero) 279 (lines_of text))
+    (append_assoc (terminals count number) (terminal_text count number) rest)
     ∙ terminals-told count number few all.0 (terminal_text count number ++ rest)
     ∙ all.1 count rest
-    ∙ sent (with_terminals count number) (terminal_name number) (terminal_lines count number) number count (lines_before count number + 1) rest few
+    ∙ sent (with_terminals count number) (terminal_name number) (terminal_lines count number) number count
+    (lines_before count number + 1) rest few
 
 -- what all lines say
 abbrev pub load_outline : ℕ → Outline
 load_outline count =
-    record (with_terminals count 16) { events = record { lines = load_schedule; sums = record { singles = 1; rounds = 90500 }; unknown = None } }
+    record (with_terminals count 16) {
+      events =
+          record { lines = load_schedule; sums = record { singles = 1; rounds = 90500 }; unknown = None };
+    }
 
-schedule-told : (count line : ℕ) → told_after (stage_before count 16) line (lines_of schedule) ≡ told.Whole (load_outline count)
+schedule-told : (count line : ℕ) → told_after (stage_before count 16) line (lines_of schedule)
+    ≡ told.Whole (load_outline count)
 unfolding digits
 schedule-told count line = refl
 

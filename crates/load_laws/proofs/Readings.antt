@@ -18,7 +18,8 @@ use Rattle.load_laws.proofs.Below.{AllBelow}
 -- what stands behind the number of the sector
 abbrev program_end : List ℕ
 program_end =
-    line (codes ";") ++ line (codes "    out[2] := total;") ++ line (codes "    CALL WRITEREAD(disk, out, 3, 1, got);") ++ line (codes "    buf[0] := total;")
+    line (codes ";") ++ line (codes "    out[2] := total;") ++ line (codes "    CALL WRITEREAD(disk, out, 3, 1, got);")
+    ++ line (codes "    buf[0] := total;")
     ++ line (codes "    CALL REPLY(buf, 1);") ++ line (codes "  END;") ++ line (codes "END;")
 
 abbrev pub program_text : ℕ → ℕ → List ℕ
@@ -26,7 +27,8 @@ program_text disc sector = program_head ++ decimal disc ++ program_middle ++ dec
 
 -- the text of a bank's program is cut into the tokens of its syntax
 abbrev IsCut : ℕ → Type 0
-IsCut number = tokens_of (program_text (number % 2) number) ≡ record { list = g.of_text (program_syntax (number % 2) number); fault = None }
+IsCut number = tokens_of (program_text (number % 2) number)
+    ≡ record { list = g.of_text (program_syntax (number % 2) number); fault = None }
 
 each-cut : AllBelow IsCut 12
 unfolding int_wrap digits
@@ -41,15 +43,21 @@ unfolding int_wrap
 tree disc sector wide = refl
 
 text : (disc sector wide : ℕ) → g.IsText (syntax_with disc sector wide)
-text disc sector wide = ((tt, (tt, (tt, ((tt, (tt, (tt, (tt, (tt, (tt, (tt, (tt, (tt, (tt, tt)))))))))), (tt, tt))))), tt)
+text disc sector wide =
+    ((tt, (tt, (tt, ((tt, (tt, (tt, (tt, (tt, (tt, (tt, (tt, (tt, (tt, tt)))))))))), (tt, tt))))), tt)
 
 low : (disc sector wide : ℕ) → AllAtMost 33 (nest_text (syntax_with disc sector wide))
 low disc sector wide = all-low 33 (nest_text (syntax_with disc sector wide)) refl
 
-reads : (disc sector wide : ℕ) (source : List ℕ) → tokens_of source ≡ record { list = g.of_text (syntax_with disc sector wide); fault = None }
+reads : (disc sector wide : ℕ) (source : List ℕ)
+    → tokens_of source ≡ record { list = g.of_text (syntax_with disc sector wide); fault = None }
     → Reads source (bank_program disc sector)
-reads disc sector wide source cut =
-    (syntax_with disc sector wide, (text disc sector wide, cut, low disc sector wide), free disc sector wide, tree disc sector wide)
+reads disc sector wide source cut = (
+  syntax_with disc sector wide,
+  (text disc sector wide, cut, low disc sector wide),
+  free disc sector wide,
+  tree disc sector wide,
+)
 
 -- the text of a bank's program reads as its program
 abbrev pub IsRead : ℕ → Type 0
@@ -57,8 +65,11 @@ IsRead number = Reads (program_text (number % 2) number) (bank_program (number %
 
 from-cut : (bound : ℕ) → AllBelow IsCut bound → AllBelow IsRead bound
 from-cut zero all = tt
-from-cut (suc number) all =
-    (from-cut number all.0, reads (number % 2) number (length (decimal number)) (program_text (number % 2) number) all.1)
+from-cut (suc number) all = (
+  from-cut number all.0,
+  reads (number % 2) number (length (decimal number)) (program_text (number % 2) number)
+      all.1,
+)
 
 pub each-read : AllBelow IsRead 12
 each-read = from-cut 12 each-cut

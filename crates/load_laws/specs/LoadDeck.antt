@@ -38,7 +38,8 @@ total = Simple 0
 abbrev pub element : ℕ → ℕ → Spot
 element item place = Element item (Number (pos place))
 
--- what a bank does for each request: it adds its word to the total, checkpoints, writes the total to a sector of its disc, and answers the total
+-- what a bank does for each request: it adds its word to the total, checkpoints, writes the total to a sector of its
+-- disc, and answers the total
 abbrev pub serving : ℕ → List Statement
 serving sector =
     stated 5 11 (what.ReadUpdate 4 (Number (pos 1)) (variable.Simple 1))
@@ -87,7 +88,8 @@ bank_program disc sector = record {
 
 -- the disc of a number and of 64 sectors
 abbrev pub disc : ℕ → ProcessSpec
-disc number = record { name = name_with (codes "D") number; primary = 2 * number; backup = 2 * number + 1; what = kind.Disc 64 }
+disc number =
+    record { name = name_with (codes "D") number; primary = 2 * number; backup = 2 * number + 1; what = kind.Disc 64 }
 
 -- the bank of a number
 abbrev pub bank : ℕ → ProcessSpec
@@ -112,7 +114,11 @@ terminal count number = record {
 
 -- 16 processors, two discs, twelve banks and sixteen terminals
 abbrev pub load_site : ℕ → Site
-load_site count = record { processors = 16; processes = each_below disc 2 ++ each_below bank 12; terminals = each_below (terminal count) 16 }
+load_site count = record {
+  processors = 16;
+  processes = each_below disc 2 ++ each_below bank 12;
+  terminals = each_below (terminal count) 16;
+}
 
 -- 500 mixed rounds, the stop of processor 4, and rounds until all is done
 abbrev pub load_schedule : List Line

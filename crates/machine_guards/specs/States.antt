@@ -17,14 +17,16 @@ with_owed owed s = record s { wires = record s.wires { owed = owed } }
 
 -- a message from the node of the terminals to a processor, by the number of its sending
 abbrev pub sent_to : ℕ → ℕ → Message → Sent
-sent_to processor number message = record { number = number; letter = record { sender = 16; receiver = processor; message = message } }
+sent_to processor number message =
+    record { number = number; letter = record { sender = 16; receiver = processor; message = message } }
 
 -- a disc in the processors 0 and 1, one in 2 and 1, and a terminal that asks each of them to read
 abbrev pub discs : Site
 discs = record {
   processors = 3;
   processes =
-      record { name = codes "$A"; primary = 0; backup = 1; what = kind.Disc 4 } ∷ record { name = codes "$B"; primary = 2; backup = 1; what = kind.Disc 4 } ∷ [];
+      record { name = codes "$A"; primary = 0; backup = 1; what = kind.Disc 4 }
+      ∷ record { name = codes "$B"; primary = 2; backup = 1; what = kind.Disc 4 } ∷ [];
   terminals =
       record { name = codes "$T0"; target = 0; requests = (pos 1 ∷ pos 0 ∷ []) ∷ [] }
       ∷ record { name = codes "$T1"; target = 1; requests = (pos 1 ∷ pos 0 ∷ []) ∷ [] }
@@ -36,7 +38,8 @@ discs_at_boot = machine_at_boot discs
 
 -- a letter that is owed by a node to a node
 abbrev pub between : ℕ → ℕ → Message → Sent
-between sender receiver message = record { number = 0; letter = record { sender = sender; receiver = receiver; message = message } }
+between sender receiver message =
+    record { number = 0; letter = record { sender = sender; receiver = receiver; message = message } }
 
 -- a state in which nothing is owed
 abbrev pub nothing_owed : MachineState → MachineState

@@ -11,32 +11,41 @@ ghost use Rattle.world_semantics.specs.declared.role.Role.TheVariants.{Acting, G
 ghost use Rattle.world_semantics.specs.Rules.{stopped_copy, stopped_pair, taken_over};
 ghost use Rattle.world_semantics.specs.World.{Copy, Pair, World};
 
-/// A machine that did what an event makes says so, and stands there; else it stays, and says which of the two causes it was.
+/// A machine that did what an event makes says so, and stands there; else it stays, and says which of the two causes it
+/// was.
 pub fn an_answer_is_that_of_what_is_played()
-    ensures made { (next before after : MachineState) (answer : Effect) → Settles (Makes next) before answer after → (answer ≡ Done) × (after ≡ next) }
-    ensures skipped { (before after : MachineState) (answer : Effect) → Settles {Wires = Wires} Skips before answer after → (answer ≡ Skipped) × (after ≡ before) }
-    ensures second { (processor : ℕ) (before after : MachineState) (answer : Effect) → Settles {Wires = Wires} (WouldStop processor) before answer after
+    ensures made { (next before after : MachineState) (answer : Effect) → Settles (Makes next) before answer after
+        → (answer ≡ Done) × (after ≡ next) }
+    ensures skipped { (before after : MachineState) (answer : Effect)
+        → Settles {Wires = Wires} Skips before answer after → (answer ≡ Skipped) × (after ≡ before) }
+    ensures second { (processor : ℕ) (before after : MachineState) (answer : Effect)
+        → Settles {Wires = Wires} (WouldStop processor) before answer after
         → (answer ≡ WouldStopSecond processor) × (after ≡ before) }
 {}
 
-/// The first stop is done, each process of the site is told of it, and the copies in that processor are gone, and no others.
+/// The first stop is done, each process of the site is told of it, and the copies in that processor are gone, and no
+/// others.
 pub fn a_stop_leaves_no_process_out()
-    ensures stop { (s : MachineState) (processor : ℕ) → slice_get s.world.stopped processor ≡ Some false → has_stopped s.world.stopped ≡ false
+    ensures stop { (s : MachineState) (processor : ℕ) → slice_get s.world.stopped processor ≡ Some false
+        → has_stopped s.world.stopped ≡ false
         → play s (Fail processor) ≡ Makes (record s { world = stopped_world processor s.world }) }
     ensures each { (w : World) (processor number : ℕ) (pair : Pair) → slice_get w.processes number ≡ Some pair
         → slice_get (stopped_world processor w).processes number ≡ Some (stopped_pair processor pair) }
-    ensures gone { (processor : ℕ) (copy : Copy) → copy.processor ≡ processor → (stopped_copy processor copy).role ≡ Gone }
+    ensures gone { (processor : ℕ) (copy : Copy) → copy.processor ≡ processor
+        → (stopped_copy processor copy).role ≡ Gone }
     ensures others { (processor : ℕ) (copy : Copy) → copy.processor ≢ processor → stopped_copy processor copy ≡ copy }
 {}
 
 /// A processor that runs is marked by nobody, so nothing takes over before a stop.
 pub fn nothing_is_marked_before_it_stops()
-    ensures { (node processor : ℕ) (w : World) → slice_get w.stopped processor ≡ Some false → down_done node processor w ≡ None }
+    ensures { (node processor : ℕ) (w : World) → slice_get w.stopped processor ≡ Some false
+        → down_done node processor w ≡ None }
 {}
 
 /// Where none has stopped no second processor would.
 pub fn a_second_stop_needs_a_first()
-    ensures { (s : MachineState) (processor other : ℕ) → has_stopped s.world.stopped ≡ false → play s (Fail processor) ≢ WouldStop other }
+    ensures { (s : MachineState) (processor other : ℕ) → has_stopped s.world.stopped ≡ false
+        → play s (Fail processor) ≢ WouldStop other }
 {}
 
 /// What is sent is owed and goes to the end of the bus, and what is lost is taken off the bus and stays owed.
@@ -47,12 +56,16 @@ pub fn what_is_lost_stays_owed()
           bus = wires.bus ++ record { number = wires.count; letter = letter } ∷ [];
           owed = wires.owed ++ record { number = wires.count; letter = letter } ∷ [];
         } }
-    ensures lost { (s next : MachineState) (k : ℕ) → play s (Lose false k) ≡ Makes next → (next.wires.owed ≡ s.wires.owed) × (next.world ≡ s.world) }
+    ensures lost { (s next : MachineState) (k : ℕ) → play s (Lose false k) ≡ Makes next
+        → (next.wires.owed ≡ s.wires.owed) × (next.world ≡ s.world) }
 {}
 
-/// A copy that takes over acts with the core that its last checkpoint left, from the base on, in the next era, and holds nothing.
+/// A copy that takes over acts with the core that its last checkpoint left, from the base on, in the next era, and
+/// holds nothing.
 pub fn a_takeover_goes_on_from_the_last_checkpoint()
     ensures core { (base : ℕ) (copy : Copy) → (taken_over base copy).core ≡ copy.core }
-    ensures place { (base : ℕ) (copy : Copy) → ((taken_over base copy).position ≡ base) × ((taken_over base copy).held ≡ []) }
-    ensures role { (base : ℕ) (copy : Copy) → ((taken_over base copy).role ≡ Acting) × ((taken_over base copy).era ≡ copy.era + 1) }
+    ensures place { (base : ℕ) (copy : Copy)
+        → ((taken_over base copy).position ≡ base) × ((taken_over base copy).held ≡ []) }
+    ensures role { (base : ℕ) (copy : Copy)
+        → ((taken_over base copy).role ≡ Acting) × ((taken_over base copy).era ≡ copy.era + 1) }
 {}

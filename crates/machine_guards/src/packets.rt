@@ -8,11 +8,14 @@ ghost use Rattle.message_wires.specs.Play.{MachineState, after_done, comes_in, p
 ghost use Rattle.message_wires.specs.Wires.{Sent, Wires, has_room, wires_after_post, put_on, without_number};
 ghost use Rattle.machine_guards.specs.States.{with_bus, with_owed};
 
-/// What comes, is lost or is repeated is the packet at its position, counted from 0. It is taken off the bus, and those behind it move up; what is repeated
-/// goes to the end once more. Behind the last packet there is none, and on bus Y never.
+/// What comes, is lost or is repeated is the packet at its position, counted from 0. It is taken off the bus, and those
+/// behind it move up; what is repeated goes to the end once more. Behind the last packet there is none, and on bus Y
+/// never.
 pub fn a_packet_is_that_at_its_position()
-    ensures lost { (s : MachineState) (a b c : Sent) → play (with_bus (a ∷ b ∷ c ∷ []) s) (Lose false 1) ≡ Makes (with_bus (a ∷ c ∷ []) s) }
-    ensures repeated { (s : MachineState) (a b c : Sent) → play (with_bus (a ∷ b ∷ c ∷ []) s) (Repeat false 1) ≡ Makes (with_bus (a ∷ b ∷ c ∷ b ∷ []) s) }
+    ensures lost { (s : MachineState) (a b c : Sent)
+        → play (with_bus (a ∷ b ∷ c ∷ []) s) (Lose false 1) ≡ Makes (with_bus (a ∷ c ∷ []) s) }
+    ensures repeated { (s : MachineState) (a b c : Sent)
+        → play (with_bus (a ∷ b ∷ c ∷ []) s) (Repeat false 1) ≡ Makes (with_bus (a ∷ b ∷ c ∷ b ∷ []) s) }
     ensures dropped { (s : MachineState) (a b c : Sent) → comes_in s b.letter ≡ false
         → play (with_bus (a ∷ b ∷ c ∷ []) s) (Deliver false 1) ≡ Makes (with_bus (a ∷ c ∷ []) s) }
     ensures behind { (s : MachineState) (a b c : Sent) → play (with_bus (a ∷ b ∷ c ∷ []) s) (Lose false 3) ≡ Skips }
@@ -23,20 +26,24 @@ pub fn a_packet_is_that_at_its_position()
 pub fn what_comes_in_is_handed_over()
     ensures changed { (s : MachineState) (a b c : Sent) (done : Done) → comes_in s b.letter ≡ true
         → handed_done s.site b.letter.receiver b.letter.message s.world ≡ Some done
-        → play (with_bus (a ∷ b ∷ c ∷ []) s) (Deliver false 1) ≡ Makes (after_done (with_owed (without_number b.number s.wires.owed) (with_bus (a ∷ c ∷ []) s)) done) }
+        → play (with_bus (a ∷ b ∷ c ∷ []) s) (Deliver false 1)
+        ≡ Makes (after_done (with_owed (without_number b.number s.wires.owed) (with_bus (a ∷ c ∷ []) s)) done) }
     ensures unchanged { (s : MachineState) (a b c : Sent) → comes_in s b.letter ≡ true
         → handed_done s.site b.letter.receiver b.letter.message s.world ≡ None
-        → play (with_bus (a ∷ b ∷ c ∷ []) s) (Deliver false 1) ≡ Makes (with_owed (without_number b.number s.wires.owed) (with_bus (a ∷ c ∷ []) s)) }
+        → play (with_bus (a ∷ b ∷ c ∷ []) s) (Deliver false 1)
+        ≡ Makes (with_owed (without_number b.number s.wires.owed) (with_bus (a ∷ c ∷ []) s)) }
 {}
 
-/// A bus with 4,095 packets has room for one more, and one with 4,096 has none: then what is sent is owed and has no packet.
+/// A bus with 4,095 packets has room for one more, and one with 4,096 has none: then what is sent is owed and has no
+/// packet.
 pub fn a_bus_of_letters_has_its_room()
     ensures one_more { (packet : Sent) → has_room (replicate 4095 packet) ≡ true }
     ensures full { (packet : Sent) → has_room (replicate 4096 packet) ≡ false }
     ensures at_the_end { (packet : Sent) (a b : Sent) → put_on packet (a ∷ b ∷ []) ≡ a ∷ b ∷ packet ∷ [] }
-    ensures owed { (letter : Letter) (wires : Wires) → has_room wires.bus ≡ false → wires_after_post letter wires ≡ record {
-      count = wires.count + 1;
-      bus = wires.bus;
-      owed = wires.owed ++ record { number = wires.count; letter = letter } ∷ [];
-    } }
+    ensures owed { (letter : Letter) (wires : Wires) → has_room wires.bus ≡ false
+        → wires_after_post letter wires ≡ record {
+          count = wires.count + 1;
+          bus = wires.bus;
+          owed = wires.owed ++ record { number = wires.count; letter = letter } ∷ [];
+        } }
 {}

@@ -11,7 +11,8 @@ pub record State (Wires : Type 0) : Type 0 where
   pub world : World
   pub wires : Wires
 
--- what an event makes of a state: another one; or nothing, since it can't be done; or nothing, since it would stop a second processor
+-- what an event makes of a state: another one; or nothing, since it can't be done; or nothing, since it would stop a
+-- second processor
 pub data Played (Wires : Type 0) : Type 0 where
   Makes : State Wires → Played Wires
   Skips : Played Wires

@@ -1,5 +1,5 @@
-/// What a machine answers to an event: it was done; or it names nothing that is there or can be done; or it would stop a second
-/// processor, where this one is to stop. In the last two cases the machine stays as it was.
+/// What a machine answers to an event: it was done; or it names nothing that is there or can be done; or it would stop
+/// a second processor, where this one is to stop. In the last two cases the machine stays as it was.
 #[derive(Clone, Copy, PartialEq, Eq)]
 pub enum Effect {
     Done,

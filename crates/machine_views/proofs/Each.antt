@@ -11,7 +11,8 @@ each-more give number count within =
     ap (λ left. each_number give number left) left
 
 -- once what a number gives was added, what is left comes after it
-pub number-step : {A : Type 0} (give : ℕ → List A) (number count : ℕ) (told more : List A) → number < count → more ≡ told ++ give number
+pub number-step : {A : Type 0} (give : ℕ → List A) (number count : ℕ) (told more : List A) → number < count
+    → more ≡ told ++ give number
     → told ++ each_number give number (count - number) ≡ more ++ each_number give (number + 1) (count - (number + 1))
 number-step give number count told more within says =
     ap (λ rest. told ++ rest) (each-more give number count within)

@@ -1,5 +1,6 @@
 -- Processes in their places, each of which has the number of its place.
-use Rattle.std.proofs.Common.{◌≡◌, ℕ, zero, suc, ◌+◌, ◌<◌, List, [], ◌∷◌, ◌++◌, drop, get_or, length, Some, slice_get, refl, ap, sym, ◌∙◌, arith, append_assoc}
+use Rattle.std.proofs.Common.{◌≡◌, ℕ, zero, suc, ◌+◌, ◌<◌, List, [], ◌∷◌, ◌++◌, drop, get_or, length, Some, slice_get}
+use Rattle.std.proofs.Common.{refl, ap, sym, ◌∙◌, arith, append_assoc}
 use Rattle.std.proofs.lemmas.Option.{slice_get_read}
 use Rattle.tal_tree.specs.declared.site.Site.{Site}
 use Rattle.world_semantics.proofs.Lists.{some-same}
@@ -19,7 +20,8 @@ left (y ∷ xs) zero x there = ap (λ one. one ∷ xs) (some-same there)
 left (y ∷ xs) (suc k) x there = let e : suc k + 1 ≡ suc (k + 1) = omega arith in rw e (left xs k x there)
 
 -- once what a process gives was added, what is left comes after it
-pub process-step : {B : Type 0} (give : ℕ → Pair → List B) (places : List Placed) (k : ℕ) (one : Placed) (told more : List B) → AreNumbered places
+pub process-step : {B : Type 0} (give : ℕ → Pair → List B) (places : List Placed) (k : ℕ) (one : Placed)
+    (told more : List B) → AreNumbered places
     → k < length places → one ≡ get_or places k one → more ≡ told ++ give one.number one.pair
     → told ++ each_at give k (pairs_in (drop k places)) ≡ more ++ each_at give (k + 1) (pairs_in (drop (k + 1) places))
 process-step give places k one told more numbered within at says =

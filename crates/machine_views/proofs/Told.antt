@@ -1,5 +1,6 @@
 -- What is told of stops and marks is what there is.
-use Rattle.std.proofs.Common.{◌≡◌, ◌↔◌, ◌⊎◌, inl, inr, ℕ, zero, suc, ◌+◌, ◌<◌, ◌≤◌, Bool, true, false, List, [], ◌∷◌, ◌++◌, Some, slice_get, refl, ap, ap₂, subst, ◌∙◌, arith, if◌then◌else◌}
+use Rattle.std.proofs.Common.{◌≡◌, ◌↔◌, ◌⊎◌, inl, inr, ℕ, zero, suc, ◌+◌, ◌<◌, ◌≤◌, Bool, true, false, List, [], ◌∷◌}
+use Rattle.std.proofs.Common.{◌++◌, Some, slice_get, refl, ap, ap₂, subst, ◌∙◌, arith, if◌then◌else◌}
 use Rattle.std.proofs.lemmas.Bool.Decides.{eqb_tells}
 use Rattle.gd_words.specs.Members.{IsAmong}
 use Rattle.gd_words.proofs.Among.{among-left, among-right, among-either}
@@ -10,12 +11,14 @@ use Rattle.machine_views.specs.Views.{each_at, each_number, if_stopped, mark_of,
 
 -- Stops
 
-stopped-told : (first : ℕ) (stopped : List Bool) (k : ℕ) → slice_get stopped k ≡ Some true → IsAmong (first + k) (each_at if_stopped first stopped)
+stopped-told : (first : ℕ) (stopped : List Bool) (k : ℕ) → slice_get stopped k ≡ Some true
+    → IsAmong (first + k) (each_at if_stopped first stopped)
 stopped-told first [] k there = absurd (cc)
 stopped-told first (true ∷ rest) zero there = inl (omega arith)
 stopped-told first (false ∷ rest) zero there = absurd (cc)
 stopped-told first (true ∷ rest) (suc k) there =
-    inr (subst (λ n. IsAmong n (each_at if_stopped (first + 1) rest)) (omega arith) (stopped-told (first + 1) rest k there))
+    inr (subst (λ n. IsAmong n (each_at if_stopped (first + 1) rest)) (omega arith)
+    (stopped-told (first + 1) rest k there))
 stopped-told first (false ∷ rest) (suc k) there =
     subst (λ n. IsAmong n (each_at if_stopped (first + 1) rest)) (omega arith) (stopped-told (first + 1) rest k there)
 
@@ -23,16 +26,21 @@ stopped-told first (false ∷ rest) (suc k) there =
 abbrev StoppedAfter : ℕ → List Bool → ℕ → Type 0
 StoppedAfter first stopped processor = (k : ℕ) × (processor ≡ first + k) × (slice_get stopped k ≡ Some true)
 
-stopped-next : (first : ℕ) (one : Bool) (rest : List Bool) (processor : ℕ) → StoppedAfter (first + 1) rest processor → StoppedAfter first (one ∷ rest) processor
+stopped-next : (first : ℕ) (one : Bool) (rest : List Bool) (processor : ℕ) → StoppedAfter (first + 1) rest processor
+    → StoppedAfter first (one ∷ rest) processor
 stopped-next first one rest processor (k, is, there) = (suc k, omega (arith, is), there)
 
-told-stopped : (first : ℕ) (stopped : List Bool) (processor : ℕ) → IsAmong processor (each_at if_stopped first stopped) → StoppedAfter first stopped processor
+told-stopped : (first : ℕ) (stopped : List Bool) (processor : ℕ) → IsAmong processor (each_at if_stopped first stopped)
+    → StoppedAfter first stopped processor
 told-stopped first [] processor among = absurd among
 told-stopped first (true ∷ rest) processor (inl same) = (zero, omega (arith, same), refl)
-told-stopped first (true ∷ rest) processor (inr among) = stopped-next first true rest processor (told-stopped (first + 1) rest processor among)
-told-stopped first (false ∷ rest) processor among = stopped-next first false rest processor (told-stopped (first + 1) rest processor among)
+told-stopped first (true ∷ rest) processor (inr among) =
+    stopped-next first true rest processor (told-stopped (first + 1) rest processor among)
+told-stopped first (false ∷ rest) processor among =
+    stopped-next first false rest processor (told-stopped (first + 1) rest processor among)
 
-pub stopped-is-told : (stopped : List Bool) (processor : ℕ) → (IsAmong processor (stopped_in stopped) ↔ slice_get stopped processor ≡ Some true)
+pub stopped-is-told : (stopped : List Bool) (processor : ℕ)
+    → (IsAmong processor (stopped_in stopped) ↔ slice_get stopped processor ≡ Some true)
 stopped-is-told stopped processor = (λ among. there (told-stopped 0 stopped processor among), told)
   where
     there : StoppedAfter 0 stopped processor → slice_get stopped processor ≡ Some true
@@ -56,12 +64,14 @@ stops-rise stopped = stopped-rising 0 stopped
 
 -- Numbers
 
-number-among : {A : Type 0} (give : ℕ → List A) (x : A) (first count number : ℕ) → first ≤ number → number < first + count → IsAmong x (give number)
+number-among : {A : Type 0} (give : ℕ → List A) (x : A) (first count number : ℕ) → first ≤ number
+    → number < first + count → IsAmong x (give number)
     → IsAmong x (each_number give first count)
 number-among give x first zero number from below among = absurd (omega (arith, from, below))
 number-among give x first (suc count) number from below among =
     elim (eqb_tells number first) [
-      | inl same ↦ among-left x (give first) (each_number give (first + 1) count) (subst (λ n. IsAmong x (give n)) same.1 among)
+      | inl same ↦ among-left x (give first) (each_number give (first + 1) count)
+          (subst (λ n. IsAmong x (give n)) same.1 among)
       | inr other ↦
           among-right x (give first) (each_number give (first + 1) count)
           (number-among give x (first + 1) count number (omega (arith, from, other.1)) (omega (arith, below)) among)
@@ -91,7 +101,8 @@ told-mark : (marks : List world.Down) (node processor : ℕ) (one : DownView) �
     → (one ≡ mark node processor) × (world.has_noted marks node processor ≡ true)
 told-mark marks node processor one among = found (world.has_noted marks node processor) refl among
   where
-    found : (is : Bool) → world.has_noted marks node processor ≡ is → IsAmong one (if is then mark node processor ∷ [] else [])
+    found : (is : Bool) → world.has_noted marks node processor ≡ is
+        → IsAmong one (if is then mark node processor ∷ [] else [])
         → (one ≡ mark node processor) × (world.has_noted marks node processor ≡ true)
     found true is (inl same) = (same, is)
     found true is (inr none) = absurd none
@@ -101,7 +112,8 @@ told-mark marks node processor one among = found (world.has_noted marks node pro
 abbrev Stands : List world.Down → ℕ → ℕ → Type 0
 Stands marks node processor = (node ≤ 16) × (processor < 16) × (world.has_noted marks node processor ≡ true)
 
-told-stands : (marks : List world.Down) (node processor : ℕ) → IsAmong (mark node processor) (marks_in marks) → Stands marks node processor
+told-stands : (marks : List world.Down) (node processor : ℕ) → IsAmong (mark node processor) (marks_in marks)
+    → Stands marks node processor
 told-stands marks node processor among =
     let (by, by_few, there) = among-number (marks_by marks) (mark node processor) 0 17 among in
     let (of, of_few, here) = among-number (mark_of marks by) (mark node processor) 0 16 there in
@@ -110,11 +122,14 @@ told-stands marks node processor among =
     let down_is : processor ≡ of = ap (λ (one : DownView). one.down) same in
     (omega (arith, by_few, node_is), omega (arith, of_few, down_is), ap₂ (world.has_noted marks) node_is down_is ∙ is)
 
-stands-told : (marks : List world.Down) (node processor : ℕ) → Stands marks node processor → IsAmong (mark node processor) (marks_in marks)
+stands-told : (marks : List world.Down) (node processor : ℕ) → Stands marks node processor
+    → IsAmong (mark node processor) (marks_in marks)
 stands-told marks node processor (node_few, down_few, is) =
     number-among (marks_by marks) (mark node processor) 0 17 node (omega arith) (omega (arith, node_few))
-    (number-among (mark_of marks node) (mark node processor) 0 16 processor (omega arith) (omega (arith, down_few)) (mark-told marks node processor is))
+    (number-among (mark_of marks node) (mark node processor) 0 16 processor (omega arith) (omega (arith, down_few))
+    (mark-told marks node processor is))
 
 pub mark-is-told : (marks : List world.Down) (node processor : ℕ)
-    → (IsAmong (record { node = node; down = processor }) (marks_in marks) ↔ (node ≤ 16) × (processor < 16) × (world.has_noted marks node processor ≡ true))
+    → (IsAmong (record { node = node; down = processor }) (marks_in marks) ↔ (node ≤ 16) × (processor < 16)
+    × (world.has_noted marks node processor ≡ true))
 mark-is-told marks node processor = (told-stands marks node processor, stands-told marks node processor)

@@ -6,4 +6,5 @@ pub take-next : {A : Type 0} (xs : List A) (k : ℕ) → take (k + 1) xs ≡ tak
 take-next [] zero = refl
 take-next [] (suc k) = let e : suc k + 1 ≡ suc (k + 1) = omega arith in rw e refl
 take-next (x ∷ xs) zero = refl
-take-next (x ∷ xs) (suc k) = let e : suc k + 1 ≡ suc (k + 1) = omega arith in rw e (ap (λ rest. x ∷ rest) (take-next xs k))
+take-next (x ∷ xs) (suc k) =
+    let e : suc k + 1 ≡ suc (k + 1) = omega arith in rw e (ap (λ rest. x ∷ rest) (take-next xs k))

@@ -1,4 +1,5 @@
--- Worked examples: marks, a process whose backup is in the lower processor, and a disc of two sectors on one of which was written.
+-- Worked examples: marks, a process whose backup is in the lower processor, and a disc of two sectors on one of which
+-- was written.
 use Rattle.std.specs.Prelude.{ℕ, ℤ, pos, List, [], ◌∷◌, codes, replicate, Option, None}
 use Rattle.tal_tree.specs.declared.site.Kind.TheVariants as kind
 use Rattle.tal_tree.specs.declared.site.ProcessSpec.{ProcessSpec}

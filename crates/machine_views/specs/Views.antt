@@ -1,6 +1,7 @@
--- What is told of a world of copies. The world is our own; that a copy's image is told with everything in it, so that copies of one process can be
--- compared, is our own rule too.
-use Rattle.std.specs.Prelude.{ℕ, zero, suc, ◌+◌, ◌-◌, ℤ, Bool, if◌then◌else◌, nat_lt, List, [], ◌∷◌, ◌++◌, map, Option, Some, None}
+-- What is told of a world of copies. The world is our own; that a copy's image is told with everything in it, so that
+-- copies of one process can be compared, is our own rule too.
+use Rattle.std.specs.Prelude.{ℕ, zero, suc, ◌+◌, ◌-◌, ℤ, Bool, if◌then◌else◌, nat_lt, List, [], ◌∷◌, ◌++◌, map, Option}
+use Rattle.std.specs.Prelude.{Some, None}
 use Rattle.checkpoint_image.specs.declared.message.FileNumber.{FileNumber}
 use Rattle.disc_device.specs.declared.stored.Stored.{Stored}
 use Rattle.process_images.specs.Images.{everything_of}
@@ -42,7 +43,8 @@ stopped_in stopped = each_at if_stopped 0 stopped
 
 -- the mark of a processor by a node, if it stands
 abbrev pub mark_of : List world.Down → ℕ → ℕ → List DownView
-mark_of marks node processor = if has_noted marks node processor then record { node = node; down = processor } ∷ [] else []
+mark_of marks node processor =
+    if has_noted marks node processor then record { node = node; down = processor } ∷ [] else []
 
 -- the marks by a node: a processor's number is below that of the node of the terminals
 abbrev pub marks_by : List world.Down → ℕ → List DownView
@@ -55,7 +57,8 @@ marks_in marks = each_number (marks_by marks) 0 (terminal_node + 1)
 -- Copies
 
 abbrev pub awaited_at : Core → Point → Option Awaited
-awaited_at core Await = Some (record { file = asked_file core.state; number = next_on core (asked_file core.state) - 1 })
+awaited_at core Await =
+    Some (record { file = asked_file core.state; number = next_on core (asked_file core.state) - 1 })
 awaited_at core _ = None
 
 -- the request whose reply is awaited: the last one that was asked on its file
@@ -101,7 +104,8 @@ terminal_view terminal = record { entered = terminal.entered; printed = terminal
 
 -- a sector of the process of a number
 abbrev pub sector_view : ℕ → ℕ → Stored → List SectorView
-sector_view process sector stored = record { process = process; sector = sector; words = stored.words; number = stored.number } ∷ []
+sector_view process sector stored =
+    record { process = process; sector = sector; words = stored.words; number = stored.number } ∷ []
 
 -- the sectors of the process of a number
 abbrev pub sector_views : ℕ → Pair → List SectorView

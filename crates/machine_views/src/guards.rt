@@ -8,7 +8,8 @@ ghost use Rattle.machine_views.specs.Views.{awaited_at, copy_views, each_at, mar
 /// The processors 1 and 3 have stopped, and the marks are told by their nodes and then by their processors.
 pub fn stops_and_marks_are_in_order()
     ensures stopped { stopped_in (false ∷ true ∷ false ∷ true ∷ []) ≡ 1 ∷ 3 ∷ [] }
-    ensures down { marks_in (standing 16 2 ∷ standing 0 2 ∷ standing 16 1 ∷ []) ≡ told 0 2 ∷ told 16 1 ∷ told 16 2 ∷ [] }
+    ensures down { marks_in (standing 16 2 ∷ standing 0 2 ∷ standing 16 1 ∷ [])
+        ≡ told 0 2 ∷ told 16 1 ∷ told 16 2 ∷ [] }
 {}
 
 /// The copy in the lower processor is told first, be it the first of its process or not.
@@ -24,5 +25,6 @@ pub fn the_last_request_is_awaited()
 
 /// Sectors are told with the number of the process in its place.
 pub fn sectors_are_in_order()
-    ensures { each_at sector_views 0 (turned_pair ∷ written_pair ∷ []) ≡ sector 1 0 (replicate 8 (pos 0)) 0 ∷ sector 1 1 sevens 5 ∷ [] }
+    ensures { each_at sector_views 0 (turned_pair ∷ written_pair ∷ [])
+        ≡ sector 1 0 (replicate 8 (pos 0)) 0 ∷ sector 1 1 sevens 5 ∷ [] }
 {}

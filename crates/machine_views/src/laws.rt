@@ -7,12 +7,14 @@ ghost use Rattle.machine_views.specs.Views.{marks_in, stopped_in};
 
 /// The processors that are told are those that have stopped, and they rise.
 pub fn stopped_processors_are_told()
-    ensures told { (stopped : List Bool) (processor : ℕ) → (IsAmong processor (stopped_in stopped) ↔ slice_get stopped processor ≡ Some true) }
+    ensures told { (stopped : List Bool) (processor : ℕ)
+        → (IsAmong processor (stopped_in stopped) ↔ slice_get stopped processor ≡ Some true) }
     ensures rising { (stopped : List Bool) → IsRising (stopped_in stopped) }
 {}
 
 /// The marks that are told are those that stand, of a processor below 16 by one or by the node of the terminals.
 pub fn marks_are_told()
-    ensures { (marks : List world.Down) (node processor : ℕ) → (IsAmong (record { node = node; down = processor }) (marks_in marks)
+    ensures { (marks : List world.Down) (node processor : ℕ)
+        → (IsAmong (record { node = node; down = processor }) (marks_in marks)
         ↔ (node ≤ 16) × (processor < 16) × (world.has_noted marks node processor ≡ true)) }
 {}

@@ -49,7 +49,12 @@ fn add_marks(marks: &Downs, node: u8, down: &mut List<DownView>) -> Result<(), N
 }
 
 /// The mark of a processor by a node is added to `down`, if it stands.
-fn add_mark(marks: &Downs, node: u8, processor: u8, down: &mut List<DownView>) -> Result<(), NoMemory>
+fn add_mark(
+    marks: &Downs,
+    node: u8,
+    processor: u8,
+    down: &mut List<DownView>,
+) -> Result<(), NoMemory>
     ensures { OnOk result (down.new ≡ down.old ++ mark_of marks.now node processor) }
 {
     if marks.has(node, processor) {

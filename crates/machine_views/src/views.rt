@@ -3,8 +3,9 @@ use gd_words::{List, Request, Sector};
 use process_semantics::Point;
 use world_semantics::Role;
 
-/// What a machine tells of itself: the processors that have stopped, the marks, both copies of each process, the terminals in deck
-/// order, and the sectors of all discs. The processors rise, and marks, copies and sectors rise by their first two fields.
+/// What a machine tells of itself: the processors that have stopped, the marks, both copies of each process, the
+/// terminals in deck order, and the sectors of all discs. The processors rise, and marks, copies and sectors rise by
+/// their first two fields.
 #[derive(Drop)]
 pub struct View {
     pub stopped: List<u8>,
@@ -21,9 +22,10 @@ pub struct DownView {
     pub down: u8,
 }
 
-/// A copy of a process in its processor. `number` is that of the last checkpoint sent or applied in its era, and `sent` says whether
-/// that of the CHECKPOINT at which it stands was sent. `awaited` is the request whose reply it awaits. `state` is the image of its process
-/// with everything that may be listed: at a checkpoint that of the state after it. `files` has the number of the next request on each file.
+/// A copy of a process in its processor. `number` is that of the last checkpoint sent or applied in its era, and `sent`
+/// says whether that of the CHECKPOINT at which it stands was sent. `awaited` is the request whose reply it awaits.
+/// `state` is the image of its process with everything that may be listed: at a checkpoint that of the state after it.
+/// `files` has the number of the next request on each file.
 #[derive(Drop)]
 pub struct CopyView {
     pub process: u8,

@@ -1,5 +1,6 @@
 -- What is read was written so.
-use Rattle.std.proofs.Common.{◌≡◌, ℕ, zero, suc, ℤ, pos, negsuc, Bool, true, false, if◌then◌else◌, List, [], ◌∷◌, Option, Some, None, refl, ap, subst}
+use Rattle.std.proofs.Common.{◌≡◌, ℕ, zero, suc, ℤ, pos, negsuc, Bool, true, false, if◌then◌else◌, List, [], ◌∷◌}
+use Rattle.std.proofs.Common.{Option, Some, None, refl, ap, subst}
 use Rattle.std.specs.Option.{option_map, option_and_then}
 use Rattle.tal_tree.specs.declared.site.Site.{Site}
 use Rattle.process_semantics.specs.Words.{whole}
@@ -9,7 +10,8 @@ use Rattle.checkpoint_image.proofs.Messages.{read-exact}
 use Rattle.world_semantics.specs.Messages.{Asking, Replying, Checkpointing, Taking}
 use Rattle.message_layout.specs.Messages.{NodeMessage, Carrying, Reporting, Declaring, is_known}
 use Rattle.message_layout.specs.Layout.{words_of, Fits, IsWithin}
-use Rattle.message_layout.specs.Reading.{request_in, answer_in, taken_in, report_in, message_of_kind, node_message_in, if_known, understood}
+use Rattle.message_layout.specs.Reading.{request_in, answer_in, taken_in, report_in, message_of_kind, node_message_in}
+use Rattle.message_layout.specs.Reading.{if_known, understood}
 use Rattle.message_layout.proofs.Readers.{request-reads, answer-reads, taken-reads, report-reads, whole-exact}
 
 -- these words are those of a message within the layout
@@ -22,7 +24,8 @@ told : {A : Type 0} (found : Option A) (make : A → NodeMessage) (words : List 
 told None make words message right is = absurd cc
 told (Some x) make words message right is = let same : make x ≡ message = cc in subst (IsOf words) same (right x refl)
 
-of-kind : (kind : ℕ) (words : List ℤ) (message : NodeMessage) → message_of_kind kind words ≡ Some message → IsOf (pos kind ∷ words) message
+of-kind : (kind : ℕ) (words : List ℤ) (message : NodeMessage) → message_of_kind kind words ≡ Some message
+    → IsOf (pos kind ∷ words) message
 of-kind zero words message is = absurd cc
 of-kind (suc zero) words message is =
     told (whole (request_in words)) (λ request. Carrying (Asking request)) (pos 1 ∷ words) message
@@ -47,10 +50,12 @@ of-kind (suc (suc (suc (suc zero)))) words message is =
     )) is
 of-kind (suc (suc (suc (suc (suc zero))))) words message is =
     told (whole (report_in words)) (λ (node, silent). Reporting node silent) (pos 5 ∷ words) message
-    (λ report found. let was = whole-exact report-reads words report found in (ap (λ (ws : List ℤ). pos 5 ∷ ws) was.0, was.1)) is
+    (λ report found. let was = whole-exact report-reads words report found in
+    (ap (λ (ws : List ℤ). pos 5 ∷ ws) was.0, was.1)) is
 of-kind (suc (suc (suc (suc (suc (suc zero)))))) words message is =
     told (whole (number_in 15 words)) (λ processor. Declaring processor) (pos 6 ∷ words) message
-    (λ processor found. let was = whole-exact (number-reads 15) words processor found in (ap (λ (ws : List ℤ). pos 6 ∷ ws) was.0, was.1)) is
+    (λ processor found. let was = whole-exact (number-reads 15) words processor found in
+    (ap (λ (ws : List ℤ). pos 6 ∷ ws) was.0, was.1)) is
 of-kind (suc (suc (suc (suc (suc (suc (suc more))))))) words message is = absurd cc
 
 pub read-written : (words : List ℤ) (message : NodeMessage) → node_message_in words ≡ Some message → IsOf words message
@@ -68,9 +73,11 @@ understood-known site words message = by (node_message_in words) refl
     tested one read true known is =
         let same : one ≡ message = cc in
         let was = read-written words one read in
-        subst (λ (m : NodeMessage). (words_of m ≡ words) × Fits site m) same (was.0, record { within = was.1; known = known })
+        subst (λ (m : NodeMessage). (words_of m ≡ words) × Fits site m) same
+        (was.0, record { within = was.1; known = known })
 
-    by : (found : Option NodeMessage) → node_message_in words ≡ found → option_and_then (if_known site) found ≡ Some message
+    by : (found : Option NodeMessage) → node_message_in words ≡ found
+        → option_and_then (if_known site) found ≡ Some message
         → (words_of message ≡ words) × Fits site message
     by None read is = absurd cc
     by (Some one) read is = tested one read (is_known site one) refl is

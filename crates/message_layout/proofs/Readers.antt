@@ -1,5 +1,6 @@
 -- Each part of a message is read as it is written, and only so.
-use Rattle.std.proofs.Common.{◌≤◌, ◌<◌, ◌^◌, ◌≡◌, ℕ, ℤ, pos, List, [], ◌∷◌, ◌++◌, length, Some, None, refl, ap, sym, subst, ◌∙◌, append-nil}
+use Rattle.std.proofs.Common.{◌≤◌, ◌<◌, ◌^◌, ◌≡◌, ℕ, ℤ, pos, List, [], ◌∷◌, ◌++◌, length, Some, None, refl, ap, sym}
+use Rattle.std.proofs.Common.{subst, ◌∙◌, append-nil}
 use Rattle.process_semantics.specs.Words.{Front, whole, words_in, long, counted}
 use Rattle.checkpoint_image.specs.Reading.{reply_in, longs_in}
 use Rattle.checkpoint_image.proofs.Readers.{WasWritten, IsReader, number-reads, words-reads, sized-reads, both-reads}
@@ -22,7 +23,8 @@ counted-reads = sized-reads (λ words. words) (λ words. Unit {0}) length words_
 
 address-reads : IsReader (λ (process, opener). pos process ∷ pos opener ∷ []) IsAddress address_in
 address-reads =
-    both-reads (number-reads 255) (number-reads 32767) (λ process opener. (process, opener)) (λ address. address.0) (λ address. address.1)
+    both-reads (number-reads 255) (number-reads 32767) (λ process opener. (process, opener)) (λ address. address.0)
+    (λ address. address.1)
     (λ address. refl) (λ process opener. refl) (λ process opener. refl)
 
 body-reads : IsReader (λ (number, words). long number ++ counted words) IsBody body_in
@@ -30,36 +32,48 @@ body-reads =
     both-reads pair-reads counted-reads (λ number words. (number, words)) (λ body. body.0) (λ body. body.1)
     (λ body. refl) (λ number words. refl) (λ number words. refl)
 
-pub request-reads : IsReader request_words (λ request. IsAddress (request.process, request.opener) × IsBody (request.number, request.words)) request_in
+pub request-reads : IsReader request_words
+    (λ request. IsAddress (request.process, request.opener) × IsBody (request.number, request.words)) request_in
 request-reads =
-    both-reads address-reads body-reads (λ (process, opener) (number, words). record { process = process; opener = opener; number = number; words = words })
-    (λ request. (request.process, request.opener)) (λ request. (request.number, request.words)) (λ request. refl) (λ address body. refl) (λ address body. refl)
+    both-reads address-reads body-reads (λ (process, opener) (number, words). record
+    { process = process; opener = opener; number = number; words = words })
+    (λ request. (request.process, request.opener)) (λ request. (request.number, request.words)) (λ request. refl)
+    (λ address body. refl) (λ address body. refl)
 
-pub answer-reads : IsReader reply_words (λ reply. IsAddress (reply.process, reply.opener) × IsBody (reply.number, reply.words)) answer_in
+pub answer-reads : IsReader reply_words
+    (λ reply. IsAddress (reply.process, reply.opener) × IsBody (reply.number, reply.words)) answer_in
 answer-reads =
-    both-reads address-reads body-reads (λ (process, opener) (number, words). record { process = process; opener = opener; number = number; words = words })
-    (λ reply. (reply.process, reply.opener)) (λ reply. (reply.number, reply.words)) (λ reply. refl) (λ address body. refl) (λ address body. refl)
+    both-reads address-reads body-reads (λ (process, opener) (number, words). record
+    { process = process; opener = opener; number = number; words = words })
+    (λ reply. (reply.process, reply.opener)) (λ reply. (reply.number, reply.words)) (λ reply. refl)
+    (λ address body. refl) (λ address body. refl)
 
-longs-reads : IsReader (λ (era, number). long era ++ long number) (λ (era, number). (era < 2 ^ 32) × (number < 2 ^ 32)) longs_in
+longs-reads : IsReader (λ (era, number). long era ++ long number) (λ (era, number). (era < 2 ^ 32) × (number < 2 ^ 32))
+    longs_in
 longs-reads =
     both-reads pair-reads pair-reads (λ era number. (era, number)) (λ longs. longs.0) (λ longs. longs.1)
     (λ longs. refl) (λ era number. refl) (λ era number. refl)
 
-pub taken-reads : IsReader taken_words (λ taken. (taken.process ≤ 255) × ((taken.era < 2 ^ 32) × (taken.number < 2 ^ 32))) taken_in
+pub taken-reads : IsReader taken_words (λ taken. (taken.process ≤ 255)
+    × ((taken.era < 2 ^ 32) × (taken.number < 2 ^ 32))) taken_in
 taken-reads =
-    both-reads (number-reads 255) longs-reads (λ process (era, number). record { process = process; era = era; number = number }) (λ taken. taken.process)
+    both-reads (number-reads 255) longs-reads
+    (λ process (era, number). record { process = process; era = era; number = number }) (λ taken. taken.process)
     (λ taken. (taken.era, taken.number)) (λ taken. refl) (λ process longs. refl) (λ process longs. refl)
 
-pub report-reads : IsReader (λ (node, silent). report_words node silent) (λ (node, silent). (node ≤ 15) × (length silent.members ≡ 16)) report_in
+pub report-reads : IsReader (λ (node, silent). report_words node silent)
+    (λ (node, silent). (node ≤ 15) × (length silent.members ≡ 16)) report_in
 report-reads =
     both-reads (number-reads 15) set-reads (λ node silent. (node, silent)) (λ report. report.0) (λ report. report.1)
     (λ report. refl) (λ node silent. refl) (λ node silent. refl)
 
 -- Words with nothing behind them
 
-module _ {A : Type 0} {write : A → List ℤ} {Is : A → Type 0} {read : List ℤ → Front A} (reads : IsReader write Is read) where
+module _ {A : Type 0} {write : A → List ℤ} {Is : A → Type 0} {read : List ℤ → Front A}
+    (reads : IsReader write Is read) where
   pub whole-again : (x : A) → Is x → whole (read (write x)) ≡ Some x
-  whole-again x is = ap (λ (words : List ℤ). whole (read words)) (sym (append-nil (write x))) ∙ ap whole (reads.again x [] is)
+  whole-again x is =
+      ap (λ (words : List ℤ). whole (read words)) (sym (append-nil (write x))) ∙ ap whole (reads.again x [] is)
 
   pub whole-exact : (words : List ℤ) (x : A) → whole (read words) ≡ Some x → (write x ≡ words) × Is x
   whole-exact words x = by (read words) (reads.exact words)

@@ -1,5 +1,7 @@
--- The words of the messages that nodes send each other, and which messages have words. The layout is this project's own.
-use Rattle.std.specs.Prelude.{◌≡◌, ◌<◌, ◌≤◌, ◌^◌, ◌+◌, ◌*◌, ℕ, ℤ, pos, Bool, true, List, [], ◌∷◌, ◌++◌, length, if◌then◌else◌}
+-- The words of the messages that nodes send each other, and which messages have words. The layout is this project's
+-- own.
+use Rattle.std.specs.Prelude.{◌≡◌, ◌<◌, ◌≤◌, ◌^◌, ◌+◌, ◌*◌, ℕ, ℤ, pos, Bool, true, List, [], ◌∷◌, ◌++◌, length}
+use Rattle.std.specs.Prelude.{if◌then◌else◌}
 use Rattle.std.specs.Int.{w16, cast_signed}
 use Rattle.tal_tree.specs.declared.site.Site.{Site}
 use Rattle.gd_words.specs.declared.message.Request.{Request}
@@ -35,7 +37,8 @@ mask_word set = cast_signed w16 (mask_of set.members)
 abbrev pub report_words : ℕ → ProcessorSet → List ℤ
 report_words node silent = pos node ∷ mask_word silent ∷ []
 
--- the words of a message of the world. The first one tells the kind: a request is 1, a reply 2, a checkpoint 3, that one was taken 4
+-- the words of a message of the world. The first one tells the kind: a request is 1, a reply 2, a checkpoint 3, that
+-- one was taken 4
 abbrev pub words_of_carried : Message → List ℤ
 words_of_carried (Asking request) = pos 1 ∷ request_words request
 words_of_carried (Replying reply) = pos 2 ∷ reply_words reply

@@ -1,5 +1,5 @@
--- The messages that nodes send each other. Requests, replies, checkpoints and their acknowledgements are Bartlett's; reports of silent processors, and that a
--- node tells the others which processor is down, are this project's own.
+-- The messages that nodes send each other. Requests, replies, checkpoints and their acknowledgements are Bartlett's;
+-- reports of silent processors, and that a node tells the others which processor is down, are this project's own.
 use Rattle.std.specs.Prelude.{ℕ, ◌&&◌, not, nat_lt, Bool, length, drop}
 use Rattle.std.specs.List.{list_all}
 use Rattle.tal_tree.specs.declared.site.Site.{Site}
@@ -7,7 +7,8 @@ use Rattle.plain_semantics.specs.Openers.{openers_of}
 use Rattle.alive_regroup.specs.declared.set.ProcessorSet.{ProcessorSet}
 use Rattle.world_semantics.specs.Messages.{Message, Asking, Replying, Checkpointing, Taking}
 
--- a node carries a message of the world of copies; reports the set of processors that are silent to it; or declares a processor down
+-- a node carries a message of the world of copies; reports the set of processors that are silent to it; or declares a
+-- processor down
 pub data NodeMessage : Type 0 where
   Carrying : (message : Message) → NodeMessage
   Reporting : (node : ℕ) → (silent : ProcessorSet) → NodeMessage

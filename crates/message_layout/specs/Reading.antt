@@ -1,7 +1,9 @@
--- The message that words tell, and what a site makes of them: words that tell none are dropped, and so is what names something that the site hasn't.
+-- The message that words tell, and what a site makes of them: words that tell none are dropped, and so is what names
+-- something that the site hasn't.
 use Rattle.std.specs.Option.{option_map, option_and_then}
 use Rattle.std.specs.Int.{w16, cast_unsigned}
-use Rattle.std.specs.Prelude.{ℕ, zero, suc, ◌/◌, ◌%◌, ◌==◌, ℤ, pos, negsuc, Bool, if◌then◌else◌, List, [], ◌∷◌, Option, Some, None}
+use Rattle.std.specs.Prelude.{ℕ, zero, suc, ◌/◌, ◌%◌, ◌==◌, ℤ, pos, negsuc, Bool, if◌then◌else◌, List, [], ◌∷◌, Option}
+use Rattle.std.specs.Prelude.{Some, None}
 use Rattle.tal_tree.specs.declared.site.Site.{Site}
 use Rattle.gd_words.specs.declared.message.Request.{Request}
 use Rattle.gd_words.specs.declared.message.Reply.{Reply}
@@ -22,14 +24,17 @@ body_in = both_in (λ number words. (number, words)) pair_in reply_in
 
 abbrev pub request_in : List ℤ → Front Request
 request_in =
-    both_in (λ (process, opener) (number, words). record { process = process; opener = opener; number = number; words = words }) address_in body_in
+    both_in (λ (process, opener) (number, words). record
+    { process = process; opener = opener; number = number; words = words }) address_in body_in
 
 abbrev pub answer_in : List ℤ → Front Reply
 answer_in =
-    both_in (λ (process, opener) (number, words). record { process = process; opener = opener; number = number; words = words }) address_in body_in
+    both_in (λ (process, opener) (number, words). record
+    { process = process; opener = opener; number = number; words = words }) address_in body_in
 
 abbrev pub taken_in : List ℤ → Front TakenMessage
-taken_in = both_in (λ process (era, number). record { process = process; era = era; number = number }) (number_in 255) longs_in
+taken_in = both_in (λ process (era, number). record { process = process; era = era; number = number }) (number_in 255)
+    longs_in
 
 -- the lowest bits of a number, so many, the lowest one first
 abbrev pub bits_of : ℕ → ℕ → List Bool
@@ -51,10 +56,14 @@ report_in = both_in (λ node silent. (node, silent)) (number_in 15) set_in
 abbrev pub message_of_kind : ℕ → List ℤ → Option NodeMessage
 message_of_kind (suc zero) words = option_map (λ request. Carrying (Asking request)) (whole (request_in words))
 message_of_kind (suc (suc zero)) words = option_map (λ reply. Carrying (Replying reply)) (whole (answer_in words))
-message_of_kind (suc (suc (suc zero))) words = option_map (λ message. Carrying (Checkpointing message)) (message_in (pos 3 ∷ words))
-message_of_kind (suc (suc (suc (suc zero)))) words = option_map (λ taken. Carrying (Taking taken)) (whole (taken_in words))
-message_of_kind (suc (suc (suc (suc (suc zero))))) words = option_map (λ (node, silent). Reporting node silent) (whole (report_in words))
-message_of_kind (suc (suc (suc (suc (suc (suc zero)))))) words = option_map (λ processor. Declaring processor) (whole (number_in 15 words))
+message_of_kind (suc (suc (suc zero))) words =
+    option_map (λ message. Carrying (Checkpointing message)) (message_in (pos 3 ∷ words))
+message_of_kind (suc (suc (suc (suc zero)))) words =
+    option_map (λ taken. Carrying (Taking taken)) (whole (taken_in words))
+message_of_kind (suc (suc (suc (suc (suc zero))))) words =
+    option_map (λ (node, silent). Reporting node silent) (whole (report_in words))
+message_of_kind (suc (suc (suc (suc (suc (suc zero)))))) words =
+    option_map (λ processor. Declaring processor) (whole (number_in 15 words))
 message_of_kind _ words = None
 
 -- the message of words

@@ -7,7 +7,8 @@ use Rattle.tal_tree.specs.declared.statement.What.TheBlock.{shown-the_row-Statem
 use Rattle.schedule.specs.declared.event.Event.TheVariants as event
 use Rattle.tal_tree.specs.declared.act.Act.TheVariants as act
 use Rattle.world_semantics.specs.Examples.{delivery, reply, run}
-use Rattle.message_wires.specs.Examples.{adder_at_boot, after_checkpoint, answers, asks, buses_from, buses_of_takeover, buses_to_checkpoint, checkpoint, end_of, told, until_dropped, up_to_checkpoint}
+use Rattle.message_wires.specs.Examples.{adder_at_boot, after_checkpoint, answers, asks, buses_from, buses_of_takeover}
+use Rattle.message_wires.specs.Examples.{buses_to_checkpoint, checkpoint, end_of, told, until_dropped, up_to_checkpoint}
 
 pub before : buses_from adder_at_boot up_to_checkpoint ≡ buses_to_checkpoint
 unfolding out-What shown-the_row-Statement-0 shown out int_wrap
@@ -34,7 +35,8 @@ pub in_time : buses_from (end_of adder_at_boot up_to_checkpoint) (event.Fail 0 �
 unfolding out-What shown-the_row-Statement-0 shown out int_wrap
 in_time = refl
 
-pub late : buses_from (end_of adder_at_boot up_to_checkpoint) (event.Fail 0 ∷ event.Tick 1 ∷ delivery ∷ event.Tick 16 ∷ [])
+pub late : buses_from (end_of adder_at_boot up_to_checkpoint)
+    (event.Fail 0 ∷ event.Tick 1 ∷ delivery ∷ event.Tick 16 ∷ [])
     ≡ (checkpoint ∷ []) ∷ (checkpoint ∷ []) ∷ [] ∷ (asks 1 ∷ []) ∷ []
 unfolding out-What shown-the_row-Statement-0 shown out int_wrap
 late = refl

@@ -42,7 +42,8 @@ end_of s (event ∷ events) = end_of (state_after (play s event) s) events
 -- what is on the bus after each event
 abbrev pub buses_from : MachineState → List Event → List (List Sight)
 buses_from s [] = []
-buses_from s (event ∷ events) = map sight (state_after (play s event) s).wires.bus ∷ buses_from (state_after (play s event) s) events
+buses_from s (event ∷ events) =
+    map sight (state_after (play s event) s).wires.bus ∷ buses_from (state_after (play s event) s) events
 
 -- the adder of world_semantics in the processors 0 and 1, and a terminal that sends it 5
 abbrev pub adder_at_boot : MachineState
@@ -60,7 +61,8 @@ checkpoint = record { sender = 0; receiver = 1; sort = Checkpoint }
 abbrev pub told : Sight
 told = record { sender = 1; receiver = 0; sort = Taken }
 
--- Up to the checkpoint: the request is entered, the program comes to READUPDATE, the request is delivered, taken and added, and the checkpoint is sent
+-- Up to the checkpoint: the request is entered, the program comes to READUPDATE, the request is delivered, taken and
+-- added, and the checkpoint is sent
 abbrev pub up_to_checkpoint : List Event
 up_to_checkpoint = event.Enter 0 ∷ run ∷ run ∷ run ∷ delivery ∷ run ∷ run ∷ run ∷ run ∷ []
 
@@ -68,9 +70,10 @@ abbrev pub buses_to_checkpoint : List (List Sight)
 buses_to_checkpoint =
     (asks 0 ∷ []) ∷ (asks 0 ∷ []) ∷ (asks 0 ∷ []) ∷ (asks 0 ∷ []) ∷ [] ∷ [] ∷ [] ∷ [] ∷ (checkpoint ∷ []) ∷ []
 
--- The takeover: the checkpoint is taken, the first copy passes its checkpoint and answers, and its processor stops. Both nodes that run mark it: the second copy takes
--- over, and the node of the terminals sends the request to it, and drops the reply of the node that it marked. The second copy answers anew; the request comes,
--- whose kept reply is sent again; one reply is printed, and the other one isn't awaited
+-- The takeover: the checkpoint is taken, the first copy passes its checkpoint and answers, and its processor stops.
+-- Both nodes that run mark it: the second copy takes over, and the node of the terminals sends the request to it, and
+-- drops the reply of the node that it marked. The second copy answers anew; the request comes, whose kept reply is sent
+-- again; one reply is printed, and the other one isn't awaited
 abbrev pub until_dropped : List Event
 until_dropped = delivery ∷ delivery ∷ run ∷ run ∷ event.Fail 0 ∷ event.Tick 1 ∷ event.Tick 16 ∷ delivery ∷ []
 
@@ -79,5 +82,6 @@ after_checkpoint = until_dropped ++ run ∷ delivery ∷ delivery ∷ delivery �
 
 abbrev pub buses_of_takeover : List (List Sight)
 buses_of_takeover =
-    (told ∷ []) ∷ [] ∷ [] ∷ (answers 0 ∷ []) ∷ (answers 0 ∷ []) ∷ (answers 0 ∷ []) ∷ (answers 0 ∷ asks 1 ∷ []) ∷ (asks 1 ∷ [])
+    (told ∷ []) ∷ [] ∷ [] ∷ (answers 0 ∷ []) ∷ (answers 0 ∷ []) ∷ (answers 0 ∷ []) ∷ (answers 0 ∷ asks 1 ∷ [])
+    ∷ (asks 1 ∷ [])
     ∷ (asks 1 ∷ answers 1 ∷ []) ∷ (answers 1 ∷ answers 1 ∷ []) ∷ (answers 1 ∷ []) ∷ [] ∷ []

@@ -1,5 +1,6 @@
 -- Whether nothing is left to do in a state, computed. Our own rule, as that of posts is.
-use Rattle.std.specs.Prelude.{ℕ, zero, suc, ◌+◌, ◌&&◌, ◌||◌, Bool, true, false, not, List, length, slice_get, Option, Some, None, is_none}
+use Rattle.std.specs.Prelude.{ℕ, zero, suc, ◌+◌, ◌&&◌, ◌||◌, Bool, true, false, not, List, length, slice_get, Option}
+use Rattle.std.specs.Prelude.{Some, None, is_none}
 use Rattle.std.specs.List.{list_all}
 use Rattle.tal_tree.specs.declared.site.Site.{Site}
 use Rattle.world_semantics.specs.declared.role.Role.{Role}
@@ -38,7 +39,8 @@ none_waits processes = list_all (λ pair. not (waits_at_mark pair.first) && not 
 
 -- nothing is owed between nodes that run
 abbrev pub none_owed : List Bool → List Sent → Bool
-none_owed stopped owed = list_all (λ one. not (is_running stopped one.letter.sender && is_running stopped one.letter.receiver)) owed
+none_owed stopped owed =
+    list_all (λ one. not (is_running stopped one.letter.sender && is_running stopped one.letter.receiver)) owed
 
 -- whether a node has marked a processor, if that has stopped
 abbrev pub has_marked_if : World → ℕ → ℕ → Option Bool → Bool
@@ -60,4 +62,5 @@ all_noted w = all_from (λ node. has_marked_all w node) 0 (length w.stopped) && 
 abbrev pub is_idle : MachineState → Bool
 is_idle s =
     none_enters s.site s.world
-    && (none_runs s.site s.world && (none_waits s.world.processes && (none_owed s.world.stopped s.wires.owed && all_noted s.world)))
+    && (none_runs s.site s.world && (none_waits s.world.processes
+    && (none_owed s.world.stopped s.wires.owed && all_noted s.world)))

@@ -1,5 +1,6 @@
 -- What each event makes of a state, the world with its wires, in the machine over whole messages.
-use Rattle.std.specs.Prelude.{ℕ, zero, suc, ◌+◌, ◌&&◌, Bool, true, false, not, if◌then◌else◌, List, ◌++◌, length, slice_get, Option, Some, None}
+use Rattle.std.specs.Prelude.{ℕ, zero, suc, ◌+◌, ◌&&◌, Bool, true, false, not, if◌then◌else◌, List, ◌++◌, length}
+use Rattle.std.specs.Prelude.{slice_get, Option, Some, None}
 use Rattle.std.specs.List.{list_any}
 use Rattle.tal_tree.specs.declared.site.Site.{Site}
 use Rattle.schedule.specs.declared.event.Event.{Event}
@@ -12,7 +13,8 @@ use Rattle.computed_changes.specs.Stopped.{stop_done, down_done}
 use Rattle.letters.specs.Routes.{Letter, letters_of}
 use Rattle.letters.specs.Again.{sent_again}
 use Rattle.machine_states.specs.States.{State, Played, Makes, Skips, WouldStop}
-use Rattle.message_wires.specs.Wires.{Sent, Wires, wires_at_boot, wires_after_posts, paid, paid_between, without_packet, repeated_packet, wires_again}
+use Rattle.message_wires.specs.Wires.{Sent, Wires, wires_at_boot, wires_after_posts, paid, paid_between, without_packet}
+use Rattle.message_wires.specs.Wires.{repeated_packet, wires_again}
 
 -- a state of the machine over whole messages
 abbrev pub MachineState : Type 0
@@ -25,7 +27,8 @@ machine_at_boot site = record { site = site; world = boot site; wires = wires_at
 
 -- the state after a change of its world: what was sent is posted, by the routes of the world after the change
 abbrev pub after_done : MachineState → Done → MachineState
-after_done s done = record s { world = done.world; wires = wires_after_posts (letters_of s.site done.world done.sendings) s.wires }
+after_done s done =
+    record s { world = done.world; wires = wires_after_posts (letters_of s.site done.world done.sendings) s.wires }
 
 abbrev pub made_by : MachineState → Option Done → Played Wires
 made_by s None = Skips
@@ -41,11 +44,13 @@ after_any s (Some done) = after_done s done
 -- the letter of a packet is handed over at its receiver, and owed no more
 abbrev pub state_after_handing : Sent → MachineState → MachineState
 state_after_handing packet s =
-    after_any (record s { wires = paid packet.number s.wires }) (handed_done s.site packet.letter.receiver packet.letter.message s.world)
+    after_any (record s { wires = paid packet.number s.wires })
+    (handed_done s.site packet.letter.receiver packet.letter.message s.world)
 
 -- whether a letter comes in at its receiver: that runs, and hasn't marked the sender
 abbrev pub comes_in : MachineState → Letter → Bool
-comes_in s letter = is_running s.world.stopped letter.receiver && not (has_noted s.world.marks letter.receiver letter.sender)
+comes_in s letter =
+    is_running s.world.stopped letter.receiver && not (has_noted s.world.marks letter.receiver letter.sender)
 
 abbrev pub state_after_receiving : Sent → MachineState → MachineState
 state_after_receiving packet s = if comes_in s packet.letter then state_after_handing packet s else s
@@ -71,14 +76,17 @@ has_stopped stopped = list_any (λ one. one) stopped
 -- a second processor doesn't stop
 abbrev pub fail_played : ℕ → MachineState → Option Done → Played Wires
 fail_played processor s None = Skips
-fail_played processor s (Some done) = if has_stopped s.world.stopped then WouldStop processor else Makes (after_done s done)
+fail_played processor s (Some done) =
+    if has_stopped s.world.stopped then WouldStop processor else Makes (after_done s done)
 
--- the state after a node marked a processor: what was owed between both is so no more, and what the mark sends and sends again is posted
+-- the state after a node marked a processor: what was owed between both is so no more, and what the mark sends and
+-- sends again is posted
 abbrev pub after_noted : ℕ → ℕ → MachineState → Done → MachineState
 after_noted node processor s done = record s {
   world = done.world;
   wires =
-      wires_after_posts (letters_of s.site done.world (done.sendings ++ sent_again s.site s.world done.world node processor))
+      wires_after_posts (letters_of s.site done.world
+      (done.sendings ++ sent_again s.site s.world done.world node processor))
       (paid_between node processor s.wires);
 }
 
@@ -98,7 +106,8 @@ state_after_tick node s = record s { wires = wires_again s.world.stopped node s.
 
 abbrev pub tick_played : ℕ → MachineState → Played Wires
 tick_played node s =
-    if is_running s.world.stopped node then Makes (state_after_tick node (notes_from node 0 (length s.world.stopped) s)) else Skips
+    if is_running s.world.stopped node then Makes
+    (state_after_tick node (notes_from node 0 (length s.world.stopped) s)) else Skips
 
 -- Events
 

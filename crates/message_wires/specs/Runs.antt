@@ -8,12 +8,15 @@ use Rattle.machine_states.specs.States.{Makes, Skips}
 use Rattle.message_wires.specs.Wires.{Sent}
 use Rattle.message_wires.specs.Play.{MachineState, machine_at_boot, play}
 
--- events that were played, one after the other, lead from the beginning to a state: each makes the next one, or is skipped
+-- events that were played, one after the other, lead from the beginning to a state: each makes the next one, or is
+-- skipped
 pub data IsPlayed (site : Site) : List Event → MachineState → Type 0 where
   played_none : IsPlayed site [] (machine_at_boot site)
-  played_more : {events : List Event} {s next : MachineState} → (event : Event) → IsPlayed site events s → play s event ≡ Makes next
+  played_more : {events : List Event} {s next : MachineState} → (event : Event) → IsPlayed site events s
+      → play s event ≡ Makes next
       → IsPlayed site (events ++ event ∷ []) next
-  skipped : {events : List Event} {s : MachineState} → (event : Event) → IsPlayed site events s → play s event ≡ Skips → IsPlayed site (events ++ event ∷ []) s
+  skipped : {events : List Event} {s : MachineState} → (event : Event) → IsPlayed site events s → play s event ≡ Skips
+      → IsPlayed site (events ++ event ∷ []) s
 
 -- the letters of sendings
 abbrev pub letters_in : List Sent → List Letter

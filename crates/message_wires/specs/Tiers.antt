@@ -1,5 +1,5 @@
--- A worked run of two tiers: a terminal asks a front, which asks the adder, and both are lost together with their processor. Its rounds go on until nothing is
--- left to do.
+-- A worked run of two tiers: a terminal asks a front, which asks the adder, and both are lost together with their
+-- processor. Its rounds go on until nothing is left to do.
 use Rattle.std.specs.Prelude.{ℕ, zero, suc, pos, Bool, false, List, [], ◌∷◌, ◌++◌, codes, length, map, replicate}
 use Rattle.tal_tree.specs.Rows.{places, rows}
 use Rattle.tal_tree.specs.declared.expression.Expr.{Number}
@@ -36,7 +36,8 @@ front = record {
       ∷ record { name = codes "SRV"; shape = shape.File 1 }
       ∷ record { name = codes "BUF"; shape = shape.Array (pos 0) (pos 0) }
       ∷ [];
-  files = record { item = 1; target = target.Receive; depth = 1 } ∷ record { item = 2; target = target.Process (codes "$ADD"); depth = 1 } ∷ [];
+  files = record { item = 1; target = target.Receive; depth = 1 }
+      ∷ record { item = 2; target = target.Process (codes "$ADD"); depth = 1 } ∷ [];
   procedures =
       record {
         name = codes "FRONT";
@@ -65,7 +66,8 @@ tiers = record {
 abbrev pub acted : List Event
 acted = event.Enter 0 ∷ event.Run 0 ∷ event.Run 1 ∷ []
 
--- a round: the terminal enters, each process runs once, as many packets are delivered as are on the bus then, and each node ticks
+-- a round: the terminal enters, each process runs once, as many packets are delivered as are on the bus then, and each
+-- node ticks
 abbrev pub round : MachineState → List Event
 round s =
     acted ++ replicate (length (end_of s acted).wires.bus) delivery ++ event.Tick 0 ∷ event.Tick 1 ∷ event.Tick 16 ∷ []

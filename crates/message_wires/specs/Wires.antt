@@ -1,5 +1,6 @@
--- The wires of the machine over whole messages: the packets on its bus, each a whole letter, and the letters that are owed. That a message stays with its
--- sender until it was handed over, and is put on the bus again, is Bartlett's retry by the message system; the form for whole messages is our own.
+-- The wires of the machine over whole messages: the packets on its bus, each a whole letter, and the letters that are
+-- owed. That a message stays with its sender until it was handed over, and is put on the bus again, is Bartlett's retry
+-- by the message system; the form for whole messages is our own.
 use Rattle.std.specs.Prelude.{ℕ, ◌+◌, ◌==◌, ◌&&◌, Bool, not, if◌then◌else◌, nat_lt, List, [], ◌∷◌, ◌++◌, length}
 use Rattle.std.specs.List.{filter, list_any, remove}
 use Rattle.world_semantics.specs.World.{is_running}
@@ -10,7 +11,8 @@ pub record Sent : Type 0 where
   pub number : ℕ
   pub letter : Letter
 
--- how many letters were sent; the packets on the bus, in order; and the letters that are owed, the oldest first: those that weren't handed over
+-- how many letters were sent; the packets on the bus, in order; and the letters that are owed, the oldest first: those
+-- that weren't handed over
 pub record Wires : Type 0 where
   pub count : ℕ
   pub bus : List Sent
@@ -54,7 +56,8 @@ paid number wires = record wires { owed = without_number number wires.owed }
 
 -- what is between two nodes is owed no more
 abbrev pub paid_between : ℕ → ℕ → Wires → Wires
-paid_between one other wires = record wires { owed = filter (λ sent. not (is_between one other sent.letter)) wires.owed }
+paid_between one other wires =
+    record wires { owed = filter (λ sent. not (is_between one other sent.letter)) wires.owed }
 
 -- the packet at a position is taken off the bus
 abbrev pub without_packet : ℕ → Wires → Wires
@@ -68,9 +71,11 @@ repeated_packet packet wires = record wires { bus = put_on packet wires.bus }
 abbrev pub is_on : List Sent → ℕ → Bool
 is_on bus number = list_any (is_of number) bus
 
--- whether a letter that is owed is put on the bus again at a tick of a node: the node sent it, its receiver runs, and no packet of it is on the bus
+-- whether a letter that is owed is put on the bus again at a tick of a node: the node sent it, its receiver runs, and
+-- no packet of it is on the bus
 abbrev pub is_due : List Bool → ℕ → List Sent → Sent → Bool
-is_due stopped node bus one = one.letter.sender == node && (is_running stopped one.letter.receiver && not (is_on bus one.number))
+is_due stopped node bus one =
+    one.letter.sender == node && (is_running stopped one.letter.receiver && not (is_on bus one.number))
 
 -- the bus after those of these letters that are due were put on it again, the oldest first
 abbrev pub put_again : List Bool → ℕ → List Sent → List Sent → List Sent

@@ -1,5 +1,6 @@
 -- What is played leaves the site as it was, and stops one processor at most.
-use Rattle.std.proofs.Common.{◌≡◌, ℕ, zero, suc, ◌+◌, Bool, true, false, if◌then◌else◌, List, [], ◌∷◌, length, replicate, Option, Some, None, slice_get, slice_set, refl, sym, subst, ◌∙◌}
+use Rattle.std.proofs.Common.{◌≡◌, ℕ, zero, suc, ◌+◌, Bool, true, false, if◌then◌else◌, List, [], ◌∷◌, length}
+use Rattle.std.proofs.Common.{replicate, Option, Some, None, slice_get, slice_set, refl, sym, subst, ◌∙◌}
 use Rattle.tal_tree.specs.declared.site.Site.{Site}
 use Rattle.schedule.specs.declared.event.Event.{Event}
 use Rattle.schedule.specs.declared.event.Event.TheVariants.{Run, Enter, Deliver, Lose, Repeat, Tick, Fail}
@@ -11,7 +12,9 @@ use Rattle.computed_changes.specs.Stopped.{down_done, stopped_world, stop_where,
 use Rattle.letters.specs.Idle.{OneStops}
 use Rattle.machine_states.specs.States.{Played, Makes, Skips, WouldStop}
 use Rattle.message_wires.specs.Wires.{Sent, Wires, paid, without_packet}
-use Rattle.message_wires.specs.Play.{MachineState, after_done, made_by, after_any, state_after_handing, comes_in, deliver_played, lose_played, repeat_played, has_stopped, fail_played, noted_by, notes_from, state_after_tick, tick_played, packet_at, play}
+use Rattle.message_wires.specs.Play.{MachineState, after_done, made_by, after_any, state_after_handing, comes_in}
+use Rattle.message_wires.specs.Play.{deliver_played, lose_played, repeat_played, has_stopped, fail_played, noted_by}
+use Rattle.message_wires.specs.Play.{notes_from, state_after_tick, tick_played, packet_at, play}
 use Rattle.message_wires.specs.Runs.{IsPlayed, played_none, played_more, skipped}
 use Rattle.message_wires_laws.proofs.Stopping.{StopsNone, run-none, enter-none, handed-none, mark-none}
 
@@ -20,7 +23,8 @@ pub data Goes (s : MachineState) : Played Wires → Type 0 where
   skips : Goes s Skips
   would_stop : (processor : ℕ) → Goes s (WouldStop processor)
   stops_none : {next : MachineState} → next.site ≡ s.site → next.world.stopped ≡ s.world.stopped → Goes s (Makes next)
-  stops_one : {next : MachineState} (processor : ℕ) → next.site ≡ s.site → has_stopped s.world.stopped ≡ false → next.world.stopped ≡ slice_set s.world.stopped processor true
+  stops_one : {next : MachineState} (processor : ℕ) → next.site ≡ s.site → has_stopped s.world.stopped ≡ false
+      → next.world.stopped ≡ slice_set s.world.stopped processor true
       → Goes s (Makes next)
 
 made-goes : (s : MachineState) (done : Option Done) → StopsNone s.world done → Goes s (made_by s done)
@@ -31,19 +35,23 @@ deliver-goes : (k : ℕ) (s : MachineState) (packet : Option Sent) → Goes s (d
 deliver-goes k s None = skips
 deliver-goes k s (Some packet) = by (comes_in (record s { wires = without_packet k s.wires }) packet.letter)
   where
-    any : (wires : Wires) (done : Option Done) → StopsNone s.world done → Goes s (Makes (after_any (record s { wires = wires }) done))
+    any : (wires : Wires) (done : Option Done) → StopsNone s.world done
+        → Goes s (Makes (after_any (record s { wires = wires }) done))
     any wires None none = stops_none refl refl
     any wires (Some done) none = stops_none refl none
 
-    by : (test : Bool) → Goes s (Makes (if test then state_after_handing packet (record s { wires = without_packet k s.wires }) else record s { wires = without_packet k s.wires }))
-    by true = any (paid packet.number (without_packet k s.wires)) _ (handed-none s.site s.world packet.letter.receiver packet.letter.message)
+    by : (test : Bool) → Goes s (Makes (if test then state_after_handing packet
+        (record s { wires = without_packet k s.wires }) else record s { wires = without_packet k s.wires }))
+    by true = any (paid packet.number (without_packet k s.wires)) _
+        (handed-none s.site s.world packet.letter.receiver packet.letter.message)
     by false = stops_none refl refl
 
 fail-goes : (processor : ℕ) (s : MachineState) → Goes s (fail_played processor s (stop_done processor s.world))
 fail-goes processor s = by (slice_get s.world.stopped processor)
   where
     first : (test : Bool) → has_stopped s.world.stopped ≡ test
-        → Goes s (if test then WouldStop processor else Makes (after_done s (record { world = stopped_world processor s.world; sendings = [] })))
+        → Goes s (if test then WouldStop processor else Makes
+        (after_done s (record { world = stopped_world processor s.world; sendings = [] })))
     first true e = would_stop processor
     first false e = stops_one processor refl e refl
 
@@ -53,12 +61,16 @@ fail-goes processor s = by (slice_get s.world.stopped processor)
     by (Some false) = first (has_stopped s.world.stopped) refl
 
 pub marks-none : (node processor more : ℕ) (s : MachineState)
-    → ((notes_from node processor more s).site ≡ s.site) × ((notes_from node processor more s).world.stopped ≡ s.world.stopped)
+    → ((notes_from node processor more s).site ≡ s.site)
+    × ((notes_from node processor more s).world.stopped ≡ s.world.stopped)
 marks-none node processor zero s = (refl, refl)
-marks-none node processor (suc more) s = by (down_done node processor s.world) (mark-none s.site s.world node processor) (marks-none node (processor + 1) more)
+marks-none node processor (suc more) s =
+    by (down_done node processor s.world) (mark-none s.site s.world node processor)
+    (marks-none node (processor + 1) more)
   where
     by : (done : Option Done) → StopsNone s.world done
-        → ((s : MachineState) → ((notes_from node (processor + 1) more s).site ≡ s.site) × ((notes_from node (processor + 1) more s).world.stopped ≡ s.world.stopped))
+        → ((s : MachineState) → ((notes_from node (processor + 1) more s).site ≡ s.site)
+        × ((notes_from node (processor + 1) more s).world.stopped ≡ s.world.stopped))
         → ((notes_from node (processor + 1) more (noted_by node processor s done)).site ≡ s.site)
         × ((notes_from node (processor + 1) more (noted_by node processor s done)).world.stopped ≡ s.world.stopped)
     by None none rest = rest s
@@ -67,7 +79,8 @@ marks-none node processor (suc more) s = by (down_done node processor s.world) (
 tick-goes : (node : ℕ) (s : MachineState) → Goes s (tick_played node s)
 tick-goes node s = by (is_running s.world.stopped node)
   where
-    by : (test : Bool) → Goes s (if test then Makes (state_after_tick node (notes_from node 0 (length s.world.stopped) s)) else Skips)
+    by : (test : Bool) → Goes s (if test then Makes
+        (state_after_tick node (notes_from node 0 (length s.world.stopped) s)) else Skips)
     by true = let marked = marks-none node 0 (length s.world.stopped) s in stops_none marked.0 marked.1
     by false = skips
 
@@ -92,7 +105,8 @@ play-goes s (Fail processor) = fail-goes processor s
 
 pub played-site : {site : Site} {events : List Event} {s : MachineState} → IsPlayed site events s → s.site ≡ site
 played-site played_none = refl
-played-site {site = site} (played_more {s = s} {next = next} event before e) = subst OfSite e (by (play s event) (play-goes s event) (played-site before))
+played-site {site = site} (played_more {s = s} {next = next} event before e) =
+    subst OfSite e (by (play s event) (play-goes s event) (played-site before))
   where
     OfSite : Played Wires → Type 0
     OfSite (Makes next) = next.site ≡ site
@@ -112,7 +126,8 @@ none-stopped (true ∷ stopped) k none at = cc
 none-stopped (false ∷ stopped) zero none at = cc
 none-stopped (false ∷ stopped) (suc k) none at = none-stopped stopped k none at
 
-first-stopped : (stopped : List Bool) (processor one : ℕ) → has_stopped stopped ≡ false → slice_get (slice_set stopped processor true) one ≡ Some true → processor ≡ one
+first-stopped : (stopped : List Bool) (processor one : ℕ) → has_stopped stopped ≡ false
+    → slice_get (slice_set stopped processor true) one ≡ Some true → processor ≡ one
 first-stopped stopped processor one none at = of (changed stopped processor true one true at)
   where
     of : Changed stopped processor true one true → processor ≡ one
@@ -124,8 +139,10 @@ none-at-boot zero = refl
 none-at-boot (suc processors) = none-at-boot processors
 
 pub played-one : {site : Site} {events : List Event} {s : MachineState} → IsPlayed site events s → OneStops s.world
-played-one {site = site} played_none = λ one other at there. absurd (none-stopped (boot site).stopped one (none-at-boot site.processors) at)
-played-one (played_more {s = s} {next = next} event before e) = subst IsOne e (by (play s event) (play-goes s event) (played-one before))
+played-one {site = site} played_none =
+    λ one other at there. absurd (none-stopped (boot site).stopped one (none-at-boot site.processors) at)
+played-one (played_more {s = s} {next = next} event before e) =
+    subst IsOne e (by (play s event) (play-goes s event) (played-one before))
   where
     IsOne : Played Wires → Type 0
     IsOne (Makes next) = OneStops next.world
@@ -137,5 +154,6 @@ played-one (played_more {s = s} {next = next} event before e) = subst IsOne e (b
     by (WouldStop _) (would_stop processor) was = tt
     by (Makes made) (stops_none same none) was = rw none was
     by (Makes made) (stops_one processor same first one) was =
-        rw one (λ a b at there. sym (first-stopped s.world.stopped processor a first at) ∙ first-stopped s.world.stopped processor b first there)
+        rw one (λ a b at there. sym (first-stopped s.world.stopped processor a first at)
+        ∙ first-stopped s.world.stopped processor b first there)
 played-one (skipped event before e) = played-one before

@@ -1,5 +1,6 @@
 -- After the tick of a node it has marked each processor that has stopped.
-use Rattle.std.proofs.Common.{◌≡◌, ◌<◌, ℕ, zero, suc, ◌+◌, ◌&&◌, ◌||◌, Bool, true, false, not, if◌then◌else◌, List, length, Option, Some, None, slice_get, refl, sym, ap, subst, ◌∙◌, arith, eq-eqb, ap₂}
+use Rattle.std.proofs.Common.{◌≡◌, ◌<◌, ℕ, zero, suc, ◌+◌, ◌&&◌, ◌||◌, Bool, true, false, not, if◌then◌else◌, List}
+use Rattle.std.proofs.Common.{length, Option, Some, None, slice_get, refl, sym, ap, subst, ◌∙◌, arith, eq-eqb, ap₂}
 use Rattle.std.specs.Cmp.Derive.{both_true}
 use Rattle.std.proofs.lemmas.Option.{slice_get_within}
 use Rattle.schedule.specs.declared.event.Event.TheVariants.{Tick}
@@ -15,7 +16,8 @@ abbrev HasMarked : ℕ → ℕ → MachineState → Type 0
 HasMarked node processor s = has_noted s.world.marks node processor ≡ true
 
 -- marks stay
-mark-stays : (node other processor : ℕ) (s : MachineState) → HasMarked node processor s → HasMarked node processor (noted_by node other s (down_done node other s.world))
+mark-stays : (node other processor : ℕ) (s : MachineState) → HasMarked node processor s
+    → HasMarked node processor (noted_by node other s (down_done node other s.world))
 mark-stays node other processor s has = by (slice_get s.world.stopped other)
   where
     grown : (new old : Bool) → old ≡ true → (new || old) ≡ true
@@ -26,52 +28,63 @@ mark-stays node other processor s has = by (slice_get s.world.stopped other)
     may true = grown _ (has_noted s.world.marks node processor) has
     may false = has
 
-    by : (stopped : Option Bool) → HasMarked node processor (noted_by node other s (mark_where node other s.world stopped))
+    by : (stopped : Option Bool) → HasMarked node processor
+        (noted_by node other s (mark_where node other s.world stopped))
     by None = has
     by (Some true) = may (may_note node other s.world)
     by (Some false) = has
 
 -- a processor that has stopped is marked
-mark-made : (node processor : ℕ) (s : MachineState) → is_running s.world.stopped node ≡ true → slice_get s.world.stopped processor ≡ Some true
+mark-made : (node processor : ℕ) (s : MachineState) → is_running s.world.stopped node ≡ true
+    → slice_get s.world.stopped processor ≡ Some true
     → HasMarked node processor (noted_by node processor s (down_done node processor s.world))
 mark-made node processor s runs stopped =
-    subst (λ (one : Option Bool). HasMarked node processor (noted_by node processor s (mark_where node processor s.world one))) (sym stopped)
+    subst (λ (one : Option Bool). HasMarked node processor
+    (noted_by node processor s (mark_where node processor s.world one))) (sym stopped)
     (may (has_noted s.world.marks node processor) refl)
   where
     Made : Bool → Type 0
     Made test = HasMarked node processor (noted_by node processor s (marked_where node processor s.world test))
 
     new : (has_noted (world_at_down node processor s.world).world.marks node processor) ≡ true
-    new = ap (λ b. b || has_noted s.world.marks node processor) (both_true (eq-eqb node node refl) (eq-eqb processor processor refl))
+    new = ap (λ b. b || has_noted s.world.marks node processor)
+        (both_true (eq-eqb node node refl) (eq-eqb processor processor refl))
 
     may : (marked : Bool) → has_noted s.world.marks node processor ≡ marked → Made (may_note node processor s.world)
     may true e = subst Made (sym (ap₂ (λ a b. a && not b) runs e)) e
     may false e = subst Made (sym (ap₂ (λ a b. a && not b) runs e)) new
 
-all-stay : (node from more processor : ℕ) (s : MachineState) → HasMarked node processor s → HasMarked node processor (notes_from node from more s)
+all-stay : (node from more processor : ℕ) (s : MachineState) → HasMarked node processor s
+    → HasMarked node processor (notes_from node from more s)
 all-stay node from zero processor s has = has
-all-stay node from (suc more) processor s has = all-stay node (from + 1) more processor _ (mark-stays node from processor s has)
+all-stay node from (suc more) processor s has =
+    all-stay node (from + 1) more processor _ (mark-stays node from processor s has)
 
-all-made : (node from more k : ℕ) (s : MachineState) → is_running s.world.stopped node ≡ true → k < more → slice_get s.world.stopped (from + k) ≡ Some true
+all-made : (node from more k : ℕ) (s : MachineState) → is_running s.world.stopped node ≡ true → k < more
+    → slice_get s.world.stopped (from + k) ≡ Some true
     → HasMarked node (from + k) (notes_from node from more s)
 all-made node from zero k s runs low stopped = absurd (omega (arith, low))
 all-made node from (suc more) zero s runs low stopped =
     let here : from + 0 ≡ from = omega arith in
     subst (λ n. HasMarked node n (notes_from node from (suc more) s)) (sym here)
-    (all-stay node (from + 1) more from _ (mark-made node from s runs (subst (λ n. slice_get s.world.stopped n ≡ Some true) here stopped)))
+    (all-stay node (from + 1) more from _ (mark-made node from s runs
+    (subst (λ n. slice_get s.world.stopped n ≡ Some true) here stopped)))
 all-made node from (suc more) (suc k) s runs low stopped =
     let there : from + suc k ≡ from + 1 + k = omega arith in
     let same = (marks-none node from 1 s).1 in
     subst (λ n. HasMarked node n (notes_from node from (suc more) s)) (sym there)
-    (all-made node (from + 1) more k (noted_by node from s (down_done node from s.world)) (ap (λ (xs : List Bool). is_running xs node) same ∙ runs) (omega (arith, low))
+    (all-made node (from + 1) more k (noted_by node from s (down_done node from s.world))
+    (ap (λ (xs : List Bool). is_running xs node) same ∙ runs) (omega (arith, low))
     (ap (λ (xs : List Bool). slice_get xs (from + 1 + k)) same ∙ ap (slice_get s.world.stopped) (sym there) ∙ stopped))
 
-pub tick-marks : (s next : MachineState) (node processor : ℕ) → play s (Tick node) ≡ Makes next → slice_get next.world.stopped processor ≡ Some true
+pub tick-marks : (s next : MachineState) (node processor : ℕ) → play s (Tick node) ≡ Makes next
+    → slice_get next.world.stopped processor ≡ Some true
     → has_noted next.world.marks node processor ≡ true
 tick-marks s next node processor e = subst Marks e (by (is_running s.world.stopped node) refl)
   where
     Marks : Played Wires → Type 0
-    Marks (Makes next) = slice_get next.world.stopped processor ≡ Some true → has_noted next.world.marks node processor ≡ true
+    Marks (Makes next) =
+        slice_get next.world.stopped processor ≡ Some true → has_noted next.world.marks node processor ≡ true
     Marks Skips = Unit {0}
     Marks (WouldStop other) = Unit {0}
 
@@ -79,7 +92,8 @@ tick-marks s next node processor e = subst Marks e (by (is_running s.world.stopp
         → Marks (if test then Makes (state_after_tick node (notes_from node 0 (length s.world.stopped) s)) else Skips)
     by true runs = λ stopped.
         let was : slice_get s.world.stopped processor ≡ Some true =
-        ap (λ (xs : List Bool). slice_get xs processor) (sym (marks-none node 0 (length s.world.stopped) s).1) ∙ stopped in
+        ap (λ (xs : List Bool). slice_get xs processor) (sym (marks-none node 0 (length s.world.stopped) s).1)
+        ∙ stopped in
         let here : 0 + processor ≡ processor = omega arith in
         subst (λ n. HasMarked node n (notes_from node 0 (length s.world.stopped) s)) here
         (all-made node 0 (length s.world.stopped) processor s runs (slice_get_within s.world.stopped processor true was)

@@ -1,5 +1,6 @@
 -- What each event makes of a state is what it does to its post.
-use Rattle.std.proofs.Common.{◌≡◌, inl, inr, ℕ, zero, suc, ◌+◌, Bool, true, false, if◌then◌else◌, List, [], ◌∷◌, ◌++◌, length, Option, Some, None, slice_get, refl, sym, ap, subst}
+use Rattle.std.proofs.Common.{◌≡◌, inl, inr, ℕ, zero, suc, ◌+◌, Bool, true, false, if◌then◌else◌, List, [], ◌∷◌, ◌++◌}
+use Rattle.std.proofs.Common.{length, Option, Some, None, slice_get, refl, sym, ap, subst}
 use Rattle.gd_words.specs.Members.{IsAmong}
 use Rattle.gd_words.proofs.Among.{among-at}
 use Rattle.schedule.specs.declared.event.Event.{Event}
@@ -21,13 +22,19 @@ use Rattle.computed_changes.specs.Handed.{handed_done}
 use Rattle.computed_changes.specs.Stopped.{stop_done, stop_where, stopped_world, down_done}
 use Rattle.letters.specs.Routes.{Letter, letters_of}
 use Rattle.letters.specs.Again.{sent_again}
-use Rattle.letters.specs.Posts.{HasPlayed, after_change, played_more, PlaysEvent, plays_run, plays_no_run, plays_enter, plays_no_enter, plays_nothing, plays_hand, plays_drop, plays_again, plays_loss, plays_repeat, plays_no_tick, plays_tick, plays_fail, plays_no_fail, NotesLetters, no_mark, one_mark, IsTaken}
+use Rattle.letters.specs.Posts.{HasPlayed, after_change, played_more, PlaysEvent, plays_run, plays_no_run, plays_enter}
+use Rattle.letters.specs.Posts.{plays_no_enter, plays_nothing, plays_hand, plays_drop, plays_again, plays_loss}
+use Rattle.letters.specs.Posts.{plays_repeat, plays_no_tick, plays_tick, plays_fail, plays_no_fail, NotesLetters}
+use Rattle.letters.specs.Posts.{no_mark, one_mark, IsTaken}
 use Rattle.machine_states.specs.States.{Played, Makes, Skips, WouldStop}
 use Rattle.message_wires.specs.Wires.{Sent, Wires, without_number, paid, without_packet, repeated_packet}
-use Rattle.message_wires.specs.Play.{MachineState, after_done, made_by, after_any, state_after_handing, comes_in, deliver_played, lose_played, repeat_played, has_stopped, fail_played, after_noted, noted_by, notes_from, state_after_tick, packet_at, play}
+use Rattle.message_wires.specs.Play.{MachineState, after_done, made_by, after_any, state_after_handing, comes_in}
+use Rattle.message_wires.specs.Play.{deliver_played, lose_played, repeat_played, has_stopped, fail_played, after_noted}
+use Rattle.message_wires.specs.Play.{noted_by, notes_from, state_after_tick, packet_at, play}
 use Rattle.message_wires.specs.Runs.{letters_in, post_of}
 use Rattle.message_wires_laws.specs.Carried.{AreTidy, IsCarried}
-use Rattle.message_wires_laws.proofs.Tidy.{without-tidy, repeated-tidy, again-tidy, paid-tidy, Pays, was_owed, was_paid, pays}
+use Rattle.message_wires_laws.proofs.Tidy.{without-tidy, repeated-tidy, again-tidy, paid-tidy, Pays, was_owed, was_paid}
+use Rattle.message_wires_laws.proofs.Tidy.{pays}
 use Rattle.message_wires_laws.proofs.Posting.{Carries, posted-on, posted-between}
 
 -- what an event makes of a state is carried as well
@@ -36,24 +43,27 @@ GoesOn events s sent (Makes next) = Carries events next
 GoesOn events s sent Skips = IsCarried events s sent
 GoesOn events s sent (WouldStop processor) = Unit {0}
 
--- a state that is carried after these events: each letter that was sent carries a message that was, and where one that comes changes nothing no change is
--- possible
+-- a state that is carried after these events: each letter that was sent carries a message that was, and where one that
+-- comes changes nothing no change is possible
 module _ (events : List Event) (s : MachineState) (sent : List Letter) (carried : IsCarried events s sent)
     (honest : (letter : Letter) → IsAmong letter sent → IsSent s.world letter.message)
     (only : (letter : Letter) → IsAmong letter sent → handed_done s.site letter.receiver letter.message s.world ≡ None
     → IsIdleFor s.site s.world (Handing letter.receiver letter.message)) where
   -- nothing happens to the post
-  skips : (event : Event) → PlaysEvent s.site (post_of s sent) event (post_of s sent) → IsCarried (events ++ event ∷ []) s sent
+  skips : (event : Event) → PlaysEvent s.site (post_of s sent) event (post_of s sent)
+      → IsCarried (events ++ event ∷ []) s sent
   skips event plays = record { played = played_more carried.played plays; tidy = carried.tidy }
 
   -- nor does anything but to the bus
-  bus-alone : (event : Event) (wires : Wires) → wires.owed ≡ s.wires.owed → AreTidy wires sent → PlaysEvent s.site (post_of s sent) event (post_of s sent)
+  bus-alone : (event : Event) (wires : Wires) → wires.owed ≡ s.wires.owed → AreTidy wires sent
+      → PlaysEvent s.site (post_of s sent) event (post_of s sent)
       → Carries (events ++ event ∷ []) (record s { wires = wires })
   bus-alone event wires same tidy plays = (
     sent,
     record {
       played =
-          subst (λ (owed : List Sent). HasPlayed s.site (events ++ event ∷ []) (record { world = s.world; owed = letters_in owed; sent = sent })) (sym same)
+          subst (λ (owed : List Sent). HasPlayed s.site (events ++ event ∷ [])
+          (record { world = s.world; owed = letters_in owed; sent = sent })) (sym same)
           (played_more carried.played plays);
       tidy = tidy;
     },
@@ -64,23 +74,27 @@ module _ (events : List Event) (s : MachineState) (sent : List Letter) (carried 
       → PlaysEvent s.site (post_of s sent) event (after_change s.site done.sendings done.world (post_of s sent))
       → Carries (events ++ event ∷ []) (after_done s done)
   changes event done plays =
-      posted-on s (events ++ event ∷ []) done.world s.wires (letters_in s.wires.owed) (letters_of s.site done.world done.sendings) refl carried.tidy
+      posted-on s (events ++ event ∷ []) done.world s.wires (letters_in s.wires.owed)
+      (letters_of s.site done.world done.sendings) refl carried.tidy
       (played_more carried.played plays)
 
   run-on : (number : ℕ) → GoesOn (events ++ Run number ∷ []) s sent (play s (Run number))
   run-on number = by (run_done s.site number s.world) refl
     where
-      by : (done : Option Done) → run_done s.site number s.world ≡ done → GoesOn (events ++ Run number ∷ []) s sent (made_by s done)
+      by : (done : Option Done) → run_done s.site number s.world ≡ done
+          → GoesOn (events ++ Run number ∷ []) s sent (made_by s done)
       by None e = skips (Run number) (plays_no_run (run-idle s.site number s.world e))
       by (Some done) e = changes (Run number) done (plays_run (run-may s.site number s.world done e))
 
   enter-on : (number : ℕ) → GoesOn (events ++ Enter number ∷ []) s sent (play s (Enter number))
   enter-on number = by (enter_done s.site number s.world) refl
     where
-      by : (done : Option Done) → enter_done s.site number s.world ≡ done → GoesOn (events ++ Enter number ∷ []) s sent (made_by s done)
+      by : (done : Option Done) → enter_done s.site number s.world ≡ done
+          → GoesOn (events ++ Enter number ∷ []) s sent (made_by s done)
       by None e =
           skips (Enter number)
-          (plays_no_enter (idle-where s.site s.world (Entering number) (enter_done s.site number s.world) (λ next sendings change. enter-only number s.world next sendings change) e))
+          (plays_no_enter (idle-where s.site s.world (Entering number) (enter_done s.site number s.world)
+          (λ next sendings change. enter-only number s.world next sendings change) e))
       by (Some done) e = changes (Enter number) done (plays_enter (enter-may s.site number s.world done e))
 
   lose-on : (y : Bool) (k : ℕ) → GoesOn (events ++ Lose y k ∷ []) s sent (play s (Lose y k))
@@ -97,28 +111,35 @@ module _ (events : List Event) (s : MachineState) (sent : List Letter) (carried 
   repeat-on : (y : Bool) (k : ℕ) → GoesOn (events ++ Repeat y k ∷ []) s sent (play s (Repeat y k))
   repeat-on y k = by (packet_at s y k) refl
     where
-      by : (packet : Option Sent) → packet_at s y k ≡ packet → GoesOn (events ++ Repeat y k ∷ []) s sent (repeat_played s packet)
+      by : (packet : Option Sent) → packet_at s y k ≡ packet
+          → GoesOn (events ++ Repeat y k ∷ []) s sent (repeat_played s packet)
       by None e = skips (Repeat y k) plays_repeat
       by (Some packet) e =
-          bus-alone (Repeat y k) (repeated_packet packet s.wires) refl (repeated-tidy packet (on-bus y k packet e) carried.tidy) plays_repeat
+          bus-alone (Repeat y k) (repeated_packet packet s.wires) refl
+          (repeated-tidy packet (on-bus y k packet e) carried.tidy) plays_repeat
 
   fail-on : (processor : ℕ) → GoesOn (events ++ Fail processor ∷ []) s sent (play s (Fail processor))
   fail-on processor = by (slice_get s.world.stopped processor) refl
     where
       idle : stop_done processor s.world ≡ None → IsIdleFor s.site s.world (Stopping processor)
       idle e =
-          idle-where s.site s.world (Stopping processor) (stop_done processor s.world) (λ next sendings change. stop-only processor s.world next sendings change) e
+          idle-where s.site s.world (Stopping processor) (stop_done processor s.world)
+          (λ next sendings change. stop-only processor s.world next sendings change) e
 
       stops : (done : Done) → Change s.site s.world (Stopping processor) [] done.world → (test : Bool)
-          → GoesOn (events ++ Fail processor ∷ []) s sent (if test then WouldStop processor else Makes (record s { world = done.world }))
+          → GoesOn (events ++ Fail processor ∷ []) s sent
+          (if test then WouldStop processor else Makes (record s { world = done.world }))
       stops done change true = tt
-      stops done change false = (sent, record { played = played_more carried.played (plays_fail change); tidy = carried.tidy })
+      stops done change false =
+          (sent, record { played = played_more carried.played (plays_fail change); tidy = carried.tidy })
 
       by : (stopped : Option Bool) → slice_get s.world.stopped processor ≡ stopped
-          → GoesOn (events ++ Fail processor ∷ []) s sent (fail_played processor s (stop_where processor s.world stopped))
+          → GoesOn (events ++ Fail processor ∷ []) s sent
+          (fail_played processor s (stop_where processor s.world stopped))
       by (Some false) e =
           stops (record { world = stopped_world processor s.world; sendings = [] })
-          (stop-may s.site processor s.world (record { world = stopped_world processor s.world; sendings = [] }) (rw e refl)) (has_stopped s.world.stopped)
+          (stop-may s.site processor s.world (record { world = stopped_world processor s.world; sendings = [] })
+          (rw e refl)) (has_stopped s.world.stopped)
       by (Some true) e = skips (Fail processor) (plays_no_fail (idle (rw e refl)))
       by None e = skips (Fail processor) (plays_no_fail (idle (rw e refl)))
 
@@ -130,41 +151,55 @@ module _ (events : List Event) (s : MachineState) (sent : List Letter) (carried 
 
     hand-on : is_running s.world.stopped packet.letter.receiver ≡ true → Pays packet.number s.wires.owed
         → (done : Option Done) → handed_done s.site packet.letter.receiver packet.letter.message s.world ≡ done
-        → Carries (events ++ Deliver y k ∷ []) (after_any (record s { wires = paid packet.number (without_packet k s.wires) }) done)
+        → Carries (events ++ Deliver y k ∷ []) (after_any
+        (record s { wires = paid packet.number (without_packet k s.wires) }) done)
     hand-on running (was_owed one among same taken) done e =
-        by done e (subst (λ (letter : Letter). IsTaken letter (letters_in s.wires.owed) (letters_in (without_number packet.number s.wires.owed)))
+        by done e (subst (λ (letter : Letter). IsTaken letter (letters_in s.wires.owed)
+        (letters_in (without_number packet.number s.wires.owed)))
         (sym (carried.tidy.alike packet one (inl on) (inr among) (sym same))) taken)
       where
         by : (done : Option Done) → handed_done s.site packet.letter.receiver packet.letter.message s.world ≡ done
             → IsTaken packet.letter (letters_in s.wires.owed) (letters_in (without_number packet.number s.wires.owed))
-            → Carries (events ++ Deliver y k ∷ []) (after_any (record s { wires = paid packet.number (without_packet k s.wires) }) done)
+            → Carries (events ++ Deliver y k ∷ []) (after_any
+            (record s { wires = paid packet.number (without_packet k s.wires) }) done)
         by None e taken = (
           sent,
           record {
-            played = played_more carried.played (plays_drop packet.letter taken running (only packet.letter sent-before e));
+            played = played_more carried.played (plays_drop packet.letter taken running
+                (only packet.letter sent-before e));
             tidy = paid-tidy packet.number (without-tidy k carried.tidy);
           },
         )
         by (Some done) e taken =
-            posted-on s (events ++ Deliver y k ∷ []) done.world (paid packet.number (without_packet k s.wires)) (letters_in (without_number packet.number s.wires.owed))
+            posted-on s (events ++ Deliver y k ∷ []) done.world (paid packet.number (without_packet k s.wires))
+            (letters_in (without_number packet.number s.wires.owed))
             (letters_of s.site done.world done.sendings) refl (paid-tidy packet.number (without-tidy k carried.tidy))
-            (played_more carried.played (plays_hand packet.letter taken (handed-may s.site _ _ s.world done (honest packet.letter sent-before) e)))
+            (played_more carried.played (plays_hand packet.letter taken
+            (handed-may s.site _ _ s.world done (honest packet.letter sent-before) e)))
     hand-on running (was_paid same) None e =
-        bus-alone (Deliver y k) (paid packet.number (without_packet k s.wires)) same (paid-tidy packet.number (without-tidy k carried.tidy)) plays_nothing
+        bus-alone (Deliver y k) (paid packet.number (without_packet k s.wires)) same
+        (paid-tidy packet.number (without-tidy k carried.tidy)) plays_nothing
     hand-on running (was_paid same) (Some done) e =
-        posted-on s (events ++ Deliver y k ∷ []) done.world (paid packet.number (without_packet k s.wires)) (letters_in s.wires.owed)
-        (letters_of s.site done.world done.sendings) (ap letters_in same) (paid-tidy packet.number (without-tidy k carried.tidy))
-        (played_more carried.played (plays_again packet.letter sent-before (handed-may s.site _ _ s.world done (honest packet.letter sent-before) e)))
+        posted-on s (events ++ Deliver y k ∷ []) done.world (paid packet.number (without_packet k s.wires))
+        (letters_in s.wires.owed)
+        (letters_of s.site done.world done.sendings) (ap letters_in same)
+        (paid-tidy packet.number (without-tidy k carried.tidy))
+        (played_more carried.played (plays_again packet.letter sent-before
+        (handed-may s.site _ _ s.world done (honest packet.letter sent-before) e)))
 
     receive-on : (test : Bool) → comes_in s packet.letter ≡ test
-        → Carries (events ++ Deliver y k ∷ []) (if test then state_after_handing packet (record s { wires = without_packet k s.wires }) else record s { wires = without_packet k s.wires })
-    receive-on true e = hand-on (both-true (is_running s.world.stopped packet.letter.receiver) _ e).0 (pays packet.number s.wires.owed) _ refl
-    receive-on false e = bus-alone (Deliver y k) (without_packet k s.wires) refl (without-tidy k carried.tidy) plays_nothing
+        → Carries (events ++ Deliver y k ∷ []) (if test then state_after_handing packet
+        (record s { wires = without_packet k s.wires }) else record s { wires = without_packet k s.wires })
+    receive-on true e = hand-on (both-true (is_running s.world.stopped packet.letter.receiver) _ e).0
+        (pays packet.number s.wires.owed) _ refl
+    receive-on false e =
+        bus-alone (Deliver y k) (without_packet k s.wires) refl (without-tidy k carried.tidy) plays_nothing
 
   deliver-on : (y : Bool) (k : ℕ) → GoesOn (events ++ Deliver y k ∷ []) s sent (play s (Deliver y k))
   deliver-on y k = by (packet_at s y k) refl
     where
-      by : (packet : Option Sent) → packet_at s y k ≡ packet → GoesOn (events ++ Deliver y k ∷ []) s sent (deliver_played k s packet)
+      by : (packet : Option Sent) → packet_at s y k ≡ packet
+          → GoesOn (events ++ Deliver y k ∷ []) s sent (deliver_played k s packet)
       by None e = skips (Deliver y k) plays_nothing
       by (Some packet) e = receive-on y k packet (on-bus y k packet e) (comes_in s packet.letter) refl
 
@@ -177,16 +212,20 @@ record Marked (node : ℕ) (s end : MachineState) (sent : List Letter) : Type 0 
   makes : NotesLetters s.site node (post_of s sent) (post_of end all)
   tidy : AreTidy end.wires all
 
-marks-on : (node processor more : ℕ) (s : MachineState) (sent : List Letter) → AreTidy s.wires sent → Marked node s (notes_from node processor more s) sent
+marks-on : (node processor more : ℕ) (s : MachineState) (sent : List Letter) → AreTidy s.wires sent
+    → Marked node s (notes_from node processor more s) sent
 marks-on node processor zero s sent tidy = record { all = sent; site = refl; makes = no_mark; tidy = tidy }
-marks-on node processor (suc more) s sent tidy = by (down_done node processor s.world) refl (λ next all. marks-on node (processor + 1) more next all)
+marks-on node processor (suc more) s sent tidy =
+    by (down_done node processor s.world) refl (λ next all. marks-on node (processor + 1) more next all)
   where
     by : (done : Option Done) → down_done node processor s.world ≡ done
-        → ((next : MachineState) (all : List Letter) → AreTidy next.wires all → Marked node next (notes_from node (processor + 1) more next) all)
+        → ((next : MachineState) (all : List Letter) → AreTidy next.wires all
+        → Marked node next (notes_from node (processor + 1) more next) all)
         → Marked node s (notes_from node (processor + 1) more (noted_by node processor s done)) sent
     by None e rest = rest s sent tidy
     by (Some done) e rest =
-        let letters = letters_of s.site done.world (done.sendings ++ sent_again s.site s.world done.world node processor) in
+        let letters =
+        letters_of s.site done.world (done.sendings ++ sent_again s.site s.world done.world node processor) in
         let here = posted-between s sent node processor done.world letters tidy in
         let later = rest (after_noted node processor s done) (letters ++ sent) here.1 in
         record {
@@ -194,23 +233,28 @@ marks-on node processor (suc more) s sent tidy = by (down_done node processor s.
           site = later.site;
           makes =
               one_mark processor (mark-may s.site node processor s.world done e)
-              (subst (λ (owed : List Letter). NotesLetters s.site node (record { world = done.world; owed = owed; sent = letters ++ sent })
-              (post_of (notes_from node (processor + 1) more (after_noted node processor s done)) later.all)) here.0 later.makes);
+              (subst (λ (owed : List Letter). NotesLetters s.site node
+              (record { world = done.world; owed = owed; sent = letters ++ sent })
+              (post_of (notes_from node (processor + 1) more (after_noted node processor s done)) later.all)) here.0
+              later.makes);
           tidy = later.tidy;
         }
 
-tick-on : (events : List Event) (s : MachineState) (sent : List Letter) → IsCarried events s sent → (node : ℕ) → GoesOn (events ++ Tick node ∷ []) s sent (play s (Tick node))
+tick-on : (events : List Event) (s : MachineState) (sent : List Letter) → IsCarried events s sent → (node : ℕ)
+    → GoesOn (events ++ Tick node ∷ []) s sent (play s (Tick node))
 tick-on events s sent carried node = by (is_running s.world.stopped node) refl
   where
     by : (test : Bool) → is_running s.world.stopped node ≡ test
-        → GoesOn (events ++ Tick node ∷ []) s sent (if test then Makes (state_after_tick node (notes_from node 0 (length s.world.stopped) s)) else Skips)
+        → GoesOn (events ++ Tick node ∷ []) s sent
+        (if test then Makes (state_after_tick node (notes_from node 0 (length s.world.stopped) s)) else Skips)
     by false e = record { played = played_more carried.played plays_no_tick; tidy = carried.tidy }
     by true e =
         let marked = marks-on node 0 (length s.world.stopped) s sent carried.tidy in (
           marked.all,
           record {
             played =
-                subst (λ site. HasPlayed site (events ++ Tick node ∷ []) (post_of (notes_from node 0 (length s.world.stopped) s) marked.all)) (sym marked.site)
+                subst (λ site. HasPlayed site (events ++ Tick node ∷ [])
+                (post_of (notes_from node 0 (length s.world.stopped) s) marked.all)) (sym marked.site)
                 (played_more carried.played (plays_tick e marked.makes));
             tidy = again-tidy _ node marked.tidy;
           },

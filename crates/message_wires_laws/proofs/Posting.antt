@@ -16,25 +16,32 @@ abbrev pub Carries : List Event → MachineState → Type 0
 Carries events s = (sent : List Letter) × IsCarried events s sent
 
 -- letters are posted on wires on which this is owed
-pub posted-on : (s : MachineState) {sent : List Letter} (events : List Event) (world : World) (wires : Wires) (owed letters : List Letter) → letters_in wires.owed ≡ owed
-    → AreTidy wires sent → HasPlayed s.site events (with_letters letters (record { world = world; owed = owed; sent = sent }))
+pub posted-on : (s : MachineState) {sent : List Letter} (events : List Event) (world : World) (wires : Wires)
+    (owed letters : List Letter) → letters_in wires.owed ≡ owed
+    → AreTidy wires sent → HasPlayed s.site events
+    (with_letters letters (record { world = world; owed = owed; sent = sent }))
     → Carries events (record s { world = world; wires = wires_after_posts letters wires })
 posted-on s {sent = sent} events world wires owed letters same tidy played = (
   letters ++ sent,
   record {
     played =
-        subst (λ (all : List Letter). HasPlayed s.site events (record { world = world; owed = all; sent = letters ++ sent }))
+        subst (λ (all : List Letter). HasPlayed s.site events
+        (record { world = world; owed = all; sent = letters ++ sent }))
         (ap (λ (all : List Letter). all ++ letters) (sym same) ∙ sym (posted-owed letters wires)) played;
-    tidy = posted-tidy letters (λ letter among. among-left letter letters sent among) (more-tidy (λ letter among. among-right letter letters sent among) tidy);
+    tidy = posted-tidy letters (λ letter among. among-left letter letters sent among)
+        (more-tidy (λ letter among. among-right letter letters sent among) tidy);
   },
 )
 
 -- letters are posted where what was between two nodes is owed no more
-pub posted-between : (s : MachineState) (sent : List Letter) (node processor : ℕ) (world : World) (letters : List Letter) → AreTidy s.wires sent
-    → (letters_in (wires_after_posts letters (paid_between node processor s.wires)).owed ≡ without_those_between node processor (letters_in s.wires.owed) ++ letters)
+pub posted-between : (s : MachineState) (sent : List Letter) (node processor : ℕ) (world : World)
+    (letters : List Letter) → AreTidy s.wires sent
+    → (letters_in (wires_after_posts letters (paid_between node processor s.wires)).owed
+    ≡ without_those_between node processor (letters_in s.wires.owed) ++ letters)
     × AreTidy (wires_after_posts letters (paid_between node processor s.wires)) (letters ++ sent)
 posted-between s sent node processor world letters tidy = (
-  posted-owed letters (paid_between node processor s.wires) ∙ ap (λ (all : List Letter). all ++ letters) (between-letters node processor s.wires.owed),
+  posted-owed letters (paid_between node processor s.wires)
+      ∙ ap (λ (all : List Letter). all ++ letters) (between-letters node processor s.wires.owed),
   posted-tidy letters (λ letter among. among-left letter letters sent among)
       (more-tidy (λ letter among. among-right letter letters sent among) (between-tidy node processor tidy)),
 )

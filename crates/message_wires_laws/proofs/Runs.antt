@@ -1,5 +1,6 @@
 -- What is played is carried, so it is a run of the world.
-use Rattle.std.proofs.Common.{◌≡◌, ◌<◌, ◌⊎◌, inl, inr, List, [], ◌∷◌, ◌++◌, length, None, sym, subst, arith, length-append}
+use Rattle.std.proofs.Common.{◌≡◌, ◌<◌, ◌⊎◌, inl, inr, List, [], ◌∷◌, ◌++◌, length, None, sym, subst, arith}
+use Rattle.std.proofs.Common.{length-append}
 use Rattle.gd_words.specs.Members.{IsAmong}
 use Rattle.tal_tree.specs.declared.site.Site.{Site}
 use Rattle.schedule.specs.declared.event.Event.{Event}
@@ -22,18 +23,22 @@ use Rattle.message_wires_laws.proofs.Going.{played-site}
 use Rattle.message_wires_laws.proofs.Playing.{GoesOn, plays-on}
 use Rattle.message_wires_laws.proofs.Posting.{Carries}
 
-module _ (events : List Event) (few : length events < 4294967296) (s : MachineState) (sent : List Letter) (fit : IsFit s.site) (carried : IsCarried events s sent) where
+module _ (events : List Event) (few : length events < 4294967296) (s : MachineState) (sent : List Letter)
+    (fit : IsFit s.site) (carried : IsCarried events s sent) where
   -- each letter that was sent carries a message that was
   pub carried-sent : (letter : Letter) → IsAmong letter sent → IsSent s.world letter.message
   carried-sent letter among = (played-honest s.site fit events (post_of s sent) few carried.played).letters letter among
 
   -- where one of them comes and changes nothing, no change is possible
-  pub carried-only : HasCopiesApart s.site → (letter : Letter) → IsAmong letter sent → handed_done s.site letter.receiver letter.message s.world ≡ None
+  pub carried-only : HasCopiesApart s.site → (letter : Letter) → IsAmong letter sent
+      → handed_done s.site letter.receiver letter.message s.world ≡ None
       → IsIdleFor s.site s.world (Handing letter.receiver letter.message)
   carried-only apart letter among e =
       let fitting = letter-fits s.site fit events (post_of s sent) few carried.played letter among letter.receiver in
-      idle-where s.site s.world (Handing letter.receiver letter.message) (handed_done s.site letter.receiver letter.message s.world)
-      (λ next sendings change. run-only s.world next letter.receiver letter.message sendings (played-run carried.played) apart fitting change) e
+      idle-where s.site s.world (Handing letter.receiver letter.message)
+      (handed_done s.site letter.receiver letter.message s.world)
+      (λ next sendings change. run-only s.world next letter.receiver letter.message sendings
+      (played-run carried.played) apart fitting change) e
 
 none-on : (one : Sent) → IsAmong one [] ⊎ IsAmong one [] → ⊥
 none-on one (inl on) = on
@@ -50,14 +55,16 @@ begins-carried site = record {
 }
 
 module _ (site : Site) (fit : IsFit site) (apart : HasCopiesApart site) where
-  goes-on : (events : List Event) (s : MachineState) (event : Event) → length events < 4294967296 → s.site ≡ site → (carries : Carries events s)
+  goes-on : (events : List Event) (s : MachineState) (event : Event) → length events < 4294967296 → s.site ≡ site
+      → (carries : Carries events s)
       → GoesOn (events ++ event ∷ []) s carries.0 (play s event)
   goes-on events s event few same (sent, carried) =
       let fits = subst IsFit (sym same) fit in
       plays-on events s sent carried (carried-sent events few s sent fits carried)
       (carried-only events few s sent fits carried (subst HasCopiesApart (sym same) apart)) event
 
-  pub played-carried : {events : List Event} {s : MachineState} → length events < 4294967296 → IsPlayed site events s → Carries events s
+  pub played-carried : {events : List Event} {s : MachineState} → length events < 4294967296 → IsPlayed site events s
+      → Carries events s
   played-carried few played_none = ([], begins-carried site)
   played-carried few (played_more {events = events} {s = s} event before e) =
       let less : length events < 4294967296 = omega (arith, few, length-append events (event ∷ [])) in
@@ -68,12 +75,17 @@ module _ (site : Site) (fit : IsFit site) (apart : HasCopiesApart site) where
       let was = played-carried less before in
       (was.0, subst (GoesOn (events ++ event ∷ []) s was.0) e (goes-on events s event less (played-site before) was))
 
-  module _ (events : List Event) (s : MachineState) (few : length events < 4294967296) (played : IsPlayed site events s) where
+  module _ (events : List Event) (s : MachineState) (few : length events < 4294967296)
+      (played : IsPlayed site events s) where
     -- letters that were ever sent, of which those on the bus are some
-    pub played-letters : (sent : List Letter) × posts.HasPlayed site events (post_of s sent) × ((packet : Sent) → IsAmong packet s.wires.bus → IsAmong packet.letter sent)
+    pub played-letters : (sent : List Letter) × posts.HasPlayed site events (post_of s sent)
+        × ((packet : Sent) → IsAmong packet s.wires.bus → IsAmong packet.letter sent)
     played-letters =
-        let all = played-carried few played in
-        (all.0, subst (λ one. posts.HasPlayed one events (post_of s all.0)) (played-site played) all.1.played, λ packet on. all.1.tidy.known packet (inl on))
+        let all = played-carried few played in (
+          all.0,
+          subst (λ one. posts.HasPlayed one events (post_of s all.0)) (played-site played) all.1.played,
+          λ packet on. all.1.tidy.known packet (inl on),
+        )
 
     pub played-world : IsRun site events s.world
     played-world = played-run played-letters.1
@@ -81,4 +93,5 @@ module _ (site : Site) (fit : IsFit site) (apart : HasCopiesApart site) where
     pub played-sent : (one : Sent) → IsOn one s.wires → IsSent s.world one.letter.message
     played-sent one on =
         let all = played-carried few played in
-        carried-sent events few s all.0 (subst IsFit (sym (played-site played)) fit) all.1 one.letter (all.1.tidy.known one on)
+        carried-sent events few s all.0 (subst IsFit (sym (played-site played)) fit) all.1 one.letter
+        (all.1.tidy.known one on)

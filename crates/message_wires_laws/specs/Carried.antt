@@ -15,7 +15,8 @@ IsOn one wires = IsAmong one wires.bus ⊎ IsAmong one wires.owed
 -- what is on the wires is of numbers that were given, each to one letter, and was sent
 pub record AreTidy (wires : Wires) (sent : List Letter) : Type 0 where
   pub given : (one : Sent) → IsOn one wires → one.number < wires.count
-  pub alike : (one other : Sent) → IsOn one wires → IsOn other wires → one.number ≡ other.number → one.letter ≡ other.letter
+  pub alike : (one other : Sent) → IsOn one wires → IsOn other wires → one.number ≡ other.number
+      → one.letter ≡ other.letter
   pub known : (one : Sent) → IsOn one wires → IsAmong one.letter sent
 
 -- events lead to the post of a state, with these letters ever sent, and its wires are tidy

@@ -18,14 +18,19 @@ ghost use Rattle.message_wires.specs.Runs.{IsPlayed, post_of};
 ghost use Rattle.message_wires.specs.Wires.{Sent, has_room, is_on};
 ghost use Rattle.message_wires_laws.specs.Carried.{IsOn};
 
-/// What is played of a fit site, each of whose processes has its copies in two processors, is what its events do to a post: what is owed on the wires is owed
-/// by the post, and each packet on the bus carries a letter that was sent. It is a run of the world, and what is on the wires was sent in it.
+/// What is played of a fit site, each of whose processes has its copies in two processors, is what its events do to a
+/// post: what is owed on the wires is owed by the post, and each packet on the bus carries a letter that was sent. It
+/// is a run of the world, and what is on the wires was sent in it.
 pub fn what_is_played_follows()
-    ensures letters { (site : Site) (events : List Event) (s : MachineState) → IsFit site → HasCopiesApart site → length events < 4294967296 → IsPlayed site events s
-        → (sent : List Letter) × HasPlayed site events (post_of s sent) × ((packet : Sent) → IsAmong packet s.wires.bus → IsAmong packet.letter sent) }
-    ensures run { (site : Site) (events : List Event) (s : MachineState) → IsFit site → HasCopiesApart site → length events < 4294967296 → IsPlayed site events s
+    ensures letters { (site : Site) (events : List Event) (s : MachineState) → IsFit site → HasCopiesApart site
+        → length events < 4294967296 → IsPlayed site events s
+        → (sent : List Letter) × HasPlayed site events (post_of s sent)
+        × ((packet : Sent) → IsAmong packet s.wires.bus → IsAmong packet.letter sent) }
+    ensures run { (site : Site) (events : List Event) (s : MachineState) → IsFit site → HasCopiesApart site
+        → length events < 4294967296 → IsPlayed site events s
         → IsRun site events s.world }
-    ensures sent { (site : Site) (events : List Event) (s : MachineState) (one : Sent) → IsFit site → HasCopiesApart site → length events < 4294967296 → IsPlayed site events s
+    ensures sent { (site : Site) (events : List Event) (s : MachineState) (one : Sent) → IsFit site
+        → HasCopiesApart site → length events < 4294967296 → IsPlayed site events s
         → IsOn one s.wires → IsSent s.world one.letter.message }
 {}
 
@@ -34,15 +39,19 @@ pub fn a_second_processor_never_stops()
     ensures { (site : Site) (events : List Event) (s : MachineState) → IsPlayed site events s → OneStops s.world }
 {}
 
-/// After the tick of a node each letter that it sent, and that is owed to a node that runs, has a packet on the bus, unless the bus is full.
+/// After the tick of a node each letter that it sent, and that is owed to a node that runs, has a packet on the bus,
+/// unless the bus is full.
 pub fn what_is_owed_is_put_again()
-    ensures { (s next : MachineState) (node : ℕ) (one : Sent) → play s (Tick node) ≡ Makes next → IsAmong one next.wires.owed → one.letter.sender ≡ node
-        → is_running next.world.stopped one.letter.receiver ≡ true → (is_on next.wires.bus one.number ≡ true) ⊎ (has_room next.wires.bus ≡ false) }
+    ensures { (s next : MachineState) (node : ℕ) (one : Sent) → play s (Tick node) ≡ Makes next
+        → IsAmong one next.wires.owed → one.letter.sender ≡ node
+        → is_running next.world.stopped one.letter.receiver ≡ true
+        → (is_on next.wires.bus one.number ≡ true) ⊎ (has_room next.wires.bus ≡ false) }
 {}
 
 /// After the tick of a node it has marked each processor that has stopped.
 pub fn what_has_stopped_is_marked()
-    ensures { (s next : MachineState) (node processor : ℕ) → play s (Tick node) ≡ Makes next → slice_get next.world.stopped processor ≡ Some true
+    ensures { (s next : MachineState) (node processor : ℕ) → play s (Tick node) ≡ Makes next
+        → slice_get next.world.stopped processor ≡ Some true
         → has_noted next.world.marks node processor ≡ true }
 {}
 

@@ -1,8 +1,8 @@
-//! What is played over whole messages: it is a run of the world of copies, what is on its wires are letters that were sent and
-//! are owed, and no second processor stops.
+//! What is played over whole messages: it is a run of the world of copies, what is on its wires are letters that were
+//! sent and are owed, and no second processor stops.
 //!
-//! Below stand `message_wires` with what each event makes of a state, `letters`, `computed_changes`, and `letter_laws` with the
-//! law that letters carry what was sent. The layer above plays these states, and gets the laws of the world by
+//! Below stand `message_wires` with what each event makes of a state, `letters`, `computed_changes`, and `letter_laws`
+//! with the law that letters carry what was sent. The layer above plays these states, and gets the laws of the world by
 //! `what_is_played_follows`. No code runs here.
 #![tactic(auto)]
 

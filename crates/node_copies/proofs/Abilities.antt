@@ -1,5 +1,6 @@
 -- Whether a copy can take a request, or answer one.
-use Rattle.std.proofs.Common.{◌≡◌, ◌<◌, ◌↔◌, ℕ, zero, suc, Bool, true, false, List, [], ◌∷◌, length, Option, Some, None, slice_get, refl, ap, sym, subst, ◌∙◌, arith}
+use Rattle.std.proofs.Common.{◌≡◌, ◌<◌, ◌↔◌, ℕ, zero, suc, Bool, true, false, List, [], ◌∷◌, length, Option, Some, None}
+use Rattle.std.proofs.Common.{slice_get, refl, ap, sym, subst, ◌∙◌, arith}
 use Rattle.std.specs.Prelude.{is_some, IsTrue, IsSome}
 use Rattle.std.specs.Option.{option_map}
 use Rattle.std.proofs.lemmas.Option.{slice_get-map}
@@ -30,21 +31,25 @@ wakes true (Some found) h = refl
 wakes false None h = refl
 wakes false (Some found) h = h.1 refl
 
-there : (held : Bool) (block : Option OpenerBlock) (number : ℕ) → standing_by held block number ≡ Next → is_some block ≡ true
+there : (held : Bool) (block : Option OpenerBlock) (number : ℕ) → standing_by held block number ≡ Next
+    → is_some block ≡ true
 there held None number e = absurd (cc)
 there held (Some block) number e = refl
 
-by-choice : (number : ℕ) (core : Core) (before : Around) (found : Option Chosen) → chosen core.receive before.waiting ≡ found
+by-choice : (number : ℕ) (core : Core) (before : Around) (found : Option Chosen)
+    → chosen core.receive before.waiting ≡ found
     → is_some (own_take number core before found) ≡ is_some found
 by-choice number core before None e = refl
 by-choice number core before (Some found) e =
     is-told (own_took number core before found) (slice_get core.receive.openers found.request.opener)
-    ∙ there (holds core.receive found.request.opener) (slice_get core.receive.openers found.request.opener) found.request.number
+    ∙ there (holds core.receive found.request.opener) (slice_get core.receive.openers found.request.opener)
+    found.request.number
     (chosen-next core.receive before.waiting found.request (ap request_of e))
 
 -- a copy can take where a request stands Next
 pub takes : (number : ℕ) (core : Core) (before : Around)
-    → is_some (own_take number core before (chosen core.receive before.waiting)) ≡ is_some (chosen core.receive before.waiting)
+    → is_some (own_take number core before (chosen core.receive before.waiting))
+    ≡ is_some (chosen core.receive before.waiting)
 takes number core before = by-choice number core before (chosen core.receive before.waiting) refl
 
 -- Answers
@@ -63,35 +68,45 @@ among [] k less = absurd (omega (arith, less))
 among (x ∷ xs) zero less = refl
 among (x ∷ xs) (suc k) less = among xs k (omega (arith, less))
 
-both : (number : ℕ) (core : Core) (before : Around) (place : ℕ) (opener : Option OpenerSpec) (block : Option OpenerBlock) → is_some opener ≡ true → is_some block ≡ true
+both : (number : ℕ) (core : Core) (before : Around) (place : ℕ) (opener : Option OpenerSpec)
+    (block : Option OpenerBlock) → is_some opener ≡ true → is_some block ≡ true
     → is_some (own_answer_at number core before place opener block) ≡ true
 both number core before place None block o b = absurd (cc)
 both number core before place (Some opener) None o b = absurd (cc)
 both number core before place (Some opener) (Some block) o b = refl
 
-by-hand : (site : Site) (number : ℕ) (core : Core) (before : Around) (hand : Option ℕ) → can_hold core.receive.openers hand ≡ true
-    → length core.receive.openers ≡ length (depths_of site number) → is_some (own_answer site number core before hand) ≡ is_some hand
+by-hand : (site : Site) (number : ℕ) (core : Core) (before : Around) (hand : Option ℕ)
+    → can_hold core.receive.openers hand ≡ true
+    → length core.receive.openers ≡ length (depths_of site number)
+    → is_some (own_answer site number core before hand) ≡ is_some hand
 by-hand site number core before None held long = refl
 by-hand site number core before (Some place) held long =
     let block = unanswered (slice_get core.receive.openers place) held in
-    let less : place < length (depths_of site number) = subst (λ (n : ℕ). place < n) long (within core.receive.openers place block) in
+    let less : place < length (depths_of site number) =
+    subst (λ (n : ℕ). place < n) long (within core.receive.openers place block) in
     let depth = among (depths_of site number) place less in
     let opener : is_some (slice_get (openers_of site number) place) ≡ true =
     sym (ap (λ (o : Option ℕ). is_some o) (slice_get-map (λ (o : OpenerSpec). o.depth) (openers_of site number) place)
     ∙ is-told (λ (o : OpenerSpec). o.depth) (slice_get (openers_of site number) place)) ∙ depth in
-    both number core before place (slice_get (openers_of site number) place) (slice_get core.receive.openers place) opener block
+    both number core before place (slice_get (openers_of site number) place) (slice_get core.receive.openers place)
+    opener block
 
-pub sound-as : (one : Remembered) (table : ReceiveBlock) (depths : List ℕ) → IsSound one → one.table ≡ table → one.depths ≡ depths
+pub sound-as : (one : Remembered) (table : ReceiveBlock) (depths : List ℕ) → IsSound one → one.table ≡ table
+    → one.depths ≡ depths
     → IsSound (record { table = table; depths = depths })
 sound-as one table depths sound same deep =
     subst (λ (t : ReceiveBlock). IsSound (record { table = t; depths = depths })) same
     (subst (λ (ds : List ℕ). IsSound (record { table = one.table; depths = ds })) deep sound)
 
 -- a copy can answer where a request is in hand
-pub can-answer : (site : Site) (number : ℕ) (core : Core) (before : Around) (depths : List ℕ) → depths ≡ depths_of site number
-    → IsSound (record { table = core.receive; depths = depths }) → is_some (own_answer site number core before core.receive.in_hand) ≡ is_some core.receive.in_hand
+pub can-answer : (site : Site) (number : ℕ) (core : Core) (before : Around) (depths : List ℕ)
+    → depths ≡ depths_of site number
+    → IsSound (record { table = core.receive; depths = depths })
+    → is_some (own_answer site number core before core.receive.in_hand) ≡ is_some core.receive.in_hand
 can-answer site number core before depths here sound =
     by-hand site number core before core.receive.in_hand
-    (and-right (are_of_depths core.receive.openers depths) (can_hold core.receive.openers core.receive.in_hand) sound.table)
-    (lengths core.receive.openers depths (and-left (are_of_depths core.receive.openers depths) (can_hold core.receive.openers core.receive.in_hand) sound.table)
+    (and-right (are_of_depths core.receive.openers depths) (can_hold core.receive.openers core.receive.in_hand)
+    sound.table)
+    (lengths core.receive.openers depths (and-left (are_of_depths core.receive.openers depths)
+    (can_hold core.receive.openers core.receive.in_hand) sound.table)
     ∙ ap (λ (ds : List ℕ). length ds) here)

@@ -24,7 +24,8 @@ use Rattle.node_copies.specs.Seen.{openers_on}
 use Rattle.node_copies.proofs.FileRows.{file-opener}
 
 -- what is asked goes to the opener that the file is
-pub asks : (site : Site) (number : ℕ) (core : Core) (file : ℕ) (words : List ℤ) (files : List (Option Opener)) → files ≡ openers_on site number
+pub asks : (site : Site) (number : ℕ) (core : Core) (file : ℕ) (words : List ℤ) (files : List (Option Opener))
+    → files ≡ openers_on site number
     → asked_on site number core file words ≡ request_to (next_on core file) words (opener_among files file)
 asks site number core file words files here =
     ap (request_to (next_on core file) words)
@@ -34,10 +35,20 @@ asks site number core file words files here =
 abbrev pub answered : ℕ → Around → Answering → Core → Own
 answered number before answering core = record {
   done = act.Step number;
-  messages = Replying (record { process = number; opener = answering.opener; number = answering.number; words = answering.words }) ∷ [];
+  messages = Replying (record {
+    process = number;
+    opener = answering.opener;
+    number = answering.number;
+    words = answering.words;
+  }) ∷ [];
   after =
       record before {
-        replies = record { process = number; opener = answering.opener; number = answering.number; words = answering.words } ∷ before.replies;
+        replies = record {
+          process = number;
+          opener = answering.opener;
+          number = answering.number;
+          words = answering.words;
+        } ∷ before.replies;
       };
   core = core;
 }
@@ -49,10 +60,14 @@ module _ (number : ℕ) (core : Core) (before : Around) (answering : Answering) 
       → own_answer_at number core before place opener block ≡ Some (answered number before answering next)
   at-opener place None block is after = absurd (cc)
   at-opener place (Some opener) None is after = absurd (cc)
-  at-opener place (Some opener) (Some block) is after = subst (λ (a : Answering). own_answer_at number core before place (Some opener) (Some block) ≡ Some (answered number before a next)) is
-      (ap (λ (c : Core). Some (answered number before (record { opener = place; number = block.taken; words = process.answer_of core.state }) c)) (some-same after))
+  at-opener place (Some opener) (Some block) is after =
+      subst (λ (a : Answering). own_answer_at number core before place (Some opener) (Some block)
+      ≡ Some (answered number before a next)) is
+      (ap (λ (c : Core). Some (answered number before
+      (record { opener = place; number = block.taken; words = process.answer_of core.state }) c)) (some-same after))
 
-  by-hand : (site : Site) (hand : Option ℕ) → answering_at core hand ≡ Some answering → core_answering_at (depths_of site number) core hand ≡ Some next
+  by-hand : (site : Site) (hand : Option ℕ) → answering_at core hand ≡ Some answering
+      → core_answering_at (depths_of site number) core hand ≡ Some next
       → own_answer site number core before hand ≡ Some (answered number before answering next)
   by-hand site None is after = absurd (cc)
   by-hand site (Some place) is after =
@@ -60,7 +75,8 @@ module _ (number : ℕ) (core : Core) (before : Around) (answering : Answering) 
       (ap (λ (d : Option ℕ). core_answered core place d (slice_get core.receive.openers place))
       (sym (slice_get-map (λ (o : OpenerSpec). o.depth) (openers_of site number) place)) ∙ after)
 
-  pub answers : (site : Site) (depths : List ℕ) → depths ≡ depths_of site number → answering_of core ≡ Some answering → core_answering depths core ≡ Some next
+  pub answers : (site : Site) (depths : List ℕ) → depths ≡ depths_of site number → answering_of core ≡ Some answering
+      → core_answering depths core ≡ Some next
       → own_answer site number core before core.receive.in_hand ≡ Some (answered number before answering next)
   answers site depths here is after =
       by-hand site core.receive.in_hand is (subst (λ (d : List ℕ). core_answering d core ≡ Some next) here after)

@@ -18,7 +18,8 @@ is-next Old e = absurd (cc)
 abbrev pub request_of : Option Chosen → Option Request
 request_of found = option_map (λ (c : Chosen). c.request) found
 
-by-first : (table : ReceiveBlock) (first : Request) (rest : List Request) (next : Bool) (later : Option Chosen) (request : Request)
+by-first : (table : ReceiveBlock) (first : Request) (rest : List Request) (next : Bool) (later : Option Chosen)
+    (request : Request)
     → is_next (standing table first) ≡ next → (request_of later ≡ Some request → standing table request ≡ Next)
     → request_of (chosen_by next first rest later) ≡ Some request → standing table request ≡ Next
 by-first table first rest true later request next deeper e =
@@ -26,8 +27,10 @@ by-first table first rest true later request next deeper e =
 by-first table first rest false None request next deeper e = absurd (cc)
 by-first table first rest false (Some c) request next deeper e = deeper e
 
-pub chosen-next : (table : ReceiveBlock) (waiting : List Request) (request : Request) → request_of (chosen table waiting) ≡ Some request
+pub chosen-next : (table : ReceiveBlock) (waiting : List Request) (request : Request)
+    → request_of (chosen table waiting) ≡ Some request
     → standing table request ≡ Next
 chosen-next table [] request e = absurd (cc)
 chosen-next table (first ∷ rest) request e =
-    by-first table first rest (is_next (standing table first)) (chosen table rest) request refl (chosen-next table rest request) e
+    by-first table first rest (is_next (standing table first)) (chosen table rest) request refl
+    (chosen-next table rest request) e

@@ -3,11 +3,13 @@ use Rattle.std.proofs.Common.{◌≤◌, ◌+◌, Bool, true, false, if◌then�
 use Rattle.tal_tree.specs.declared.act.Shown.{Shown}
 use Rattle.node_copies.specs.ShownCounts.{is_write, replies_in, writes_in}
 
-by-writes : (write : Bool) (rest : List Shown) → writes_in rest ≤ length rest → (if write then 1 else 0) + writes_in rest ≤ length rest + 1
+by-writes : (write : Bool) (rest : List Shown) → writes_in rest ≤ length rest
+    → (if write then 1 else 0) + writes_in rest ≤ length rest + 1
 by-writes true rest most = omega (arith, most)
 by-writes false rest most = omega (arith, most)
 
-by-replies : (write : Bool) (rest : List Shown) → replies_in rest ≤ length rest → (if write then 0 else 1) + replies_in rest ≤ length rest + 1
+by-replies : (write : Bool) (rest : List Shown) → replies_in rest ≤ length rest
+    → (if write then 0 else 1) + replies_in rest ≤ length rest + 1
 by-replies true rest most = omega (arith, most)
 by-replies false rest most = omega (arith, most)
 

@@ -1,5 +1,5 @@
--- What a copy of a process does by itself where it runs, and what it leaves around it: the device, and the records of what happened. The rules are those
--- of the world of copies.
+-- What a copy of a process does by itself where it runs, and what it leaves around it: the device, and the records of
+-- what happened. The rules are those of the world of copies.
 use Rattle.std.specs.Prelude.{◌≡◌, ℕ, List, [], ◌∷◌, Option, Some, None, slice_get}
 use Rattle.std.specs.Option.{option_and_then}
 use Rattle.gd_words.specs.declared.message.Request.{Request}
@@ -28,13 +28,15 @@ around_in scene = around_with scene.one.copy.waiting scene.sectors scene.records
 abbrev pub own_in : Site → ℕ → Scene → Point → Option Own
 own_in site number scene stands = own_at site number scene.one.copy.core (around_in scene) stands
 
--- the step that is told is this act of the copy, or none: what it sends, and the copy, the sectors and the records after it
+-- the step that is told is this act of the copy, or none: what it sends, and the copy, the sectors and the records
+-- after it
 abbrev pub HasActed : ℕ → Option Own → StepOutcome → Scene → Scene → Type 0
 HasActed number None step before after = (step_sendings step ≡ None) × (after ≡ before)
 HasActed number (Some own) step before after =
     (step_sendings step ≡ Some (sent_at before.one.copy.processor own.messages))
     × ((after.one ≡ record before.one { copy = copy_acted number before.records.kept own before.one.copy })
-    × ((after.sectors ≡ own.after.sectors) × (after.records ≡ records_acted number before.records.kept own before.one.copy)))
+    × ((after.sectors ≡ own.after.sectors) × (after.records
+    ≡ records_acted number before.records.kept own before.one.copy)))
 
 -- the opener that a file of a process is, among those of all its files
 abbrev pub opener_among : List (Option Opener) → ℕ → Option Opener

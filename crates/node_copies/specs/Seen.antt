@@ -55,7 +55,8 @@ sectors_on (Some sectors) = sectors
 -- for each file of a process, from a number on, the opener that it is
 abbrev pub file_row : Site → ℕ → ℕ → List FileUse → List (Option Opener)
 file_row site process number [] = []
-file_row site process number (file ∷ files) = opener_of site (who.File process number) ∷ file_row site process (number + 1) files
+file_row site process number (file ∷ files) =
+    opener_of site (who.File process number) ∷ file_row site process (number + 1) files
 
 abbrev pub files_by : Site → ℕ → Option ProcessSpec → List (Option Opener)
 files_by site process None = []

@@ -32,12 +32,13 @@ impl NodeCopy {
         requires position { HasNextLong self.old.copy.position }
         ensures acted { (site : Site) (sectors : List Stored) → IfOk result (λ step. HasActed number
             (own_in site number (record { one = self.old; sectors = sectors; records = records.old }) Point.Inner) step
-            (record { one = self.old; sectors = sectors; records = records.old }) (record { one = self.new; sectors = sectors; records = records.new })) }
+            (record { one = self.old; sectors = sectors; records = records.old })
+            (record { one = self.new; sectors = sectors; records = records.new })) }
         ensures depths { self.new.depths ≡ self.old.depths }
     {
         self.control.inner();
         self.share
-            .enter(number, Act::StepOutcome(number), &mut records.kept)?;
+            .enter(number, Act::Step(number), &mut records.kept)?;
         Ok(StepOutcome::Quiet)
     }
 
@@ -47,7 +48,8 @@ impl NodeCopy {
         requires position { HasNextLong self.old.copy.position }
         ensures acted { (site : Site) (sectors : List Stored) → IfOk result (λ step. HasActed number
             (own_in site number (record { one = self.old; sectors = sectors; records = records.old }) Point.Take) step
-            (record { one = self.old; sectors = sectors; records = records.old }) (record { one = self.new; sectors = sectors; records = records.new })) }
+            (record { one = self.old; sectors = sectors; records = records.old })
+            (record { one = self.new; sectors = sectors; records = records.new })) }
         ensures depths { self.new.depths ≡ self.old.depths }
     {
         match self.waiting.choose(self.control.receive()) {
@@ -75,14 +77,16 @@ impl NodeCopy {
         requires point { point self.old.copy.core.state ≡ Point.Ask }
         requires number { HasNext (next_on self.old.copy.core (asked_file self.old.copy.core.state)) }
         requires position { HasNextLong self.old.copy.position }
-        ensures acted { (site : Site) (sectors : List Stored) → files.now ≡ openers_on site number → IfOk result (λ step. HasActed number
+        ensures acted { (site : Site) (sectors : List Stored) → files.now ≡ openers_on site number
+            → IfOk result (λ step. HasActed number
             (own_in site number (record { one = self.old; sectors = sectors; records = records.old }) Point.Ask) step
-            (record { one = self.old; sectors = sectors; records = records.old }) (record { one = self.new; sectors = sectors; records = records.new })) }
+            (record { one = self.old; sectors = sectors; records = records.old })
+            (record { one = self.new; sectors = sectors; records = records.new })) }
         ensures depths { self.new.depths ≡ self.old.depths }
     {
         let asking = self.control.ask();
         self.share
-            .enter(number, Act::StepOutcome(number), &mut records.kept)?;
+            .enter(number, Act::Step(number), &mut records.kept)?;
         let address = address_in(files, asking.file);
         let step = records.ask(self.processor, request_to(address, asking))?;
         Ok(step)
@@ -92,14 +96,16 @@ impl NodeCopy {
     fn answer(&mut self, number: u8, records: &mut Records) -> Result<StepOutcome, NoMemory>
         requires point { point self.old.copy.core.state ≡ Point.Answer }
         requires position { HasNextLong self.old.copy.position }
-        ensures acted { (site : Site) (sectors : List Stored) → self.old.depths ≡ depths_of site number → IfOk result (λ step. HasActed number
+        ensures acted { (site : Site) (sectors : List Stored) → self.old.depths ≡ depths_of site number
+            → IfOk result (λ step. HasActed number
             (own_in site number (record { one = self.old; sectors = sectors; records = records.old }) Point.Answer) step
-            (record { one = self.old; sectors = sectors; records = records.old }) (record { one = self.new; sectors = sectors; records = records.new })) }
+            (record { one = self.old; sectors = sectors; records = records.old })
+            (record { one = self.new; sectors = sectors; records = records.new })) }
         ensures depths { self.new.depths ≡ self.old.depths }
     {
         let answering = self.control.answer();
         self.share
-            .enter(number, Act::StepOutcome(number), &mut records.kept)?;
+            .enter(number, Act::Step(number), &mut records.kept)?;
         let step = records.answer(self.processor, reply_of(number, answering))?;
         Ok(step)
     }
@@ -116,15 +122,17 @@ impl NodeCopy {
         requires position { HasNextLong self.old.copy.position }
         requires shown { HasNext (length records.old.shown) }
         ensures acted { (site : Site) → IfOk result (λ step. HasActed number
-            (own_in site number (record { one = self.old; sectors = sectors_on device.old; records = records.old }) Point.Device) step
-            (record { one = self.old; sectors = sectors_on device.old; records = records.old }) (record { one = self.new; sectors = sectors_on device.new; records = records.new })) }
+            (own_in site number (record { one = self.old; sectors = sectors_on device.old; records = records.old })
+            Point.Device) step
+            (record { one = self.old; sectors = sectors_on device.old; records = records.old })
+            (record { one = self.new; sectors = sectors_on device.new; records = records.new })) }
         ensures depths { self.new.depths ≡ self.old.depths }
     {
         let call = self.control.device();
         let found = found_on(device, &call);
         self.control.device_done(&found);
         self.share
-            .enter(number, Act::StepOutcome(number), &mut records.kept)?;
+            .enter(number, Act::Step(number), &mut records.kept)?;
         records.call(number, device, &call)?;
         Ok(StepOutcome::Quiet)
     }
@@ -141,9 +149,12 @@ impl NodeCopy {
         requires point { point self.old.copy.core.state ≡ stands }
         requires room { CopyHasRoom self.old.copy }
         requires shown { HasNext (length records.old.shown) }
-        ensures acted { (site : Site) → files.now ≡ openers_on site number → self.old.depths ≡ depths_of site number → IfOk result (λ step. HasActed number
-            (own_in site number (record { one = self.old; sectors = sectors_on device.old; records = records.old }) stands) step
-            (record { one = self.old; sectors = sectors_on device.old; records = records.old }) (record { one = self.new; sectors = sectors_on device.new; records = records.new })) }
+        ensures acted { (site : Site) → files.now ≡ openers_on site number → self.old.depths ≡ depths_of site number
+            → IfOk result (λ step. HasActed number
+            (own_in site number (record { one = self.old; sectors = sectors_on device.old; records = records.old })
+            stands) step
+            (record { one = self.old; sectors = sectors_on device.old; records = records.old })
+            (record { one = self.new; sectors = sectors_on device.new; records = records.new })) }
         ensures depths { self.new.depths ≡ self.old.depths }
     {
         match stands {
@@ -173,7 +184,7 @@ impl NodeCopy {
 
     /// The checkpoint at which it stands.
     pub fn send(&mut self, alloc: Global, number: u8) -> Result<ImageMessage, NoMemory>
-        requires point { point self.old.copy.core.state ≡ Point.Mark }
+        requires point { point self.old.copy.core.state ≡ Point.AtCheckpoint }
         requires room { CopyHasRoom self.old.copy }
         ensures message { IfOk result (λ message. message ≡ checkpoint_of number self.old.copy) }
         ensures copy { OnOk result (self.new ≡ record self.old { copy = after_sending self.old.copy }) }
@@ -185,8 +196,9 @@ impl NodeCopy {
 
     /// It passes its checkpoint.
     pub fn pass(&mut self, number: u8, records: &mut Records) -> Result<(), NoMemory>
-        requires { point self.old.copy.core.state ≡ Point.Mark }
-        ensures copy { OnOk result (self.new ≡ record self.old { copy = copy_passed number records.old self.old.copy }) }
+        requires { point self.old.copy.core.state ≡ Point.AtCheckpoint }
+        ensures copy { OnOk result (self.new ≡ record self.old
+            { copy = copy_passed number records.old self.old.copy }) }
         ensures records { OnOk result (records.new ≡ records_passed number records.old self.old.copy) }
         ensures depths { self.new.depths ≡ self.old.depths }
     {

@@ -34,8 +34,8 @@ fn read_disc(disc: &Disc, sector: u8) -> Sector
     disc.read(sector)
 }
 
-/// Writes to a process's device, and tells whether the write is new. If the sector isn't there, nothing is written, and the write
-/// counts as new each time, since no number stands there.
+/// Writes to a process's device, and tells whether the write is new. If the sector isn't there, nothing is written, and
+/// the write counts as new each time, since no number stands there.
 pub(crate) fn write_on(device: &mut Option<Disc>, sector: u8, words: &Sector, number: u32) -> bool
     ensures sectors { sectors_on device.new ≡ stored_after (sectors_on device.old) sector words.now number }
     ensures new { result ≡ not (is_written (sectors_on device.old) sector number) }

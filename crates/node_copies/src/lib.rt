@@ -1,10 +1,11 @@
-//! One copy of a process in its node, with all that is its own, and what it does where it acts, where something comes to it and where
-//! it takes over; and the records of what happened, which it writes.
+//! One copy of a process in its node, with all that is its own, and what it does where it acts, where something comes
+//! to it and where it takes over; and the records of what happened, which it writes.
 //!
-//! Below stand `process_control` with one copy by itself, `file_calls` with the requests that wait, `kept_acts` with a copy's share of
-//! the kept acts, `disc_device` with sectors, and `sendings` with messages. The layer above uses that each call makes of the
-//! copy, the device and the records what the world's own definitions say of an act (`specs/Acting.antt`) and of what comes to a copy
-//! (`specs/Receiving.antt`), and that a copy tells truly whether it can act.
+//! Below stand `process_control` with one copy by itself, `file_calls` with the requests that wait, `kept_acts` with a
+//! copy's share of the kept acts, `disc_device` with sectors, and `sendings` with messages. The layer above uses that
+//! each call makes of the copy, the device and the records what the world's own definitions say of an act
+//! (`specs/Acting.antt`) and of what comes to a copy (`specs/Receiving.antt`), and that a copy tells truly whether it
+//! can act.
 #![tactic(auto)]
 
 mod acting;

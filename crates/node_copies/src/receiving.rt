@@ -12,7 +12,8 @@ ghost use Rattle.computed_changes.specs.Replies.{copy_got, kept_got};
 ghost use Rattle.computed_changes.specs.Requests.{after_early_request, after_request};
 ghost use Rattle.number_ranges.specs.HasRoom.{CopyHasRoom};
 ghost use Rattle.node_copies.specs.Receiving.{copy_applying, with_changed};
-ghost use Rattle.world_semantics.specs.Shares.{share_at_close, covered_count, share_after_cover, share_of, with_share, without_held};
+ghost use Rattle.world_semantics.specs.Shares.{share_at_close, covered_count, share_after_cover, share_of, with_share};
+ghost use Rattle.world_semantics.specs.Shares.{without_held};
 
 use crate::one::NodeCopy;
 use crate::records::Records;
@@ -52,8 +53,10 @@ impl NodeCopy {
     ) -> Result<(), NoMemory>
         requires point { point self.old.copy.core.state ≡ Await }
         requires room { CopyHasRoom self.old.copy }
-        ensures copy { OnOk result (self.new ≡ with_changed self.old (copy_got process words.now records.old.kept self.old.copy)) }
-        ensures records { OnOk result (records.new ≡ record records.old { kept = kept_got process records.old.kept self.old.copy }) }
+        ensures copy { OnOk result (self.new ≡ with_changed self.old
+            (copy_got process words.now records.old.kept self.old.copy)) }
+        ensures records { OnOk result (records.new
+            ≡ record records.old { kept = kept_got process records.old.kept self.old.copy }) }
         ensures depths { self.new.depths ≡ self.old.depths }
     {
         self.share
@@ -65,7 +68,8 @@ impl NodeCopy {
     /// Applies a checkpoint that came, whole, or ignores it. It answers whether it was applied.
     pub fn apply(&mut self, message: &ImageMessage) -> bool
         ensures told { result ≡ is_some (core_applying self.old.depths self.old.copy message.now) }
-        ensures copy { self.new ≡ with_changed self.old (copy_applying self.old.copy message.now (core_applying self.old.depths self.old.copy message.now)) }
+        ensures copy { self.new ≡ with_changed self.old
+            (copy_applying self.old.copy message.now (core_applying self.old.depths self.old.copy message.now)) }
     {
         self.control.checkpoint_in(message)
     }
@@ -74,8 +78,13 @@ impl NodeCopy {
     pub fn cover(&mut self, process: u8, records: &mut Records) -> Result<u64, NoMemory>
         ensures base { IfOk result (λ base. base ≡ covered_count process records.old.kept (share_of self.old.copy)) }
         ensures copy { OnOk result (self.new
-            ≡ with_changed self.old (with_share (share_after_cover process records.old.kept (share_of self.old.copy)).share self.old.copy)) }
-        ensures records { OnOk result (records.new ≡ record records.old { kept = (share_after_cover process records.old.kept (share_of self.old.copy)).kept }) }
+            ≡ with_changed self.old (with_share (share_after_cover process records.old.kept
+            (share_of self.old.copy)).share self.old.copy)) }
+        ensures records { OnOk result (records.new
+            ≡ record records.old {
+              kept = (share_after_cover process records.old.kept
+                  (share_of self.old.copy)).kept;
+            }) }
         ensures depths { self.new.depths ≡ self.old.depths }
     {
         let base = self.share.cover(process, &mut records.kept)?;
@@ -121,7 +130,8 @@ impl NodeCopy {
     /// The run is closed: what the copy still holds is kept.
     pub fn close(&mut self, records: &mut Records) -> Result<(), NoMemory>
         ensures copy { OnOk result (self.new ≡ with_changed self.old (without_held self.old.copy)) }
-        ensures records { OnOk result (records.new ≡ record records.old { kept = (share_at_close records.old.kept (share_of self.old.copy)).kept }) }
+        ensures records { OnOk result (records.new
+            ≡ record records.old { kept = (share_at_close records.old.kept (share_of self.old.copy)).kept }) }
         ensures depths { self.new.depths ≡ self.old.depths }
     {
         self.share.close(&mut records.kept)?;

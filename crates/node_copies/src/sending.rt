@@ -19,9 +19,15 @@ use tal_tree::Shown;
 
 impl Records {
     /// A copy at a node asks, and sends the request, if there is one.
-    pub(crate) fn ask(&mut self, node: u8, request: Option<Request>) -> Result<StepOutcome, NoMemory>
-        ensures told { IfOk result (λ step. step_sendings step ≡ Some (sent_at node (map AskingMessage (requests_in request)))) }
-        ensures records { OnOk result (self.new ≡ record self.old { requests = requests_in request ++ self.old.requests }) }
+    pub(crate) fn ask(
+        &mut self,
+        node: u8,
+        request: Option<Request>,
+    ) -> Result<StepOutcome, NoMemory>
+        ensures told { IfOk result (λ step. step_sendings step
+            ≡ Some (sent_at node (map AskingMessage (requests_in request)))) }
+        ensures records { OnOk result (self.new
+            ≡ record self.old { requests = requests_in request ++ self.old.requests }) }
     {
         match request {
             None => Ok(StepOutcome::Quiet),
@@ -50,7 +56,8 @@ impl Records {
     ) -> Result<(), NoMemory>
         requires shown { HasNext (length self.old.shown) }
         ensures around { (waiting : List AskedRequest) → OnOk result
-            (after_call process (around_with waiting (sectors_on device.old) self.old) call.now ≡ around_with waiting (sectors_on device.new) self.new) }
+            (after_call process (around_with waiting (sectors_on device.old) self.old) call.now
+            ≡ around_with waiting (sectors_on device.new) self.new) }
         ensures kept { OnOk result (self.new.kept ≡ self.old.kept) }
     {
         match *call {
@@ -76,7 +83,8 @@ impl Records {
     ) -> Result<(), NoMemory>
         requires shown { HasNext (length self.old.shown) }
         ensures around { (waiting : List AskedRequest) → OnOk result
-            (after_call process (around_with waiting (sectors_on device.old) self.old) (DeviceCall.Write sector words number)
+            (after_call process (around_with waiting (sectors_on device.old) self.old)
+            (DeviceCall.Write sector words number)
             ≡ around_with waiting (sectors_on device.new) self.new) }
         ensures kept { OnOk result (self.new.kept ≡ self.old.kept) }
     {
@@ -118,7 +126,12 @@ pub fn request_to(address: Option<Address>, asking: Asking) -> Option<Request>
 
 /// What a process answers, as a reply.
 pub(crate) fn reply_of(process: u8, answering: Answering) -> Reply
-    ensures { result ≡ record { process = process; opener = answering.opener; number = answering.number; words = answering.words } }
+    ensures { result ≡ record {
+      process = process;
+      opener = answering.opener;
+      number = answering.number;
+      words = answering.words;
+    } }
 {
     Reply {
         process,

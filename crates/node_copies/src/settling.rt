@@ -7,7 +7,8 @@ use gd_words::{List, NoMemory};
 use sendings::{Message, Sending};
 use sync_ids::Receive;
 
-/// Settles the requests that wait at a copy that takes over: the replies kept to them are added to `told`, as sent by the node.
+/// Settles the requests that wait at a copy that takes over: the replies kept to them are added to `told`, as sent by
+/// the node.
 pub(crate) fn settle(
     node: u8,
     waiting: &mut Waiting,
@@ -15,7 +16,8 @@ pub(crate) fn settle(
     told: &mut List<Sending>,
 ) -> Result<(), NoMemory>
     requires { length receive.now.depths ≡ waiting.old.openers }
-    ensures told { OnOk result (told.new ≡ told.old ++ sent_at node (map Replying (all_repeated receive.now.table waiting.old.requests))) }
+    ensures told { OnOk result (told.new ≡ told.old
+        ++ sent_at node (map Replying (all_repeated receive.now.table waiting.old.requests))) }
     ensures requests { OnOk result (waiting.new.requests ≡ still_waiting receive.now.table waiting.old.requests) }
     ensures openers { waiting.new.openers ≡ waiting.old.openers }
 {

@@ -11,8 +11,10 @@ use process_semantics::Point;
 impl NodeCopy {
     /// Whether there is an act of its own that it can do at this point.
     pub fn can_act(&self, stands: Point) -> bool
-        ensures { (site : Site) (number : ℕ) (sectors : List Stored) (records : happened.Records) → self.now.depths ≡ depths_of site number
-            → result ≡ is_some (own_in site number (record { one = self.now; sectors = sectors; records = records }) stands) }
+        ensures { (site : Site) (number : ℕ) (sectors : List Stored) (records : happened.Records)
+            → self.now.depths ≡ depths_of site number
+            → result ≡ is_some (own_in site number (record { one = self.now; sectors = sectors; records = records })
+            stands) }
     {
         match stands {
             Point::Inner | Point::Ask | Point::Device => true,
@@ -24,14 +26,17 @@ impl NodeCopy {
 
     fn can_take(&self) -> bool
         ensures { (site : Site) (number : ℕ) (sectors : List Stored) (records : happened.Records)
-            → result ≡ is_some (own_in site number (record { one = self.now; sectors = sectors; records = records }) Point.Take) }
+            → result ≡ is_some (own_in site number (record { one = self.now; sectors = sectors; records = records })
+            Point.Take) }
     {
         self.waiting.wakes(self.control.receive())
     }
 
     fn can_answer(&self) -> bool
-        ensures { (site : Site) (number : ℕ) (sectors : List Stored) (records : happened.Records) → self.now.depths ≡ depths_of site number
-            → result ≡ is_some (own_in site number (record { one = self.now; sectors = sectors; records = records }) Point.Answer) }
+        ensures { (site : Site) (number : ℕ) (sectors : List Stored) (records : happened.Records)
+            → self.now.depths ≡ depths_of site number
+            → result ≡ is_some (own_in site number (record { one = self.now; sectors = sectors; records = records })
+            Point.Answer) }
     {
         let hand = self.control.receive().in_hand();
         is_there(hand)

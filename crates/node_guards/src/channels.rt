@@ -2,18 +2,23 @@ ghost use Rattle.std.specs.Prelude.{◌≡◌, true, false, Some, None};
 ghost use Rattle.std.specs.Option.{option_map};
 ghost use Rattle.packet_words.specs.declared.bus_name.BusName.TheVariants.{X, Y};
 ghost use Rattle.packet_words.specs.declared.packet.PacketKind.TheVariants as kind;
-ghost use Rattle.link_control.specs.Ends.{after_down, after_packet, after_push, after_tick, alive_of, handed_by_packet, is_empty, sent_by_packet, sent_by_push, sent_by_tick};
+ghost use Rattle.link_control.specs.Ends.{after_down, after_packet, after_push, after_tick, alive_of, handed_by_packet};
+ghost use Rattle.link_control.specs.Ends.{is_empty, sent_by_packet, sent_by_push, sent_by_tick};
 ghost use Rattle.node_guards.specs.Channels.{acknowledgement, begun, fresh, full_piece, last_piece};
 ghost use Rattle.node_guards.specs.Packets.{message_of, packet_of};
 
 /// The first piece of a message goes at once, the next one when it is acknowledged, and another message after them.
 pub fn pieces_go_one_by_one()
-    ensures first { sent_by_push (message_of 11) fresh ≡ Some (packet_of 1 2 (kind.Piece 1 (record { last = false; words = message_of 10 }))) }
-    ensures next { sent_by_packet (acknowledgement 1) begun ≡ Some (packet_of 1 2 (kind.Piece 2 (record { last = true; words = message_of 1 }))) }
+    ensures first { sent_by_push (message_of 11) fresh
+        ≡ Some (packet_of 1 2 (kind.Piece 1 (record { last = false; words = message_of 10 }))) }
+    ensures next { sent_by_packet (acknowledgement 1) begun
+        ≡ Some (packet_of 1 2 (kind.Piece 2 (record { last = true; words = message_of 1 }))) }
     ensures ahead { sent_by_packet (acknowledgement 2) begun ≡ None }
     ensures again { sent_by_packet (acknowledgement 1) (after_packet (acknowledgement 1) begun) ≡ None }
     ensures waits { sent_by_push (message_of 2) begun ≡ None }
-    ensures other { sent_by_packet (acknowledgement 2) (after_packet (acknowledgement 1) (after_push (message_of 2) begun)) ≡ Some (packet_of 1 2 (kind.Piece 3 (record { last = true; words = message_of 2 }))) }
+    ensures other { sent_by_packet (acknowledgement 2)
+        (after_packet (acknowledgement 1) (after_push (message_of 2) begun))
+        ≡ Some (packet_of 1 2 (kind.Piece 3 (record { last = true; words = message_of 2 }))) }
     ensures goes_on { is_empty (after_packet (acknowledgement 1) begun) ≡ false }
     ensures done { is_empty (after_packet (acknowledgement 2) (after_packet (acknowledgement 1) begun)) ≡ true }
 {}
@@ -24,7 +29,8 @@ pub fn a_piece_is_sent_again_over_either_bus()
     ensures first { sent_by_tick begun ≡ None }
     ensures second { option_map (λ resent. resent.bus) (sent_by_tick (after_tick begun)) ≡ Some Y }
     ensures third { option_map (λ resent. resent.bus) (sent_by_tick (after_tick (after_tick begun))) ≡ Some X }
-    ensures fourth { option_map (λ resent. resent.bus) (sent_by_tick (after_tick (after_tick (after_tick begun)))) ≡ Some Y }
+    ensures fourth { option_map (λ resent. resent.bus) (sent_by_tick (after_tick (after_tick (after_tick begun))))
+        ≡ Some Y }
     ensures next { sent_by_tick (after_packet (acknowledgement 1) (after_tick begun)) ≡ None }
 {}
 
@@ -32,10 +38,12 @@ pub fn a_piece_is_sent_again_over_either_bus()
 pub fn a_piece_is_kept_once()
     ensures ahead { sent_by_packet (full_piece 2) fresh ≡ None }
     ensures first { sent_by_packet (full_piece 1) fresh ≡ Some (packet_of 1 2 (kind.Acknowledgement 1)) }
-    ensures again { sent_by_packet (full_piece 1) (after_packet (full_piece 1) fresh) ≡ Some (packet_of 1 2 (kind.Acknowledgement 1)) }
+    ensures again { sent_by_packet (full_piece 1) (after_packet (full_piece 1) fresh)
+        ≡ Some (packet_of 1 2 (kind.Acknowledgement 1)) }
     ensures in_part { handed_by_packet (full_piece 1) fresh ≡ None }
     ensures whole { handed_by_packet (last_piece 2) (after_packet (full_piece 1) fresh) ≡ Some (message_of 11) }
-    ensures once { handed_by_packet (last_piece 2) (after_packet (last_piece 2) (after_packet (full_piece 1) fresh)) ≡ None }
+    ensures once { handed_by_packet (last_piece 2) (after_packet (last_piece 2) (after_packet (full_piece 1) fresh))
+        ≡ None }
 {}
 
 /// To a node that is marked down nothing goes, and nothing comes from it.

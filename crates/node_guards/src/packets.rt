@@ -8,8 +8,10 @@ ghost use Rattle.node_guards.specs.Packets.{alive, packet_of, request_piece, mes
 /// The words of an alive packet from 1 to 2, of a piece, and of an acknowledgement whose number needs two words.
 pub fn packets_have_these_words()
     ensures alive { words_of (alive 1 2) ≡ pos 34 ∷ replicate 15 (pos 0) }
-    ensures piece { words_of request_piece ≡ pos 513 ∷ pos 1 ∷ pos 0 ∷ pos 0 ∷ pos 1 ∷ pos 23 ∷ pos 1 ∷ pos 1 ∷ pos 0 ∷ pos 0 ∷ pos 1 ∷ pos 1 ∷ pos 5 ∷ pos 0 ∷ pos 0 ∷ pos 0 ∷ [] }
-    ensures acknowledgement { words_of (packet_of 2 0 (kind.Acknowledgement 131071)) ≡ pos 64 ∷ pos 2 ∷ pos 0 ∷ pos 1 ∷ negsuc 0 ∷ pos 0 ∷ replicate 10 (pos 0) }
+    ensures piece { words_of request_piece ≡ pos 513 ∷ pos 1 ∷ pos 0 ∷ pos 0 ∷ pos 1 ∷ pos 23 ∷ pos 1 ∷ pos 1 ∷ pos 0
+        ∷ pos 0 ∷ pos 1 ∷ pos 1 ∷ pos 5 ∷ pos 0 ∷ pos 0 ∷ pos 0 ∷ [] }
+    ensures acknowledgement { words_of (packet_of 2 0 (kind.Acknowledgement 131071))
+        ≡ pos 64 ∷ pos 2 ∷ pos 0 ∷ pos 1 ∷ negsuc 0 ∷ pos 0 ∷ replicate 10 (pos 0) }
 {}
 
 /// Nodes are 0 to 16, numbers are from 1, and a piece has ten words unless it is the last.

@@ -1,9 +1,10 @@
 ghost use Rattle.std.specs.Prelude.{◌≡◌, true, false, Some, None};
-ghost use Rattle.alive_regroup.specs.Watching.{begun, told_by_tick, silent_set, changed_at, neighbour_after_alive, neighbour_after_down, after_tick, is_held};
+ghost use Rattle.alive_regroup.specs.Watching.{begun, told_by_tick, silent_set, changed_at, neighbour_after_alive};
+ghost use Rattle.alive_regroup.specs.Watching.{neighbour_after_down, after_tick, is_held};
 ghost use Rattle.node_guards.specs.Watches.{after_ticks, only, watch_of_report};
 
-/// A processor of which nothing is heard is silent at the second check that misses it, the fourth tick, and the silent set is
-/// told then and no more.
+/// A processor of which nothing is heard is silent at the second check that misses it, the fourth tick, and the silent
+/// set is told then and no more.
 pub fn silence_takes_two_checks()
     ensures first_check { told_by_tick (after_ticks 1 (begun 0 3)) ≡ None }
     ensures second_check { told_by_tick (after_ticks 3 (begun 0 3)) ≡ Some (only false true true) }
@@ -13,25 +14,31 @@ pub fn silence_takes_two_checks()
 
 /// An alive packet between two checks begins the count anew.
 pub fn an_alive_packet_breaks_the_silence()
-    ensures neighbour_after_alive { told_by_tick (after_ticks 1 (changed_at 1 neighbour_after_alive (after_ticks 2 (begun 0 3)))) ≡ Some (only false false true) }
-    ensures both { told_by_tick (after_ticks 1 (changed_at 1 neighbour_after_alive (changed_at 2 neighbour_after_alive (after_ticks 2 (begun 0 3))))) ≡ None }
+    ensures neighbour_after_alive { told_by_tick
+        (after_ticks 1 (changed_at 1 neighbour_after_alive (after_ticks 2 (begun 0 3))))
+        ≡ Some (only false false true) }
+    ensures both { told_by_tick (after_ticks 1
+        (changed_at 1 neighbour_after_alive (changed_at 2 neighbour_after_alive (after_ticks 2 (begun 0 3))))) ≡ None }
 {}
 
 /// The check after a mark tells the silent set once more, without the processor that is marked.
 pub fn a_mark_is_told_once()
-    ensures told { told_by_tick (after_ticks 1 (changed_at 2 neighbour_after_down (after_ticks 4 (begun 0 3)))) ≡ Some (only false true false) }
-    ensures not_again { told_by_tick (after_ticks 3 (changed_at 2 neighbour_after_down (after_ticks 4 (begun 0 3)))) ≡ None }
+    ensures told { told_by_tick (after_ticks 1 (changed_at 2 neighbour_after_down (after_ticks 4 (begun 0 3))))
+        ≡ Some (only false true false) }
+    ensures not_again { told_by_tick (after_ticks 3 (changed_at 2 neighbour_after_down (after_ticks 4 (begun 0 3))))
+        ≡ None }
 {}
 
-/// The line of a processor is pulled where the node finds it silent, each other processor that isn't marked down reported it,
-/// and the node is the lowest of them.
+/// The line of a processor is pulled where the node finds it silent, each other processor that isn't marked down
+/// reported it, and the node is the lowest of them.
 pub fn a_line_is_pulled_by_the_lowest()
     ensures lowest { is_held 2 (watch_of_report 1 (only false false true) 4 0) ≡ true }
     ensures not_lowest { is_held 2 (watch_of_report 0 (only false false true) 4 1) ≡ false }
     ensures lowest_but_the_silent { is_held 0 (watch_of_report 2 (only true false false) 4 1) ≡ true }
     ensures not_reported { is_held 2 (watch_of_report 1 (only false false false) 4 0) ≡ false }
     ensures not_yet_silent { is_held 2 (watch_of_report 1 (only false false true) 2 0) ≡ false }
-    ensures neighbour_after_down { is_held 2 (changed_at 2 neighbour_after_down (watch_of_report 1 (only false false true) 4 0)) ≡ false }
+    ensures neighbour_after_down { is_held 2
+        (changed_at 2 neighbour_after_down (watch_of_report 1 (only false false true) 4 0)) ≡ false }
 {}
 
 /// The node of the terminals checks never, and pulls no line.

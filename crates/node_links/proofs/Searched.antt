@@ -1,5 +1,6 @@
 -- The search for the oldest link: what is known when some links of the table are left.
-use Rattle.std.proofs.Common.{◌≡◌, ◌≢◌, ◌⊎◌, ℕ, ◌<◌, ◌≤◌, Bool, true, false, List, [], ◌∷◌, Option, Some, None, IfSome, refl, sym, ap, ◌∙◌, inl, inr, arith, Contains}
+use Rattle.std.proofs.Common.{◌≡◌, ◌≢◌, ◌⊎◌, ℕ, ◌<◌, ◌≤◌, Bool, true, false, List, [], ◌∷◌, Option, Some, None, IfSome}
+use Rattle.std.proofs.Common.{refl, sym, ap, ◌∙◌, inl, inr, arith, Contains}
 use Rattle.slab.specs.Slab.{Slab, entries}
 use Rattle.slab.proofs.SlabLemmas.{Contains-cons, Contains-cons_cases, Contains-entries}
 use Rattle.node_links.specs.declared.link.Link.{Link}
@@ -14,25 +15,32 @@ NoLater (Some seen) opened = seen.opened ≤ opened
 
 -- the one seen is open and passes
 abbrev pub IsOpen : (Side → Bool) → Table → Seen → Type 0
-IsOpen passes table seen = (link : Link) × (at table seen.number ≡ Some link) × (passes link.side ≡ true) × (link.opened ≡ seen.opened)
+IsOpen passes table seen =
+    (link : Link) × (at table seen.number ≡ Some link) × (passes link.side ≡ true) × (link.opened ≡ seen.opened)
 
 -- the links left are open, the one seen is open and passes, and each that passes is left or no older than the one seen
-pub record IsSearched (passes : Side → Bool) (table : Table) (oldest : Option Seen) (left : List (ℕ × Link)) : Type 0 where
+pub record IsSearched (passes : Side → Bool) (table : Table) (oldest : Option Seen) (left : List (ℕ × Link)) :
+    Type 0 where
   pub are_open : (number : ℕ) (link : Link) → Contains left (number, link) → at table number ≡ Some link
   pub is_seen : (seen : Seen) → oldest ≡ Some seen → IsOpen passes table seen
-  pub are_met : (number : ℕ) (link : Link) → at table number ≡ Some link → passes link.side ≡ true → Contains left (number, link) ⊎ NoLater oldest link.opened
+  pub are_met : (number : ℕ) (link : Link) → at table number ≡ Some link → passes link.side ≡ true
+      → Contains left (number, link) ⊎ NoLater oldest link.opened
 
 module _ (passes : Side → Bool) (table : Table) where
-  pub search-begins : (links : Slab Link) (left : List (ℕ × Link)) → links.slots ≡ table → left ≡ entries links → IsSearched passes table None left
+  pub search-begins : (links : Slab Link) (left : List (ℕ × Link)) → links.slots ≡ table → left ≡ entries links
+      → IsSearched passes table None left
   search-begins links left stored all =
       record {
-        are_open = λ number link there. ap (λ slots. at slots number) (sym stored) ∙ (Contains-entries links number link).0 (rw all at there);
+        are_open = λ number link there. ap (λ slots. at slots number) (sym stored)
+            ∙ (Contains-entries links number link).0 (rw all at there);
         is_seen = λ seen is. absurd (cc);
-        are_met = λ number link found pass. inl (rw all ((Contains-entries links number link).1 (ap (λ slots. at slots number) stored ∙ found)));
+        are_met = λ number link found pass. inl
+            (rw all ((Contains-entries links number link).1 (ap (λ slots. at slots number) stored ∙ found)));
       }
 
   -- a link that doesn't pass
-  pub search-skips : (oldest : Option Seen) (left rest : List (ℕ × Link)) (number : ℕ) (link : Link) → left ≡ (number, link) ∷ rest → passes link.side ≡ false
+  pub search-skips : (oldest : Option Seen) (left rest : List (ℕ × Link)) (number : ℕ) (link : Link)
+      → left ≡ (number, link) ∷ rest → passes link.side ≡ false
       → IsSearched passes table oldest left → IsSearched passes table oldest rest
   search-skips oldest left rest number link first fails searched =
       record {
@@ -52,8 +60,10 @@ module _ (passes : Side → Bool) (table : Table) where
       clash is = cc
 
   -- a link that passes: the older one of it and the one seen
-  pub search-takes : (oldest : Option Seen) (left rest : List (ℕ × Link)) (number : ℕ) (link : Link) (older : Seen) → left ≡ (number, link) ∷ rest → passes link.side ≡ true
-      → (oldest ≡ Some older) ⊎ ((older.number ≡ number) × (older.opened ≡ link.opened)) → older.opened ≤ link.opened → IfSome oldest (λ seen. older.opened ≤ seen.opened)
+  pub search-takes : (oldest : Option Seen) (left rest : List (ℕ × Link)) (number : ℕ) (link : Link) (older : Seen)
+      → left ≡ (number, link) ∷ rest → passes link.side ≡ true
+      → (oldest ≡ Some older) ⊎ ((older.number ≡ number) × (older.opened ≡ link.opened)) → older.opened ≤ link.opened
+      → IfSome oldest (λ seen. older.opened ≤ seen.opened)
       → IsSearched passes table oldest left → IsSearched passes table (Some older) rest
   search-takes oldest left rest number link older first passed which no_later before searched =
       record {
@@ -61,7 +71,13 @@ module _ (passes : Side → Bool) (table : Table) where
         is_seen = λ seen is.
             let stands : IsOpen passes table older = elim which [
               | inl same ↦ searched.is_seen older same
-              | inr here ↦ (link, ap (at table) here.0 ∙ searched.are_open number link (rw first (0, omega arith, refl)), passed, sym here.1)
+              | inr here ↦ (
+                link,
+                ap (at table) here.0
+                    ∙ searched.are_open number link (rw first (0, omega arith, refl)),
+                passed,
+                sym here.1,
+              )
             ] in
             let one : older ≡ seen = cc in rw one at stands;
         are_met = λ other later found pass.
@@ -74,11 +90,13 @@ module _ (passes : Side → Bool) (table : Table) where
             ];
       }
     where
-      still : (oldest : Option Seen) (opened : ℕ) → IfSome oldest (λ seen. older.opened ≤ seen.opened) → NoLater oldest opened → older.opened ≤ opened
+      still : (oldest : Option Seen) (opened : ℕ) → IfSome oldest (λ seen. older.opened ≤ seen.opened)
+          → NoLater oldest opened → older.opened ≤ opened
       still None opened before met = absurd met
       still (Some seen) opened before met = omega (arith, before, met)
 
-  pub search-finds : (next : ℕ) (seen : Seen) (left : List (ℕ × Link)) → IsTimed table next → left ≡ [] → IsSearched passes table (Some seen) left → IsOldest passes table seen.number
+  pub search-finds : (next : ℕ) (seen : Seen) (left : List (ℕ × Link)) → IsTimed table next → left ≡ []
+      → IsSearched passes table (Some seen) left → IsOldest passes table seen.number
   search-finds next seen left timed done searched =
       let stands = searched.is_seen seen refl in
       record {
@@ -88,7 +106,8 @@ module _ (passes : Side → Bool) (table : Table) where
         is_first = λ other later differs found pass.
             elim (searched.are_met other later found pass) [
               | inl there ↦ absurd (none_left left other later done there)
-              | inr met ↦ strictly stands.0.opened later.opened (omega (arith, met, stands.3)) (λ same. differs (timed.are_apart other seen.number later stands.0 found stands.1 (sym same)))
+              | inr met ↦ strictly stands.0.opened later.opened (omega (arith, met, stands.3))
+                  (λ same. differs (timed.are_apart other seen.number later stands.0 found stands.1 (sym same)))
             ];
       }
     where

@@ -9,18 +9,22 @@ within : (table : Table) (number : ℕ) (link : Link) → at table number ≡ So
 within table number link found = grind (arith, get_or_past)
 
 -- the link that stood under a number before
-origin : (table : Table) (number : ℕ) (old new : Link) → at table number ≡ Some old → new.opened ≡ old.opened → (other : ℕ) (link : Link)
-    → at (set table number (Some new)) other ≡ Some link → (before : Link) × (at table other ≡ Some before) × (link.opened ≡ before.opened)
+origin : (table : Table) (number : ℕ) (old new : Link) → at table number ≡ Some old → new.opened ≡ old.opened
+    → (other : ℕ) (link : Link)
+    → at (set table number (Some new)) other ≡ Some link
+    → (before : Link) × (at table other ≡ Some before) × (link.opened ≡ before.opened)
 origin table number old new stood same other link found =
     elim (cases_eq other number) [
       | inl here ↦
-          let put = sym (get_or-set_same table number (Some new) None (within table number old stood)) ∙ sym (ap (at (set table number (Some new))) here) ∙ found in
+          let put = sym (get_or-set_same table number (Some new) None (within table number old stood))
+          ∙ sym (ap (at (set table number (Some new))) here) ∙ found in
           let one : new ≡ link = cc in
           (old, ap (at table) here ∙ stood, sym (ap (λ l. l.opened) one) ∙ same)
       | inr differs ↦ (link, sym (get_or-set_other table number other (Some new) None differs) ∙ found, refl)
     ]
 
-pub IsTimed-set : (table : Table) (next number : ℕ) (old new : Link) → at table number ≡ Some old → new.opened ≡ old.opened → IsTimed table next → IsTimed (set table number (Some new)) next
+pub IsTimed-set : (table : Table) (next number : ℕ) (old new : Link) → at table number ≡ Some old
+    → new.opened ≡ old.opened → IsTimed table next → IsTimed (set table number (Some new)) next
 IsTimed-set table next number old new stood same timed =
     record {
       are_past = λ other link found.

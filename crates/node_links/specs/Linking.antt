@@ -1,5 +1,6 @@
 -- The open links of a node: the links of requesters and of servers in one table, each under its number.
-use Rattle.std.specs.Prelude.{◌≡◌, ◌≢◌, ℕ, ℤ, suc, ◌<◌, ◌==◌, ◌&&◌, not, Bool, true, false, List, slice_index_or, slice_set, Option, Some, None, option_map, option_and_then, Result, Ok, Err}
+use Rattle.std.specs.Prelude.{◌≡◌, ◌≢◌, ℕ, ℤ, suc, ◌<◌, ◌==◌, ◌&&◌, not, Bool, true, false, List, slice_index_or}
+use Rattle.std.specs.Prelude.{slice_set, Option, Some, None, option_map, option_and_then, Result, Ok, Err}
 use Rattle.std.specs.Option.{option_map_or}
 use Rattle.gd_words.specs.declared.message.Request.{Request}
 use Rattle.gd_words.specs.declared.message.Reply.{Reply}
@@ -59,7 +60,8 @@ reply_of (Arrived request read) = Err NoSuchLink
 
 -- the reply to a request
 abbrev pub reply_to : List ℤ → Request → Reply
-reply_to words request = record { process = request.process; opener = request.opener; number = request.number; words = words }
+reply_to words request =
+    record { process = request.process; opener = request.opener; number = request.number; words = words }
 
 -- a server's link of this process that isn't read yet
 abbrev pub is_unread : ℕ → Side → Bool
@@ -69,7 +71,8 @@ is_unread process (Arrived request read) = request.process == process && not rea
 -- a server's link of the request of this process, opener and number
 abbrev pub is_of : ℕ → ℕ → ℕ → Side → Bool
 is_of process opener number (Asked request reply) = false
-is_of process opener number (Arrived request read) = request.process == process && request.opener == opener && request.number == number
+is_of process opener number (Arrived request read) =
+    request.process == process && request.opener == opener && request.number == number
 
 -- one of the links that are looked for
 abbrev pub is_wanted : Wanted → Side → Bool
@@ -117,7 +120,8 @@ pub record IsOldest (passes : Side → Bool) (table : Table) (number : ℕ) : Ty
   pub link : Link
   pub is_open : at table number ≡ Some link
   pub does_pass : passes link.side ≡ true
-  pub is_first : (other : ℕ) (later : Link) → other ≢ number → at table other ≡ Some later → passes later.side ≡ true → link.opened < later.opened
+  pub is_first : (other : ℕ) (later : Link) → other ≢ number → at table other ≡ Some later → passes later.side ≡ true
+      → link.opened < later.opened
 
 -- no open link passes
 abbrev pub NonePasses : (Side → Bool) → Table → Type 0
@@ -126,4 +130,5 @@ NonePasses passes table = (number : ℕ) (link : Link) → at table number ≡ S
 -- when the links were opened: no two at the same time, and all before the time that comes next
 pub record IsTimed (table : Table) (next : ℕ) : Type 0 where
   pub are_past : (number : ℕ) (link : Link) → at table number ≡ Some link → link.opened < next
-  pub are_apart : (number other : ℕ) (link second : Link) → at table number ≡ Some link → at table other ≡ Some second → link.opened ≡ second.opened → number ≡ other
+  pub are_apart : (number other : ℕ) (link second : Link) → at table number ≡ Some link → at table other ≡ Some second
+      → link.opened ≡ second.opened → number ≡ other

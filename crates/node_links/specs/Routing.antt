@@ -13,4 +13,5 @@ other_processor route = if route.goes_to == route.primary then route.backup else
 
 -- after a processor is down: where they went there they go to the other processor
 abbrev pub route_after_down : ℕ → Route → Route
-route_after_down down route = record route { goes_to = if route.goes_to == down then other_processor route else route.goes_to }
+route_after_down down route =
+    record route { goes_to = if route.goes_to == down then other_processor route else route.goes_to }

@@ -1,8 +1,8 @@
 //! The message system of a node: its open links, and the processor to which the requests of each process go.
 //!
-//! Below stand `slab`, which keeps the links under numbers, and `tal_tree`, which has the sites. The layers above use that each
-//! call of `Links` opens, changes or ends one link and leaves all others, that `listen` and `link_of` name the oldest link, and
-//! that `down` turns the routes to one processor away from it.
+//! Below stand `slab`, which keeps the links under numbers, and `tal_tree`, which has the sites. The layers above use
+//! that each call of `Links` opens, changes or ends one link and leaves all others, that `listen` and `link_of` name
+//! the oldest link, and that `down` turns the routes to one processor away from it.
 #![tactic(auto)]
 
 pub mod link;

@@ -1,6 +1,7 @@
 ghost use Rattle.std.specs.Prelude.{◌≡◌, ◌↔◌, ok_or, IsOk, IsSome, IfErr};
 ghost use Rattle.node_links.specs.declared.link.LinkFault.TheVariants.{NoSuchLink};
-ghost use Rattle.node_links.specs.Linking.{asked_by, arrived_by, side_after_reply, read, with_side, reply_of, is_wanted};
+ghost use Rattle.node_links.specs.Linking.{asked_by, arrived_by, side_after_reply, read, with_side, reply_of};
+ghost use Rattle.node_links.specs.Linking.{is_wanted};
 
 use gd_words::{Request, Words};
 

@@ -1,8 +1,11 @@
-ghost use Rattle.std.specs.Prelude.{◌≡◌, ◌⊎◌, ◌≤◌, ◌<◌, ◌-◌, ◌^◌, ◌↔◌, [], ok_or, option_map, option_copied, Some, None, false, IsOk, IsSome, IfOk, IfErr, IfSome, IfNone, OnOk, OnErr};
+ghost use Rattle.std.specs.Prelude.{◌≡◌, ◌⊎◌, ◌≤◌, ◌<◌, ◌-◌, ◌^◌, ◌↔◌, [], ok_or, option_map, option_copied, Some};
+ghost use Rattle.std.specs.Prelude.{None, false, IsOk, IsSome, IfOk, IfErr, IfSome, IfNone, OnOk, OnErr};
 ghost use Rattle.gd_words.specs.Ranges.{HasNextLong};
 ghost use Rattle.node_links.specs.declared.link.Side.TheVariants.{Asked, Arrived};
 ghost use Rattle.node_links.specs.declared.link.LinkFault.TheVariants.{NoSuchLink};
-ghost use Rattle.node_links.specs.Linking.{at, asked_at, arrived_at, reply_at, reply_to, side_after_reply, read, changed_at, without, Opens, IsOldest, NonePasses, with_table, is_unread, is_of, is_wanted};
+ghost use Rattle.node_links.specs.Linking.{at, asked_at, arrived_at, reply_at, reply_to, side_after_reply, read};
+ghost use Rattle.node_links.specs.Linking.{changed_at, without, Opens, IsOldest, NonePasses, with_table, is_unread};
+ghost use Rattle.node_links.specs.Linking.{is_of, is_wanted};
 
 use crate::link::{Link, LinkFault, Side, Wanted};
 use gd_words::{NoMemory, Reply, Request, Words};
@@ -10,9 +13,9 @@ use slab::Slab;
 use std::alloc::Global;
 use std::marker::Model;
 
-/// The open links of a node. Requesters' links and servers' links stand in one table, and a call on a link of the other kind
-/// finds none. A number is used again once its link has ended. A link may be opened while the count of those opened, which has 64
-/// bits, has a next.
+/// The open links of a node. Requesters' links and servers' links stand in one table, and a call on a link of the other
+/// kind finds none. A number is used again once its link has ended. A link may be opened while the count of those
+/// opened, which has 64 bits, has a next.
 #[derive(Drop)]
 pub struct Links {
     links: Slab<Link>,
@@ -65,8 +68,8 @@ impl Links {
         }
     }
 
-    /// The reply came for a requester's link. Where one came before, that one stays. `NoSuchLink` where no requester's link is
-    /// open under the number.
+    /// The reply came for a requester's link. Where one came before, that one stays. `NoSuchLink` where no requester's
+    /// link is open under the number.
     pub fn replied(&mut self, number: usize, words: Words) -> Result<(), LinkFault>
         ensures open { IsOk result ↔ IsSome (asked_at self.old.table number) }
         ensures fault { IfErr result (λ fault. fault ≡ NoSuchLink) }
@@ -79,8 +82,8 @@ impl Links {
         }
     }
 
-    /// Gives the reply that came for a requester's link, and ends the link. `NotAnswered` where none came, and the link stays
-    /// open; `NoSuchLink` where no requester's link is open under the number.
+    /// Gives the reply that came for a requester's link, and ends the link. `NotAnswered` where none came, and the link
+    /// stays open; `NoSuchLink` where no requester's link is open under the number.
     pub fn break_link(&mut self, number: usize) -> Result<Words, LinkFault>
         ensures answer { result ≡ reply_at self.old.table number }
         ensures ends { OnOk result (self.new ≡ with_table (without number) self.old) }
@@ -114,8 +117,8 @@ impl Links {
         self.oldest(Wanted::Unread { process })
     }
 
-    /// The request of a server's link, which is read from now on; one that was read before gives it again. `NoSuchLink` where
-    /// no server's link is open under the number.
+    /// The request of a server's link, which is read from now on; one that was read before gives it again. `NoSuchLink`
+    /// where no server's link is open under the number.
     pub fn read_link(&mut self, number: usize) -> Result<Request, LinkFault>
         ensures answer { result ≡ ok_or (arrived_at self.old.table number) NoSuchLink }
         ensures after { OnOk result (self.new ≡ with_table (changed_at number read) self.old) }
@@ -127,10 +130,11 @@ impl Links {
         }
     }
 
-    /// The reply to the request of a server's link, which ends, read before or not. `NoSuchLink` where no server's link is open
-    /// under the number.
+    /// The reply to the request of a server's link, which ends, read before or not. `NoSuchLink` where no server's link
+    /// is open under the number.
     pub fn write_link(&mut self, number: usize, words: &Words) -> Result<Reply, LinkFault>
-        ensures answer { result ≡ ok_or (option_map (reply_to words.now) (arrived_at self.old.table number)) NoSuchLink }
+        ensures answer { result ≡ ok_or (option_map (reply_to words.now) (arrived_at self.old.table number))
+            NoSuchLink }
         ensures ends { OnOk result (self.new ≡ with_table (without number) self.old) }
         ensures err { OnErr result (self.new ≡ self.old) }
     {

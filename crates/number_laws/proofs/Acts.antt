@@ -1,5 +1,7 @@
 -- What a copy does by itself raises each number by one at most.
-use Rattle.std.proofs.Common.{◌≡◌, ◌≤◌, ℕ, ◌+◌, ◌-◌, ℤ, Bool, true, false, if◌then◌else◌, List, [], ◌∷◌, ◌++◌, length, Option, Some, None, nat_lt, slice_get, map, option_map, refl, arith, length-append, length-drop}
+use Rattle.std.proofs.Common.{◌≡◌, ◌≤◌, ℕ, ◌+◌, ◌-◌, ℤ, Bool, true, false, if◌then◌else◌, List, [], ◌∷◌, ◌++◌, length}
+use Rattle.std.proofs.Common.{Option, Some, None, nat_lt, slice_get, map, option_map, refl, arith, length-append}
+use Rattle.std.proofs.Common.{length-drop}
 use Rattle.std.specs.Option.{unwrap_or}
 use Rattle.gd_words.specs.declared.device.DeviceCall.{DeviceCall}
 use Rattle.gd_words.specs.declared.device.DeviceCall.TheVariants.{Nothing, Read, Write}
@@ -22,7 +24,8 @@ use Rattle.world_semantics.specs.Core.{Core, next_on}
 use Rattle.world_semantics.specs.Kept.{is_own, is_take, own_acts}
 use Rattle.world_semantics.specs.Messages.{Asking}
 use Rattle.world_semantics.specs.Own.{Around, request_to, is_new_write}
-use Rattle.world_semantics.specs.Running.{Own, own_took, own_take, own_ask, own_answer_at, own_answer, around_write, own_at}
+use Rattle.world_semantics.specs.Running.{Own, own_took, own_take, own_ask, own_answer_at, own_answer, around_write}
+use Rattle.world_semantics.specs.Running.{own_at}
 use Rattle.world_semantics.specs.Shares.{Sharing, share_after_act, entering_behind, entering_free, share_of}
 use Rattle.world_semantics.specs.World.{Copy}
 use Rattle.number_laws.proofs.Each.{Each, each-get, each-set}
@@ -34,7 +37,8 @@ pub state-inner : (n : ℕ) (d : Bool) (s : ProcessState) → StateWithin n d s 
 state-inner n d (Runs code s) is = is
 state-inner n d (Serves sectors s) is = is
 
-pub state-took : (n : ℕ) (d : Bool) (s : ProcessState) (words : List ℤ) → StateWithin n d s → StateWithin n d (process.after_took s words)
+pub state-took : (n : ℕ) (d : Bool) (s : ProcessState) (words : List ℤ) → StateWithin n d s
+    → StateWithin n d (process.after_took s words)
 state-took n d (Runs code s) words is = is
 state-took n d (Serves sectors s) words is = is
 
@@ -42,19 +46,23 @@ pub state-asked : (n : ℕ) (d : Bool) (s : ProcessState) → StateWithin n d s 
 state-asked n d (Runs code s) is = is
 state-asked n d (Serves sectors s) is = is
 
-pub state-got : (n : ℕ) (d : Bool) (s : ProcessState) (words : List ℤ) → StateWithin n d s → StateWithin n d (process.after_got s words)
+pub state-got : (n : ℕ) (d : Bool) (s : ProcessState) (words : List ℤ) → StateWithin n d s
+    → StateWithin n d (process.after_got s words)
 state-got n d (Runs code s) words is = is
 state-got n d (Serves sectors s) words is = is
 
-pub state-answered : (n : ℕ) (d : Bool) (s : ProcessState) → StateWithin n d s → StateWithin n d (process.after_answered s)
+pub state-answered : (n : ℕ) (d : Bool) (s : ProcessState) → StateWithin n d s
+    → StateWithin n d (process.after_answered s)
 state-answered n d (Runs code s) is = is
 state-answered n d (Serves sectors s) is = is
 
-pub state-marked : (n : ℕ) (d : Bool) (s : ProcessState) → StateWithin n d s → StateWithin n d (process.after_checkpoint s)
+pub state-marked : (n : ℕ) (d : Bool) (s : ProcessState) → StateWithin n d s
+    → StateWithin n d (process.after_checkpoint s)
 state-marked n d (Runs code s) is = is
 state-marked n d (Serves sectors s) is = is
 
-pub state-device : (n : ℕ) (d : Bool) (s : ProcessState) (found : List ℤ) → StateWithin n d s → StateWithin (n + 1) d (process.after_device s found)
+pub state-device : (n : ℕ) (d : Bool) (s : ProcessState) (found : List ℤ) → StateWithin n d s
+    → StateWithin (n + 1) d (process.after_device s found)
 state-device n d (Runs code s) found is = (is.0, omega arith)
 state-device n d (Serves sectors s) found is =
     let one = call-next sectors s.last_write (unwrap_or s.request []) in
@@ -76,7 +84,8 @@ pub record EnteredWithin (copy : Copy) (kept : List Act) (e : Sharing) : Type 0 
   pub position : e.share.position ≤ copy.position + 1
   pub acts : length e.kept + length e.share.held ≤ length kept + length copy.held + 1
 
-pub entered-within : (number : ℕ) (done : Act) (kept : List Act) (copy : Copy) → EnteredWithin copy kept (share_after_act number done kept (share_of copy))
+pub entered-within : (number : ℕ) (done : Act) (kept : List Act) (copy : Copy)
+    → EnteredWithin copy kept (share_after_act number done kept (share_of copy))
 entered-within number done kept copy = by copy.held refl
   where
     free : (behind taking : Bool) → EnteredWithin copy kept (entering_free done kept (share_of copy) behind taking)
@@ -84,7 +93,8 @@ entered-within number done kept copy = by copy.held refl
     free false true = record { position = omega arith; acts = omega arith }
     free false false = record { position = omega arith; acts = omega arith }
 
-    by : (held : List Act) → copy.held ≡ held → EnteredWithin copy kept (entering_behind number done kept (share_of copy) held)
+    by : (held : List Act) → copy.held ≡ held
+        → EnteredWithin copy kept (entering_behind number done kept (share_of copy) held)
     by [] is = free (nat_lt copy.position (own_acts number kept)) (is_take done)
     by (first ∷ rest) is = record { position = omega arith; acts = omega arith }
 
@@ -110,7 +120,8 @@ chosen-few : (table : ReceiveBlock) (waiting : List Request) → ChosenFew (leng
 chosen-few table [] = tt
 chosen-few table (request ∷ rest) = by (is_next (standing table request)) (chosen table rest) (chosen-few table rest)
   where
-    by : (next : Bool) (later : Option Chosen) → ChosenFew (length rest) later → ChosenFew (length (request ∷ rest)) (chosen_by next request rest later)
+    by : (next : Bool) (later : Option Chosen) → ChosenFew (length rest) later
+        → ChosenFew (length (request ∷ rest)) (chosen_by next request rest later)
     by true later few = omega arith
     by false None few = tt
     by false (Some found) few = omega (arith, few)
@@ -126,7 +137,8 @@ abbrev pub AnyOwnWithin : ℕ → (ℕ → Bool) → Bool → Option Own → Typ
 AnyOwnWithin n kinds d None = Unit {0}
 AnyOwnWithin n kinds d (Some own) = OwnWithin n kinds d own
 
-module _ (n : ℕ) (kinds : ℕ → Bool) (d : Bool) (number : ℕ) (core : Core) (before : Around) (is : CoreWithin n d core) (few : length before.shown ≤ n) (wait : length before.waiting ≤ n) where
+module _ (n : ℕ) (kinds : ℕ → Bool) (d : Bool) (number : ℕ) (core : Core) (before : Around) (is : CoreWithin n d core)
+    (few : length before.shown ≤ n) (wait : length before.waiting ≤ n) where
   later : CoreWithin (n + 1) d core
   later = core-more (n + 1) n d core (omega arith) is
 
@@ -137,7 +149,8 @@ module _ (n : ℕ) (kinds : ℕ → Bool) (d : Bool) (number : ℕ) (core : Core
   wait-later = omega (arith, wait)
 
   -- the number last taken from an opener rises by one
-  took : (found : Option Chosen) → ChosenFew (length before.waiting) found → AnyOwnWithin (n + 1) kinds d (own_take number core before found)
+  took : (found : Option Chosen) → ChosenFew (length before.waiting) found
+      → AnyOwnWithin (n + 1) kinds d (own_take number core before found)
   took None rest = tt
   took (Some found) rest = by (slice_get core.receive.openers found.request.opener) refl
     where
@@ -150,9 +163,11 @@ module _ (n : ℕ) (kinds : ℕ → Bool) (d : Bool) (number : ℕ) (core : Core
           next = later.next;
           taken =
               each-set _ core.receive.openers found.request.opener _ later.taken
-              (let low = each-get _ core.receive.openers found.request.opener block is.taken there in omega (arith, low));
+              (let low = each-get _ core.receive.openers found.request.opener block is.taken there in
+              omega (arith, low));
           kept =
-              let same = kept-set core.receive.openers found.request.opener block (record block { taken = block.taken + 1 }) there in
+              let same = kept-set core.receive.openers found.request.opener block
+              (record block { taken = block.taken + 1 }) there in
               let low = is.kept in
               omega (arith, same, low);
         };
@@ -161,11 +176,13 @@ module _ (n : ℕ) (kinds : ℕ → Bool) (d : Bool) (number : ℕ) (core : Core
         waiting = omega (arith, rest, wait);
       }
 
-  asking : (words : List ℤ) (next : ℕ) (opener : Option Opener) → Each (MessageWithin (n + 1) kinds) (map Asking (request_to next words opener))
+  asking : (words : List ℤ) (next : ℕ) (opener : Option Opener)
+      → Each (MessageWithin (n + 1) kinds) (map Asking (request_to next words opener))
   asking words next None = tt
   asking words next (Some opener) = (tt, tt)
 
-  ask : (site : Site) (file : ℕ) (words : List ℤ) → OwnWithin (n + 1) kinds d (own_ask site number core before file words)
+  ask : (site : Site) (file : ℕ) (words : List ℤ)
+      → OwnWithin (n + 1) kinds d (own_ask site number core before file words)
   ask site file words = record {
     core = record {
       state = state-asked (n + 1) d core.state later.state;
@@ -178,7 +195,8 @@ module _ (n : ℕ) (kinds : ℕ → Bool) (d : Bool) (number : ℕ) (core : Core
     waiting = wait-later;
   }
 
-  answer-at : (place : ℕ) (opener : Option OpenerSpec) (block : Option OpenerBlock) → slice_get core.receive.openers place ≡ block
+  answer-at : (place : ℕ) (opener : Option OpenerSpec) (block : Option OpenerBlock)
+      → slice_get core.receive.openers place ≡ block
       → AnyOwnWithin (n + 1) kinds d (own_answer_at number core before place opener block)
   answer-at place None block there = tt
   answer-at place (Some opener) None there = tt
@@ -187,11 +205,13 @@ module _ (n : ℕ) (kinds : ℕ → Bool) (d : Bool) (number : ℕ) (core : Core
       state = state-answered (n + 1) d core.state later.state;
       next = later.next;
       taken =
-          each-set _ core.receive.openers place _ later.taken (let low = each-get _ core.receive.openers place block is.taken there in omega (arith, low));
+          each-set _ core.receive.openers place _ later.taken
+          (let low = each-get _ core.receive.openers place block is.taken there in omega (arith, low));
       kept =
           let next = last_ones opener.depth (block.kept ++ process.answer_of core.state ∷ []) in
           let sum = length-append block.kept (process.answer_of core.state ∷ []) in
-          let last = length-drop (length (block.kept ++ process.answer_of core.state ∷ []) - opener.depth) (block.kept ++ process.answer_of core.state ∷ []) in
+          let last = length-drop (length (block.kept ++ process.answer_of core.state ∷ []) - opener.depth)
+          (block.kept ++ process.answer_of core.state ∷ []) in
           let same = kept-set core.receive.openers place block (record block { kept = next }) there in
           let low = is.kept in
           omega (arith, sum, last, same, low);
@@ -203,7 +223,8 @@ module _ (n : ℕ) (kinds : ℕ → Bool) (d : Bool) (number : ℕ) (core : Core
 
   answer : (site : Site) (place : Option ℕ) → AnyOwnWithin (n + 1) kinds d (own_answer site number core before place)
   answer site None = tt
-  answer site (Some place) = answer-at place (slice_get (openers_of site number) place) (slice_get core.receive.openers place) refl
+  answer site (Some place) =
+      answer-at place (slice_get (openers_of site number) place) (slice_get core.receive.openers place) refl
 
   -- what a call of the device leaves around
   abbrev CallFew : Around → Type 0
@@ -220,7 +241,12 @@ module _ (n : ℕ) (kinds : ℕ → Bool) (d : Bool) (number : ℕ) (core : Core
 
   pub own-within : (site : Site) (stands : Point) → AnyOwnWithin (n + 1) kinds d (own_at site number core before stands)
   own-within site point.Inner = record {
-    core = record { state = state-inner (n + 1) d core.state later.state; next = later.next; taken = later.taken; kept = later.kept };
+    core = record {
+      state = state-inner (n + 1) d core.state later.state;
+      next = later.next;
+      taken = later.taken;
+      kept = later.kept;
+    };
     messages = tt;
     shown = few-later;
     waiting = wait-later;
@@ -229,7 +255,12 @@ module _ (n : ℕ) (kinds : ℕ → Bool) (d : Bool) (number : ℕ) (core : Core
   own-within site point.Ask = ask site (process.asked_file core.state) (process.asked_words core.state)
   own-within site point.Answer = answer site core.receive.in_hand
   own-within site point.Device = record {
-    core = record { state = state-device n d core.state _ is.state; next = later.next; taken = later.taken; kept = later.kept };
+    core = record {
+      state = state-device n d core.state _ is.state;
+      next = later.next;
+      taken = later.taken;
+      kept = later.kept;
+    };
     messages = tt;
     shown = (device-few (is_new_write before.sectors (process.call_of core.state)) (process.call_of core.state)).0;
     waiting = (device-few (is_new_write before.sectors (process.call_of core.state)) (process.call_of core.state)).1;

@@ -1,5 +1,8 @@
--- How many letters were posted at most after so many events: each event sends one at most, but for marks, which are few.
-use Rattle.std.proofs.Common.{◌≡◌, ◌≤◌, ◌<◌, ℕ, zero, suc, ◌+◌, ◌*◌, ◌^◌, Bool, true, false, not, if◌then◌else◌, List, [], ◌∷◌, ◌++◌, length, Option, Some, None, slice_get, refl, ap, sym, subst, arith, length-append}
+-- How many letters were posted at most after so many events: each event sends one at most, but for marks, which are
+-- few.
+use Rattle.std.proofs.Common.{◌≡◌, ◌≤◌, ◌<◌, ℕ, zero, suc, ◌+◌, ◌*◌, ◌^◌, Bool, true, false, not, if◌then◌else◌, List}
+use Rattle.std.proofs.Common.{[], ◌∷◌, ◌++◌, length, Option, Some, None, slice_get, refl, ap, sym, subst, arith}
+use Rattle.std.proofs.Common.{length-append}
 use Rattle.std.proofs.lemmas.Bool.{eqb-true}
 use Rattle.std.proofs.lemmas.List.{length-map, length-replicate}
 use Rattle.tal_tree.specs.declared.site.ProcessSpec.{ProcessSpec}
@@ -16,8 +19,11 @@ use Rattle.computed_changes.specs.Stopped.{world_at_down, may_note, marked_where
 use Rattle.letters.specs.Routes.{Letter, letters_of}
 use Rattle.letters.specs.Again.{sent_again}
 use Rattle.machine_states.specs.States.{Played, Makes, Skips, WouldStop}
-use Rattle.message_wires.specs.Wires.{Sent, Wires, wires_after_post, wires_after_posts, paid, paid_between, without_packet}
-use Rattle.message_wires.specs.Play.{MachineState, machine_at_boot, after_done, made_by, after_any, state_after_handing, comes_in, deliver_played, lose_played, repeat_played, has_stopped, fail_played, noted_by, notes_from, state_after_tick, tick_played, packet_at, play}
+use Rattle.message_wires.specs.Wires.{Sent, Wires, wires_after_post, wires_after_posts, paid, paid_between}
+use Rattle.message_wires.specs.Wires.{without_packet}
+use Rattle.message_wires.specs.Play.{MachineState, machine_at_boot, after_done, made_by, after_any, state_after_handing}
+use Rattle.message_wires.specs.Play.{comes_in, deliver_played, lose_played, repeat_played, has_stopped, fail_played}
+use Rattle.message_wires.specs.Play.{noted_by, notes_from, state_after_tick, tick_played, packet_at, play}
 use Rattle.message_wires.specs.Runs.{IsPlayed, played_none, played_more, skipped}
 use Rattle.number_laws.proofs.Within.{AnyWithin}
 use Rattle.number_laws.proofs.Quiet.{IsQuiet, IsQuietAny, run-quiet, enter-quiet, handed-quiet, stop-quiet}
@@ -26,18 +32,23 @@ use Rattle.number_laws.proofs.Letters.{letters-few, mark-few}
 use Rattle.number_laws.proofs.Marks.{mark-within}
 use Rattle.number_laws.proofs.Played.{WholeWithin, kinds_of, later, marked-within, played-within}
 
-posted-count : (letters : List Letter) (wires : Wires) → (wires_after_posts letters wires).count ≡ wires.count + length letters
+posted-count : (letters : List Letter) (wires : Wires)
+    → (wires_after_posts letters wires).count ≡ wires.count + length letters
 posted-count [] wires = omega arith
-posted-count (letter ∷ letters) wires = let rest = posted-count letters (wires_after_post letter wires) in omega (arith, rest)
+posted-count (letter ∷ letters) wires =
+    let rest = posted-count letters (wires_after_post letter wires) in omega (arith, rest)
 
 -- a mark only adds to the count
-pub marked-grows : (node processor : ℕ) (s : MachineState) (done : Option Done) → s.wires.count ≤ (noted_by node processor s done).wires.count
+pub marked-grows : (node processor : ℕ) (s : MachineState) (done : Option Done)
+    → s.wires.count ≤ (noted_by node processor s done).wires.count
 marked-grows node processor s None = omega arith
 marked-grows node processor s (Some done) =
-    let wires_after_post = posted-count (letters_of s.site done.world (done.sendings ++ sent_again s.site s.world done.world node processor)) (paid_between node processor s.wires) in
+    let wires_after_post = posted-count (letters_of s.site done.world
+    (done.sendings ++ sent_again s.site s.world done.world node processor)) (paid_between node processor s.wires) in
     omega (arith, wires_after_post)
 
-pub marks-grow : (node processor left : ℕ) (s : MachineState) → s.wires.count ≤ (notes_from node processor left s).wires.count
+pub marks-grow : (node processor left : ℕ) (s : MachineState)
+    → s.wires.count ≤ (notes_from node processor left s).wires.count
 marks-grow node processor zero s = omega arith
 marks-grow node processor (suc left) s =
     let one = marked-grows node processor s (down_done node processor s.world) in
@@ -63,11 +74,13 @@ counted-more : (n : ℕ) (s : MachineState) → Counted n s → Counted (n + 1) 
 counted-more n s is = record { small = is.small; count = let low = is.count in omega (arith, low) }
 
 -- the same with other letters on the wires
-counted-wires : (n : ℕ) (s : MachineState) (wires : Wires) → wires.count ≡ s.wires.count → Counted n s → Counted n (record s { wires = wires })
+counted-wires : (n : ℕ) (s : MachineState) (wires : Wires) → wires.count ≡ s.wires.count → Counted n s
+    → Counted n (record s { wires = wires })
 counted-wires n s wires same is = record { small = is.small; count = let low = is.count in omega (arith, low, same) }
 
 module _ (n : ℕ) where
-  done-counted : (s : MachineState) (done : Done) → Counted n s → IsQuiet s.world done → Counted (n + 1) (after_done s done)
+  done-counted : (s : MachineState) (done : Done) → Counted n s → IsQuiet s.world done
+      → Counted (n + 1) (after_done s done)
   done-counted s done is quiet = record {
     small = record {
       stopped = let same = quiet.size.stopped in let few = is.small.stopped in omega (arith, same, few);
@@ -83,21 +96,25 @@ module _ (n : ℕ) where
         omega (arith, wires_after_post, fewer, few, same, low);
   }
 
-  made-counted : (s : MachineState) (done : Option Done) → Counted n s → IsQuietAny s.world done → CountedPlayed (n + 1) (made_by s done)
+  made-counted : (s : MachineState) (done : Option Done) → Counted n s → IsQuietAny s.world done
+      → CountedPlayed (n + 1) (made_by s done)
   made-counted s None is quiet = tt
   made-counted s (Some done) is quiet = done-counted s done is quiet
 
-  any-counted : (s : MachineState) (done : Option Done) → Counted n s → IsQuietAny s.world done → Counted (n + 1) (after_any s done)
+  any-counted : (s : MachineState) (done : Option Done) → Counted n s → IsQuietAny s.world done
+      → Counted (n + 1) (after_any s done)
   any-counted s None is quiet = counted-more n s is
   any-counted s (Some done) is quiet = done-counted s done is quiet
 
-  deliver-counted : (k : ℕ) (s : MachineState) (packet : Option Sent) → Counted n s → CountedPlayed (n + 1) (deliver_played k s packet)
+  deliver-counted : (k : ℕ) (s : MachineState) (packet : Option Sent) → Counted n s
+      → CountedPlayed (n + 1) (deliver_played k s packet)
   deliver-counted k s None is = tt
   deliver-counted k s (Some packet) is = by (comes_in (record s { wires = without_packet k s.wires }) packet.letter)
     where
       by : (test : Bool)
           → Counted (n + 1)
-          (if test then state_after_handing packet (record s { wires = without_packet k s.wires }) else record s { wires = without_packet k s.wires })
+          (if test then state_after_handing packet (record s { wires = without_packet k s.wires }) else record s
+          { wires = without_packet k s.wires })
       by true =
           any-counted (record s { wires = paid packet.number (without_packet k s.wires) })
           (handed_done s.site packet.letter.receiver packet.letter.message s.world)
@@ -105,15 +122,18 @@ module _ (n : ℕ) where
           (handed-quiet s.site s.world packet.letter.receiver packet.letter.message)
       by false = counted-more n _ (counted-wires n s (without_packet k s.wires) refl is)
 
-  lose-counted : (k : ℕ) (s : MachineState) (packet : Option Sent) → Counted n s → CountedPlayed (n + 1) (lose_played k s packet)
+  lose-counted : (k : ℕ) (s : MachineState) (packet : Option Sent) → Counted n s
+      → CountedPlayed (n + 1) (lose_played k s packet)
   lose-counted k s None is = tt
   lose-counted k s (Some packet) is = counted-more n _ (counted-wires n s (without_packet k s.wires) refl is)
 
-  repeat-counted : (s : MachineState) (packet : Option Sent) → Counted n s → CountedPlayed (n + 1) (repeat_played s packet)
+  repeat-counted : (s : MachineState) (packet : Option Sent) → Counted n s
+      → CountedPlayed (n + 1) (repeat_played s packet)
   repeat-counted s None is = tt
   repeat-counted s (Some packet) is = counted-more n _ (counted-wires n s _ refl is)
 
-  fail-counted : (processor : ℕ) (s : MachineState) (done : Option Done) → Counted n s → IsQuietAny s.world done → CountedPlayed (n + 1) (fail_played processor s done)
+  fail-counted : (processor : ℕ) (s : MachineState) (done : Option Done) → Counted n s → IsQuietAny s.world done
+      → CountedPlayed (n + 1) (fail_played processor s done)
   fail-counted processor s None is quiet = tt
   fail-counted processor s (Some done) is quiet = by (has_stopped s.world.stopped)
     where
@@ -140,77 +160,99 @@ not-marked true is = absurd (cc)
 not-marked false is = refl
 
 module _ (n : ℕ) (kinds : ℕ → Bool) (low : n ≤ 4294967295) where
-  mark-counted : (node processor : ℕ) (s : MachineState) → WholeWithin n kinds s → Counted n s → Counted n (noted_by node processor s (down_done node processor s.world))
+  mark-counted : (node processor : ℕ) (s : MachineState) → WholeWithin n kinds s → Counted n s
+      → Counted n (noted_by node processor s (down_done node processor s.world))
   mark-counted node processor s within is =
       by (slice_get s.world.stopped processor) refl (mark-within n kinds s.world within.0 node processor)
     where
-      marks : may_note node processor s.world ≡ true → slice_get s.world.stopped processor ≡ Some true → AnyWithin n kinds (Some (world_at_down node processor s.world))
+      marks : may_note node processor s.world ≡ true → slice_get s.world.stopped processor ≡ Some true
+          → AnyWithin n kinds (Some (world_at_down node processor s.world))
           → Counted n (noted_by node processor s (Some (world_at_down node processor s.world)))
       marks may there done =
           let both = both-true (is_running s.world.stopped node) (not (has_noted s.world.marks node processor)) may in
           let node_low = running-low s.world.stopped node is.small.stopped both.0 in
           let down = there-low s.world.stopped processor true there in
           let few = is.small.stopped in
-          let left = left-less (record { node = node; down = processor }) s.world.marks node_low (omega (arith, down, few)) (not-marked _ both.1) in
+          let left = left-less (record { node = node; down = processor }) s.world.marks node_low
+          (omega (arith, down, few)) (not-marked _ both.1) in
           let processes : length (world_at_down node processor s.world).world.processes ≡ length s.world.processes =
           length-map s.world.processes (pair_at_down node processor) in
           let few_processes = is.small.processes in
-          let letters = mark-few n kinds s.site s.world (world_at_down node processor s.world).world node processor low within.0.pairs done.world.pairs few_processes
+          let letters = mark-few n kinds s.site s.world (world_at_down node processor s.world).world node processor low
+          within.0.pairs done.world.pairs few_processes
           (omega (arith, processes, few_processes)) is.small.terminals in
           let fewer = letters-few s.site (world_at_down node processor s.world).world
-          ((world_at_down node processor s.world).sendings ++ sent_again s.site s.world (world_at_down node processor s.world).world node processor) in
+          ((world_at_down node processor s.world).sendings
+          ++ sent_again s.site s.world (world_at_down node processor s.world).world node processor) in
           let wires_after_post = posted-count
           (letters_of s.site (world_at_down node processor s.world).world
-          ((world_at_down node processor s.world).sendings ++ sent_again s.site s.world (world_at_down node processor s.world).world node processor))
+          ((world_at_down node processor s.world).sendings
+          ++ sent_again s.site s.world (world_at_down node processor s.world).world node processor))
           (paid_between node processor s.wires) in
           let before = is.count in
           record {
-            small = record { stopped = few; processes = omega (arith, processes, few_processes); terminals = is.small.terminals };
+            small = record {
+              stopped = few;
+              processes = omega (arith, processes, few_processes);
+              terminals = is.small.terminals;
+            };
             count = omega (arith, left, letters, fewer, wires_after_post, before);
           }
 
-      where_may : (test : Bool) → may_note node processor s.world ≡ test → slice_get s.world.stopped processor ≡ Some true
-          → AnyWithin n kinds (marked_where node processor s.world test) → Counted n (noted_by node processor s (marked_where node processor s.world test))
+      where_may : (test : Bool) → may_note node processor s.world ≡ test
+          → slice_get s.world.stopped processor ≡ Some true
+          → AnyWithin n kinds (marked_where node processor s.world test)
+          → Counted n (noted_by node processor s (marked_where node processor s.world test))
       where_may true may there done = marks may there done
       where_may false may there done = is
 
-      by : (stopped : Option Bool) → slice_get s.world.stopped processor ≡ stopped → AnyWithin n kinds (mark_where node processor s.world stopped)
+      by : (stopped : Option Bool) → slice_get s.world.stopped processor ≡ stopped
+          → AnyWithin n kinds (mark_where node processor s.world stopped)
           → Counted n (noted_by node processor s (mark_where node processor s.world stopped))
       by None there done = is
       by (Some false) there done = is
       by (Some true) there done = where_may (may_note node processor s.world) refl there done
 
-  marks-counted : (node processor left : ℕ) (s : MachineState) → WholeWithin n kinds s → Counted n s → Counted n (notes_from node processor left s)
+  marks-counted : (node processor left : ℕ) (s : MachineState) → WholeWithin n kinds s → Counted n s
+      → Counted n (notes_from node processor left s)
   marks-counted node processor zero s within is = is
   marks-counted node processor (suc left) s within is =
       marks-counted node (processor + 1) left _
-      (marked-within n kinds node processor s (down_done node processor s.world) within (mark-within n kinds s.world within.0 node processor))
+      (marked-within n kinds node processor s (down_done node processor s.world) within
+      (mark-within n kinds s.world within.0 node processor))
       (mark-counted node processor s within is)
 
-  tick-counted : (node : ℕ) (s : MachineState) → WholeWithin n kinds s → Counted n s → CountedPlayed n (tick_played node s)
+  tick-counted : (node : ℕ) (s : MachineState) → WholeWithin n kinds s → Counted n s
+      → CountedPlayed n (tick_played node s)
   tick-counted node s within is = by (is_running s.world.stopped node)
     where
-      by : (test : Bool) → CountedPlayed n (if test then Makes (state_after_tick node (notes_from node 0 (length s.world.stopped) s)) else Skips)
-      by true = counted-wires n (notes_from node 0 (length s.world.stopped) s) _ refl (marks-counted node 0 (length s.world.stopped) s within is)
+      by : (test : Bool) → CountedPlayed n (if test then Makes
+          (state_after_tick node (notes_from node 0 (length s.world.stopped) s)) else Skips)
+      by true = counted-wires n (notes_from node 0 (length s.world.stopped) s) _ refl
+          (marks-counted node 0 (length s.world.stopped) s within is)
       by false = tt
 
 -- Events
 
-module _ (n : ℕ) (kinds : ℕ → Bool) (low : n < 4294967295) (s : MachineState) (within : WholeWithin n kinds s) (is : Counted n s) where
+module _ (n : ℕ) (kinds : ℕ → Bool) (low : n < 4294967295) (s : MachineState) (within : WholeWithin n kinds s)
+    (is : Counted n s) where
   play-counted : (event : Event) → CountedPlayed (n + 1) (play s event)
   play-counted (Run number) = made-counted n s _ is (run-quiet s.site s.world number)
   play-counted (Enter number) = made-counted n s _ is (enter-quiet s.site s.world number)
   play-counted (Deliver y k) = deliver-counted n k s (packet_at s y k) is
   play-counted (Lose y k) = lose-counted n k s (packet_at s y k) is
   play-counted (Repeat y k) = repeat-counted n s (packet_at s y k) is
-  play-counted (Tick node) = tick-counted (n + 1) kinds (omega (arith, low)) node s (later n kinds low s within) (counted-more n s is)
+  play-counted (Tick node) =
+      tick-counted (n + 1) kinds (omega (arith, low)) node s (later n kinds low s within) (counted-more n s is)
   play-counted (Fail processor) = fail-counted n processor s _ is (stop-quiet s.site s.world processor)
 
-boot-length : (site : Site) (from : ℕ) (specs : List ProcessSpec) → length (pairs_at_boot site from specs) ≡ length specs
+boot-length : (site : Site) (from : ℕ) (specs : List ProcessSpec)
+    → length (pairs_at_boot site from specs) ≡ length specs
 boot-length site from [] = refl
 boot-length site from (spec ∷ specs) = let rest = boot-length site (from + 1) specs in omega (arith, rest)
 
-boot-counted : (site : Site) → length site.processes ≤ 16 → length site.terminals ≤ 16 → site.processors ≤ 255 → Counted 0 (machine_at_boot site)
+boot-counted : (site : Site) → length site.processes ≤ 16 → length site.terminals ≤ 16 → site.processors ≤ 255
+    → Counted 0 (machine_at_boot site)
 boot-counted site processes terminals processors = record {
   small = record {
     stopped = let same = length-replicate site.processors false in omega (arith, same, processors);
@@ -223,26 +265,31 @@ boot-counted site processes terminals processors = record {
   count = let most = left-most [] in omega (arith, most);
 }
 
-module _ (site : Site) (processes : length site.processes ≤ 16) (terminals : length site.terminals ≤ 16) (processors : site.processors ≤ 255) where
-  played-counted : (events : List Event) (s : MachineState) → IsPlayed site events s → length events < 4294967295 → Counted (length events) s
+module _ (site : Site) (processes : length site.processes ≤ 16) (terminals : length site.terminals ≤ 16)
+    (processors : site.processors ≤ 255) where
+  played-counted : (events : List Event) (s : MachineState) → IsPlayed site events s → length events < 4294967295
+      → Counted (length events) s
   played-counted _ _ played_none few = boot-counted site processes terminals processors
   played-counted _ _ (played_more {events = events} {s = s} {next = next} event before makes) few =
       let count : length (events ++ event ∷ []) ≡ length events + 1 = length-append events (event ∷ []) in
       let low : length events < 4294967295 = omega (arith, count, few) in
       subst (λ n. Counted n next) (sym count)
       (subst (CountedPlayed (length events + 1)) makes
-      (play-counted (length events) (kinds_of site) low s (played-within site events s before low) (played-counted events s before low) event))
+      (play-counted (length events) (kinds_of site) low s (played-within site events s before low)
+      (played-counted events s before low) event))
   played-counted _ _ (skipped {events = events} {s = s} event before skips) few =
       let count : length (events ++ event ∷ []) ≡ length events + 1 = length-append events (event ∷ []) in
       let low : length events < 4294967295 = omega (arith, count, few) in
       subst (λ n. Counted n s) (sym count) (counted-more (length events) s (played-counted events s before low))
 
   -- whatever event comes next, the count of letters has 64 bits after it
-  pub letters-within : (events : List Event) (s : MachineState) → IsPlayed site events s → length events < 4294967294 → (event : Event) (next : MachineState)
+  pub letters-within : (events : List Event) (s : MachineState) → IsPlayed site events s → length events < 4294967294
+      → (event : Event) (next : MachineState)
       → play s event ≡ Makes next → next.wires.count < 2 ^ 64
   letters-within events s played few event next makes =
       let low : length events < 4294967295 = omega (arith, few) in
       let after = subst (CountedPlayed (length events + 1)) makes
-      (play-counted (length events) (kinds_of site) low s (played-within site events s played low) (played-counted events s played low) event) in
+      (play-counted (length events) (kinds_of site) low s (played-within site events s played low)
+      (played-counted events s played low) event) in
       let most = after.count in
       omega (arith, most, few)

@@ -1,5 +1,6 @@
 -- What holds of each item of a list.
-use Rattle.std.proofs.Common.{◌≡◌, ℕ, zero, suc, Bool, true, false, cond, List, [], ◌∷◌, ◌++◌, map, take, drop, Some, slice_get, slice_set, subst}
+use Rattle.std.proofs.Common.{◌≡◌, ℕ, zero, suc, Bool, true, false, cond, List, [], ◌∷◌, ◌++◌, map, take, drop, Some}
+use Rattle.std.proofs.Common.{slice_get, slice_set, subst}
 use Rattle.std.specs.List.{All, filter, remove}
 use Rattle.std.proofs.lemmas.List.Elements.{All-cons, All-nil}
 use Rattle.world_semantics.proofs.Lists.{some-same}
@@ -57,4 +58,5 @@ each-drop P (suc k) [] each = tt
 each-drop P (suc k) (x ∷ xs) each = each-drop P k xs each.1
 
 pub each-remove : {A : Type 0} (P : A → Type 0) (xs : List A) (k : ℕ) → Each P xs → Each P (remove xs k)
-each-remove P xs k each = each-append P (take k xs) (drop (suc k) xs) (each-take P k xs each) (each-drop P (suc k) xs each)
+each-remove P xs k each =
+    each-append P (take k xs) (drop (suc k) xs) (each-take P k xs each) (each-drop P (suc k) xs each)

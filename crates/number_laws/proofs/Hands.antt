@@ -1,6 +1,8 @@
 -- Where a message is handed over or a terminal enters, each number is raised by one at most.
 use Rattle.std.specs.List.{filter}
-use Rattle.std.proofs.Common.{◌≡◌, ◌≤◌, ◌<◌, ℕ, ◌+◌, ◌==◌, ◌&&◌, Bool, true, false, List, [], ◌∷◌, ◌++◌, length, Option, Some, None, is_some, slice_get, slice_set, map, option_map, option_and_then, refl, sym, subst, arith, length-append, not, if◌then◌else◌}
+use Rattle.std.proofs.Common.{◌≡◌, ◌≤◌, ◌<◌, ℕ, ◌+◌, ◌==◌, ◌&&◌, Bool, true, false, List, [], ◌∷◌, ◌++◌, length, Option}
+use Rattle.std.proofs.Common.{Some, None, is_some, slice_get, slice_set, map, option_map, option_and_then, refl, sym}
+use Rattle.std.proofs.Common.{subst, arith, length-append, not, if◌then◌else◌}
 use Rattle.std.proofs.lemmas.Bool.{eqb-true}
 use Rattle.gd_words.specs.declared.message.Request.{Request}
 use Rattle.gd_words.specs.declared.message.Reply.{Reply}
@@ -38,15 +40,19 @@ use Rattle.computed_changes.specs.Fitting.{depths_of, fits, put_where, put_fitti
 use Rattle.computed_changes.specs.Checkpoints.{is_next_for, is_of_last}
 use Rattle.computed_changes.specs.Handed.{brought_to, copy_in, handed_done, replied_done, step_by}
 use Rattle.computed_changes.specs.Replies.{awaits, awaits_at, printed_at, printed_done, printed_where}
-use Rattle.computed_changes.proofs.Lifted.{acknowledged_where, applied_done, applied_made, applied_where, asked_done, checkpoint_done, got_done, got_where, taken_done}
+use Rattle.computed_changes.proofs.Lifted.{acknowledged_where, applied_done, applied_made, applied_where, asked_done}
+use Rattle.computed_changes.proofs.Lifted.{checkpoint_done, got_done, got_where, taken_done}
 use Rattle.number_laws.proofs.Each.{Each, each-get, each-set}
-use Rattle.number_laws.proofs.Within.{StateWithin, AreNext, CoreWithin, CopyWithin, PairWithin, ImageWithin, MessageWithin, AreSendings, WorldWithin, DoneWithin, AnyWithin, TerminalWithin, core-more, terminals-more, held_in, held-set, held-there, filter-few}
+use Rattle.number_laws.proofs.Within.{StateWithin, AreNext, CoreWithin, CopyWithin, PairWithin, ImageWithin}
+use Rattle.number_laws.proofs.Within.{MessageWithin, AreSendings, WorldWithin, DoneWithin, AnyWithin, TerminalWithin}
+use Rattle.number_laws.proofs.Within.{core-more, terminals-more, held_in, held-set, held-there, filter-few}
 use Rattle.number_laws.proofs.Acts.{own-few, state-got}
 use Rattle.number_laws.proofs.Runs.{copy-there, pair-with, pairs-set, pair-there, acts-set, own-done}
 
 -- What is sent beside checkpoints
 
-pub replies-within : (n : ℕ) (kinds : ℕ → Bool) (node : ℕ) (replies : List Reply) → AreSendings n kinds (sent_at node (map Replying replies))
+pub replies-within : (n : ℕ) (kinds : ℕ → Bool) (node : ℕ) (replies : List Reply)
+    → AreSendings n kinds (sent_at node (map Replying replies))
 replies-within n kinds node [] = tt
 replies-within n kinds node (reply ∷ replies) = (tt, replies-within n kinds node replies)
 
@@ -57,14 +63,16 @@ waits-few : (waiting : List Request) (request : Request) → length (waits waiti
 waits-few waiting request = by (is_outdone request waiting)
   where
     by : (outdone : Bool)
-        → length (if outdone then waiting else filter (λ other. not (is_same_opener request other)) waiting ++ request ∷ []) ≤ length waiting + 1
+        → length (if outdone then waiting else filter (λ other. not (is_same_opener request other)) waiting
+        ++ request ∷ []) ≤ length waiting + 1
     by true = omega arith
     by false =
         let less = filter-few (λ other. not (is_same_opener request other)) waiting in
         let sum = length-append (filter (λ other. not (is_same_opener request other)) waiting) (request ∷ []) in
         omega (arith, less, sum)
 
-came-few : (table : ReceiveBlock) (waiting : List Request) (request : Request) → length (came table waiting request) ≤ length waiting + 1
+came-few : (table : ReceiveBlock) (waiting : List Request) (request : Request)
+    → length (came table waiting request) ≤ length waiting + 1
 came-few table waiting request = by (is_waiting (standing table request))
   where
     by : (test : Bool) → length (if test then waits waiting request else waiting) ≤ length waiting + 1
@@ -73,12 +81,15 @@ came-few table waiting request = by (is_waiting (standing table request))
 
 -- What a checkpoint restores
 
-files-within : (n : ℕ) (files : List FileNumber) (next : List ℕ) → Each (λ (named : FileNumber). named.next ≤ n + 1) files → AreNext n next
+files-within : (n : ℕ) (files : List FileNumber) (next : List ℕ)
+    → Each (λ (named : FileNumber). named.next ≤ n + 1) files → AreNext n next
     → AreNext n (with_files files next)
 files-within n [] next few is = is
-files-within n (named ∷ files) next few is = files-within n files (slice_set next named.file named.next) few.1 (each-set _ next named.file named.next is few.0)
+files-within n (named ∷ files) next few is =
+    files-within n files (slice_set next named.file named.next) few.1 (each-set _ next named.file named.next is few.0)
 
-state-restored : (n : ℕ) (d hand : Bool) (s t : ProcessState) (image : Image) → StateWithin n d s → ImageWithin n d image → restored s hand image.body ≡ Some t
+state-restored : (n : ℕ) (d hand : Bool) (s t : ProcessState) (image : Image) → StateWithin n d s
+    → ImageWithin n d image → restored s hand image.body ≡ Some t
     → StateWithin n d t
 state-restored n d hand (Runs code s) t image is few restores = by (restored_program code s hand image.body) restores
   where
@@ -87,16 +98,23 @@ state-restored n d hand (Runs code s) t image is few restores = by (restored_pro
     by (Some found) given = subst (StateWithin n d) (some-same given) (is.0, omega arith)
 state-restored n d hand (Serves sectors s) t image is few restores = by (restored_disc hand image.body) refl restores
   where
-    by : (there : Option DiscState) → restored_disc hand image.body ≡ there → option_map (Serves sectors) there ≡ Some t → StateWithin n d t
+    by : (there : Option DiscState) → restored_disc hand image.body ≡ there
+        → option_map (Serves sectors) there ≡ Some t → StateWithin n d t
     by None same given = absurd (cc)
     by (Some found) same given = subst (StateWithin n d) (some-same given) (is.0, few.write (sym is.0) hand found same)
 
-put-within : (n : ℕ) (d : Bool) (core applied : Core) (image : Image) → CoreWithin n d core → ImageWithin n d image → put_in core image ≡ Some applied
+put-within : (n : ℕ) (d : Bool) (core applied : Core) (image : Image) → CoreWithin n d core → ImageWithin n d image
+    → put_in core image ≡ Some applied
     → CoreWithin n d applied
-put-within n d core applied image is few puts = by (restored core.state (is_some image.receive.in_hand) image.body) refl puts
+put-within n d core applied image is few puts =
+    by (restored core.state (is_some image.receive.in_hand) image.body) refl puts
   where
     by : (there : Option ProcessState) → restored core.state (is_some image.receive.in_hand) image.body ≡ there
-        → option_map (λ state. record { state = state; next = with_files image.files core.next; receive = image.receive }) there ≡ Some applied
+        → option_map (λ state. record {
+          state = state;
+          next = with_files image.files core.next;
+          receive = image.receive;
+        }) there ≡ Some applied
         → CoreWithin n d applied
     by None same given = absurd (cc)
     by (Some state) same given = subst (CoreWithin n d) (some-same given) (record {
@@ -106,7 +124,8 @@ put-within n d core applied image is few puts = by (restored core.state (is_some
       kept = few.kept;
     })
 
-module _ (n : ℕ) (kinds : ℕ → Bool) (w : World) (within : WorldWithin n kinds w) (low : n < 4294967295) (site : Site) where
+module _ (n : ℕ) (kinds : ℕ → Bool) (w : World) (within : WorldWithin n kinds w) (low : n < 4294967295)
+    (site : Site) where
   shown-later : length w.shown ≤ n + 1
   shown-later = let few = within.shown in omega (arith, few)
 
@@ -119,11 +138,13 @@ module _ (n : ℕ) (kinds : ℕ → Bool) (w : World) (within : WorldWithin n ki
       → AnyWithin (n + 1) kinds (brought_to site number node message w (slice_get w.processes number))
   at-copy-within number node message all = by (slice_get w.processes number) refl
     where
-      by : (there : Option Pair) → slice_get w.processes number ≡ there → AnyWithin (n + 1) kinds (brought_to site number node message w there)
+      by : (there : Option Pair) → slice_get w.processes number ≡ there
+          → AnyWithin (n + 1) kinds (brought_to site number node message w there)
       by None there = tt
       by (Some pair) there = here (copy_in node pair)
         where
-          here : (k : Option Which) → AnyWithin (n + 1) kinds (lifted number w (option_and_then (step_by site number pair (records_of w) message) k))
+          here : (k : Option Which) → AnyWithin (n + 1) kinds
+              (lifted number w (option_and_then (step_by site number pair (records_of w) message) k))
           here None = tt
           here (Some k) = all k pair there
 
@@ -155,14 +176,26 @@ module _ (n : ℕ) (kinds : ℕ → Bool) (w : World) (within : WorldWithin n ki
     same-held = omega arith
 
     got-within : (reply : Reply) (role : Role) → AnyWithin (n + 1) kinds (got_done site number reply k pair w role)
-    got-within reply Acting = by (awaits site number (copy_of k pair).core reply (process.point (copy_of k pair).core.state))
+    got-within reply Acting =
+        by (awaits site number (copy_of k pair).core reply (process.point (copy_of k pair).core.state))
       where
         by : (test : Bool) → AnyWithin (n + 1) kinds (got_where number reply k pair w test)
         by true =
             own-done n kinds w within low number k pair there
-            (record { done = act.Step number; messages = []; after = around (copy_of k pair) pair w; core = core_getting reply.words (copy_of k pair).core })
             (record {
-              core = record { state = state-got (n + 1) (kinds number) (copy_of k pair).core.state reply.words own.0.state; next = own.0.next; taken = own.0.taken; kept = own.0.kept };
+              done = act.Step number;
+              messages = [];
+              after = around (copy_of k pair) pair w;
+              core = core_getting reply.words (copy_of k pair).core;
+            })
+            (record {
+              core = record {
+                state = state-got (n + 1) (kinds number) (copy_of k pair).core.state reply.words
+                    own.0.state;
+                next = own.0.next;
+                taken = own.0.taken;
+                kept = own.0.kept;
+              };
               messages = tt;
               shown = shown-later;
               waiting = own.4;
@@ -171,29 +204,38 @@ module _ (n : ℕ) (kinds : ℕ → Bool) (w : World) (within : WorldWithin n ki
     got-within reply Watching = tt
     got-within reply Gone = tt
 
-  asked-within : (request : Request) (k : Which) (pair : Pair) → slice_get w.processes request.process ≡ Some pair → (role : Role)
+  asked-within : (request : Request) (k : Which) (pair : Pair) → slice_get w.processes request.process ≡ Some pair
+      → (role : Role)
       → AnyWithin (n + 1) kinds (asked_done request k pair w role)
   asked-within request k pair there Acting = record {
-    world = changed request.process k pair there (record (copy_of k pair) { waiting = came (copy_of k pair).core.receive (copy_of k pair).waiting request })
-        (with-wait request.process k pair there _ (came-few (copy_of k pair).core.receive (copy_of k pair).waiting request)) (same-held request.process k pair there);
+    world = changed request.process k pair there
+        (record (copy_of k pair) { waiting = came (copy_of k pair).core.receive (copy_of k pair).waiting request })
+        (with-wait request.process k pair there _
+        (came-few (copy_of k pair).core.receive (copy_of k pair).waiting request))
+        (same-held request.process k pair there);
     sendings = replies-within (n + 1) kinds (copy_of k pair).processor (repeated (copy_of k pair).core.receive request);
   }
   asked-within request k pair there Watching = record {
-    world = changed request.process k pair there (record (copy_of k pair) { waiting = waits (copy_of k pair).waiting request })
-        (with-wait request.process k pair there _ (waits-few (copy_of k pair).waiting request)) (same-held request.process k pair there);
+    world = changed request.process k pair there
+        (record (copy_of k pair) { waiting = waits (copy_of k pair).waiting request })
+        (with-wait request.process k pair there _ (waits-few (copy_of k pair).waiting request))
+        (same-held request.process k pair there);
     sendings = tt;
   }
   asked-within request k pair there Gone = tt
 
   -- a terminal is changed
-  terminal-set : (number : ℕ) (terminal : Terminal) → TerminalWithin (n + 1) terminal → Each (TerminalWithin (n + 1)) (slice_set w.terminals number terminal)
+  terminal-set : (number : ℕ) (terminal : Terminal) → TerminalWithin (n + 1) terminal
+      → Each (TerminalWithin (n + 1)) (slice_set w.terminals number terminal)
   terminal-set number terminal is = each-set _ w.terminals number terminal terminals-later is
 
-  printed-within : (number : ℕ) (reply : Reply) (test : Bool) → AnyWithin (n + 1) kinds (printed_at site number reply w test)
+  printed-within : (number : ℕ) (reply : Reply) (test : Bool)
+      → AnyWithin (n + 1) kinds (printed_at site number reply w test)
   printed-within number reply false = tt
   printed-within number reply true = by (slice_get w.terminals number) refl
     where
-      by : (terminal : Option Terminal) → slice_get w.terminals number ≡ terminal → AnyWithin (n + 1) kinds (printed_done site number reply w terminal)
+      by : (terminal : Option Terminal) → slice_get w.terminals number ≡ terminal
+          → AnyWithin (n + 1) kinds (printed_done site number reply w terminal)
       by None there = tt
       by (Some terminal) there = printed (awaits_at site number terminal reply)
         where
@@ -207,16 +249,20 @@ module _ (n : ℕ) (kinds : ℕ → Bool) (w : World) (within : WorldWithin n ki
                   acts = let acts = within.acts in omega (arith, acts);
                   shown = let few = within.shown in omega (arith, few);
                   terminals =
-                      terminal-set number (record terminal { printed = terminal.printed + 1 })
-                      ((let entered = terminal-is.0 in omega (arith, entered)), (let printed = terminal-is.1 in omega (arith, printed)));
+                      terminal-set number (record terminal { printed = terminal.printed + 1 }) (
+                        (let entered = terminal-is.0 in omega (arith, entered)),
+                        (let printed = terminal-is.1 in omega (arith, printed)),
+                      );
                 };
                 sendings = tt;
               }
 
-  replied-within : (node : ℕ) (reply : Reply) (opener : Option Who) → AnyWithin (n + 1) kinds (replied_done site node reply w opener)
+  replied-within : (node : ℕ) (reply : Reply) (opener : Option Who)
+      → AnyWithin (n + 1) kinds (replied_done site node reply w opener)
   replied-within node reply None = tt
   replied-within node reply (Some (who.File number file)) =
-      at-copy-within number node (Replying reply) (λ k pair there. got-within number k pair there reply (copy_of k pair).role)
+      at-copy-within number node (Replying reply)
+      (λ k pair there. got-within number k pair there reply (copy_of k pair).role)
   replied-within node reply (Some (who.Terminal number)) = printed-within number reply _
 
   -- a checkpoint is applied: what the other copy held is kept with its checkpoint
@@ -255,7 +301,8 @@ module _ (n : ℕ) (kinds : ℕ → Bool) (w : World) (within : WorldWithin n ki
         )
 
     applied-acts : (k : Which) (applied : Core)
-        → length (kept_at_checkpoint number (copy_of (other_of k) pair) w.kept) + held_in (slice_set w.processes number (after_applying number k message applied w.kept pair))
+        → length (kept_at_checkpoint number (copy_of (other_of k) pair) w.kept)
+        + held_in (slice_set w.processes number (after_applying number k message applied w.kept pair))
         ≤ n + 1
     applied-acts First applied =
         let all = held-set w.processes number pair (after_applying number First message applied w.kept pair) there in
@@ -280,10 +327,12 @@ module _ (n : ℕ) (kinds : ℕ → Bool) (w : World) (within : WorldWithin n ki
       sendings = (tt, tt);
     }
 
-    next-number : (copy : Copy) → is_next_for copy.era copy.number message ≡ true → copy.number ≤ n → message.number ≤ n + 1
+    next-number : (copy : Copy) → is_next_for copy.era copy.number message ≡ true → copy.number ≤ n
+        → message.number ≤ n + 1
     next-number copy next few = by (message.era == copy.era) (message.number == copy.number + 1) refl next
       where
-        by : (era number : Bool) → (message.number == copy.number + 1) ≡ number → (era && number) ≡ true → message.number ≤ n + 1
+        by : (era number : Bool) → (message.number == copy.number + 1) ≡ number → (era && number) ≡ true
+            → message.number ≤ n + 1
         by true true same given = let is = eqb-true message.number (copy.number + 1) same in omega (arith, is, few)
         by true false same given = absurd (cc)
         by false number same given = absurd (cc)
@@ -296,8 +345,10 @@ module _ (n : ℕ) (kinds : ℕ → Bool) (w : World) (within : WorldWithin n ki
         before : CopyWithin n (kinds number) (copy_of k pair)
         before = copy-there n (kinds number) k pair (within.pairs number pair there)
 
-        puts : (fitting : Bool) (next : is_next_for (copy_of k pair).era (copy_of k pair).number message ≡ true) (there : Option Core)
-            → put_where (copy_of k pair).core message.image fitting ≡ there → AnyWithin (n + 1) kinds (applied_made message k pair w there)
+        puts : (fitting : Bool) (next : is_next_for (copy_of k pair).era (copy_of k pair).number message ≡ true)
+            (there : Option Core)
+            → put_where (copy_of k pair).core message.image fitting ≡ there
+            → AnyWithin (n + 1) kinds (applied_made message k pair w there)
         puts fitting next None same = tt
         puts false next (Some applied) same = absurd (cc)
         puts true next (Some applied) same =
@@ -313,13 +364,16 @@ module _ (n : ℕ) (kinds : ℕ → Bool) (w : World) (within : WorldWithin n ki
             (put_fitting (depths_of site message.process) (copy_of k pair).core message.image) refl
         by false next = tt
 
-  taken-within : (taken : TakenMessage) (k : Which) (pair : Pair) → slice_get w.processes taken.process ≡ Some pair → (role : Role)
+  taken-within : (taken : TakenMessage) (k : Which) (pair : Pair) → slice_get w.processes taken.process ≡ Some pair
+      → (role : Role)
       → AnyWithin (n + 1) kinds (taken_done taken k pair w role)
-  taken-within taken k pair there Acting = by (is_of_last (copy_of k pair).sent (copy_of k pair).era (copy_of k pair).number taken)
+  taken-within taken k pair there Acting =
+      by (is_of_last (copy_of k pair).sent (copy_of k pair).era (copy_of k pair).number taken)
     where
       by : (test : Bool) → AnyWithin (n + 1) kinds (acknowledged_where taken k pair w test)
       by true = record {
-        world = changed taken.process k pair there (record (copy_of k pair) { acknowledged = true }) (own taken.process k pair there)
+        world = changed taken.process k pair there (record (copy_of k pair) { acknowledged = true })
+            (own taken.process k pair there)
             (same-held taken.process k pair there);
         sendings = tt;
       }
@@ -327,16 +381,21 @@ module _ (n : ℕ) (kinds : ℕ → Bool) (w : World) (within : WorldWithin n ki
   taken-within taken k pair there Watching = tt
   taken-within taken k pair there Gone = tt
 
-  pub handed-within : (node : ℕ) (message : Message) → MessageWithin (n + 1) kinds message → AnyWithin (n + 1) kinds (handed_done site node message w)
+  pub handed-within : (node : ℕ) (message : Message) → MessageWithin (n + 1) kinds message
+      → AnyWithin (n + 1) kinds (handed_done site node message w)
   handed-within node (Asking request) is =
-      at-copy-within request.process node (Asking request) (λ k pair there. asked-within request k pair there (copy_of k pair).role)
+      at-copy-within request.process node (Asking request)
+      (λ k pair there. asked-within request k pair there (copy_of k pair).role)
   handed-within node (Replying reply) is = replied-within node reply _
   handed-within node (Checkpointing message) is =
-      at-copy-within message.process node (Checkpointing message) (λ k pair there. checkpoint-within message pair there is k (copy_of k pair).role)
-  handed-within node (Taking taken) is = at-copy-within taken.process node (Taking taken) (λ k pair there. taken-within taken k pair there (copy_of k pair).role)
+      at-copy-within message.process node (Checkpointing message)
+      (λ k pair there. checkpoint-within message pair there is k (copy_of k pair).role)
+  handed-within node (Taking taken) is = at-copy-within taken.process node (Taking taken)
+      (λ k pair there. taken-within taken k pair there (copy_of k pair).role)
 
   -- a terminal enters
-  entered-within : (number : ℕ) (terminal : Terminal) → slice_get w.terminals number ≡ Some terminal → (opener : Opener) (words : Option (List _))
+  entered-within : (number : ℕ) (terminal : Terminal) → slice_get w.terminals number ≡ Some terminal
+      → (opener : Opener) (words : Option (List _))
       → AnyWithin (n + 1) kinds (option_map (entered_done number terminal w opener) words)
   entered-within number terminal there opener None = tt
   entered-within number terminal there opener (Some words) =
@@ -347,8 +406,10 @@ module _ (n : ℕ) (kinds : ℕ → Bool) (w : World) (within : WorldWithin n ki
           acts = let acts = within.acts in omega (arith, acts);
           shown = shown-later;
           terminals =
-              terminal-set number (record terminal { entered = terminal.entered + 1 })
-              ((let entered = terminal-is.0 in omega (arith, entered)), (let printed = terminal-is.1 in omega (arith, printed)));
+              terminal-set number (record terminal { entered = terminal.entered + 1 }) (
+                (let entered = terminal-is.0 in omega (arith, entered)),
+                (let printed = terminal-is.1 in omega (arith, printed)),
+              );
         };
         sendings = (tt, tt);
       }
@@ -356,14 +417,17 @@ module _ (n : ℕ) (kinds : ℕ → Bool) (w : World) (within : WorldWithin n ki
   pub enter-within : (number : ℕ) → AnyWithin (n + 1) kinds (enter_done site number w)
   enter-within number = by (slice_get w.terminals number) refl
     where
-      to : (terminal : Terminal) → slice_get w.terminals number ≡ Some terminal → (test : Bool) → AnyWithin (n + 1) kinds (enter_where site number terminal w test)
+      to : (terminal : Terminal) → slice_get w.terminals number ≡ Some terminal → (test : Bool)
+          → AnyWithin (n + 1) kinds (enter_where site number terminal w test)
       to terminal there false = tt
       to terminal there true = opened (opener_of site (who.Terminal number))
         where
-          opened : (opener : Option Opener) → AnyWithin (n + 1) kinds (enter_to number terminal w (next_request site number terminal.entered) opener)
+          opened : (opener : Option Opener) → AnyWithin (n + 1) kinds
+              (enter_to number terminal w (next_request site number terminal.entered) opener)
           opened None = tt
           opened (Some opener) = entered-within number terminal there opener (next_request site number terminal.entered)
 
-      by : (terminal : Option Terminal) → slice_get w.terminals number ≡ terminal → AnyWithin (n + 1) kinds (enter_at site number w terminal)
+      by : (terminal : Option Terminal) → slice_get w.terminals number ≡ terminal
+          → AnyWithin (n + 1) kinds (enter_at site number w terminal)
       by None there = tt
       by (Some terminal) there = to terminal there _

@@ -1,5 +1,7 @@
 -- How many letters a mark sends at most.
-use Rattle.std.proofs.Common.{◌≡◌, ◌≤◌, ℕ, zero, suc, ◌+◌, ◌*◌, ◌-◌, ◌==◌, Bool, true, false, if◌then◌else◌, List, [], ◌∷◌, ◌++◌, length, Option, Some, None, slice_get, map, drop, refl, ap, arith, length-append, option_map, add-one, suc-mul, mul-le-mul_right}
+use Rattle.std.proofs.Common.{◌≡◌, ◌≤◌, ℕ, zero, suc, ◌+◌, ◌*◌, ◌-◌, ◌==◌, Bool, true, false, if◌then◌else◌, List, []}
+use Rattle.std.proofs.Common.{◌∷◌, ◌++◌, length, Option, Some, None, slice_get, map, drop, refl, ap, arith}
+use Rattle.std.proofs.Common.{length-append, option_map, add-one, suc-mul, mul-le-mul_right}
 use Rattle.std.specs.List.{cons_option, filter, flat_map}
 use Rattle.std.proofs.lemmas.List.{length-map}
 use Rattle.gd_words.specs.declared.message.Request.{Request}
@@ -24,19 +26,24 @@ use Rattle.world_semantics.specs.Messages.{Message, Asking, Replying, Sending, s
 use Rattle.world_semantics.specs.Own.{request_to}
 use Rattle.world_semantics.specs.Rules.{taker, takeover_sendings, told_at_down}
 use Rattle.world_semantics.specs.World.{Copy, Pair, Terminal, World, terminal_node}
-use Rattle.letters.specs.Again.{is_rerouted, rerouted, awaited_at, awaited_by, entered_last, awaited_from, is_moved, numbered, kept_in as replies_in, kept_for, kept_from, if_acts_on, asks_again, tells_again, of_copies, of_terminals, terminals_ask, sent_again}
+use Rattle.letters.specs.Again.{is_rerouted, rerouted, awaited_at, awaited_by, entered_last, awaited_from, is_moved}
+use Rattle.letters.specs.Again.{numbered, kept_in as replies_in, kept_for, kept_from, if_acts_on, asks_again}
+use Rattle.letters.specs.Again.{tells_again, of_copies, of_terminals, terminals_ask, sent_again}
 use Rattle.letters.specs.Routes.{receiver_of, letters_of}
 use Rattle.number_laws.proofs.Each.{Each}
 use Rattle.number_laws.proofs.Within.{PairWithin, PairsWithin, kept_in, filter-few}
 use Rattle.number_laws.proofs.Quiet.{repeated-few}
 
 -- letters of sendings
-pub letters-few : (site : Site) (w : World) (sendings : List Sending) → length (letters_of site w sendings) ≤ length sendings
+pub letters-few : (site : Site) (w : World) (sendings : List Sending)
+    → length (letters_of site w sendings) ≤ length sendings
 letters-few site w [] = omega arith
-letters-few site w (sending ∷ sendings) = by (receiver_of site w sending.node sending.message) (letters-few site w sendings)
+letters-few site w (sending ∷ sendings) =
+    by (receiver_of site w sending.node sending.message) (letters-few site w sendings)
   where
     by : (receiver : Option ℕ) → length (letters_of site w sendings) ≤ length sendings
-        → length (cons_option (option_map (λ receiver. record { sender = sending.node; receiver = receiver; message = sending.message }) receiver)
+        → length (cons_option (option_map (λ receiver.
+        record { sender = sending.node; receiver = receiver; message = sending.message }) receiver)
         (letters_of site w sendings))
         ≤ length (sending ∷ sendings)
     by None rest = omega (arith, rest)
@@ -55,14 +62,16 @@ repeated-all table (request ∷ waiting) =
     let sum = length-append (repeated table request) (all_repeated table waiting) in
     omega (arith, one, rest, sum)
 
-told-copy : (n : ℕ) (copy : Copy) → length copy.waiting ≤ n → length (sent_at copy.processor (map Replying (all_repeated copy.core.receive copy.waiting))) ≤ n
+told-copy : (n : ℕ) (copy : Copy) → length copy.waiting ≤ n
+    → length (sent_at copy.processor (map Replying (all_repeated copy.core.receive copy.waiting))) ≤ n
 told-copy n copy few =
     let sent = sent-same copy.processor (map Replying (all_repeated copy.core.receive copy.waiting)) in
     let same = length-map (all_repeated copy.core.receive copy.waiting) Replying in
     let all = repeated-all copy.core.receive copy.waiting in
     omega (arith, sent, same, all, few)
 
-told-few : (n : ℕ) (d : Bool) (pair : Pair) (k : Option Which) → PairWithin n d pair → length (takeover_sendings k pair) ≤ n
+told-few : (n : ℕ) (d : Bool) (pair : Pair) (k : Option Which) → PairWithin n d pair
+    → length (takeover_sendings k pair) ≤ n
 told-few n d pair None is = omega arith
 told-few n d pair (Some First) is = told-copy n pair.first is.0.4
 told-few n d pair (Some Second) is = told-copy n pair.second is.1.4
@@ -75,12 +84,15 @@ of_each most (pair ∷ pairs) = most + of_each most pairs
 
 each-times : (most : ℕ) (pairs : List Pair) → of_each most pairs ≡ length pairs * most
 each-times most [] = omega arith
-each-times most (pair ∷ pairs) = let rest = each-times most pairs in let one = suc-mul (length pairs) most in omega (arith, rest, one)
+each-times most (pair ∷ pairs) =
+    let rest = each-times most pairs in let one = suc-mul (length pairs) most in omega (arith, rest, one)
 
 each-few : (most : ℕ) (pairs : List Pair) → length pairs ≤ 16 → of_each most pairs ≤ 16 * most
-each-few most pairs few = let same = each-times most pairs in let times = mul-le-mul_right most few in omega (arith, same, times)
+each-few most pairs few =
+    let same = each-times most pairs in let times = mul-le-mul_right most few in omega (arith, same, times)
 
-flat-few : (most node processor : ℕ) (pairs : List Pair) → Each (λ pair. length (told_at_down node processor pair) ≤ most) pairs
+flat-few : (most node processor : ℕ) (pairs : List Pair)
+    → Each (λ pair. length (told_at_down node processor pair) ≤ most) pairs
     → length (flat_map (told_at_down node processor) pairs) ≤ of_each most pairs
 flat-few most node processor [] each = omega arith
 flat-few most node processor (pair ∷ pairs) each =
@@ -119,11 +131,13 @@ module _ (site : Site) (before : World) (node processor : ℕ) where
 
   rerouted-few : (requests : List Request) → length (rerouted before node processor requests) ≤ length requests
   rerouted-few requests =
-      let same = length-map (filter (λ (request : Request). is_rerouted before node processor request.process) requests) Asking in
+      let same = length-map (filter (λ (request : Request). is_rerouted before node processor request.process)
+      requests) Asking in
       let less = filter-few (λ (request : Request). is_rerouted before node processor request.process) requests in
       omega (arith, same, less)
 
-  acts-few : (role : Role) (at : ℕ) (messages : List Message) → length (if_acts_on node role at messages) ≤ length messages
+  acts-few : (role : Role) (at : ℕ) (messages : List Message)
+      → length (if_acts_on node role at messages) ≤ length messages
   acts-few Acting at messages = by (at == node)
     where
       by : (test : Bool) → length (if test then messages else []) ≤ length messages
@@ -134,12 +148,14 @@ module _ (site : Site) (before : World) (node processor : ℕ) where
 
   asks-few : (number : ℕ) (copy : Copy) → length (asks_again site before node processor number copy) ≤ 1
   asks-few number copy =
-      let acts = acts-few copy.role copy.processor (rerouted before node processor (awaited_by site number copy.core)) in
+      let acts = acts-few copy.role copy.processor
+      (rerouted before node processor (awaited_by site number copy.core)) in
       let less = rerouted-few (awaited_by site number copy.core) in
       let one = awaited-one number copy.core (process.point copy.core.state) in
       omega (arith, acts, less, one)
 
-  entered-one : (number : ℕ) (opener : Option Opener) (words : Option (List _)) → length (entered_last number opener words) ≤ 1
+  entered-one : (number : ℕ) (opener : Option Opener) (words : Option (List _))
+      → length (entered_last number opener words) ≤ 1
   entered-one number None None = omega arith
   entered-one number None (Some words) = omega arith
   entered-one number (Some opener) None = omega arith
@@ -151,41 +167,50 @@ module _ (site : Site) (before : World) (node processor : ℕ) where
       by : (test : Bool)
           → length
           (if test
-          then entered_last terminal.entered (opener_of site (who.Terminal number)) (next_request site number (terminal.entered - 1)) else [])
+          then entered_last terminal.entered (opener_of site (who.Terminal number))
+          (next_request site number (terminal.entered - 1)) else [])
           ≤ 1
-      by true = entered-one terminal.entered (opener_of site (who.Terminal number)) (next_request site number (terminal.entered - 1))
+      by true = entered-one terminal.entered (opener_of site (who.Terminal number))
+          (next_request site number (terminal.entered - 1))
       by false = omega arith
 
   terminals-few : (number : ℕ) (all : List Terminal)
-      → length (of_terminals (λ number terminal. rerouted before node processor (awaited_from site number terminal)) number all) ≤ length all
+      → length (of_terminals (λ number terminal. rerouted before node processor (awaited_from site number terminal))
+      number all) ≤ length all
   terminals-few number [] = omega arith
   terminals-few number (terminal ∷ rest) =
       let less = rerouted-few (awaited_from site number terminal) in
       let one = awaited-from number terminal in
       let later = terminals-few (number + 1) rest in
       let sum = length-append (rerouted before node processor (awaited_from site number terminal))
-      (of_terminals (λ number terminal. rerouted before node processor (awaited_from site number terminal)) (number + 1) rest) in
+      (of_terminals (λ number terminal. rerouted before node processor (awaited_from site number terminal))
+      (number + 1) rest) in
       omega (arith, less, one, later, sum)
 
   asking-few : (all : List Terminal) → length (terminals_ask site before node processor all) ≤ length all
   asking-few all = by (node == terminal_node)
     where
       by : (test : Bool)
-          → length (if test then of_terminals (λ number terminal. rerouted before node processor (awaited_from site number terminal)) 0 all else []) ≤ length all
+          → length (if test then of_terminals (λ number terminal.
+          rerouted before node processor (awaited_from site number terminal)) 0 all else []) ≤ length all
       by true = terminals-few 0 all
       by false = omega arith
 
-  numbered-same : (number place first : ℕ) (kept : List (List _)) → length (numbered number place first kept) ≡ length kept
+  numbered-same : (number place first : ℕ) (kept : List (List _))
+      → length (numbered number place first kept) ≡ length kept
   numbered-same number place first [] = refl
-  numbered-same number place first (words ∷ rest) = let later = numbered-same number place (first + 1) rest in omega (arith, later)
+  numbered-same number place first (words ∷ rest) =
+      let later = numbered-same number place (first + 1) rest in omega (arith, later)
 
   -- the replies kept for the opener at a place, with those for the openers after it
   kept-one : (number : ℕ) (table : ReceiveBlock) (at : ℕ) (blocks : List OpenerBlock) (place : ℕ)
-      → length (replies_in number table at (slice_get blocks place)) + kept_in (drop (suc place) blocks) ≤ kept_in (drop place blocks)
+      → length (replies_in number table at (slice_get blocks place)) + kept_in (drop (suc place) blocks)
+      ≤ kept_in (drop place blocks)
   kept-one number table at [] zero = omega arith
   kept-one number table at [] (suc place) = omega arith
   kept-one number table at (block ∷ blocks) zero =
-      let same = numbered-same number at (answered (holds table at) block + 1 - length block.kept) block.kept in omega (arith, same)
+      let same = numbered-same number at (answered (holds table at) block + 1 - length block.kept) block.kept in
+      omega (arith, same)
   kept-one number table at (block ∷ blocks) (suc place) = kept-one number table at blocks place
 
   kept-few : (number : ℕ) (table : ReceiveBlock) (place : ℕ) (openers : List OpenerSpec)
@@ -200,34 +225,44 @@ module _ (site : Site) (before : World) (node processor : ℕ) where
       (kept_from before node processor number table (place + 1) openers) in
       omega (arith, one, rest, after, moved, sum)
     where
-      by : (test : Bool) → length (if test then kept_for number table place else []) ≤ length (kept_for number table place)
+      by : (test : Bool) → length (if test then kept_for number table place else [])
+          ≤ length (kept_for number table place)
       by true = omega arith
       by false = omega arith
 
-  tells-few : (number : ℕ) (copy : Copy) → length (tells_again site before node processor number copy) ≤ kept_in copy.core.receive.openers
+  tells-few : (number : ℕ) (copy : Copy) → length (tells_again site before node processor number copy)
+      ≤ kept_in copy.core.receive.openers
   tells-few number copy =
       let acts = acts-few copy.role copy.processor
       (map Replying (kept_from before node processor number copy.core.receive 0 (openers_of site number))) in
-      let same = length-map (kept_from before node processor number copy.core.receive 0 (openers_of site number)) Replying in
+      let same = length-map (kept_from before node processor number copy.core.receive 0 (openers_of site number))
+      Replying in
       let less = kept-few number copy.core.receive 0 (openers_of site number) in
       omega (arith, acts, same, less)
 
-each-there : (P : Pair → Type 0) (pairs : List Pair) → ((number : ℕ) (pair : Pair) → slice_get pairs number ≡ Some pair → P pair) → Each P pairs
+each-there : (P : Pair → Type 0) (pairs : List Pair)
+    → ((number : ℕ) (pair : Pair) → slice_get pairs number ≡ Some pair → P pair) → Each P pairs
 each-there P [] all = tt
-each-there P (pair ∷ pairs) all = (all zero pair refl, each-there P pairs (λ number one there. all (suc number) one there))
+each-there P (pair ∷ pairs) all =
+    (all zero pair refl, each-there P pairs (λ number one there. all (suc number) one there))
 
 -- what a mark sends and sends again
-pub mark-few : (n : ℕ) (kinds : ℕ → Bool) (site : Site) (before after : World) (node processor : ℕ) → n ≤ 4294967295 → PairsWithin n kinds before.processes
-    → PairsWithin n kinds after.processes → length before.processes ≤ 16 → length after.processes ≤ 16 → length after.terminals ≤ 16
-    → length (flat_map (told_at_down node processor) before.processes ++ sent_again site before after node processor) ≤ 206158430208
+pub mark-few : (n : ℕ) (kinds : ℕ → Bool) (site : Site) (before after : World) (node processor : ℕ) → n ≤ 4294967295
+    → PairsWithin n kinds before.processes
+    → PairsWithin n kinds after.processes → length before.processes ≤ 16 → length after.processes ≤ 16
+    → length after.terminals ≤ 16
+    → length (flat_map (told_at_down node processor) before.processes ++ sent_again site before after node processor)
+    ≤ 206158430208
 mark-few n kinds site before after node processor low was is few_before few_after few_terminals =
     let told = flat-few 4294967295 node processor before.processes
     (each-there (λ pair. length (told_at_down node processor pair) ≤ 4294967295) before.processes
-    (λ number pair there. let less = told-few n (kinds number) pair (taker node processor pair) (was number pair there) in omega (arith, less, low))) in
+    (λ number pair there. let less = told-few n (kinds number) pair (taker node processor pair)
+    (was number pair there) in omega (arith, less, low))) in
     let all_told = each-few 4294967295 before.processes few_before in
     let asks = copies-few 2 (asks_again site before node processor) 0 after.processes
     (each-there (λ (pair : Pair). (place : ℕ)
-    → length (asks_again site before node processor place pair.first) + length (asks_again site before node processor place pair.second) ≤ 2)
+    → length (asks_again site before node processor place pair.first)
+    + length (asks_again site before node processor place pair.second) ≤ 2)
     after.processes
     (λ number pair there place.
     let first = asks-few site before node processor place pair.first in
@@ -237,7 +272,8 @@ mark-few n kinds site before after node processor low was is few_before few_afte
     let terminals = asking-few site before node processor after.terminals in
     let tells = copies-few 8589934590 (tells_again site before node processor) 0 after.processes
     (each-there (λ (pair : Pair). (place : ℕ)
-    → length (tells_again site before node processor place pair.first) + length (tells_again site before node processor place pair.second) ≤ 8589934590)
+    → length (tells_again site before node processor place pair.first)
+    + length (tells_again site before node processor place pair.second) ≤ 8589934590)
     after.processes
     (λ number pair there place.
     let first = tells-few site before node processor place pair.first in
@@ -246,10 +282,14 @@ mark-few n kinds site before after node processor low was is few_before few_afte
     let kept_second = (is number pair there).1.0.kept in
     omega (arith, first, second, kept_first, kept_second, low))) in
     let all_tells = each-few 8589934590 after.processes few_after in
-    let sum = length-append (flat_map (told_at_down node processor) before.processes) (sent_again site before after node processor) in
-    let sent = sent-same node (of_copies (asks_again site before node processor) 0 after.processes ++ terminals_ask site before node processor after.terminals
+    let sum = length-append (flat_map (told_at_down node processor) before.processes)
+    (sent_again site before after node processor) in
+    let sent = sent-same node (of_copies (asks_again site before node processor) 0 after.processes
+    ++ terminals_ask site before node processor after.terminals
     ++ of_copies (tells_again site before node processor) 0 after.processes) in
-    let outer = length-append (of_copies (asks_again site before node processor) 0 after.processes ++ terminals_ask site before node processor after.terminals)
+    let outer = length-append (of_copies (asks_again site before node processor) 0 after.processes
+    ++ terminals_ask site before node processor after.terminals)
     (of_copies (tells_again site before node processor) 0 after.processes) in
-    let inner = length-append (of_copies (asks_again site before node processor) 0 after.processes) (terminals_ask site before node processor after.terminals) in
+    let inner = length-append (of_copies (asks_again site before node processor) 0 after.processes)
+    (terminals_ask site before node processor after.terminals) in
     omega (arith, told, all_told, asks, all_asks, terminals, tells, all_tells, sum, sent, outer, inner, few_terminals)

@@ -1,5 +1,6 @@
 -- Each request that is sent names an opener that is there.
-use Rattle.std.proofs.Common.{◌<◌, ℕ, ◌+◌, ◌-◌, ◌==◌, ℤ, Bool, true, false, if◌then◌else◌, List, [], ◌∷◌, ◌++◌, length, Option, Some, None, option_map, option_and_then, slice_get, map, arith}
+use Rattle.std.proofs.Common.{◌<◌, ℕ, ◌+◌, ◌-◌, ◌==◌, ℤ, Bool, true, false, if◌then◌else◌, List, [], ◌∷◌, ◌++◌, length}
+use Rattle.std.proofs.Common.{Option, Some, None, option_map, option_and_then, slice_get, map, arith}
 use Rattle.std.specs.List.{flat_map}
 use Rattle.std.specs.Option.{IfSome}
 use Rattle.gd_words.specs.declared.message.Request.{Request}
@@ -27,7 +28,8 @@ use Rattle.world_semantics.specs.Messages.{Message, Asking, Replying, Checkpoint
 use Rattle.world_semantics.specs.Own.{Around, around, request_to}
 use Rattle.world_semantics.specs.Rules.{taker, takeover_sendings, told_at_down}
 use Rattle.world_semantics.specs.Records.{records_of}
-use Rattle.world_semantics.specs.Running.{Done, Own, Stepped, own_took, own_take, own_answer_at, own_answer, own_at, first_step, run_pair, run_done, step_of_copy}
+use Rattle.world_semantics.specs.Running.{Done, Own, Stepped, own_took, own_take, own_answer_at, own_answer, own_at}
+use Rattle.world_semantics.specs.Running.{first_step, run_pair, run_done, step_of_copy}
 use Rattle.world_semantics.specs.World.{Copy, Pair, Terminal, World, copy_of, may_pass, terminal_node}
 use Rattle.computed_changes.specs.Entered.{enter_at, enter_to, enter_where, enter_done, entered_done}
 use Rattle.computed_changes.specs.Fitting.{depths_of, put_fitting}
@@ -35,9 +37,11 @@ use Rattle.computed_changes.specs.Checkpoints.{is_next_for, is_of_last}
 use Rattle.computed_changes.specs.Handed.{brought_to, copy_in, handed_done, replied_done, step_by}
 use Rattle.computed_changes.specs.Replies.{awaits, awaits_at, printed_at, printed_done, printed_where}
 use Rattle.world_semantics.proofs.Lifted.{lifted, mark_done, own_made, run_as, run_at}
-use Rattle.computed_changes.proofs.Lifted.{acknowledged_where, applied_made, applied_where, asked_done, checkpoint_done, got_done, got_where, taken_done}
+use Rattle.computed_changes.proofs.Lifted.{acknowledged_where, applied_made, applied_where, asked_done, checkpoint_done}
+use Rattle.computed_changes.proofs.Lifted.{got_done, got_where, taken_done}
 use Rattle.computed_changes.specs.Stopped.{stop_where, stop_done, marked_where, mark_where, down_done}
-use Rattle.letters.specs.Again.{rerouted, awaited_at, awaited_from, entered_last, if_acts_on, asks_again, tells_again, of_copies, of_terminals, terminals_ask, sent_again}
+use Rattle.letters.specs.Again.{rerouted, awaited_at, awaited_from, entered_last, if_acts_on, asks_again, tells_again}
+use Rattle.letters.specs.Again.{of_copies, of_terminals, terminals_ask, sent_again}
 use Rattle.number_laws.proofs.Each.{Each, each-append, each-map, each-always, each-filter}
 
 -- Openers
@@ -46,9 +50,11 @@ abbrev IsThere : Site → Opener → Type 0
 IsThere site opener = opener.place < length (openers_of site opener.server)
 
 -- a place among openers is one of theirs
-first-place : (one : Who) (number : ℕ) (openers : List OpenerSpec) → IfSome (place_from one number openers) (λ place. place < number + length openers)
+first-place : (one : Who) (number : ℕ) (openers : List OpenerSpec)
+    → IfSome (place_from one number openers) (λ place. place < number + length openers)
 first-place one number [] = tt
-first-place one number (opener ∷ openers) = by (same_who one opener.who) (place_from one (number + 1) openers) (first-place one (number + 1) openers)
+first-place one number (opener ∷ openers) =
+    by (same_who one opener.who) (place_from one (number + 1) openers) (first-place one (number + 1) openers)
   where
     by : (same : Bool) (found : Option ℕ) → IfSome found (λ place. place < number + 1 + length openers)
         → IfSome (if same then Some number else found) (λ place. place < number + length (opener ∷ openers))
@@ -66,7 +72,8 @@ opener-there site one = on (server_by site one)
 
     on : (server : Option ℕ) → IfSome (opener_on site one server) (IsThere site)
     on None = tt
-    on (Some server) = placed server (place_from one 0 (openers_of site server)) (first-place one 0 (openers_of site server))
+    on (Some server) =
+        placed server (place_from one 0 (openers_of site server)) (first-place one 0 (openers_of site server))
 
 -- Messages
 
@@ -92,7 +99,8 @@ OwnNames site None = Unit {0}
 OwnNames site (Some own) = Each (Names site) own.messages
 
 module _ (site : Site) where
-  sent-named : (node : ℕ) (messages : List Message) → Each (Names site) messages → AreNaming site (sent_at node messages)
+  sent-named : (node : ℕ) (messages : List Message) → Each (Names site) messages
+      → AreNaming site (sent_at node messages)
   sent-named node messages are = each-map _ _ messages are
 
   askings : (requests : List Request) → Each (NamesOpener site) requests → Each (Names site) (map Asking requests)
@@ -101,20 +109,24 @@ module _ (site : Site) where
   replyings : (replies : List Reply) → Each (Names site) (map Replying replies)
   replyings replies = each-map _ Replying replies (each-always _ (λ reply. tt) replies)
 
-  requested : (number : ℕ) (words : List ℤ) (opener : Option Opener) → IfSome opener (IsThere site) → Each (NamesOpener site) (request_to number words opener)
+  requested : (number : ℕ) (words : List ℤ) (opener : Option Opener) → IfSome opener (IsThere site)
+      → Each (NamesOpener site) (request_to number words opener)
   requested number words None there = tt
   requested number words (Some opener) there = (there, tt)
 
-  on-file : (number : ℕ) (words : List ℤ) (one : Who) → Each (NamesOpener site) (request_to number words (opener_of site one))
+  on-file : (number : ℕ) (words : List ℤ) (one : Who)
+      → Each (NamesOpener site) (request_to number words (opener_of site one))
   on-file number words one = requested number words (opener_of site one) (opener-there site one)
 
   at-copy-named : (w : World) (number node : ℕ) (message : Message)
-      → ((k : Which) (pair : Pair) → AnyNames site (lifted number w (step_by site number pair (records_of w) message k))) → (one : Option Pair)
+      → ((k : Which) (pair : Pair) → AnyNames site
+      (lifted number w (step_by site number pair (records_of w) message k))) → (one : Option Pair)
       → AnyNames site (brought_to site number node message w one)
   at-copy-named w number node message all None = tt
   at-copy-named w number node message all (Some pair) = by (copy_in node pair)
     where
-      by : (k : Option Which) → AnyNames site (lifted number w (option_and_then (step_by site number pair (records_of w) message) k))
+      by : (k : Option Which) → AnyNames site
+          (lifted number w (option_and_then (step_by site number pair (records_of w) message) k))
       by None = tt
       by (Some k) = all k pair
 
@@ -129,14 +141,16 @@ module _ (site : Site) (number : ℕ) (core : Core) (before : Around) where
       by None = tt
       by (Some block) = tt
 
-  answer-named : (place : ℕ) (opener : Option OpenerSpec) (block : Option OpenerBlock) → OwnNames site (own_answer_at number core before place opener block)
+  answer-named : (place : ℕ) (opener : Option OpenerSpec) (block : Option OpenerBlock)
+      → OwnNames site (own_answer_at number core before place opener block)
   answer-named place None block = tt
   answer-named place (Some opener) None = tt
   answer-named place (Some opener) (Some block) = (tt, tt)
 
   answering-named : (place : Option ℕ) → OwnNames site (own_answer site number core before place)
   answering-named None = tt
-  answering-named (Some place) = answer-named place (slice_get (openers_of site number) place) (slice_get core.receive.openers place)
+  answering-named (Some place) =
+      answer-named place (slice_get (openers_of site number) place) (slice_get core.receive.openers place)
 
   own-named : (stands : Point) → OwnNames site (own_at site number core before stands)
   own-named point.Inner = tt
@@ -151,17 +165,20 @@ module _ (site : Site) (number : ℕ) (core : Core) (before : Around) where
 -- Changes
 
 module _ (site : Site) (w : World) where
-  any-own : (number : ℕ) (k : Which) (pair : Pair) (own : Option Own) → OwnNames site own → AnyNames site (own_made number k pair w own)
+  any-own : (number : ℕ) (k : Which) (pair : Pair) (own : Option Own) → OwnNames site own
+      → AnyNames site (own_made number k pair w own)
   any-own number k pair None are = tt
   any-own number k pair (Some own) are = sent-named site (copy_of k pair).processor own.messages are
 
   acts-named : (number : ℕ) (k : Which) (pair : Pair) (stands : Point)
-      → AnyNames site (own_made number k pair w (own_at site number (copy_of k pair).core (around (copy_of k pair) pair w) stands))
+      → AnyNames site (own_made number k pair w
+      (own_at site number (copy_of k pair).core (around (copy_of k pair) pair w) stands))
   acts-named number k pair stands =
       any-own number k pair (own_at site number (copy_of k pair).core (around (copy_of k pair) pair w) stands)
       (own-named site number (copy_of k pair).core (around (copy_of k pair) pair w) stands)
 
-  run-point : (number : ℕ) (k : Which) (pair : Pair) (stands : Point) → AnyNames site (run_at site number k pair w stands)
+  run-point : (number : ℕ) (k : Which) (pair : Pair) (stands : Point)
+      → AnyNames site (run_at site number k pair w stands)
   run-point number k pair point.AtCheckpoint = by (may_pass w.marks k pair) (copy_of k pair).sent
     where
       by : (passes sent : Bool) → AnyNames site (mark_done number k pair w passes sent)
@@ -181,7 +198,8 @@ module _ (site : Site) (w : World) where
   run-role number k pair Watching = tt
   run-role number k pair Gone = tt
 
-  either-named : (number : ℕ) (one other : Option Stepped) → AnyNames site (lifted number w one) → AnyNames site (lifted number w other)
+  either-named : (number : ℕ) (one other : Option Stepped) → AnyNames site (lifted number w one)
+      → AnyNames site (lifted number w other)
       → AnyNames site (lifted number w (first_step one other))
   either-named number None other first second = second
   either-named number (Some step) other first second = first
@@ -192,7 +210,8 @@ module _ (site : Site) (w : World) where
       by : (pair : Option Pair) → AnyNames site (run_pair site number w pair)
       by None = tt
       by (Some pair) =
-          either-named number (step_of_copy site number pair w.marks (records_of w) First) (step_of_copy site number pair w.marks (records_of w) Second)
+          either-named number (step_of_copy site number pair w.marks (records_of w) First)
+          (step_of_copy site number pair w.marks (records_of w) Second)
           (run-role number First pair pair.first.role)
           (run-role number Second pair pair.second.role)
 
@@ -211,19 +230,23 @@ module _ (site : Site) (w : World) where
 
       to : (terminal : Terminal) → (test : Bool) → AnyNames site (enter_where site number terminal w test)
       to terminal false = tt
-      to terminal true = opened terminal (opener_of site (who.Terminal number)) (opener-there site (who.Terminal number))
+      to terminal true =
+          opened terminal (opener_of site (who.Terminal number)) (opener-there site (who.Terminal number))
 
       by : (terminal : Option Terminal) → AnyNames site (enter_at site number w terminal)
       by None = tt
       by (Some terminal) = to terminal _
 
-  asked-named : (request : Request) (k : Which) (pair : Pair) (role : Role) → AnyNames site (asked_done request k pair w role)
+  asked-named : (request : Request) (k : Which) (pair : Pair) (role : Role)
+      → AnyNames site (asked_done request k pair w role)
   asked-named request k pair Acting = sent-named site (copy_of k pair).processor _ (replyings site _)
   asked-named request k pair Watching = tt
   asked-named request k pair Gone = tt
 
-  got-named : (number : ℕ) (reply : Reply) (k : Which) (pair : Pair) (role : Role) → AnyNames site (got_done site number reply k pair w role)
-  got-named number reply k pair Acting = by (awaits site number (copy_of k pair).core reply (process.point (copy_of k pair).core.state))
+  got-named : (number : ℕ) (reply : Reply) (k : Which) (pair : Pair) (role : Role)
+      → AnyNames site (got_done site number reply k pair w role)
+  got-named number reply k pair Acting =
+      by (awaits site number (copy_of k pair).core reply (process.point (copy_of k pair).core.state))
     where
       by : (test : Bool) → AnyNames site (got_where number reply k pair w test)
       by true = tt
@@ -243,13 +266,16 @@ module _ (site : Site) (w : World) where
       by None = tt
       by (Some terminal) = printed terminal (awaits_at site number terminal reply)
 
-  replied-named : (node : ℕ) (reply : Reply) (opener : Option Who) → AnyNames site (replied_done site node reply w opener)
+  replied-named : (node : ℕ) (reply : Reply) (opener : Option Who)
+      → AnyNames site (replied_done site node reply w opener)
   replied-named node reply None = tt
   replied-named node reply (Some (who.File number file)) =
-      at-copy-named site w number node (Replying reply) (λ k pair. got-named number reply k pair (copy_of k pair).role) (slice_get w.processes number)
+      at-copy-named site w number node (Replying reply) (λ k pair. got-named number reply k pair (copy_of k pair).role)
+      (slice_get w.processes number)
   replied-named node reply (Some (who.Terminal number)) = printed-named number reply _
 
-  checkpoint-named : (message : ImageMessage) (k : Which) (pair : Pair) (role : Role) → AnyNames site (checkpoint_done site message k pair w role)
+  checkpoint-named : (message : ImageMessage) (k : Which) (pair : Pair) (role : Role)
+      → AnyNames site (checkpoint_done site message k pair w role)
   checkpoint-named message k pair Watching = by (is_next_for (copy_of k pair).era (copy_of k pair).number message)
     where
       applied : (core : Option Core) → AnyNames site (applied_made message k pair w core)
@@ -262,8 +288,10 @@ module _ (site : Site) (w : World) where
   checkpoint-named message k pair Acting = tt
   checkpoint-named message k pair Gone = tt
 
-  taken-named : (taken : TakenMessage) (k : Which) (pair : Pair) (role : Role) → AnyNames site (taken_done taken k pair w role)
-  taken-named taken k pair Acting = by (is_of_last (copy_of k pair).sent (copy_of k pair).era (copy_of k pair).number taken)
+  taken-named : (taken : TakenMessage) (k : Which) (pair : Pair) (role : Role)
+      → AnyNames site (taken_done taken k pair w role)
+  taken-named taken k pair Acting =
+      by (is_of_last (copy_of k pair).sent (copy_of k pair).era (copy_of k pair).number taken)
     where
       by : (test : Bool) → AnyNames site (acknowledged_where taken k pair w test)
       by true = tt
@@ -273,12 +301,15 @@ module _ (site : Site) (w : World) where
 
   pub handed-named : (node : ℕ) (message : Message) → AnyNames site (handed_done site node message w)
   handed-named node (Asking request) =
-      at-copy-named site w request.process node (Asking request) (λ k pair. asked-named request k pair (copy_of k pair).role) (slice_get w.processes request.process)
+      at-copy-named site w request.process node (Asking request)
+      (λ k pair. asked-named request k pair (copy_of k pair).role) (slice_get w.processes request.process)
   handed-named node (Replying reply) = replied-named node reply _
   handed-named node (Checkpointing message) =
-      at-copy-named site w message.process node (Checkpointing message) (λ k pair. checkpoint-named message k pair (copy_of k pair).role) (slice_get w.processes message.process)
+      at-copy-named site w message.process node (Checkpointing message)
+      (λ k pair. checkpoint-named message k pair (copy_of k pair).role) (slice_get w.processes message.process)
   handed-named node (Taking taken) =
-      at-copy-named site w taken.process node (Taking taken) (λ k pair. taken-named taken k pair (copy_of k pair).role) (slice_get w.processes taken.process)
+      at-copy-named site w taken.process node (Taking taken) (λ k pair. taken-named taken k pair (copy_of k pair).role)
+      (slice_get w.processes taken.process)
 
   pub stop-named : (processor : ℕ) → AnyNames site (stop_done processor w)
   stop-named processor = by (slice_get w.stopped processor)
@@ -290,7 +321,8 @@ module _ (site : Site) (w : World) where
 
   told : (node processor : ℕ) (pairs : List Pair) → AreNaming site (flat_map (told_at_down node processor) pairs)
   told node processor [] = tt
-  told node processor (pair ∷ pairs) = each-append _ (told_at_down node processor pair) _ (by (taker node processor pair)) (told node processor pairs)
+  told node processor (pair ∷ pairs) =
+      each-append _ (told_at_down node processor pair) _ (by (taker node processor pair)) (told node processor pairs)
     where
       by : (k : Option Which) → AreNaming site (takeover_sendings k pair)
       by None = tt
@@ -314,10 +346,12 @@ module _ (site : Site) (before : World) (node processor : ℕ) where
   abbrev AreMessages : List Message → Type 0
   AreMessages messages = Each (Names site) messages
 
-  rerouted-named : (requests : List Request) → Each (NamesOpener site) requests → AreMessages (rerouted before node processor requests)
+  rerouted-named : (requests : List Request) → Each (NamesOpener site) requests
+      → AreMessages (rerouted before node processor requests)
   rerouted-named requests are = askings site _ (each-filter _ _ requests are)
 
-  awaited-named : (number : ℕ) (core : Core) (stands : Point) → Each (NamesOpener site) (awaited_at site number core stands)
+  awaited-named : (number : ℕ) (core : Core) (stands : Point)
+      → Each (NamesOpener site) (awaited_at site number core stands)
   awaited-named number core point.Await = on-file site _ _ (who.File number (process.asked_file core.state))
   awaited-named number core point.Inner = tt
   awaited-named number core point.Take = tt
@@ -327,7 +361,8 @@ module _ (site : Site) (before : World) (node processor : ℕ) where
   awaited-named number core point.Device = tt
   awaited-named number core point.Ended = tt
 
-  if-acts : (role : Role) (at : ℕ) (messages : List Message) → AreMessages messages → AreMessages (if_acts_on node role at messages)
+  if-acts : (role : Role) (at : ℕ) (messages : List Message) → AreMessages messages
+      → AreMessages (if_acts_on node role at messages)
   if-acts Acting at messages are = by (at == node)
     where
       by : (test : Bool) → AreMessages (if test then messages else [])
@@ -337,17 +372,20 @@ module _ (site : Site) (before : World) (node processor : ℕ) where
   if-acts Gone at messages are = tt
 
   asks : (number : ℕ) (copy : Copy) → AreMessages (asks_again site before node processor number copy)
-  asks number copy = if-acts copy.role copy.processor _ (rerouted-named _ (awaited-named number copy.core (process.point copy.core.state)))
+  asks number copy = if-acts copy.role copy.processor _
+      (rerouted-named _ (awaited-named number copy.core (process.point copy.core.state)))
 
   tells : (number : ℕ) (copy : Copy) → AreMessages (tells_again site before node processor number copy)
   tells number copy = if-acts copy.role copy.processor _ (replyings site _)
 
-  copies : (f : ℕ → Copy → List Message) → ((number : ℕ) (copy : Copy) → AreMessages (f number copy)) → (number : ℕ) (pairs : List Pair)
+  copies : (f : ℕ → Copy → List Message) → ((number : ℕ) (copy : Copy) → AreMessages (f number copy))
+      → (number : ℕ) (pairs : List Pair)
       → AreMessages (of_copies f number pairs)
   copies f all number [] = tt
   copies f all number (pair ∷ pairs) =
       each-append _ (f number pair.first ++ f number pair.second) _
-      (each-append _ (f number pair.first) (f number pair.second) (all number pair.first) (all number pair.second)) (copies f all (number + 1) pairs)
+      (each-append _ (f number pair.first) (f number pair.second) (all number pair.first) (all number pair.second))
+      (copies f all (number + 1) pairs)
 
   entered-named : (number : ℕ) (opener : Option Opener) (words : Option (List ℤ)) → IfSome opener (IsThere site)
       → Each (NamesOpener site) (entered_last number opener words)
@@ -362,28 +400,35 @@ module _ (site : Site) (before : World) (node processor : ℕ) where
       by : (test : Bool)
           → Each (NamesOpener site)
           (if test
-          then entered_last terminal.entered (opener_of site (who.Terminal number)) (next_request site number (terminal.entered - 1)) else [])
-      by true = entered-named _ (opener_of site (who.Terminal number)) (next_request site number (terminal.entered - 1)) (opener-there site (who.Terminal number))
+          then entered_last terminal.entered (opener_of site (who.Terminal number))
+          (next_request site number (terminal.entered - 1)) else [])
+      by true = entered-named _ (opener_of site (who.Terminal number))
+          (next_request site number (terminal.entered - 1)) (opener-there site (who.Terminal number))
       by false = tt
 
   terminals : (number : ℕ) (all : List Terminal)
-      → AreMessages (of_terminals (λ number terminal. rerouted before node processor (awaited_from site number terminal)) number all)
+      → AreMessages (of_terminals (λ number terminal.
+      rerouted before node processor (awaited_from site number terminal)) number all)
   terminals number [] = tt
   terminals number (terminal ∷ rest) =
-      each-append _ (rerouted before node processor (awaited_from site number terminal)) _ (rerouted-named _ (from-named number terminal))
+      each-append _ (rerouted before node processor (awaited_from site number terminal)) _
+      (rerouted-named _ (from-named number terminal))
       (terminals (number + 1) rest)
 
   asking-terminals : (all : List Terminal) → AreMessages (terminals_ask site before node processor all)
   asking-terminals all = by (node == terminal_node)
     where
       by : (test : Bool)
-          → AreMessages (if test then of_terminals (λ number terminal. rerouted before node processor (awaited_from site number terminal)) 0 all else [])
+          → AreMessages (if test then of_terminals
+          (λ number terminal. rerouted before node processor (awaited_from site number terminal)) 0 all else [])
       by true = terminals 0 all
       by false = tt
 
   pub again-named : (after : World) → AreNaming site (sent_again site before after node processor)
   again-named after =
       sent-named site node _
-      (each-append _ (of_copies (asks_again site before node processor) 0 after.processes ++ terminals_ask site before node processor after.terminals) _
-      (each-append _ (of_copies (asks_again site before node processor) 0 after.processes) _ (copies _ asks 0 after.processes) (asking-terminals after.terminals))
+      (each-append _ (of_copies (asks_again site before node processor) 0 after.processes
+      ++ terminals_ask site before node processor after.terminals) _
+      (each-append _ (of_copies (asks_again site before node processor) 0 after.processes) _
+      (copies _ asks 0 after.processes) (asking-terminals after.terminals))
       (copies _ tells 0 after.processes))

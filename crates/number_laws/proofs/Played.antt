@@ -1,5 +1,7 @@
 -- After so many events no number of what is played is greater.
-use Rattle.std.proofs.Common.{◌≡◌, ◌≤◌, ◌<◌, ℕ, zero, suc, ◌+◌, Bool, true, false, if◌then◌else◌, List, [], ◌∷◌, ◌++◌, length, Option, Some, None, slice_get, option_map, refl, sym, subst, arith, length-append, map}
+use Rattle.std.proofs.Common.{◌≡◌, ◌≤◌, ◌<◌, ℕ, zero, suc, ◌+◌, Bool, true, false, if◌then◌else◌, List, [], ◌∷◌, ◌++◌}
+use Rattle.std.proofs.Common.{length, Option, Some, None, slice_get, option_map, refl, sym, subst, arith, length-append}
+use Rattle.std.proofs.Common.{map}
 use Rattle.std.specs.List.{cons_option}
 use Rattle.tal_tree.specs.declared.site.OpenerSpec.{OpenerSpec}
 use Rattle.tal_tree.specs.declared.site.Site.{Site}
@@ -24,13 +26,19 @@ use Rattle.computed_changes.specs.Stopped.{down_done}
 use Rattle.letters.specs.Routes.{Letter, receiver_of, letters_of}
 use Rattle.letters.specs.Again.{sent_again}
 use Rattle.machine_states.specs.States.{Played, Makes, Skips, WouldStop}
-use Rattle.message_wires.specs.Wires.{Sent, Wires, has_room, put_on, wires_after_post, wires_after_posts, is_of, without_number, paid, without_packet, is_due, put_again}
-use Rattle.message_wires.specs.Play.{MachineState, machine_at_boot, after_done, made_by, after_any, state_after_handing, comes_in, deliver_played, lose_played, repeat_played, has_stopped, fail_played, noted_by, notes_from, state_after_tick, tick_played, packet_at, play}
+use Rattle.message_wires.specs.Wires.{Sent, Wires, has_room, put_on, wires_after_post, wires_after_posts, is_of}
+use Rattle.message_wires.specs.Wires.{without_number, paid, without_packet, is_due, put_again}
+use Rattle.message_wires.specs.Play.{MachineState, machine_at_boot, after_done, made_by, after_any, state_after_handing}
+use Rattle.message_wires.specs.Play.{comes_in, deliver_played, lose_played, repeat_played, has_stopped, fail_played}
+use Rattle.message_wires.specs.Play.{noted_by, notes_from, state_after_tick, tick_played, packet_at, play}
 use Rattle.message_wires.specs.Runs.{IsPlayed, played_none, played_more, skipped}
 use Rattle.gd_words.specs.Ranges.{HasNext}
 use Rattle.number_ranges.specs.HasRoom.{CopyHasRoom, TerminalHasRoom, HasRoom}
-use Rattle.number_laws.proofs.Each.{Each, each-all, each-more, each-get, each-append, each-map, each-always, each-filter, each-remove}
-use Rattle.number_laws.proofs.Within.{serves, CoreWithin, CopyWithin, PairWithin, MessageWithin, AreSendings, AreSent, WiresWithin, WorldWithin, DoneWithin, AnyWithin, TerminalWithin, wires-more, world-more, held_in, kept_in}
+use Rattle.number_laws.proofs.Each.{Each, each-all, each-more, each-get, each-append, each-map, each-always}
+use Rattle.number_laws.proofs.Each.{each-filter, each-remove}
+use Rattle.number_laws.proofs.Within.{serves, CoreWithin, CopyWithin, PairWithin, MessageWithin, AreSendings, AreSent}
+use Rattle.number_laws.proofs.Within.{WiresWithin, WorldWithin, DoneWithin, AnyWithin, TerminalWithin, wires-more}
+use Rattle.number_laws.proofs.Within.{world-more, held_in, kept_in}
 use Rattle.number_laws.proofs.Runs.{run-within}
 use Rattle.number_laws.proofs.Hands.{handed-within, enter-within}
 use Rattle.number_laws.proofs.Marks.{stop-within, mark-within, again-within}
@@ -41,40 +49,51 @@ module _ (n : ℕ) (kinds : ℕ → Bool) where
   abbrev AreLetters : List Letter → Type 0
   AreLetters letters = Each (λ (letter : Letter). MessageWithin n kinds letter.message) letters
 
-  letters-within : (site : Site) (w : World) (sendings : List Sending) → AreSendings n kinds sendings → AreLetters (letters_of site w sendings)
+  letters-within : (site : Site) (w : World) (sendings : List Sending) → AreSendings n kinds sendings
+      → AreLetters (letters_of site w sendings)
   letters-within site w [] are = tt
-  letters-within site w (sending ∷ sendings) are = by (receiver_of site w sending.node sending.message) (letters-within site w sendings are.1)
+  letters-within site w (sending ∷ sendings) are =
+      by (receiver_of site w sending.node sending.message) (letters-within site w sendings are.1)
     where
       by : (receiver : Option ℕ) → AreLetters (letters_of site w sendings)
-          → AreLetters (cons_option (option_map (λ receiver. record { sender = sending.node; receiver = receiver; message = sending.message }) receiver)
+          → AreLetters (cons_option (option_map (λ receiver.
+          record { sender = sending.node; receiver = receiver; message = sending.message }) receiver)
           (letters_of site w sendings))
       by None rest = rest
       by (Some receiver) rest = (are.0, rest)
 
-  put-within : (packet : Sent) (bus : List Sent) → MessageWithin n kinds packet.letter.message → AreSent n kinds bus → AreSent n kinds (put_on packet bus)
+  put-within : (packet : Sent) (bus : List Sent) → MessageWithin n kinds packet.letter.message → AreSent n kinds bus
+      → AreSent n kinds (put_on packet bus)
   put-within packet bus is are = by (has_room bus)
     where
       by : (room : Bool) → AreSent n kinds (if room then bus ++ packet ∷ [] else bus)
       by true = each-append _ bus (packet ∷ []) are (is, tt)
       by false = are
 
-  posted-within : (letters : List Letter) (wires : Wires) → AreLetters letters → WiresWithin n kinds wires → WiresWithin n kinds (wires_after_posts letters wires)
+  posted-within : (letters : List Letter) (wires : Wires) → AreLetters letters → WiresWithin n kinds wires
+      → WiresWithin n kinds (wires_after_posts letters wires)
   posted-within [] wires are is = is
   posted-within (letter ∷ letters) wires are is =
-      posted-within letters (wires_after_post letter wires) are.1
-      (put-within _ wires.bus are.0 is.0, each-append _ wires.owed (record { number = wires.count; letter = letter } ∷ []) is.1 (are.0, tt))
+      posted-within letters (wires_after_post letter wires) are.1 (
+        put-within _ wires.bus are.0 is.0,
+        each-append _ wires.owed
+            (record { number = wires.count; letter = letter } ∷ []) is.1 (are.0, tt),
+      )
 
   without-within : (number : ℕ) (all : List Sent) → AreSent n kinds all → AreSent n kinds (without_number number all)
   without-within number [] are = tt
   without-within number (one ∷ rest) are = by (is_of number one) (without-within number rest are.1)
     where
-      by : (test : Bool) → AreSent n kinds (without_number number rest) → AreSent n kinds (if test then rest else one ∷ without_number number rest)
+      by : (test : Bool) → AreSent n kinds (without_number number rest)
+          → AreSent n kinds (if test then rest else one ∷ without_number number rest)
       by true without = are.1
       by false without = (are.0, without)
 
-  again-put : (stopped : List Bool) (node : ℕ) (owed bus : List Sent) → AreSent n kinds owed → AreSent n kinds bus → AreSent n kinds (put_again stopped node owed bus)
+  again-put : (stopped : List Bool) (node : ℕ) (owed bus : List Sent) → AreSent n kinds owed → AreSent n kinds bus
+      → AreSent n kinds (put_again stopped node owed bus)
   again-put stopped node [] bus are is = is
-  again-put stopped node (one ∷ rest) bus are is = again-put stopped node rest _ are.1 (by (is_due stopped node bus one))
+  again-put stopped node (one ∷ rest) bus are is =
+      again-put stopped node rest _ are.1 (by (is_due stopped node bus one))
     where
       by : (due : Bool) → AreSent n kinds (if due then put_on one bus else bus)
       by true = put-within one bus are.0 is
@@ -92,19 +111,26 @@ PlayedWithin n kinds Skips = Unit {0}
 PlayedWithin n kinds (WouldStop processor) = Unit {0}
 
 module _ (n : ℕ) (kinds : ℕ → Bool) where
-  done-within : (s : MachineState) (done : Done) → WiresWithin n kinds s.wires → DoneWithin n kinds done → WholeWithin n kinds (after_done s done)
-  done-within s done wires is =
-      (is.world, posted-within n kinds (letters_of s.site done.world done.sendings) s.wires (letters-within n kinds s.site done.world done.sendings is.sendings) wires)
+  done-within : (s : MachineState) (done : Done) → WiresWithin n kinds s.wires → DoneWithin n kinds done
+      → WholeWithin n kinds (after_done s done)
+  done-within s done wires is = (
+    is.world,
+    posted-within n kinds (letters_of s.site done.world done.sendings) s.wires
+        (letters-within n kinds s.site done.world done.sendings is.sendings) wires,
+  )
 
-  made-within : (s : MachineState) (done : Option Done) → WiresWithin n kinds s.wires → AnyWithin n kinds done → PlayedWithin n kinds (made_by s done)
+  made-within : (s : MachineState) (done : Option Done) → WiresWithin n kinds s.wires → AnyWithin n kinds done
+      → PlayedWithin n kinds (made_by s done)
   made-within s None wires is = tt
   made-within s (Some done) wires is = done-within s done wires is
 
-  any-within : (s : MachineState) (done : Option Done) → WholeWithin n kinds s → AnyWithin n kinds done → WholeWithin n kinds (after_any s done)
+  any-within : (s : MachineState) (done : Option Done) → WholeWithin n kinds s → AnyWithin n kinds done
+      → WholeWithin n kinds (after_any s done)
   any-within s None within is = within
   any-within s (Some done) within is = done-within s done within.1 is
 
-  pub marked-within : (node processor : ℕ) (s : MachineState) (done : Option Done) → WholeWithin n kinds s → AnyWithin n kinds done → WholeWithin n kinds (noted_by node processor s done)
+  pub marked-within : (node processor : ℕ) (s : MachineState) (done : Option Done) → WholeWithin n kinds s
+      → AnyWithin n kinds done → WholeWithin n kinds (noted_by node processor s done)
   marked-within node processor s None within is = within
   marked-within node processor s (Some done) within is = (
     is.world,
@@ -114,23 +140,33 @@ module _ (n : ℕ) (kinds : ℕ → Bool) where
         (within.1.0, each-filter _ _ s.wires.owed within.1.1),
   )
 
-  marks-within : (node processor left : ℕ) (s : MachineState) → WholeWithin n kinds s → WholeWithin n kinds (notes_from node processor left s)
+  marks-within : (node processor left : ℕ) (s : MachineState) → WholeWithin n kinds s
+      → WholeWithin n kinds (notes_from node processor left s)
   marks-within node processor zero s within = within
   marks-within node processor (suc left) s within =
       marks-within node (processor + 1) left _
-      (marked-within node processor s (down_done node processor s.world) within (mark-within n kinds s.world within.0 node processor))
+      (marked-within node processor s (down_done node processor s.world) within
+      (mark-within n kinds s.world within.0 node processor))
 
   tick-within : (node : ℕ) (s : MachineState) → WholeWithin n kinds s → PlayedWithin n kinds (tick_played node s)
   tick-within node s within = by (is_running s.world.stopped node)
     where
-      by : (test : Bool) → PlayedWithin n kinds (if test then Makes (state_after_tick node (notes_from node 0 (length s.world.stopped) s)) else Skips)
+      by : (test : Bool) → PlayedWithin n kinds
+          (if test then Makes (state_after_tick node (notes_from node 0 (length s.world.stopped) s)) else Skips)
       by true =
           let marked = marks-within node 0 (length s.world.stopped) s within in
-          let after = notes_from node 0 (length s.world.stopped) s in
-          (marked.0, (again-put n kinds after.world.stopped node after.wires.owed after.wires.bus marked.1.1 marked.1.0, marked.1.1))
+          let after = notes_from node 0 (length s.world.stopped) s in (
+            marked.0,
+            (
+              again-put n kinds after.world.stopped node after.wires.owed after.wires.bus marked.1.1
+                  marked.1.0,
+              marked.1.1,
+            ),
+          )
       by false = tt
 
-  fail-within : (processor : ℕ) (s : MachineState) (done : Option Done) → WiresWithin n kinds s.wires → AnyWithin n kinds done
+  fail-within : (processor : ℕ) (s : MachineState) (done : Option Done) → WiresWithin n kinds s.wires
+      → AnyWithin n kinds done
       → PlayedWithin n kinds (fail_played processor s done)
   fail-within processor s None wires is = tt
   fail-within processor s (Some done) wires is = by (has_stopped s.world.stopped)
@@ -141,44 +177,56 @@ module _ (n : ℕ) (kinds : ℕ → Bool) where
 
 module _ (n : ℕ) (kinds : ℕ → Bool) (low : n < 4294967295) (s : MachineState) (within : WholeWithin n kinds s) where
   pub later : WholeWithin (n + 1) kinds s
-  later = (world-more (n + 1) n kinds s.world (omega arith) within.0, wires-more (n + 1) n kinds s.wires (omega arith) within.1)
+  later = (
+    world-more (n + 1) n kinds s.world (omega arith) within.0,
+    wires-more (n + 1) n kinds s.wires (omega arith) within.1,
+  )
 
   without : (k : ℕ) → WiresWithin (n + 1) kinds (without_packet k s.wires)
   without k = (each-remove _ s.wires.bus k later.1.0, later.1.1)
 
-  packet-there : (y : Bool) (k : ℕ) (packet : Sent) → packet_at s y k ≡ Some packet → MessageWithin (n + 1) kinds packet.letter.message
+  packet-there : (y : Bool) (k : ℕ) (packet : Sent) → packet_at s y k ≡ Some packet
+      → MessageWithin (n + 1) kinds packet.letter.message
   packet-there true k packet there = absurd (cc)
   packet-there false k packet there = each-get _ s.wires.bus k packet later.1.0 there
 
-  deliver-within : (y : Bool) (k : ℕ) (packet : Option Sent) → packet_at s y k ≡ packet → PlayedWithin (n + 1) kinds (deliver_played k s packet)
+  deliver-within : (y : Bool) (k : ℕ) (packet : Option Sent) → packet_at s y k ≡ packet
+      → PlayedWithin (n + 1) kinds (deliver_played k s packet)
   deliver-within y k None there = tt
   deliver-within y k (Some packet) there = by (comes_in (record s { wires = without_packet k s.wires }) packet.letter)
     where
       by : (test : Bool)
           → WholeWithin (n + 1) kinds
-          (if test then state_after_handing packet (record s { wires = without_packet k s.wires }) else record s { wires = without_packet k s.wires })
+          (if test then state_after_handing packet (record s { wires = without_packet k s.wires }) else record s
+          { wires = without_packet k s.wires })
       by true =
           any-within (n + 1) kinds (record s { wires = paid packet.number (without_packet k s.wires) }) _
           (later.0, ((without k).0, without-within (n + 1) kinds packet.number s.wires.owed later.1.1))
-          (handed-within n kinds s.world within.0 low s.site packet.letter.receiver packet.letter.message (packet-there y k packet there))
+          (handed-within n kinds s.world within.0 low s.site packet.letter.receiver packet.letter.message
+          (packet-there y k packet there))
       by false = (later.0, without k)
 
   lose-within : (k : ℕ) (packet : Option Sent) → PlayedWithin (n + 1) kinds (lose_played k s packet)
   lose-within k None = tt
   lose-within k (Some packet) = (later.0, without k)
 
-  repeat-within : (y : Bool) (k : ℕ) (packet : Option Sent) → packet_at s y k ≡ packet → PlayedWithin (n + 1) kinds (repeat_played s packet)
+  repeat-within : (y : Bool) (k : ℕ) (packet : Option Sent) → packet_at s y k ≡ packet
+      → PlayedWithin (n + 1) kinds (repeat_played s packet)
   repeat-within y k None there = tt
-  repeat-within y k (Some packet) there = (later.0, (put-within (n + 1) kinds packet s.wires.bus (packet-there y k packet there) later.1.0, later.1.1))
+  repeat-within y k (Some packet) there =
+      (later.0, (put-within (n + 1) kinds packet s.wires.bus (packet-there y k packet there) later.1.0, later.1.1))
 
   play-within : (event : Event) → PlayedWithin (n + 1) kinds (play s event)
-  play-within (Run number) = made-within (n + 1) kinds s _ later.1 (run-within n kinds s.world within.0 low s.site number)
-  play-within (Enter number) = made-within (n + 1) kinds s _ later.1 (enter-within n kinds s.world within.0 low s.site number)
+  play-within (Run number) =
+      made-within (n + 1) kinds s _ later.1 (run-within n kinds s.world within.0 low s.site number)
+  play-within (Enter number) =
+      made-within (n + 1) kinds s _ later.1 (enter-within n kinds s.world within.0 low s.site number)
   play-within (Deliver y k) = deliver-within y k (packet_at s y k) refl
   play-within (Lose y k) = lose-within k (packet_at s y k)
   play-within (Repeat y k) = repeat-within y k (packet_at s y k) refl
   play-within (Tick node) = tick-within (n + 1) kinds node s later
-  play-within (Fail processor) = fail-within (n + 1) kinds processor s _ later.1 (stop-within (n + 1) kinds s.world later.0 processor)
+  play-within (Fail processor) =
+      fail-within (n + 1) kinds processor s _ later.1 (stop-within (n + 1) kinds s.world later.0 processor)
 
 -- The beginning
 
@@ -198,7 +246,8 @@ none-kept : (openers : List OpenerSpec) → kept_in (map (λ opener. record { ta
 none-kept [] = refl
 none-kept (opener ∷ openers) = let rest = none-kept openers in omega (arith, rest)
 
-boot-core : (site : Site) (number : ℕ) (spec : ProcessSpec) → CoreWithin 0 (serves (start_of spec.what)) (core_at_boot site number spec)
+boot-core : (site : Site) (number : ℕ) (spec : ProcessSpec)
+    → CoreWithin 0 (serves (start_of spec.what)) (core_at_boot site number spec)
 boot-core site number spec = record {
   state = (refl, first-write spec.what);
   next = each-map _ (λ file. 1) (files_of spec.what) (each-always _ (λ file. omega arith) (files_of spec.what));
@@ -206,13 +255,17 @@ boot-core site number spec = record {
   kept = let none = none-kept (openers_of site number) in omega (arith, none);
 }
 
-boot-pairs : (site : Site) (number : ℕ) (pair : Pair) → slice_get (pairs_at_boot site 0 site.processes) number ≡ Some pair
+boot-pairs : (site : Site) (number : ℕ) (pair : Pair)
+    → slice_get (pairs_at_boot site 0 site.processes) number ≡ Some pair
     → PairWithin 0 (serves pair.first.core.state) pair
 boot-pairs site number pair there =
     all-begin (λ j one. PairWithin 0 (serves one.first.core.state) one) site
     (λ j from spec.
-    let core = boot-core site from spec in
-    ((core, omega arith, (λ watches. refl), omega arith, omega arith), (core, omega arith, (λ watches. refl), omega arith, omega arith), omega arith))
+    let core = boot-core site from spec in (
+      (core, omega arith, (λ watches. refl), omega arith, omega arith),
+      (core, omega arith, (λ watches. refl), omega arith, omega arith),
+      omega arith,
+    ))
     number pair there
 
 boot-held : (site : Site) (from : ℕ) (specs : List ProcessSpec) → held_in (pairs_at_boot site from specs) ≡ 0
@@ -222,24 +275,28 @@ boot-held site from (spec ∷ specs) = let rest = boot-held site (from + 1) spec
 boot-within : (site : Site) → WholeWithin 0 (kinds_of site) (machine_at_boot site)
 boot-within site = (
   record {
-    pairs = λ number pair there. subst (λ (one : Option Pair). PairWithin 0 (serves_at one) pair) (sym there) (boot-pairs site number pair there);
+    pairs = λ number pair there. subst (λ (one : Option Pair). PairWithin 0 (serves_at one) pair) (sym there)
+        (boot-pairs site number pair there);
     acts = let none = boot-held site 0 site.processes in omega (arith, none);
     shown = omega arith;
-    terminals = each-map _ (λ (terminal : TerminalSpec). record { entered = 0; printed = 0 }) site.terminals (each-always _ (λ terminal. (omega arith, omega arith)) site.terminals);
+    terminals = each-map _ (λ (terminal : TerminalSpec). record { entered = 0; printed = 0 }) site.terminals
+        (each-always _ (λ terminal. (omega arith, omega arith)) site.terminals);
   },
   (tt, tt),
 )
 
 -- What is played
 
-pub played-within : (site : Site) (events : List Event) (s : MachineState) → IsPlayed site events s → length events < 4294967295 → WholeWithin (length events) (kinds_of site) s
+pub played-within : (site : Site) (events : List Event) (s : MachineState) → IsPlayed site events s
+    → length events < 4294967295 → WholeWithin (length events) (kinds_of site) s
 played-within site _ _ played_none few = boot-within site
 played-within site _ _ (played_more {events = events} {s = s} {next = next} event before makes) few =
     let count : length (events ++ event ∷ []) ≡ length events + 1 = length-append events (event ∷ []) in
     let low : length events < 4294967295 = omega (arith, count, few) in
     let all = played-within site events s before low in
     subst (λ n. WholeWithin n (kinds_of site) next) (sym count)
-    (subst (PlayedWithin (length events + 1) (kinds_of site)) makes (play-within (length events) (kinds_of site) low s all event))
+    (subst (PlayedWithin (length events + 1) (kinds_of site)) makes
+    (play-within (length events) (kinds_of site) low s all event))
 played-within site _ _ (skipped {events = events} {s = s} event before skips) few =
     let count : length (events ++ event ∷ []) ≡ length events + 1 = length-append events (event ∷ []) in
     let low : length events < 4294967295 = omega (arith, count, few) in
@@ -248,10 +305,12 @@ played-within site _ _ (skipped {events = events} {s = s} event before skips) fe
 
 copy-room : (n : ℕ) (d : Bool) (copy : Copy) → n < 4294967294 → CopyWithin n d copy → CopyHasRoom copy
 copy-room n d copy low is = record {
-  next = each-all HasNext copy.core.next (each-more (λ number. number ≤ n + 1) HasNext (λ number few. omega (arith, few, low)) copy.core.next is.0.next);
+  next = each-all HasNext copy.core.next (each-more (λ number. number ≤ n + 1) HasNext
+      (λ number few. omega (arith, few, low)) copy.core.next is.0.next);
   taken =
       each-all (λ (block : OpenerBlock). HasNext block.taken) copy.core.receive.openers
-      (each-more (λ (block : OpenerBlock). block.taken ≤ n) (λ (block : OpenerBlock). HasNext block.taken) (λ block few. omega (arith, few, low))
+      (each-more (λ (block : OpenerBlock). block.taken ≤ n) (λ (block : OpenerBlock). HasNext block.taken)
+      (λ block few. omega (arith, few, low))
       copy.core.receive.openers is.0.taken);
   write = let few = is.0.state.1 in omega (arith, few, low);
   number = let few = is.1 in omega (arith, few, low);
@@ -265,7 +324,8 @@ copy-of n d pair First is = is.0
 copy-of n d pair Second is = is.1
 
 -- before the next event each number has a successor
-pub room-within : (site : Site) (events : List Event) (s : MachineState) → IsPlayed site events s → length events < 4294967294 → HasRoom s
+pub room-within : (site : Site) (events : List Event) (s : MachineState) → IsPlayed site events s
+    → length events < 4294967294 → HasRoom s
 room-within site events s played few = record {
   processes = λ number pair there k.
       copy-room (length events) (kinds_of site number) (copy_of k pair) few

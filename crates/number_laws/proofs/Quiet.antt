@@ -1,5 +1,6 @@
 -- A change that isn't a mark sends one message at most, and leaves what there is and the marks as they were.
-use Rattle.std.proofs.Common.{◌≡◌, ◌≤◌, ℕ, Bool, true, false, List, length, Option, Some, None, option_map, option_and_then, slice_get, slice_set, map, refl, arith}
+use Rattle.std.proofs.Common.{◌≡◌, ◌≤◌, ℕ, Bool, true, false, List, length, Option, Some, None, option_map}
+use Rattle.std.proofs.Common.{option_and_then, slice_get, slice_set, map, refl, arith}
 use Rattle.std.proofs.lemmas.List.{length-map, length-set}
 use Rattle.gd_words.specs.declared.message.Request.{Request}
 use Rattle.gd_words.specs.declared.message.Reply.{Reply}
@@ -27,7 +28,8 @@ use Rattle.world_semantics.specs.Core.{Core, next_on}
 use Rattle.world_semantics.specs.Messages.{Message, Asking, Replying, Checkpointing, Taking, sent_at}
 use Rattle.world_semantics.specs.Own.{Around, around, request_to}
 use Rattle.world_semantics.specs.Records.{records_of}
-use Rattle.world_semantics.specs.Running.{Done, Own, Stepped, own_took, own_take, own_answer_at, own_answer, own_at, first_step, run_pair, run_done, step_of_copy}
+use Rattle.world_semantics.specs.Running.{Done, Own, Stepped, own_took, own_take, own_answer_at, own_answer, own_at}
+use Rattle.world_semantics.specs.Running.{first_step, run_pair, run_done, step_of_copy}
 use Rattle.world_semantics.specs.World.{Pair, Terminal, World, copy_of, may_pass}
 use Rattle.computed_changes.specs.Entered.{enter_at, enter_to, enter_where, enter_done, entered_done}
 use Rattle.computed_changes.specs.Fitting.{depths_of, put_fitting}
@@ -35,7 +37,8 @@ use Rattle.computed_changes.specs.Checkpoints.{is_next_for, is_of_last}
 use Rattle.computed_changes.specs.Handed.{brought_to, copy_in, handed_done, replied_done, step_by}
 use Rattle.computed_changes.specs.Replies.{awaits, awaits_at, printed_at, printed_done, printed_where}
 use Rattle.world_semantics.proofs.Lifted.{lifted, mark_done, own_done, own_made, passed_done, run_as, run_at}
-use Rattle.computed_changes.proofs.Lifted.{acknowledged_where, applied_made, applied_where, asked_done, checkpoint_done, got_done, got_where, taken_done}
+use Rattle.computed_changes.proofs.Lifted.{acknowledged_where, applied_made, applied_where, asked_done, checkpoint_done}
+use Rattle.computed_changes.proofs.Lifted.{got_done, got_where, taken_done}
 use Rattle.computed_changes.specs.Stopped.{stop_where, stop_done}
 
 -- two worlds have as many processors, processes and terminals
@@ -55,7 +58,8 @@ IsQuietAny w (Some done) = IsQuiet w done
 
 sent-few : (node : ℕ) (messages : List Message) → length messages ≤ 1 → length (sent_at node messages) ≤ 1
 sent-few node messages few =
-    let same : length (sent_at node messages) ≡ length messages = length-map messages (λ message. record { node = node; message = message }) in
+    let same : length (sent_at node messages) ≡ length messages =
+    length-map messages (λ message. record { node = node; message = message }) in
     omega (arith, same, few)
 
 pub repeated-few : (request : Request) (stands : RequestStanding) → length (repeated_by request stands) ≤ 1
@@ -66,12 +70,14 @@ repeated-few request Old = omega arith
 repeated-few request Ahead = omega arith
 
 at-copy-quiet : (site : Site) (w : World) (number node : ℕ) (message : Message)
-    → ((k : Which) (pair : Pair) → IsQuietAny w (lifted number w (step_by site number pair (records_of w) message k))) → (one : Option Pair)
+    → ((k : Which) (pair : Pair) → IsQuietAny w (lifted number w (step_by site number pair (records_of w) message k)))
+    → (one : Option Pair)
     → IsQuietAny w (brought_to site number node message w one)
 at-copy-quiet site w number node message all None = tt
 at-copy-quiet site w number node message all (Some pair) = by (copy_in node pair)
   where
-    by : (k : Option Which) → IsQuietAny w (lifted number w (option_and_then (step_by site number pair (records_of w) message) k))
+    by : (k : Option Which) → IsQuietAny w (lifted number w
+        (option_and_then (step_by site number pair (records_of w) message) k))
     by None = tt
     by (Some k) = all k pair
 
@@ -90,18 +96,21 @@ module _ (number : ℕ) (core : Core) (before : Around) where
       by None = tt
       by (Some block) = omega arith
 
-  asking-few : (next : ℕ) (words : List _) (opener : Option Opener) → length (map Asking (request_to next words opener)) ≤ 1
+  asking-few : (next : ℕ) (words : List _) (opener : Option Opener)
+      → length (map Asking (request_to next words opener)) ≤ 1
   asking-few next words None = omega arith
   asking-few next words (Some opener) = omega arith
 
-  answer-few : (place : ℕ) (opener : Option OpenerSpec) (block : Option OpenerBlock) → FewOwn (own_answer_at number core before place opener block)
+  answer-few : (place : ℕ) (opener : Option OpenerSpec) (block : Option OpenerBlock)
+      → FewOwn (own_answer_at number core before place opener block)
   answer-few place None block = tt
   answer-few place (Some opener) None = tt
   answer-few place (Some opener) (Some block) = omega arith
 
   answering-few : (site : Site) (place : Option ℕ) → FewOwn (own_answer site number core before place)
   answering-few site None = tt
-  answering-few site (Some place) = answer-few place (slice_get (openers_of site number) place) (slice_get core.receive.openers place)
+  answering-few site (Some place) =
+      answer-few place (slice_get (openers_of site number) place) (slice_get core.receive.openers place)
 
   own-few : (site : Site) (stands : Point) → FewOwn (own_at site number core before stands)
   own-few site point.Inner = omega arith
@@ -120,34 +129,50 @@ module _ (site : Site) (w : World) where
   one-set : (number : ℕ) (pair : Pair) → length (slice_set w.processes number pair) ≡ length w.processes
   one-set number pair = length-set w.processes number pair
 
-  own-quiet : (number : ℕ) (k : Which) (pair : Pair) (own : Own) → length own.messages ≤ 1 → IsQuiet w (own_done number k pair w own)
+  own-quiet : (number : ℕ) (k : Which) (pair : Pair) (own : Own) → length own.messages ≤ 1
+      → IsQuiet w (own_done number k pair w own)
   own-quiet number k pair own few = record {
     size = record { stopped = refl; processes = one-set number _; terminals = refl };
     marks = refl;
     few = sent-few (copy_of k pair).processor own.messages few;
   }
 
-  any-own : (number : ℕ) (k : Which) (pair : Pair) (own : Option Own) → FewOwn own → IsQuietAny w (own_made number k pair w own)
+  any-own : (number : ℕ) (k : Which) (pair : Pair) (own : Option Own) → FewOwn own
+      → IsQuietAny w (own_made number k pair w own)
   any-own number k pair None few = tt
   any-own number k pair (Some own) few = own-quiet number k pair own few
 
   acts-quiet : (number : ℕ) (k : Which) (pair : Pair) (stands : Point)
-      → IsQuietAny w (own_made number k pair w (own_at site number (copy_of k pair).core (around (copy_of k pair) pair w) stands))
+      → IsQuietAny w (own_made number k pair w
+      (own_at site number (copy_of k pair).core (around (copy_of k pair) pair w) stands))
   acts-quiet number k pair stands =
       any-own number k pair (own_at site number (copy_of k pair).core (around (copy_of k pair) pair w) stands)
       (own-few number (copy_of k pair).core (around (copy_of k pair) pair w) site stands)
 
-  run-point : (number : ℕ) (k : Which) (pair : Pair) (stands : Point) → IsQuietAny w (run_at site number k pair w stands)
+  run-point : (number : ℕ) (k : Which) (pair : Pair) (stands : Point)
+      → IsQuietAny w (run_at site number k pair w stands)
   run-point number k pair point.AtCheckpoint = by (may_pass w.marks k pair) (copy_of k pair).sent
     where
       passed : (again : Bool) → IsQuiet w (passed_done number k pair w again)
-      passed true = record { size = record { stopped = refl; processes = one-set number _; terminals = refl }; marks = refl; few = omega arith }
-      passed false = record { size = record { stopped = refl; processes = one-set number _; terminals = refl }; marks = refl; few = omega arith }
+      passed true = record {
+        size = record { stopped = refl; processes = one-set number _; terminals = refl };
+        marks = refl;
+        few = omega arith;
+      }
+      passed false = record {
+        size = record { stopped = refl; processes = one-set number _; terminals = refl };
+        marks = refl;
+        few = omega arith;
+      }
 
       by : (passes sent : Bool) → IsQuietAny w (mark_done number k pair w passes sent)
       by true sent = passed _
       by false true = tt
-      by false false = record { size = record { stopped = refl; processes = one-set number _; terminals = refl }; marks = refl; few = omega arith }
+      by false false = record {
+        size = record { stopped = refl; processes = one-set number _; terminals = refl };
+        marks = refl;
+        few = omega arith;
+      }
   run-point number k pair point.Inner = acts-quiet number k pair point.Inner
   run-point number k pair point.Take = acts-quiet number k pair point.Take
   run-point number k pair point.Ask = acts-quiet number k pair point.Ask
@@ -161,7 +186,8 @@ module _ (site : Site) (w : World) where
   run-role number k pair Watching = tt
   run-role number k pair Gone = tt
 
-  either-quiet : (number : ℕ) (one other : Option Stepped) → IsQuietAny w (lifted number w one) → IsQuietAny w (lifted number w other)
+  either-quiet : (number : ℕ) (one other : Option Stepped) → IsQuietAny w (lifted number w one)
+      → IsQuietAny w (lifted number w other)
       → IsQuietAny w (lifted number w (first_step one other))
   either-quiet number None other first second = second
   either-quiet number (Some step) other first second = first
@@ -172,23 +198,30 @@ module _ (site : Site) (w : World) where
       by : (pair : Option Pair) → IsQuietAny w (run_pair site number w pair)
       by None = tt
       by (Some pair) =
-          either-quiet number (step_of_copy site number pair w.marks (records_of w) First) (step_of_copy site number pair w.marks (records_of w) Second)
+          either-quiet number (step_of_copy site number pair w.marks (records_of w) First)
+          (step_of_copy site number pair w.marks (records_of w) Second)
           (run-role number First pair pair.first.role)
           (run-role number Second pair pair.second.role)
 
   pub enter-quiet : (number : ℕ) → IsQuietAny w (enter_done site number w)
   enter-quiet number = by (slice_get w.terminals number)
     where
-      entered : (terminal : Terminal) (opener : Opener) (words : Option (List _)) → IsQuietAny w (option_map (entered_done number terminal w opener) words)
+      entered : (terminal : Terminal) (opener : Opener) (words : Option (List _))
+          → IsQuietAny w (option_map (entered_done number terminal w opener) words)
       entered terminal opener None = tt
       entered terminal opener (Some words) =
-          record { size = record { stopped = refl; processes = refl; terminals = length-set w.terminals number _ }; marks = refl; few = omega arith }
+          record {
+            size = record { stopped = refl; processes = refl; terminals = length-set w.terminals number _ };
+            marks = refl;
+            few = omega arith;
+          }
 
       to : (terminal : Terminal) → (test : Bool) → IsQuietAny w (enter_where site number terminal w test)
       to terminal false = tt
       to terminal true = opened (opener_of site (who.Terminal number))
         where
-          opened : (opener : Option Opener) → IsQuietAny w (enter_to number terminal w (next_request site number terminal.entered) opener)
+          opened : (opener : Option Opener) → IsQuietAny w
+              (enter_to number terminal w (next_request site number terminal.entered) opener)
           opened None = tt
           opened (Some opener) = entered terminal opener (next_request site number terminal.entered)
 
@@ -196,7 +229,8 @@ module _ (site : Site) (w : World) where
       by None = tt
       by (Some terminal) = to terminal _
 
-  asked-quiet : (request : Request) (k : Which) (pair : Pair) (role : Role) → IsQuietAny w (asked_done request k pair w role)
+  asked-quiet : (request : Request) (k : Which) (pair : Pair) (role : Role)
+      → IsQuietAny w (asked_done request k pair w role)
   asked-quiet request k pair Acting = record {
     size = record { stopped = refl; processes = one-set request.process _; terminals = refl };
     marks = refl;
@@ -206,14 +240,24 @@ module _ (site : Site) (w : World) where
         omega (arith, same, one));
   }
   asked-quiet request k pair Watching =
-      record { size = record { stopped = refl; processes = one-set request.process _; terminals = refl }; marks = refl; few = omega arith }
+      record {
+        size = record { stopped = refl; processes = one-set request.process _; terminals = refl };
+        marks = refl;
+        few = omega arith;
+      }
   asked-quiet request k pair Gone = tt
 
-  got-quiet : (number : ℕ) (reply : Reply) (k : Which) (pair : Pair) (role : Role) → IsQuietAny w (got_done site number reply k pair w role)
-  got-quiet number reply k pair Acting = by (awaits site number (copy_of k pair).core reply (process.point (copy_of k pair).core.state))
+  got-quiet : (number : ℕ) (reply : Reply) (k : Which) (pair : Pair) (role : Role)
+      → IsQuietAny w (got_done site number reply k pair w role)
+  got-quiet number reply k pair Acting =
+      by (awaits site number (copy_of k pair).core reply (process.point (copy_of k pair).core.state))
     where
       by : (test : Bool) → IsQuietAny w (got_where number reply k pair w test)
-      by true = record { size = record { stopped = refl; processes = one-set number _; terminals = refl }; marks = refl; few = omega arith }
+      by true = record {
+        size = record { stopped = refl; processes = one-set number _; terminals = refl };
+        marks = refl;
+        few = omega arith;
+      }
       by false = tt
   got-quiet number reply k pair Watching = tt
   got-quiet number reply k pair Gone = tt
@@ -223,26 +267,39 @@ module _ (site : Site) (w : World) where
   printed-quiet number reply true = by (slice_get w.terminals number)
     where
       printed : (terminal : Terminal) (test : Bool) → IsQuietAny w (printed_where number reply terminal w test)
-      printed terminal true = record { size = record { stopped = refl; processes = refl; terminals = length-set w.terminals number _ }; marks = refl; few = omega arith }
+      printed terminal true = record {
+        size =
+            record { stopped = refl; processes = refl; terminals = length-set w.terminals number _ };
+        marks =
+            refl;
+        few = omega arith;
+      }
       printed terminal false = tt
 
       by : (terminal : Option Terminal) → IsQuietAny w (printed_done site number reply w terminal)
       by None = tt
       by (Some terminal) = printed terminal (awaits_at site number terminal reply)
 
-  replied-quiet : (node : ℕ) (reply : Reply) (opener : Option Who) → IsQuietAny w (replied_done site node reply w opener)
+  replied-quiet : (node : ℕ) (reply : Reply) (opener : Option Who)
+      → IsQuietAny w (replied_done site node reply w opener)
   replied-quiet node reply None = tt
   replied-quiet node reply (Some (who.File number file)) =
-      at-copy-quiet site w number node (Replying reply) (λ k pair. got-quiet number reply k pair (copy_of k pair).role) (slice_get w.processes number)
+      at-copy-quiet site w number node (Replying reply) (λ k pair. got-quiet number reply k pair (copy_of k pair).role)
+      (slice_get w.processes number)
   replied-quiet node reply (Some (who.Terminal number)) = printed-quiet number reply _
 
-  checkpoint-quiet : (message : ImageMessage) (k : Which) (pair : Pair) (role : Role) → IsQuietAny w (checkpoint_done site message k pair w role)
+  checkpoint-quiet : (message : ImageMessage) (k : Which) (pair : Pair) (role : Role)
+      → IsQuietAny w (checkpoint_done site message k pair w role)
   checkpoint-quiet message k pair Watching = by (is_next_for (copy_of k pair).era (copy_of k pair).number message)
     where
       applied : (core : Option Core) → IsQuietAny w (applied_made message k pair w core)
       applied None = tt
       applied (Some core) =
-          record { size = record { stopped = refl; processes = one-set message.process _; terminals = refl }; marks = refl; few = omega arith }
+          record {
+            size = record { stopped = refl; processes = one-set message.process _; terminals = refl };
+            marks = refl;
+            few = omega arith;
+          }
 
       by : (test : Bool) → IsQuietAny w (applied_where site message k pair w test)
       by true = applied (put_fitting (depths_of site message.process) (copy_of k pair).core message.image)
@@ -250,23 +307,32 @@ module _ (site : Site) (w : World) where
   checkpoint-quiet message k pair Acting = tt
   checkpoint-quiet message k pair Gone = tt
 
-  taken-quiet : (taken : TakenMessage) (k : Which) (pair : Pair) (role : Role) → IsQuietAny w (taken_done taken k pair w role)
-  taken-quiet taken k pair Acting = by (is_of_last (copy_of k pair).sent (copy_of k pair).era (copy_of k pair).number taken)
+  taken-quiet : (taken : TakenMessage) (k : Which) (pair : Pair) (role : Role)
+      → IsQuietAny w (taken_done taken k pair w role)
+  taken-quiet taken k pair Acting =
+      by (is_of_last (copy_of k pair).sent (copy_of k pair).era (copy_of k pair).number taken)
     where
       by : (test : Bool) → IsQuietAny w (acknowledged_where taken k pair w test)
-      by true = record { size = record { stopped = refl; processes = one-set taken.process _; terminals = refl }; marks = refl; few = omega arith }
+      by true = record {
+        size = record { stopped = refl; processes = one-set taken.process _; terminals = refl };
+        marks = refl;
+        few = omega arith;
+      }
       by false = tt
   taken-quiet taken k pair Watching = tt
   taken-quiet taken k pair Gone = tt
 
   pub handed-quiet : (node : ℕ) (message : Message) → IsQuietAny w (handed_done site node message w)
   handed-quiet node (Asking request) =
-      at-copy-quiet site w request.process node (Asking request) (λ k pair. asked-quiet request k pair (copy_of k pair).role) (slice_get w.processes request.process)
+      at-copy-quiet site w request.process node (Asking request)
+      (λ k pair. asked-quiet request k pair (copy_of k pair).role) (slice_get w.processes request.process)
   handed-quiet node (Replying reply) = replied-quiet node reply _
   handed-quiet node (Checkpointing message) =
-      at-copy-quiet site w message.process node (Checkpointing message) (λ k pair. checkpoint-quiet message k pair (copy_of k pair).role) (slice_get w.processes message.process)
+      at-copy-quiet site w message.process node (Checkpointing message)
+      (λ k pair. checkpoint-quiet message k pair (copy_of k pair).role) (slice_get w.processes message.process)
   handed-quiet node (Taking taken) =
-      at-copy-quiet site w taken.process node (Taking taken) (λ k pair. taken-quiet taken k pair (copy_of k pair).role) (slice_get w.processes taken.process)
+      at-copy-quiet site w taken.process node (Taking taken) (λ k pair. taken-quiet taken k pair (copy_of k pair).role)
+      (slice_get w.processes taken.process)
 
   pub stop-quiet : (processor : ℕ) → IsQuietAny w (stop_done processor w)
   stop-quiet processor = by (slice_get w.stopped processor)
@@ -275,7 +341,11 @@ module _ (site : Site) (w : World) where
       by None = tt
       by (Some true) = tt
       by (Some false) = record {
-        size = record { stopped = length-set w.stopped processor true; processes = length-map w.processes _; terminals = refl };
+        size = record {
+          stopped = length-set w.stopped processor true;
+          processes = length-map w.processes _;
+          terminals = refl;
+        };
         marks = refl;
         few = omega arith;
       }

@@ -1,5 +1,6 @@
 -- Each request on the wires of what is played names an opener that is there.
-use Rattle.std.proofs.Common.{◌≡◌, ◌<◌, inl, inr, ℕ, zero, suc, ◌+◌, Bool, true, false, if◌then◌else◌, List, [], ◌∷◌, ◌++◌, length, Option, Some, None, option_map, refl, subst, sym}
+use Rattle.std.proofs.Common.{◌≡◌, ◌<◌, inl, inr, ℕ, zero, suc, ◌+◌, Bool, true, false, if◌then◌else◌, List, [], ◌∷◌}
+use Rattle.std.proofs.Common.{◌++◌, length, Option, Some, None, option_map, refl, subst, sym}
 use Rattle.std.specs.List.{cons_option}
 use Rattle.gd_words.specs.Members.{IsAmong}
 use Rattle.gd_words.specs.declared.message.Request.{Request}
@@ -14,11 +15,15 @@ use Rattle.computed_changes.specs.Stopped.{down_done}
 use Rattle.letters.specs.Routes.{Letter, receiver_of, letters_of}
 use Rattle.letters.specs.Again.{sent_again}
 use Rattle.machine_states.specs.States.{Played, Makes, Skips, WouldStop}
-use Rattle.message_wires.specs.Wires.{Sent, Wires, has_room, put_on, wires_after_post, wires_after_posts, is_of, without_number, paid, without_packet, is_due, put_again}
-use Rattle.message_wires.specs.Play.{MachineState, after_done, made_by, after_any, state_after_handing, comes_in, deliver_played, lose_played, repeat_played, has_stopped, fail_played, noted_by, notes_from, state_after_tick, tick_played, packet_at, play}
+use Rattle.message_wires.specs.Wires.{Sent, Wires, has_room, put_on, wires_after_post, wires_after_posts, is_of}
+use Rattle.message_wires.specs.Wires.{without_number, paid, without_packet, is_due, put_again}
+use Rattle.message_wires.specs.Play.{MachineState, after_done, made_by, after_any, state_after_handing, comes_in}
+use Rattle.message_wires.specs.Play.{deliver_played, lose_played, repeat_played, has_stopped, fail_played, noted_by}
+use Rattle.message_wires.specs.Play.{notes_from, state_after_tick, tick_played, packet_at, play}
 use Rattle.message_wires.specs.Runs.{IsPlayed, played_none, played_more, skipped}
 use Rattle.number_laws.proofs.Each.{Each, each-get, each-append, each-filter, each-remove}
-use Rattle.number_laws.proofs.Openers.{Names, AreNaming, AnyNames, run-named, enter-named, handed-named, stop-named, mark-named, again-named}
+use Rattle.number_laws.proofs.Openers.{Names, AreNaming, AnyNames, run-named, enter-named, handed-named, stop-named}
+use Rattle.number_laws.proofs.Openers.{mark-named, again-named}
 
 -- Wires
 
@@ -32,40 +37,51 @@ module _ (site : Site) where
   abbrev WiresName : Wires → Type 0
   WiresName wires = AreSent wires.bus × AreSent wires.owed
 
-  letters-named : (w : World) (sendings : List Sending) → AreNaming site sendings → AreLetters (letters_of site w sendings)
+  letters-named : (w : World) (sendings : List Sending) → AreNaming site sendings
+      → AreLetters (letters_of site w sendings)
   letters-named w [] are = tt
-  letters-named w (sending ∷ sendings) are = by (receiver_of site w sending.node sending.message) (letters-named w sendings are.1)
+  letters-named w (sending ∷ sendings) are =
+      by (receiver_of site w sending.node sending.message) (letters-named w sendings are.1)
     where
       by : (receiver : Option ℕ) → AreLetters (letters_of site w sendings)
-          → AreLetters (cons_option (option_map (λ receiver. record { sender = sending.node; receiver = receiver; message = sending.message }) receiver)
+          → AreLetters (cons_option (option_map (λ receiver.
+          record { sender = sending.node; receiver = receiver; message = sending.message }) receiver)
           (letters_of site w sendings))
       by None rest = rest
       by (Some receiver) rest = (are.0, rest)
 
-  put-named : (packet : Sent) (bus : List Sent) → Names site packet.letter.message → AreSent bus → AreSent (put_on packet bus)
+  put-named : (packet : Sent) (bus : List Sent) → Names site packet.letter.message → AreSent bus
+      → AreSent (put_on packet bus)
   put-named packet bus is are = by (has_room bus)
     where
       by : (room : Bool) → AreSent (if room then bus ++ packet ∷ [] else bus)
       by true = each-append _ bus (packet ∷ []) are (is, tt)
       by false = are
 
-  posted-named : (letters : List Letter) (wires : Wires) → AreLetters letters → WiresName wires → WiresName (wires_after_posts letters wires)
+  posted-named : (letters : List Letter) (wires : Wires) → AreLetters letters → WiresName wires
+      → WiresName (wires_after_posts letters wires)
   posted-named [] wires are is = is
   posted-named (letter ∷ letters) wires are is =
-      posted-named letters (wires_after_post letter wires) are.1
-      (put-named _ wires.bus are.0 is.0, each-append _ wires.owed (record { number = wires.count; letter = letter } ∷ []) is.1 (are.0, tt))
+      posted-named letters (wires_after_post letter wires) are.1 (
+        put-named _ wires.bus are.0 is.0,
+        each-append _ wires.owed
+            (record { number = wires.count; letter = letter } ∷ []) is.1 (are.0, tt),
+      )
 
   without-named : (number : ℕ) (all : List Sent) → AreSent all → AreSent (without_number number all)
   without-named number [] are = tt
   without-named number (one ∷ rest) are = by (is_of number one) (without-named number rest are.1)
     where
-      by : (test : Bool) → AreSent (without_number number rest) → AreSent (if test then rest else one ∷ without_number number rest)
+      by : (test : Bool) → AreSent (without_number number rest)
+          → AreSent (if test then rest else one ∷ without_number number rest)
       by true without = are.1
       by false without = (are.0, without)
 
-  again-put : (stopped : List Bool) (node : ℕ) (owed bus : List Sent) → AreSent owed → AreSent bus → AreSent (put_again stopped node owed bus)
+  again-put : (stopped : List Bool) (node : ℕ) (owed bus : List Sent) → AreSent owed → AreSent bus
+      → AreSent (put_again stopped node owed bus)
   again-put stopped node [] bus are is = is
-  again-put stopped node (one ∷ rest) bus are is = again-put stopped node rest _ are.1 (by (is_due stopped node bus one))
+  again-put stopped node (one ∷ rest) bus are is =
+      again-put stopped node rest _ are.1 (by (is_due stopped node bus one))
     where
       by : (due : Bool) → AreSent (if due then put_on one bus else bus)
       by true = put-named one bus are.0 is
@@ -81,18 +97,23 @@ PlayedNames (Makes next) = WholeNames next
 PlayedNames Skips = Unit {0}
 PlayedNames (WouldStop processor) = Unit {0}
 
-done-named : (s : MachineState) (done : Done) → WholeNames s → AreNaming s.site done.sendings → WholeNames (after_done s done)
-done-named s done names are = posted-named s.site (letters_of s.site done.world done.sendings) s.wires (letters-named s.site done.world done.sendings are) names
+done-named : (s : MachineState) (done : Done) → WholeNames s → AreNaming s.site done.sendings
+    → WholeNames (after_done s done)
+done-named s done names are = posted-named s.site (letters_of s.site done.world done.sendings) s.wires
+    (letters-named s.site done.world done.sendings are) names
 
-made-named : (s : MachineState) (done : Option Done) → WholeNames s → AnyNames s.site done → PlayedNames (made_by s done)
+made-named : (s : MachineState) (done : Option Done) → WholeNames s → AnyNames s.site done
+    → PlayedNames (made_by s done)
 made-named s None names are = tt
 made-named s (Some done) names are = done-named s done names are
 
-any-named : (s : MachineState) (done : Option Done) → WholeNames s → AnyNames s.site done → WholeNames (after_any s done)
+any-named : (s : MachineState) (done : Option Done) → WholeNames s → AnyNames s.site done
+    → WholeNames (after_any s done)
 any-named s None names are = names
 any-named s (Some done) names are = done-named s done names are
 
-marked-named : (node processor : ℕ) (s : MachineState) (done : Option Done) → WholeNames s → AnyNames s.site done → WholeNames (noted_by node processor s done)
+marked-named : (node processor : ℕ) (s : MachineState) (done : Option Done) → WholeNames s → AnyNames s.site done
+    → WholeNames (noted_by node processor s done)
 marked-named node processor s None names are = names
 marked-named node processor s (Some done) names are =
     posted-named s.site _ _
@@ -100,7 +121,8 @@ marked-named node processor s (Some done) names are =
     (each-append _ done.sendings _ are (again-named s.site s.world node processor done.world)))
     (names.0, each-filter _ _ s.wires.owed names.1)
 
-marks-named : (node processor left : ℕ) (s : MachineState) → WholeNames s → WholeNames (notes_from node processor left s)
+marks-named : (node processor left : ℕ) (s : MachineState) → WholeNames s
+    → WholeNames (notes_from node processor left s)
 marks-named node processor zero s names = names
 marks-named node processor (suc left) s names =
     marks-named node (processor + 1) left _
@@ -109,14 +131,16 @@ marks-named node processor (suc left) s names =
 tick-named : (node : ℕ) (s : MachineState) → WholeNames s → PlayedNames (tick_played node s)
 tick-named node s names = by (is_running s.world.stopped node)
   where
-    by : (test : Bool) → PlayedNames (if test then Makes (state_after_tick node (notes_from node 0 (length s.world.stopped) s)) else Skips)
+    by : (test : Bool) → PlayedNames (if test then Makes
+        (state_after_tick node (notes_from node 0 (length s.world.stopped) s)) else Skips)
     by true =
         let after = notes_from node 0 (length s.world.stopped) s in
         let marked = marks-named node 0 (length s.world.stopped) s names in
         (again-put after.site after.world.stopped node after.wires.owed after.wires.bus marked.1 marked.0, marked.1)
     by false = tt
 
-fail-named : (processor : ℕ) (s : MachineState) (done : Option Done) → WholeNames s → AnyNames s.site done → PlayedNames (fail_played processor s done)
+fail-named : (processor : ℕ) (s : MachineState) (done : Option Done) → WholeNames s → AnyNames s.site done
+    → PlayedNames (fail_played processor s done)
 fail-named processor s None names are = tt
 fail-named processor s (Some done) names are = by (has_stopped s.world.stopped)
   where
@@ -137,7 +161,8 @@ module _ (s : MachineState) (names : WholeNames s) where
   deliver-named k (Some packet) = by (comes_in (record s { wires = without_packet k s.wires }) packet.letter)
     where
       by : (test : Bool)
-          → WholeNames (if test then state_after_handing packet (record s { wires = without_packet k s.wires }) else record s { wires = without_packet k s.wires })
+          → WholeNames (if test then state_after_handing packet (record s { wires = without_packet k s.wires }) else
+          record s { wires = without_packet k s.wires })
       by true =
           any-named (record s { wires = paid packet.number (without_packet k s.wires) }) _
           ((without k).0, without-named s.site packet.number s.wires.owed names.1)
@@ -148,9 +173,11 @@ module _ (s : MachineState) (names : WholeNames s) where
   lose-named k None = tt
   lose-named k (Some packet) = without k
 
-  repeat-named : (y : Bool) (k : ℕ) (packet : Option Sent) → packet_at s y k ≡ packet → PlayedNames (repeat_played s packet)
+  repeat-named : (y : Bool) (k : ℕ) (packet : Option Sent) → packet_at s y k ≡ packet
+      → PlayedNames (repeat_played s packet)
   repeat-named y k None there = tt
-  repeat-named y k (Some packet) there = (put-named s.site packet s.wires.bus (packet-there y k packet there) names.0, names.1)
+  repeat-named y k (Some packet) there =
+      (put-named s.site packet s.wires.bus (packet-there y k packet there) names.0, names.1)
 
   play-named : (event : Event) → PlayedNames (play s event)
   play-named (Run number) = made-named s _ names (run-named s.site s.world number)
@@ -175,8 +202,11 @@ each-among P (y ∷ xs) x each (inl same) = subst P (sym same) each.0
 each-among P (y ∷ xs) x each (inr among) = each-among P xs x each.1 among
 
 -- each request on the bus names an opener that is there
-pub openers-there : (site : Site) (events : List Event) (s : MachineState) → IsPlayed site events s → (packet : Sent) (request : Request)
-    → IsAmong packet s.wires.bus → packet.letter.message ≡ Asking request → request.opener < length (openers_of s.site request.process)
+pub openers-there : (site : Site) (events : List Event) (s : MachineState) → IsPlayed site events s
+    → (packet : Sent) (request : Request)
+    → IsAmong packet s.wires.bus → packet.letter.message ≡ Asking request
+    → request.opener < length (openers_of s.site request.process)
 openers-there site events s played packet request among asks =
     subst (Names s.site) asks
-    (each-among (λ (sent : Sent). Names s.site sent.letter.message) s.wires.bus packet (played-named site events s played).0 among)
+    (each-among (λ (sent : Sent). Names s.site sent.letter.message) s.wires.bus packet
+    (played-named site events s played).0 among)

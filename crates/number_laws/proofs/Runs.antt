@@ -1,11 +1,13 @@
 -- Where a process runs, each number is raised by one at most.
-use Rattle.std.proofs.Common.{◌≡◌, ◌≤◌, ◌<◌, ℕ, ◌+◌, Bool, true, false, List, [], ◌∷◌, length, Option, Some, None, nat_lt, slice_get, slice_set, refl, arith, length-append}
+use Rattle.std.proofs.Common.{◌≡◌, ◌≤◌, ◌<◌, ℕ, ◌+◌, Bool, true, false, List, [], ◌∷◌, length, Option, Some, None}
+use Rattle.std.proofs.Common.{nat_lt, slice_get, slice_set, refl, arith, length-append}
 use Rattle.tal_tree.specs.declared.act.Act.{Act}
 use Rattle.tal_tree.specs.declared.site.Site.{Site}
 use Rattle.process_semantics.specs.declared.disc.DiscState.{DiscState}
 use Rattle.process_semantics.specs.declared.point.Point.{Point}
 use Rattle.process_semantics.specs.declared.point.Point.TheVariants as point
-use Rattle.process_semantics.specs.Image.{disc_words, image_of, imaged_at, state_words, listed_items, listed_files, restored_disc}
+use Rattle.process_semantics.specs.Image.{disc_words, image_of, imaged_at, state_words, listed_items, listed_files}
+use Rattle.process_semantics.specs.Image.{restored_disc}
 use Rattle.process_semantics.specs.Process as process
 use Rattle.process_semantics.specs.Process.{ProcessState, Runs, Serves}
 use Rattle.checkpoint_image.specs.declared.message.FileNumber.{FileNumber}
@@ -19,27 +21,34 @@ use Rattle.world_semantics.specs.Messages.{Message, sent_at}
 use Rattle.world_semantics.specs.Own.{around}
 use Rattle.world_semantics.specs.Passes.{after_sending, copy_at_checkpoint, checkpoint_of, kept_at_checkpoint}
 use Rattle.world_semantics.specs.Records.{records_of}
-use Rattle.world_semantics.specs.Running.{Own, Stepped, copy_acted, first_step, own_at, run_done, run_pair, step_of_copy}
+use Rattle.world_semantics.specs.Running.{Own, Stepped, copy_acted, first_step, own_at, run_done, run_pair}
+use Rattle.world_semantics.specs.Running.{step_of_copy}
 use Rattle.world_semantics.specs.Shares.{share_after_act, share_of}
 use Rattle.world_semantics.specs.World.{Copy, Pair, World, copy_of, with_copy, may_pass}
 use Rattle.world_semantics.proofs.Lifted.{lifted, mark_done, own_done, own_made, passed_done, run_as, run_at, sent_done}
 use Rattle.world_semantics.proofs.Lists.{set-all}
 use Rattle.number_laws.proofs.Each.{Each, each-more, each-always, each-map}
-use Rattle.number_laws.proofs.Within.{StateWithin, CoreWithin, CopyWithin, PairWithin, PairsWithin, ImageWithin, MessageWithin, AreSendings, WorldWithin, DoneWithin, AnyWithin, core-more, pair-more, terminals-more, held_in, held-with, held-set, held-there, held-one}
+use Rattle.number_laws.proofs.Within.{StateWithin, CoreWithin, CopyWithin, PairWithin, PairsWithin, ImageWithin}
+use Rattle.number_laws.proofs.Within.{MessageWithin, AreSendings, WorldWithin, DoneWithin, AnyWithin, core-more}
+use Rattle.number_laws.proofs.Within.{pair-more, terminals-more, held_in, held-with, held-set, held-there, held-one}
 use Rattle.number_laws.proofs.Images.{restored-number}
-use Rattle.number_laws.proofs.Acts.{entered-within, own-few, OwnWithin, AnyOwnWithin, own-within, next-low, state-marked}
+use Rattle.number_laws.proofs.Acts.{entered-within, own-few, OwnWithin, AnyOwnWithin, own-within, next-low}
+use Rattle.number_laws.proofs.Acts.{state-marked}
 
 -- Images
 
-image-number : (n : ℕ) (items : List ℕ) (s : ProcessState) (d : Bool) → n < 4294967295 → StateWithin n d s → d ≡ true → (hand : Bool) (t : DiscState)
+image-number : (n : ℕ) (items : List ℕ) (s : ProcessState) (d : Bool) → n < 4294967295 → StateWithin n d s → d ≡ true
+    → (hand : Bool) (t : DiscState)
     → restored_disc hand (image_of items s) ≡ Some t → t.last_write ≤ n
 image-number n items (Runs code s) d low is disc hand t restores = absurd (cc)
 image-number n items (Serves sectors s) d low is disc hand t restores = by s.label restores
   where
     known : restored_disc hand (disc_words s) ≡ Some t → t.last_write ≤ n
-    known given = let number = restored-number hand s t (let few = is.1 in omega (arith, few, low)) given in let few = is.1 in omega (arith, number, few)
+    known given = let number = restored-number hand s t (let few = is.1 in omega (arith, few, low)) given in let few =
+        is.1 in omega (arith, number, few)
 
-    by : (label : Point) → restored_disc hand (state_words items (imaged_at (Serves sectors s) label)) ≡ Some t → t.last_write ≤ n
+    by : (label : Point) → restored_disc hand (state_words items (imaged_at (Serves sectors s) label)) ≡ Some t
+        → t.last_write ≤ n
     by point.AtCheckpoint given = known given
     by point.Inner given = known given
     by point.Take given = known given
@@ -50,13 +59,15 @@ image-number n items (Serves sectors s) d low is disc hand t restores = by s.lab
     by point.Ended given = known given
 
 -- what a core's checkpoint carries
-pub carried-within : (n : ℕ) (d : Bool) (core : Core) → n < 4294967295 → CoreWithin n d core → ImageWithin n d (carried core)
+pub carried-within : (n : ℕ) (d : Bool) (core : Core) → n < 4294967295 → CoreWithin n d core
+    → ImageWithin n d (carried core)
 carried-within n d core low is = record {
   files = each-map _ (λ file. record { file = file; next = next_on core file }) (listed_files core.state)
       (each-always _ (λ file. next-low n core.next file is.next) (listed_files core.state));
   taken = is.taken;
   kept = is.kept;
-  write = λ disc hand t restores. image-number n (listed_items core.state) core.state d low is.state disc hand t restores;
+  write = λ disc hand t restores. image-number n (listed_items core.state) core.state d low is.state disc hand t
+      restores;
 }
 
 -- Copies of pairs
@@ -65,21 +76,26 @@ pub copy-there : (n : ℕ) (d : Bool) (k : Which) (pair : Pair) → PairWithin n
 copy-there n d First pair is = is.0
 copy-there n d Second pair is = is.1
 
-pub pair-with : (n : ℕ) (d : Bool) (k : Which) (copy : Copy) (pair : Pair) → PairWithin n d pair → CopyWithin n d copy → PairWithin n d (with_copy k copy pair)
+pub pair-with : (n : ℕ) (d : Bool) (k : Which) (copy : Copy) (pair : Pair) → PairWithin n d pair → CopyWithin n d copy
+    → PairWithin n d (with_copy k copy pair)
 pair-with n d First copy pair is one = (one, is.1, is.2)
 pair-with n d Second copy pair is one = (is.0, one, is.2)
 
 module _ (n : ℕ) (kinds : ℕ → Bool) (w : World) (within : WorldWithin n kinds w) where
   -- a process is changed
-  pub pairs-set : (number : ℕ) (next : Pair) → PairWithin (n + 1) (kinds number) next → PairsWithin (n + 1) kinds (slice_set w.processes number next)
+  pub pairs-set : (number : ℕ) (next : Pair) → PairWithin (n + 1) (kinds number) next
+      → PairsWithin (n + 1) kinds (slice_set w.processes number next)
   pairs-set number next is =
-      set-all (λ j. PairWithin (n + 1) (kinds j)) w.processes number next (λ j pair there. pair-more (n + 1) n (kinds j) pair (omega arith) (within.pairs j pair there)) is
+      set-all (λ j. PairWithin (n + 1) (kinds j)) w.processes number next
+      (λ j pair there. pair-more (n + 1) n (kinds j) pair (omega arith) (within.pairs j pair there)) is
 
-  pub pair-there : (number : ℕ) (pair : Pair) → slice_get w.processes number ≡ Some pair → PairWithin (n + 1) (kinds number) pair
+  pub pair-there : (number : ℕ) (pair : Pair) → slice_get w.processes number ≡ Some pair
+      → PairWithin (n + 1) (kinds number) pair
   pair-there number pair there = pair-more (n + 1) n (kinds number) pair (omega arith) (within.pairs number pair there)
 
   -- one copy of it is, and the kept acts with it
-  pub acts-set : (number : ℕ) (k : Which) (pair other : Pair) (copy : Copy) (kept : List Act) → slice_get w.processes number ≡ Some pair → other.first ≡ pair.first
+  pub acts-set : (number : ℕ) (k : Which) (pair other : Pair) (copy : Copy) (kept : List Act)
+      → slice_get w.processes number ≡ Some pair → other.first ≡ pair.first
       → other.second ≡ pair.second → length kept + length copy.held ≤ length w.kept + length (copy_of k pair).held + 1
       → length kept + held_in (slice_set w.processes number (with_copy k copy other)) ≤ n + 1
   acts-set number k pair other copy kept there first second few =
@@ -88,7 +104,8 @@ module _ (n : ℕ) (kinds : ℕ → Bool) (w : World) (within : WorldWithin n ki
       let acts = within.acts in
       omega (arith, one, all, acts, few)
 
-  module _ (low : n < 4294967295) (number : ℕ) (k : Which) (pair : Pair) (there : slice_get w.processes number ≡ Some pair) where
+  module _ (low : n < 4294967295) (number : ℕ) (k : Which) (pair : Pair)
+      (there : slice_get w.processes number ≡ Some pair) where
     whole : PairWithin (n + 1) (kinds number) pair
     whole = pair-there number pair there
 
@@ -96,10 +113,12 @@ module _ (n : ℕ) (kinds : ℕ → Bool) (w : World) (within : WorldWithin n ki
     own = copy-there n (kinds number) k pair (within.pairs number pair there)
 
     -- an act of its own
-    sent-messages : (node : ℕ) (messages : List Message) → Each (MessageWithin (n + 1) kinds) messages → AreSendings (n + 1) kinds (sent_at node messages)
+    sent-messages : (node : ℕ) (messages : List Message) → Each (MessageWithin (n + 1) kinds) messages
+        → AreSendings (n + 1) kinds (sent_at node messages)
     sent-messages node messages each = each-map _ (λ message. record { node = node; message = message }) messages each
 
-    pub own-done : (o : Own) → OwnWithin (n + 1) kinds (kinds number) o → DoneWithin (n + 1) kinds (own_done number k pair w o)
+    pub own-done : (o : Own) → OwnWithin (n + 1) kinds (kinds number) o
+        → DoneWithin (n + 1) kinds (own_done number k pair w o)
     own-done o o-is =
         let e = entered-within number o.done w.kept (copy_of k pair) in
         record {
@@ -115,14 +134,16 @@ module _ (n : ℕ) (kinds : ℕ → Bool) (w : World) (within : WorldWithin n ki
                 ));
             acts =
                 acts-set number k pair (record pair { sectors = o.after.sectors })
-                (copy_acted number w.kept o (copy_of k pair)) (share_after_act number o.done w.kept (share_of (copy_of k pair))).kept there refl refl e.acts;
+                (copy_acted number w.kept o (copy_of k pair))
+                (share_after_act number o.done w.kept (share_of (copy_of k pair))).kept there refl refl e.acts;
             shown = o-is.shown;
             terminals = terminals-more (n + 1) n w.terminals (omega arith) within.terminals;
           };
           sendings = sent-messages (copy_of k pair).processor o.messages o-is.messages;
         }
 
-    any-own : (o : Option Own) → AnyOwnWithin (n + 1) kinds (kinds number) o → AnyWithin (n + 1) kinds (own_made number k pair w o)
+    any-own : (o : Option Own) → AnyOwnWithin (n + 1) kinds (kinds number) o
+        → AnyWithin (n + 1) kinds (own_made number k pair w o)
     any-own None o-is = tt
     any-own (Some o) o-is = own-done o o-is
 
@@ -130,7 +151,12 @@ module _ (n : ℕ) (kinds : ℕ → Bool) (w : World) (within : WorldWithin n ki
     marked-core : CoreWithin (n + 1) (kinds number) (copy_at_checkpoint (copy_of k pair)).core
     marked-core =
         let core = core-more (n + 1) n (kinds number) (copy_of k pair).core (omega arith) own.0 in
-        record { state = state-marked (n + 1) (kinds number) (copy_of k pair).core.state core.state; next = core.next; taken = core.taken; kept = core.kept }
+        record {
+          state = state-marked (n + 1) (kinds number) (copy_of k pair).core.state core.state;
+          next = core.next;
+          taken = core.taken;
+          kept = core.kept;
+        }
 
     waiting-low : length (copy_of k pair).waiting ≤ n + 1
     waiting-low = let few = own.4 in omega (arith, few)
@@ -138,18 +164,22 @@ module _ (n : ℕ) (kinds : ℕ → Bool) (w : World) (within : WorldWithin n ki
     number-low : (copy_of k pair).number ≤ n + 1
     number-low = let few = own.1 in omega (arith, few)
 
-    mark-few : length (kept_at_checkpoint number (copy_of k pair) w.kept) ≤ length w.kept + length (copy_of k pair).held + 1
+    mark-few : length (kept_at_checkpoint number (copy_of k pair) w.kept)
+        ≤ length w.kept + length (copy_of k pair).held + 1
     mark-few = let sum = length-append (copy_of k pair).held w.kept in omega (arith, sum)
 
     held-low : length (copy_of k pair).held ≤ held_in w.processes
-    held-low = let one = held-one k pair in let all = held-there w.processes number pair there in omega (arith, one, all)
+    held-low = let one =
+        held-one k pair in let all = held-there w.processes number pair there in omega (arith, one, all)
 
     passed : (again : Bool) → DoneWithin (n + 1) kinds (passed_done number k pair w again)
     passed true = record {
       world = record {
-        pairs = pairs-set number _ (pair-with (n + 1) (kinds number) k _ pair whole (marked-core, number-low, own.2, (let few = own.3 in omega (arith, few)), waiting-low));
+        pairs = pairs-set number _ (pair-with (n + 1) (kinds number) k _ pair whole
+            (marked-core, number-low, own.2, (let few = own.3 in omega (arith, few)), waiting-low));
         acts =
-            acts-set number k pair pair (record (copy_at_checkpoint (copy_of k pair)) { position = (copy_of k pair).position + 1 }) w.kept there refl refl (omega arith);
+            acts-set number k pair pair (record (copy_at_checkpoint (copy_of k pair))
+            { position = (copy_of k pair).position + 1 }) w.kept there refl refl (omega arith);
         shown = let few = within.shown in omega (arith, few);
         terminals = terminals-more (n + 1) n w.terminals (omega arith) within.terminals;
       };
@@ -170,7 +200,8 @@ module _ (n : ℕ) (kinds : ℕ → Bool) (w : World) (within : WorldWithin n ki
             ));
         acts =
             acts-set number k pair pair
-            (record (copy_at_checkpoint (copy_of k pair)) { position = own_acts number (kept_at_checkpoint number (copy_of k pair) w.kept); held = [] })
+            (record (copy_at_checkpoint (copy_of k pair))
+            { position = own_acts number (kept_at_checkpoint number (copy_of k pair) w.kept); held = [] })
             (kept_at_checkpoint number (copy_of k pair) w.kept) there refl refl (omega (arith, mark-few));
         shown = let few = within.shown in omega (arith, few);
         terminals = terminals-more (n + 1) n w.terminals (omega arith) within.terminals;
@@ -192,7 +223,10 @@ module _ (n : ℕ) (kinds : ℕ → Bool) (w : World) (within : WorldWithin n ki
               waiting-low,
             ));
         acts =
-            acts-set number k pair (record pair { checkpoints = checkpoint_of number (copy_of k pair) ∷ pair.checkpoints }) (after_sending (copy_of k pair)) w.kept
+            acts-set number k pair (record pair {
+              checkpoints = checkpoint_of number (copy_of k pair)
+                  ∷ pair.checkpoints;
+            }) (after_sending (copy_of k pair)) w.kept
             there refl refl (omega arith);
         shown = let few = within.shown in omega (arith, few);
         terminals = terminals-more (n + 1) n w.terminals (omega arith) within.terminals;
@@ -204,7 +238,8 @@ module _ (n : ℕ) (kinds : ℕ → Bool) (w : World) (within : WorldWithin n ki
         image-later =
             let image = carried-within n (kinds number) (copy_of k pair).core low own.0 in
             record {
-              files = each-more _ _ (λ (named : FileNumber) few. omega (arith, few)) (carried (copy_of k pair).core).files image.files;
+              files = each-more _ _ (λ (named : FileNumber) few. omega (arith, few))
+                  (carried (copy_of k pair).core).files image.files;
               taken = each-more _ _ (λ block few. omega (arith, few)) (copy_of k pair).core.receive.openers image.taken;
               kept = let few = image.kept in omega (arith, few);
               write = λ disc hand t restores. let few = image.write disc hand t restores in omega (arith, few);
@@ -217,10 +252,12 @@ module _ (n : ℕ) (kinds : ℕ → Bool) (w : World) (within : WorldWithin n ki
 
     -- where it runs
     acts-at : (site : Site) (stands : Point)
-        → AnyWithin (n + 1) kinds (own_made number k pair w (own_at site number (copy_of k pair).core (around (copy_of k pair) pair w) stands))
+        → AnyWithin (n + 1) kinds (own_made number k pair w
+        (own_at site number (copy_of k pair).core (around (copy_of k pair) pair w) stands))
     acts-at site stands =
         any-own (own_at site number (copy_of k pair).core (around (copy_of k pair) pair w) stands)
-        (own-within n kinds (kinds number) number (copy_of k pair).core (around (copy_of k pair) pair w) own.0 within.shown own.4 site stands)
+        (own-within n kinds (kinds number) number (copy_of k pair).core (around (copy_of k pair) pair w) own.0
+        within.shown own.4 site stands)
 
     run-point : (site : Site) (stands : Point) → AnyWithin (n + 1) kinds (run_at site number k pair w stands)
     run-point site point.AtCheckpoint = marks (may_pass w.marks k pair) (copy_of k pair).sent
@@ -237,7 +274,8 @@ module _ (n : ℕ) (kinds : ℕ → Bool) (w : World) (within : WorldWithin n ki
     run-role site Watching = tt
     run-role site Gone = tt
 
-  either-within : (number : ℕ) (one other : Option Stepped) → AnyWithin (n + 1) kinds (lifted number w one) → AnyWithin (n + 1) kinds (lifted number w other)
+  either-within : (number : ℕ) (one other : Option Stepped) → AnyWithin (n + 1) kinds (lifted number w one)
+      → AnyWithin (n + 1) kinds (lifted number w other)
       → AnyWithin (n + 1) kinds (lifted number w (first_step one other))
   either-within number None other first second = second
   either-within number (Some step) other first second = first
@@ -245,9 +283,11 @@ module _ (n : ℕ) (kinds : ℕ → Bool) (w : World) (within : WorldWithin n ki
   pub run-within : n < 4294967295 → (site : Site) (number : ℕ) → AnyWithin (n + 1) kinds (run_done site number w)
   run-within low site number = by (slice_get w.processes number) refl
     where
-      by : (there : Option Pair) → slice_get w.processes number ≡ there → AnyWithin (n + 1) kinds (run_pair site number w there)
+      by : (there : Option Pair) → slice_get w.processes number ≡ there
+          → AnyWithin (n + 1) kinds (run_pair site number w there)
       by None there = tt
       by (Some pair) there =
-          either-within number (step_of_copy site number pair w.marks (records_of w) First) (step_of_copy site number pair w.marks (records_of w) Second)
+          either-within number (step_of_copy site number pair w.marks (records_of w) First)
+          (step_of_copy site number pair w.marks (records_of w) Second)
           (run-role low number First pair there site pair.first.role)
           (run-role low number Second pair there site pair.second.role)

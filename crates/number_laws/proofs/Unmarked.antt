@@ -1,5 +1,6 @@
 -- How many marks can still be made: each mark leaves one fewer.
-use Rattle.std.proofs.Common.{◌≡◌, ◌≤◌, ◌<◌, ◌⊎◌, inl, inr, ℕ, zero, suc, ◌+◌, ◌*◌, ◌==◌, ◌&&◌, ◌||◌, Bool, true, false, List, ◌∷◌, refl, ap, subst, arith, eq-eqb, eq-or-lt_of_le, suc-mul}
+use Rattle.std.proofs.Common.{◌≡◌, ◌≤◌, ◌<◌, ◌⊎◌, inl, inr, ℕ, zero, suc, ◌+◌, ◌*◌, ◌==◌, ◌&&◌, ◌||◌, Bool, true, false}
+use Rattle.std.proofs.Common.{List, ◌∷◌, refl, ap, subst, arith, eq-eqb, eq-or-lt_of_le, suc-mul}
 use Rattle.world_semantics.specs.World.{Down, has_noted}
 
 -- a processor isn't marked by a node
@@ -21,14 +22,16 @@ or-falls : (one other : Bool) → open_mark (one || other) ≤ open_mark other
 or-falls true other = omega arith
 or-falls false other = omega arith
 
-by-falls : (mark : Down) (marks : List Down) (node processors : ℕ) → unmarked_by (mark ∷ marks) node processors ≤ unmarked_by marks node processors
+by-falls : (mark : Down) (marks : List Down) (node processors : ℕ)
+    → unmarked_by (mark ∷ marks) node processors ≤ unmarked_by marks node processors
 by-falls mark marks node zero = omega arith
 by-falls mark marks node (suc processor) =
     let one = or-falls (mark.node == node && mark.down == processor) (has_noted marks node processor) in
     let rest = by-falls mark marks node processor in
     omega (arith, one, rest)
 
-falls : (mark : Down) (marks : List Down) (processors nodes : ℕ) → unmarked (mark ∷ marks) processors nodes ≤ unmarked marks processors nodes
+falls : (mark : Down) (marks : List Down) (processors nodes : ℕ)
+    → unmarked (mark ∷ marks) processors nodes ≤ unmarked marks processors nodes
 falls mark marks processors zero = omega arith
 falls mark marks processors (suc node) =
     let one = by-falls mark marks node processors in
@@ -38,7 +41,8 @@ falls mark marks processors (suc node) =
 now-marked : (mark : Down) (marks : List Down) → has_noted (mark ∷ marks) mark.node mark.down ≡ true
 now-marked mark marks = rw (eq-eqb mark.node mark.node refl, eq-eqb mark.down mark.down refl) refl
 
-by-less : (mark : Down) (marks : List Down) (processors : ℕ) → mark.down < processors → has_noted marks mark.node mark.down ≡ false
+by-less : (mark : Down) (marks : List Down) (processors : ℕ) → mark.down < processors
+    → has_noted marks mark.node mark.down ≡ false
     → unmarked_by (mark ∷ marks) mark.node processors + 1 ≤ unmarked_by marks mark.node processors
 by-less mark marks zero low new = absurd (omega (arith, low))
 by-less mark marks (suc processor) low new = by (eq-or-lt_of_le low) (by-less mark marks processor)
@@ -50,7 +54,8 @@ by-less mark marks (suc processor) low new = by (eq-or-lt_of_le low) (by-less ma
     by (inl is) less =
         let same : mark.down ≡ processor = omega (arith, is) in
         let before = ap open_mark (subst (λ p. has_noted marks mark.node p ≡ false) same new) in
-        let after = ap open_mark (subst (λ p. has_noted (mark ∷ marks) mark.node p ≡ true) same (now-marked mark marks)) in
+        let after = ap open_mark (subst (λ p. has_noted (mark ∷ marks) mark.node p ≡ true) same
+        (now-marked mark marks)) in
         let rest = by-falls mark marks mark.node processor in
         omega (arith, before, after, rest)
     by (inr is) less =
@@ -60,9 +65,11 @@ by-less mark marks (suc processor) low new = by (eq-or-lt_of_le low) (by-less ma
 
 -- a mark that wasn't made leaves one fewer
 marks-less : (mark : Down) (marks : List Down) (processors nodes : ℕ) → mark.node < nodes → mark.down < processors
-    → has_noted marks mark.node mark.down ≡ false → unmarked (mark ∷ marks) processors nodes + 1 ≤ unmarked marks processors nodes
+    → has_noted marks mark.node mark.down ≡ false
+    → unmarked (mark ∷ marks) processors nodes + 1 ≤ unmarked marks processors nodes
 marks-less mark marks processors zero low down new = absurd (omega (arith, low))
-marks-less mark marks processors (suc node) low down new = by (eq-or-lt_of_le low) (marks-less mark marks processors node)
+marks-less mark marks processors (suc node) low down new =
+    by (eq-or-lt_of_le low) (marks-less mark marks processors node)
   where
     by : (suc mark.node ≡ suc node) ⊎ (suc mark.node < suc node)
         → (mark.node < node → mark.down < processors → has_noted marks mark.node mark.down ≡ false
@@ -70,7 +77,8 @@ marks-less mark marks processors (suc node) low down new = by (eq-or-lt_of_le lo
         → unmarked (mark ∷ marks) processors (suc node) + 1 ≤ unmarked marks processors (suc node)
     by (inl is) less =
         let same : mark.node ≡ node = omega (arith, is) in
-        let one = subst (λ n. unmarked_by (mark ∷ marks) n processors + 1 ≤ unmarked_by marks n processors) same (by-less mark marks processors down new) in
+        let one = subst (λ n. unmarked_by (mark ∷ marks) n processors + 1 ≤ unmarked_by marks n processors) same
+        (by-less mark marks processors down new) in
         let rest = falls mark marks processors node in
         omega (arith, one, rest)
     by (inr is) less =
@@ -101,7 +109,8 @@ all-most marks processors (suc node) =
 pub left_marks : List Down → ℕ
 left_marks marks = unmarked marks 256 256
 
-pub left-less : (mark : Down) (marks : List Down) → mark.node < 256 → mark.down < 256 → has_noted marks mark.node mark.down ≡ false
+pub left-less : (mark : Down) (marks : List Down) → mark.node < 256 → mark.down < 256
+    → has_noted marks mark.node mark.down ≡ false
     → left_marks (mark ∷ marks) + 1 ≤ left_marks marks
 unfolding left_marks
 left-less mark marks node down new = marks-less mark marks 256 256 node down new

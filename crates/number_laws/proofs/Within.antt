@@ -1,5 +1,6 @@
 -- How great the numbers of a state are at most after so many events.
-use Rattle.std.proofs.Common.{◌≡◌, ◌≤◌, ℕ, ◌+◌, Bool, true, false, cond, List, [], ◌∷◌, length, Option, Some, None, slice_get, slice_set, map, ap, arith, zero, suc}
+use Rattle.std.proofs.Common.{◌≡◌, ◌≤◌, ℕ, ◌+◌, Bool, true, false, cond, List, [], ◌∷◌, length, Option, Some, None}
+use Rattle.std.proofs.Common.{slice_get, slice_set, map, ap, arith, zero, suc}
 use Rattle.std.specs.List.{filter}
 use Rattle.process_semantics.specs.declared.disc.DiscState.{DiscState}
 use Rattle.process_semantics.specs.Process.{ProcessState, Runs, Serves}
@@ -49,7 +50,8 @@ pub record CoreWithin (n : ℕ) (disc : Bool) (core : Core) : Type 0 where
 -- of a copy: its core, its number, its era if it watches, its position, and how many requests wait
 abbrev pub CopyWithin : ℕ → Bool → Copy → Type 0
 CopyWithin n disc copy =
-    CoreWithin n disc copy.core × (copy.number ≤ n) × (copy.role ≡ Watching → copy.era ≡ 0) × (copy.position ≤ n) × (length copy.waiting ≤ n)
+    CoreWithin n disc copy.core × (copy.number ≤ n) × (copy.role ≡ Watching → copy.era ≡ 0) × (copy.position ≤ n)
+    × (length copy.waiting ≤ n)
 
 abbrev pub PairWithin : ℕ → Bool → Pair → Type 0
 PairWithin n disc pair = CopyWithin n disc pair.first × CopyWithin n disc pair.second × (pair.base ≤ n)
@@ -93,7 +95,8 @@ abbrev pub TerminalWithin : ℕ → Terminal → Type 0
 TerminalWithin n terminal = (terminal.entered ≤ n) × (terminal.printed ≤ n)
 
 abbrev pub PairsWithin : ℕ → (ℕ → Bool) → List Pair → Type 0
-PairsWithin n kinds pairs = (number : ℕ) (pair : Pair) → slice_get pairs number ≡ Some pair → PairWithin n (kinds number) pair
+PairsWithin n kinds pairs =
+    (number : ℕ) (pair : Pair) → slice_get pairs number ≡ Some pair → PairWithin n (kinds number) pair
 
 pub record WorldWithin (n : ℕ) (kinds : ℕ → Bool) (w : World) : Type 0 where
   pub pairs : PairsWithin n kinds w.processes
@@ -127,9 +130,11 @@ copy-more m n disc copy less is =
     (core-more m n disc copy.core less is.0, more m n _ less is.1, is.2, more m n _ less is.3, more m n _ less is.4)
 
 pub pair-more : (m n : ℕ) (disc : Bool) (pair : Pair) → n ≤ m → PairWithin n disc pair → PairWithin m disc pair
-pair-more m n disc pair less is = (copy-more m n disc pair.first less is.0, copy-more m n disc pair.second less is.1, more m n _ less is.2)
+pair-more m n disc pair less is =
+    (copy-more m n disc pair.first less is.0, copy-more m n disc pair.second less is.1, more m n _ less is.2)
 
-pub message-more : (m n : ℕ) (kinds : ℕ → Bool) → n ≤ m → (message : Message) → MessageWithin n kinds message → MessageWithin m kinds message
+pub message-more : (m n : ℕ) (kinds : ℕ → Bool) → n ≤ m → (message : Message) → MessageWithin n kinds message
+    → MessageWithin m kinds message
 message-more m n kinds less (Checkpointing message) is = record {
   files = each-more _ _ (λ named low. more (m + 1) (n + 1) _ (omega (arith, less)) low) message.image.files is.files;
   taken = each-more _ _ (λ block low. more m n _ less low) message.image.receive.openers is.taken;
@@ -143,11 +148,15 @@ message-more m n kinds less (Taking taken) is = tt
 pub sent-more : (m n : ℕ) (kinds : ℕ → Bool) (all : List Sent) → n ≤ m → AreSent n kinds all → AreSent m kinds all
 sent-more m n kinds all less are = each-more _ _ (λ sent is. message-more m n kinds less sent.letter.message is) all are
 
-pub wires-more : (m n : ℕ) (kinds : ℕ → Bool) (wires : Wires) → n ≤ m → WiresWithin n kinds wires → WiresWithin m kinds wires
-wires-more m n kinds wires less are = (sent-more m n kinds wires.bus less are.0, sent-more m n kinds wires.owed less are.1)
+pub wires-more : (m n : ℕ) (kinds : ℕ → Bool) (wires : Wires) → n ≤ m → WiresWithin n kinds wires
+    → WiresWithin m kinds wires
+wires-more m n kinds wires less are =
+    (sent-more m n kinds wires.bus less are.0, sent-more m n kinds wires.owed less are.1)
 
-pub terminals-more : (m n : ℕ) (terminals : List Terminal) → n ≤ m → Each (TerminalWithin n) terminals → Each (TerminalWithin m) terminals
-terminals-more m n terminals less are = each-more _ _ (λ terminal is. (more m n _ less is.0, more m n _ less is.1)) terminals are
+pub terminals-more : (m n : ℕ) (terminals : List Terminal) → n ≤ m → Each (TerminalWithin n) terminals
+    → Each (TerminalWithin m) terminals
+terminals-more m n terminals less are =
+    each-more _ _ (λ terminal is. (more m n _ less is.0, more m n _ less is.1)) terminals are
 
 pub world-more : (m n : ℕ) (kinds : ℕ → Bool) (w : World) → n ≤ m → WorldWithin n kinds w → WorldWithin m kinds w
 world-more m n kinds w less is = record {
@@ -168,9 +177,11 @@ pub held-set : (pairs : List Pair) (number : ℕ) (pair next : Pair) → slice_g
     → held_in (slice_set pairs number next) + held_of pair ≡ held_in pairs + held_of next
 held-set [] number pair next there = absurd (cc)
 held-set (one ∷ pairs) zero pair next there = let same = ap held_of (some-same there) in omega (arith, same)
-held-set (one ∷ pairs) (suc number) pair next there = let rest = held-set pairs number pair next there in omega (arith, rest)
+held-set (one ∷ pairs) (suc number) pair next there =
+    let rest = held-set pairs number pair next there in omega (arith, rest)
 
-pub held-there : (pairs : List Pair) (number : ℕ) (pair : Pair) → slice_get pairs number ≡ Some pair → held_of pair ≤ held_in pairs
+pub held-there : (pairs : List Pair) (number : ℕ) (pair : Pair) → slice_get pairs number ≡ Some pair
+    → held_of pair ≤ held_in pairs
 held-there [] number pair there = absurd (cc)
 held-there (one ∷ pairs) zero pair there = let same = ap held_of (some-same there) in omega (arith, same)
 held-there (one ∷ pairs) (suc number) pair there = let rest = held-there pairs number pair there in omega (arith, rest)
@@ -179,22 +190,27 @@ pub held-one : (k : Which) (pair : Pair) → length (copy_of k pair).held ≤ he
 held-one First pair = omega arith
 held-one Second pair = omega arith
 
-pub held-mapped : (f : Pair → Pair) → ((pair : Pair) → held_of (f pair) ≤ held_of pair) → (pairs : List Pair) → held_in (map f pairs) ≤ held_in pairs
+pub held-mapped : (f : Pair → Pair) → ((pair : Pair) → held_of (f pair) ≤ held_of pair) → (pairs : List Pair)
+    → held_in (map f pairs) ≤ held_in pairs
 held-mapped f falls [] = omega arith
-held-mapped f falls (pair ∷ pairs) = let one = falls pair in let rest = held-mapped f falls pairs in omega (arith, one, rest)
+held-mapped f falls (pair ∷ pairs) =
+    let one = falls pair in let rest = held-mapped f falls pairs in omega (arith, one, rest)
 
 -- Kept replies and waiting requests
 
 pub kept-set : (blocks : List OpenerBlock) (place : ℕ) (block next : OpenerBlock) → slice_get blocks place ≡ Some block
     → kept_in (slice_set blocks place next) + length block.kept ≡ kept_in blocks + length next.kept
 kept-set [] place block next there = absurd (cc)
-kept-set (one ∷ blocks) zero block next there = let same = ap (λ (b : OpenerBlock). length b.kept) (some-same there) in omega (arith, same)
-kept-set (one ∷ blocks) (suc place) block next there = let rest = kept-set blocks place block next there in omega (arith, rest)
+kept-set (one ∷ blocks) zero block next there =
+    let same = ap (λ (b : OpenerBlock). length b.kept) (some-same there) in omega (arith, same)
+kept-set (one ∷ blocks) (suc place) block next there =
+    let rest = kept-set blocks place block next there in omega (arith, rest)
 
 pub filter-few : {A : Type 0} (test : A → Bool) (xs : List A) → length (filter test xs) ≤ length xs
 filter-few test [] = omega arith
 filter-few test (x ∷ xs) = by (test x) (filter-few test xs)
   where
-    by : (passes : Bool) → length (filter test xs) ≤ length xs → length (cond passes (x ∷ filter test xs) (filter test xs)) ≤ length (x ∷ xs)
+    by : (passes : Bool) → length (filter test xs) ≤ length xs
+        → length (cond passes (x ∷ filter test xs) (filter test xs)) ≤ length (x ∷ xs)
     by true rest = omega (arith, rest)
     by false rest = omega (arith, rest)

@@ -1,5 +1,6 @@
--- That the numbers of a state have successors, so that the next event can raise them. Request numbers, checkpoint numbers, eras, the numbers of writes, what
--- is counted of terminals and what was shown have 32 bits, and positions and the count of letters 64. The ranges are our own.
+-- That the numbers of a state have successors, so that the next event can raise them. Request numbers, checkpoint
+-- numbers, eras, the numbers of writes, what is counted of terminals and what was shown have 32 bits, and positions and
+-- the count of letters 64. The ranges are our own.
 use Rattle.std.specs.Prelude.{◌≡◌, ◌<◌, ℕ, ◌^◌, length, slice_get, Some}
 use Rattle.std.specs.List.{All}
 use Rattle.gd_words.specs.Ranges.{HasNext, HasNextLong}
@@ -12,8 +13,8 @@ use Rattle.world_semantics.specs.World.{Copy, Pair, Terminal, World, copy_of}
 use Rattle.machine_states.specs.States.{Makes}
 use Rattle.message_wires.specs.Play.{MachineState, play}
 
--- of a copy: the number of the next request on each file, the number last taken from each opener, that of a disc's last write, that of the last checkpoint,
--- the era if it watches, since only then it may take over, and its position
+-- of a copy: the number of the next request on each file, the number last taken from each opener, that of a disc's last
+-- write, that of the last checkpoint, the era if it watches, since only then it may take over, and its position
 pub record CopyHasRoom (copy : Copy) : Type 0 where
   pub next : All HasNext copy.core.next
   pub taken : All (λ (block : OpenerBlock). HasNext block.taken) copy.core.receive.openers

@@ -21,7 +21,8 @@ pub events-name-positions-lose : (end_of laden (event.Lose false 1 ∷ [])).wire
 unfolding out-What shown-the_row-Statement-0 shown out int_wrap
 events-name-positions-lose = refl
 
-pub events-name-positions-repeat : (end_of laden (event.Repeat false 1 ∷ [])).wires.x ≡ stray 5 ∷ stray 6 ∷ stray 7 ∷ stray 6 ∷ []
+pub events-name-positions-repeat : (end_of laden (event.Repeat false 1 ∷ [])).wires.x
+    ≡ stray 5 ∷ stray 6 ∷ stray 7 ∷ stray 6 ∷ []
 unfolding out-What shown-the_row-Statement-0 shown out int_wrap
 events-name-positions-repeat = refl
 
@@ -65,7 +66,8 @@ pub positions-are-told-past : sender_at laden X 3 ≡ None
 unfolding out-What shown-the_row-Statement-0 shown out int_wrap
 positions-are-told-past = refl
 
-pub a-tick-sends-in-order-report : (seen (end_of after_three (event.Tick 0 ∷ []))).x ≡ alive 0 1 ∷ alive 0 2 ∷ last 0 1 1 ∷ last 0 2 1 ∷ []
+pub a-tick-sends-in-order-report : (seen (end_of after_three (event.Tick 0 ∷ []))).x
+    ≡ alive 0 1 ∷ alive 0 2 ∷ last 0 1 1 ∷ last 0 2 1 ∷ []
 unfolding out-What shown-the_row-Statement-0 shown out int_wrap
 a-tick-sends-in-order-report = refl
 
@@ -81,14 +83,18 @@ pub a-tick-sends-in-order-terminals : seen (end_of adder_at_boot (ticks 16 4)) �
 unfolding out-What shown-the_row-Statement-0 shown out int_wrap
 a-tick-sends-in-order-terminals = refl
 
-pub answers-take-their-bus-acknowledgement : (seen (end_of first_piece_again (event.Deliver true 2 ∷ []))).y ≡ alive 0 1 ∷ alive 0 1 ∷ acknowledged 1 0 1 ∷ []
+pub answers-take-their-bus-acknowledgement : (seen (end_of first_piece_again (event.Deliver true 2 ∷ []))).y
+    ≡ alive 0 1 ∷ alive 0 1 ∷ acknowledged 1 0 1 ∷ []
 unfolding out-What shown-the_row-Statement-0 shown out int_wrap
 answers-take-their-bus-acknowledgement = refl
 
-pub answers-take-their-bus-next : (seen (end_of first_piece_again (event.Deliver true 2 ∷ event.Deliver true 2 ∷ []))).x ≡ alive 0 1 ∷ alive 0 1 ∷ piece 0 1 2 ∷ []
+pub answers-take-their-bus-next : (seen
+    (end_of first_piece_again (event.Deliver true 2 ∷ event.Deliver true 2 ∷ []))).x
+    ≡ alive 0 1 ∷ alive 0 1 ∷ piece 0 1 2 ∷ []
 unfolding out-What shown-the_row-Statement-0 shown out int_wrap
 answers-take-their-bus-next = refl
 
-pub an-acknowledgement-goes-first-all : (seen told).x ≡ last 0 1 3 ∷ alive 1 0 ∷ alive 1 0 ∷ alive 1 0 ∷ alive 1 0 ∷ last 1 0 1 ∷ acknowledged 16 1 1 ∷ last 16 1 1 ∷ []
+pub an-acknowledgement-goes-first-all : (seen told).x
+    ≡ last 0 1 3 ∷ alive 1 0 ∷ alive 1 0 ∷ alive 1 0 ∷ alive 1 0 ∷ last 1 0 1 ∷ acknowledged 16 1 1 ∷ last 16 1 1 ∷ []
 unfolding out-What shown-the_row-Statement-0 shown out int_wrap
 an-acknowledgement-goes-first-all = refl

@@ -9,7 +9,8 @@ use Rattle.machine_states.specs.States.{Skips, WouldStop}
 use Rattle.packet_wires.specs.Play.{play}
 use Rattle.packet_wires.specs.Sights.{alive, end_of, last, seen}
 use Rattle.packet_wires.specs.Examples.{after_four, held}
-use Rattle.packet_guards.specs.States.{after_three, first_muted, laden, none_stopped, one_gone, second_silent, ticks, told}
+use Rattle.packet_guards.specs.States.{after_three, first_muted, laden, none_stopped, one_gone, second_silent, ticks}
+use Rattle.packet_guards.specs.States.{told}
 
 pub two-checks-make-silent-three : (end_of one_gone (ticks 1 3)).world.marks ≡ []
 unfolding out-What shown-the_row-Statement-0 shown out int_wrap
@@ -19,19 +20,23 @@ pub two-checks-make-silent-four : (end_of one_gone (ticks 1 4)).world.marks ≡ 
 unfolding out-What shown-the_row-Statement-0 shown out int_wrap
 two-checks-make-silent-four = refl
 
-pub two-checks-make-silent-heard : (end_of (end_of laden (ticks 0 3)) (event.Deliver true 0 ∷ event.Tick 0 ∷ [])).world.marks ≡ []
+pub two-checks-make-silent-heard : (end_of (end_of laden (ticks 0 3))
+    (event.Deliver true 0 ∷ event.Tick 0 ∷ [])).world.marks ≡ []
 unfolding out-What shown-the_row-Statement-0 shown out int_wrap
 two-checks-make-silent-heard = refl
 
-pub two-checks-make-silent-unheard : (end_of (end_of laden (ticks 0 3)) (event.Lose true 0 ∷ event.Tick 0 ∷ [])).world.marks ≡ record { node = 0; down = 1 } ∷ []
+pub two-checks-make-silent-unheard : (end_of (end_of laden (ticks 0 3))
+    (event.Lose true 0 ∷ event.Tick 0 ∷ [])).world.marks ≡ record { node = 0; down = 1 } ∷ []
 unfolding out-What shown-the_row-Statement-0 shown out int_wrap
 two-checks-make-silent-unheard = refl
 
-pub the-coordinator-pulls-unreported : (end_of after_three (event.Tick 0 ∷ [])).world.stopped ≡ false ∷ false ∷ false ∷ []
+pub the-coordinator-pulls-unreported : (end_of after_three (event.Tick 0 ∷ [])).world.stopped
+    ≡ false ∷ false ∷ false ∷ []
 unfolding out-What shown-the_row-Statement-0 shown out int_wrap
 the-coordinator-pulls-unreported = refl
 
-pub the-coordinator-pulls-other : (end_of after_four (event.Tick 2 ∷ event.Tick 1 ∷ [])).world.stopped ≡ false ∷ false ∷ false ∷ []
+pub the-coordinator-pulls-other : (end_of after_four (event.Tick 2 ∷ event.Tick 1 ∷ [])).world.stopped
+    ≡ false ∷ false ∷ false ∷ []
 unfolding out-What shown-the_row-Statement-0 shown out int_wrap
 the-coordinator-pulls-other = refl
 
@@ -39,7 +44,8 @@ pub the-coordinator-pulls-lowest : (end_of after_four (event.Tick 0 ∷ [])).wor
 unfolding out-What shown-the_row-Statement-0 shown out int_wrap
 the-coordinator-pulls-lowest = refl
 
-pub the-coordinator-pulls-next-lowest : (end_of first_muted (event.Tick 2 ∷ [])).world.stopped ≡ false ∷ false ∷ false ∷ []
+pub the-coordinator-pulls-next-lowest : (end_of first_muted (event.Tick 2 ∷ [])).world.stopped
+    ≡ false ∷ false ∷ false ∷ []
 unfolding out-What shown-the_row-Statement-0 shown out int_wrap
 the-coordinator-pulls-next-lowest = refl
 
@@ -55,7 +61,8 @@ pub all-others-are-told-buses : (seen held).x ≡ alive 0 1 ∷ alive 0 2 ∷ la
 unfolding out-What shown-the_row-Statement-0 shown out int_wrap
 all-others-are-told-buses = refl
 
-pub all-others-are-told-terminals : told.world.marks ≡ record { node = 16; down = 0 } ∷ record { node = 1; down = 0 } ∷ []
+pub all-others-are-told-terminals : told.world.marks
+    ≡ record { node = 16; down = 0 } ∷ record { node = 1; down = 0 } ∷ []
 unfolding out-What shown-the_row-Statement-0 shown out int_wrap
 all-others-are-told-terminals = refl
 

@@ -18,11 +18,13 @@ pub a-mark-closes-the-channel-thrown : holds_nothing (end_at taken_over.wires.no
 unfolding out-What shown-the_row-Statement-0 shown out int_wrap
 a-mark-closes-the-channel-thrown = refl
 
-pub a-mark-closes-the-channel-dropped : (seen (end_of taken_over (event.Deliver false 0 ∷ []))).x ≡ alive 1 0 ∷ alive 1 0 ∷ alive 1 0 ∷ alive 1 0 ∷ last 1 0 1 ∷ last 1 16 1 ∷ []
+pub a-mark-closes-the-channel-dropped : (seen (end_of taken_over (event.Deliver false 0 ∷ []))).x
+    ≡ alive 1 0 ∷ alive 1 0 ∷ alive 1 0 ∷ alive 1 0 ∷ last 1 0 1 ∷ last 1 16 1 ∷ []
 unfolding out-What shown-the_row-Statement-0 shown out int_wrap
 a-mark-closes-the-channel-dropped = refl
 
-pub a-mark-closes-the-channel-no-more-alive : (seen (end_of taken_over (event.Tick 1 ∷ []))).y ≡ alive 1 0 ∷ alive 1 0 ∷ alive 1 0 ∷ alive 1 0 ∷ []
+pub a-mark-closes-the-channel-no-more-alive : (seen (end_of taken_over (event.Tick 1 ∷ []))).y
+    ≡ alive 1 0 ∷ alive 1 0 ∷ alive 1 0 ∷ alive 1 0 ∷ []
 unfolding out-What shown-the_row-Statement-0 shown out int_wrap
 a-mark-closes-the-channel-no-more-alive = refl
 

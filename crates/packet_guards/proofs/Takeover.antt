@@ -13,7 +13,8 @@ use Rattle.packet_wires.specs.Play.{sent_by}
 use Rattle.packet_wires.specs.Sights.{alive, last}
 use Rattle.packet_guards.specs.States.{after_three, outgoing, queued, takeover}
 
-pub tick-out : outgoing (sent_by after_three (event.Tick 0)) ≡ (X, alive 0 1) ∷ (Y, alive 0 1) ∷ (X, alive 0 2) ∷ (Y, alive 0 2) ∷ (X, last 0 1 1) ∷ (X, last 0 2 1) ∷ []
+pub tick-out : outgoing (sent_by after_three (event.Tick 0))
+    ≡ (X, alive 0 1) ∷ (Y, alive 0 1) ∷ (X, alive 0 2) ∷ (Y, alive 0 2) ∷ (X, last 0 1 1) ∷ (X, last 0 2 1) ∷ []
 unfolding out-What shown-the_row-Statement-0 shown out int_wrap
 tick-out = refl
 

@@ -6,7 +6,8 @@ use Rattle.computed_changes.specs.Stopped.{marked_where, mark_where, may_note}
 use Rattle.message_layout.specs.Messages.{Declaring}
 use Rattle.packet_wires.specs.Play.{Underway, handed, marked_by}
 
-pub no-mark-on-suspicion-twice : (node processor : ℕ) (s : Underway) → has_noted s.world.marks node processor ≡ true → handed node (Declaring processor) s ≡ s
+pub no-mark-on-suspicion-twice : (node processor : ℕ) (s : Underway) → has_noted s.world.marks node processor ≡ true
+    → handed node (Declaring processor) s ≡ s
 no-mark-on-suspicion-twice node processor s marked = by (slice_get s.world.stopped processor)
   where
     either : (runs : Bool) → (runs && not true) ≡ false
@@ -14,7 +15,8 @@ no-mark-on-suspicion-twice node processor s marked = by (slice_get s.world.stopp
     either false = refl
 
     never : may_note node processor s.world ≡ false
-    never = ap (λ (b : Bool). is_running s.world.stopped node && not b) marked ∙ either (is_running s.world.stopped node)
+    never = ap (λ (b : Bool). is_running s.world.stopped node && not b) marked
+        ∙ either (is_running s.world.stopped node)
 
     by : (found : Option Bool) → marked_by node processor s (mark_where node processor s.world found) ≡ s
     by None = refl

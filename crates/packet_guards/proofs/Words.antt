@@ -35,11 +35,13 @@ pub what-is-not-there-is-dropped-member : understood adder_at_boot.site (pos 5 �
 unfolding out-What shown-the_row-Statement-0 shown out int_wrap
 what-is-not-there-is-dropped-member = refl
 
-pub what-is-not-there-is-dropped-process : understood adder_at_boot.site (pos 1 ∷ pos 1 ∷ pos 0 ∷ pos 0 ∷ pos 1 ∷ pos 0 ∷ []) ≡ None
+pub what-is-not-there-is-dropped-process :
+    understood adder_at_boot.site (pos 1 ∷ pos 1 ∷ pos 0 ∷ pos 0 ∷ pos 1 ∷ pos 0 ∷ []) ≡ None
 unfolding out-What shown-the_row-Statement-0 shown out int_wrap
 what-is-not-there-is-dropped-process = refl
 
-pub what-is-not-there-is-dropped-opener : understood adder_at_boot.site (pos 1 ∷ pos 0 ∷ pos 1 ∷ pos 0 ∷ pos 1 ∷ pos 0 ∷ []) ≡ None
+pub what-is-not-there-is-dropped-opener :
+    understood adder_at_boot.site (pos 1 ∷ pos 0 ∷ pos 1 ∷ pos 0 ∷ pos 1 ∷ pos 0 ∷ []) ≡ None
 unfolding out-What shown-the_row-Statement-0 shown out int_wrap
 what-is-not-there-is-dropped-opener = refl
 

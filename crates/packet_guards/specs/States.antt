@@ -28,7 +28,10 @@ stray number = packet 0 1 (kind.Acknowledgement number)
 
 -- the adder with three packets on bus X and one on bus Y
 abbrev pub laden : Packeted
-laden = record adder_at_boot { wires = record adder_at_boot.wires { x = stray 5 ∷ stray 6 ∷ stray 7 ∷ []; y = packet 1 0 kind.Alive ∷ [] } }
+laden = record adder_at_boot {
+  wires = record adder_at_boot.wires
+      { x = stray 5 ∷ stray 6 ∷ stray 7 ∷ []; y = packet 1 0 kind.Alive ∷ [] };
+}
 
 abbrev pub ticks : ℕ → ℕ → List Event
 ticks node many = times many (event.Tick node ∷ [])
@@ -51,12 +54,16 @@ first_muted = rounds 0 4 three_at_boot
 -- to processor 0, processor 1 is down and processor 2 silent
 abbrev pub two_lost : Wires
 two_lost = record three_at_boot.wires {
-  nodes = (learns 0 (changed_at 2 (λ one. Up false missed.More nobody)) (learns 0 (changed_at 1 watching.neighbour_after_down) (nothing_sent three_at_boot.wires.nodes))).nodes;
+  nodes = (learns 0 (changed_at 2 (λ one. Up false missed.More nobody))
+      (learns 0 (changed_at 1 watching.neighbour_after_down) (nothing_sent three_at_boot.wires.nodes))).nodes;
 }
 
 -- so it is after processor 1 stopped, and while all run
 abbrev pub second_silent : Packeted
-second_silent = record three_at_boot { world = record three_at_boot.world { stopped = false ∷ true ∷ false ∷ [] }; wires = two_lost }
+second_silent = record three_at_boot {
+  world = record three_at_boot.world { stopped = false ∷ true ∷ false ∷ [] };
+  wires = two_lost;
+}
 
 abbrev pub none_stopped : Packeted
 none_stopped = record three_at_boot { wires = two_lost }

@@ -13,14 +13,17 @@ ghost use Rattle.letter_guards.specs.Worlds.{bank_asks, disc_tells, user_is_told
 ghost use Rattle.packet_wires.specs.Idle.{is_idle, holds_nothing};
 ghost use Rattle.packet_wires.specs.Nodes.{Node, end_at};
 ghost use Rattle.world_semantics.specs.World.{has_noted};
-ghost use Rattle.packet_wires.specs.Play.{Packeted, Underway, begun, count_on, handed, kind_at, play, sender_at, sent_by};
+ghost use Rattle.packet_wires.specs.Play.{Packeted, Underway, begun, count_on, handed, kind_at, play, sender_at};
+ghost use Rattle.packet_wires.specs.Play.{sent_by};
 ghost use Rattle.packet_wires.specs.Sights.{acknowledged, alive, end_of, last, piece, seen};
-ghost use Rattle.packet_wires.specs.Wires.{Midst, Wires, all_put, goes_over, nothing_sent, on_bus, packets_over, with_sent};
+ghost use Rattle.packet_wires.specs.Wires.{Midst, Wires, all_put, goes_over, nothing_sent, on_bus, packets_over};
+ghost use Rattle.packet_wires.specs.Wires.{with_sent};
 ghost use Rattle.packet_wires.specs.Examples.{adder_at_boot, after_four, held, served, taken_over, up_to_checkpoint};
-ghost use Rattle.packet_guards.specs.States.{after_three, first_muted, first_piece_again, laden, none_stopped, one_gone, outgoing, queued, second_silent, stray, takeover, ticks, told};
+ghost use Rattle.packet_guards.specs.States.{after_three, first_muted, first_piece_again, laden, none_stopped};
+ghost use Rattle.packet_guards.specs.States.{one_gone, outgoing, queued, second_silent, stray, takeover, ticks, told};
 
-/// An event names a packet by its position on its bus from 0, and takes that one alone; a repeat puts it at the end. Past the last
-/// position nothing is done.
+/// An event names a packet by its position on its bus from 0, and takes that one alone; a repeat puts it at the end.
+/// Past the last position nothing is done.
 pub fn events_name_positions()
     ensures deliver { (end_of laden (event.Deliver false 1 ∷ [])).wires.x ≡ stray 5 ∷ stray 7 ∷ [] }
     ensures lose { (end_of laden (event.Lose false 1 ∷ [])).wires.x ≡ stray 5 ∷ stray 7 ∷ [] }
@@ -41,8 +44,8 @@ pub fn positions_are_told()
     ensures past { sender_at laden X 3 ≡ None }
 {}
 
-/// A bus has room for 4,096 packets. What an event sends over it goes to its end, each packet in its turn, and what finds
-/// the bus full is lost.
+/// A bus has room for 4,096 packets. What an event sends over it goes to its end, each packet in its turn, and what
+/// finds the bus full is lost.
 pub fn a_bus_has_room_for_4096()
     ensures room { (name : BusName) (midst : Midst) (wires : Wires)
         → length (on_bus name wires) + length (packets_over name midst.out) ≤ 4096
@@ -56,14 +59,18 @@ pub fn a_bus_has_room_for_4096()
 /// What goes over one bus stands in the order in which it was sent, and nothing of it goes over the other one.
 pub fn each_packet_takes_its_bus()
     ensures x { (one : Packet) (other : Packet) (nodes : List Node)
-        → packets_over X (goes_over X other (goes_over Y other (goes_over X one (nothing_sent nodes)))).out ≡ one ∷ other ∷ [] }
+        → packets_over X (goes_over X other (goes_over Y other (goes_over X one (nothing_sent nodes)))).out
+        ≡ one ∷ other ∷ [] }
     ensures y { (one : Packet) (other : Packet) (nodes : List Node)
-        → packets_over Y (goes_over Y other (goes_over X other (goes_over Y one (nothing_sent nodes)))).out ≡ one ∷ other ∷ [] }
+        → packets_over Y (goes_over Y other (goes_over X other (goes_over Y one (nothing_sent nodes)))).out
+        ≡ one ∷ other ∷ [] }
 {}
 
-/// A tick sends I'm-alive packets in rising order of receivers, then its report in the same order, and at last what is outstanding.
+/// A tick sends I'm-alive packets in rising order of receivers, then its report in the same order, and at last what is
+/// outstanding.
 pub fn a_tick_sends_in_order()
-    ensures report { (seen (end_of after_three (event.Tick 0 ∷ []))).x ≡ alive 0 1 ∷ alive 0 2 ∷ last 0 1 1 ∷ last 0 2 1 ∷ [] }
+    ensures report { (seen (end_of after_three (event.Tick 0 ∷ []))).x
+        ≡ alive 0 1 ∷ alive 0 2 ∷ last 0 1 1 ∷ last 0 2 1 ∷ [] }
     ensures alive_y { (seen (end_of after_three (event.Tick 0 ∷ []))).y ≡ alive 0 1 ∷ alive 0 2 ∷ [] }
     ensures out { outgoing (sent_by after_three (event.Tick 0))
         ≡ (X, alive 0 1) ∷ (Y, alive 0 1) ∷ (X, alive 0 2) ∷ (Y, alive 0 2) ∷ (X, last 0 1 1) ∷ (X, last 0 2 1) ∷ [] }
@@ -73,8 +80,10 @@ pub fn a_tick_sends_in_order()
 
 /// An acknowledgement goes by the bus on which its piece came, and the piece that it lets go takes bus X.
 pub fn answers_take_their_bus()
-    ensures acknowledgement { (seen (end_of first_piece_again (event.Deliver true 2 ∷ []))).y ≡ alive 0 1 ∷ alive 0 1 ∷ acknowledged 1 0 1 ∷ [] }
-    ensures next { (seen (end_of first_piece_again (event.Deliver true 2 ∷ event.Deliver true 2 ∷ []))).x ≡ alive 0 1 ∷ alive 0 1 ∷ piece 0 1 2 ∷ [] }
+    ensures acknowledgement { (seen (end_of first_piece_again (event.Deliver true 2 ∷ []))).y
+        ≡ alive 0 1 ∷ alive 0 1 ∷ acknowledged 1 0 1 ∷ [] }
+    ensures next { (seen (end_of first_piece_again (event.Deliver true 2 ∷ event.Deliver true 2 ∷ []))).x
+        ≡ alive 0 1 ∷ alive 0 1 ∷ piece 0 1 2 ∷ [] }
 {}
 
 /// Two checks that a processor is missed make it silent, one isn't enough; checks are every second tick.
@@ -82,10 +91,12 @@ pub fn two_checks_make_silent()
     ensures three { (end_of one_gone (ticks 1 3)).world.marks ≡ [] }
     ensures four { (end_of one_gone (ticks 1 4)).world.marks ≡ record { node = 1; down = 0 } ∷ [] }
     ensures heard { (end_of (end_of laden (ticks 0 3)) (event.Deliver true 0 ∷ event.Tick 0 ∷ [])).world.marks ≡ [] }
-    ensures unheard { (end_of (end_of laden (ticks 0 3)) (event.Lose true 0 ∷ event.Tick 0 ∷ [])).world.marks ≡ record { node = 0; down = 1 } ∷ [] }
+    ensures unheard { (end_of (end_of laden (ticks 0 3)) (event.Lose true 0 ∷ event.Tick 0 ∷ [])).world.marks
+        ≡ record { node = 0; down = 1 } ∷ [] }
 {}
 
-/// The line is pulled by the lowest processor other than the silent one, and when the last reports of all others have it.
+/// The line is pulled by the lowest processor other than the silent one, and when the last reports of all others have
+/// it.
 pub fn the_coordinator_pulls()
     ensures unreported { (end_of after_three (event.Tick 0 ∷ [])).world.stopped ≡ false ∷ false ∷ false ∷ [] }
     ensures other { (end_of after_four (event.Tick 2 ∷ event.Tick 1 ∷ [])).world.stopped ≡ false ∷ false ∷ false ∷ [] }
@@ -101,13 +112,15 @@ pub fn all_others_are_told()
     ensures terminals { told.world.marks ≡ record { node = 16; down = 0 } ∷ record { node = 1; down = 0 } ∷ [] }
 {}
 
-/// The acknowledgement goes before what the hand-over sends: told that processor 0 is down, the node of the terminals asks processor 1.
+/// The acknowledgement goes before what the hand-over sends: told that processor 0 is down, the node of the terminals
+/// asks processor 1.
 pub fn an_acknowledgement_goes_first()
-    ensures { (seen told).x ≡ last 0 1 3 ∷ alive 1 0 ∷ alive 1 0 ∷ alive 1 0 ∷ alive 1 0 ∷ last 1 0 1 ∷ acknowledged 16 1 1 ∷ last 16 1 1 ∷ [] }
+    ensures { (seen told).x ≡ last 0 1 3 ∷ alive 1 0 ∷ alive 1 0 ∷ alive 1 0 ∷ alive 1 0 ∷ last 1 0 1
+        ∷ acknowledged 16 1 1 ∷ last 16 1 1 ∷ [] }
 {}
 
-/// What a copy that takes over tells those whose requests waited goes before what its node asks and tells again. What goes to one
-/// node goes in that order too: the later message waits in the queue.
+/// What a copy that takes over tells those whose requests waited goes before what its node asks and tells again. What
+/// goes to one node goes in that order too: the later message waits in the queue.
 pub fn a_takeover_tells_first()
     ensures out { outgoing takeover.wires.out ≡ (X, last 3 16 1) ∷ (X, last 3 3 1) ∷ [] }
     ensures told { queued 16 ≡ words_of (Carrying disc_tells) ∷ [] }
@@ -117,8 +130,10 @@ pub fn a_takeover_tells_first()
 /// A mark throws the channel away, and packets of the marked node are dropped: no acknowledgement goes.
 pub fn a_mark_closes_the_channel()
     ensures thrown { holds_nothing (end_at taken_over.wires.nodes 1 0) ≡ true }
-    ensures dropped { (seen (end_of taken_over (event.Deliver false 0 ∷ []))).x ≡ alive 1 0 ∷ alive 1 0 ∷ alive 1 0 ∷ alive 1 0 ∷ last 1 0 1 ∷ last 1 16 1 ∷ [] }
-    ensures no_more_alive { (seen (end_of taken_over (event.Tick 1 ∷ []))).y ≡ alive 1 0 ∷ alive 1 0 ∷ alive 1 0 ∷ alive 1 0 ∷ [] }
+    ensures dropped { (seen (end_of taken_over (event.Deliver false 0 ∷ []))).x
+        ≡ alive 1 0 ∷ alive 1 0 ∷ alive 1 0 ∷ alive 1 0 ∷ last 1 0 1 ∷ last 1 16 1 ∷ [] }
+    ensures no_more_alive { (seen (end_of taken_over (event.Tick 1 ∷ []))).y
+        ≡ alive 1 0 ∷ alive 1 0 ∷ alive 1 0 ∷ alive 1 0 ∷ [] }
 {}
 
 /// A line doesn't stop a second processor, and neither does a failure.
@@ -139,10 +154,12 @@ pub fn who_has_stopped_does_nothing()
 /// A node marks only what has stopped, and no processor twice.
 pub fn no_mark_on_suspicion()
     ensures runs { handed 1 (Declaring 0) (begun adder_at_boot) ≡ begun adder_at_boot }
-    ensures twice { (node processor : ℕ) (s : Underway) → has_noted s.world.marks node processor ≡ true → handed node (Declaring processor) s ≡ s }
+    ensures twice { (node processor : ℕ) (s : Underway) → has_noted s.world.marks node processor ≡ true
+        → handed node (Declaring processor) s ≡ s }
 {}
 
-/// Words of no message are dropped, and messages that name what the site hasn't: here two processors, one process and one opener.
+/// Words of no message are dropped, and messages that name what the site hasn't: here two processors, one process and
+/// one opener.
 pub fn what_is_not_there_is_dropped()
     ensures none { understood adder_at_boot.site (pos 7 ∷ pos 0 ∷ []) ≡ None }
     ensures more { understood adder_at_boot.site (pos 6 ∷ pos 0 ∷ pos 0 ∷ []) ≡ None }

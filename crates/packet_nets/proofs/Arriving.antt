@@ -1,5 +1,6 @@
 -- What a packet does that comes in over a channel.
-use Rattle.std.proofs.Common.{◌≡◌, inl, ℕ, ℤ, Bool, true, false, nat_le, List, [], ◌∷◌, ◌++◌, Option, Some, None, refl, ap, sym, subst, ◌∙◌}
+use Rattle.std.proofs.Common.{◌≡◌, inl, ℕ, ℤ, Bool, true, false, nat_le, List, [], ◌∷◌, ◌++◌, Option, Some, None, refl}
+use Rattle.std.proofs.Common.{ap, sym, subst, ◌∙◌}
 use Rattle.std.specs.Option.{option_to_list}
 use Rattle.std.proofs.lemmas.Bool.{leb-true, le-leb}
 use Rattle.std.proofs.lemmas.List.{append-nil, append_assoc, append_cancel_left}
@@ -23,17 +24,23 @@ use Rattle.packet_nets.specs.Owing.{message_of, carried_of, carried, between, Is
 use Rattle.packet_nets.proofs.Between.{carried-append, carried-of, carried-one, takes}
 use Rattle.packet_nets.proofs.Tied.{Place, here, there, place, put-other}
 
--- a packet from s comes in at r. It completes nothing; or a message that carries none of the world; or one that does, whose letter is owed no
--- longer; or one that does, whose letter was handed over before
-pub data Arrives (site : Site) (stopped : List Bool) (owed sent : List Letter) (next : Net) (s r : ℕ) : Option (List ℤ) → Type 0 where
+-- a packet from s comes in at r. It completes nothing; or a message that carries none of the world; or one that does,
+-- whose letter is owed no longer; or one that does, whose letter was handed over before
+pub data Arrives (site : Site) (stopped : List Bool) (owed sent : List Letter) (next : Net) (s r : ℕ) : Option (List ℤ)
+    → Type 0 where
   hands_none : Owes site stopped owed sent next → Arrives site stopped owed sent next s r None
-  hands_other : {words : List ℤ} → (told : NodeMessage) → understood site words ≡ Some told → Fits site told → IsTrueOf stopped sent s r told → message_of told ≡ None
+  hands_other : {words : List ℤ} → (told : NodeMessage) → understood site words ≡ Some told → Fits site told
+      → IsTrueOf stopped sent s r told → message_of told ≡ None
       → Owes site stopped owed sent next → Arrives site stopped owed sent next s r (Some words)
-  hands_letter : {words : List ℤ} {rest : List Letter} → (message : Message) → understood site words ≡ Some (Carrying message) → Fits site (Carrying message)
-      → IsAmong (record { sender = s; receiver = r; message = message }) sent → IsTaken (record { sender = s; receiver = r; message = message }) owed rest
+  hands_letter : {words : List ℤ} {rest : List Letter} → (message : Message)
+      → understood site words ≡ Some (Carrying message) → Fits site (Carrying message)
+      → IsAmong (record { sender = s; receiver = r; message = message }) sent
+      → IsTaken (record { sender = s; receiver = r; message = message }) owed rest
       → Owes site stopped rest sent next → Arrives site stopped owed sent next s r (Some words)
-  hands_again : {words : List ℤ} → (message : Message) → understood site words ≡ Some (Carrying message) → Fits site (Carrying message)
-      → IsAmong (record { sender = s; receiver = r; message = message }) sent → Owes site stopped owed sent next → Arrives site stopped owed sent next s r (Some words)
+  hands_again : {words : List ℤ} → (message : Message) → understood site words ≡ Some (Carrying message)
+      → Fits site (Carrying message)
+      → IsAmong (record { sender = s; receiver = r; message = message }) sent → Owes site stopped owed sent next
+      → Arrives site stopped owed sent next s r (Some words)
 
 -- every channel is open or closed
 pub data Opened (stopped : List Bool) (n : Net) (x y : ℕ) : Type 0 where
@@ -41,58 +48,88 @@ pub data Opened (stopped : List Bool) (n : Net) (x y : ℕ) : Type 0 where
   is_closed : (IsOpen stopped n x y → ⊥) → Opened stopped n x y
 
 pub opened : (stopped : List Bool) (n : Net) (x y : ℕ) → Opened stopped n x y
-opened stopped n x y = by (nat_le x 16) (nat_le y 16) (is_running stopped x) (n.ends x y).down (n.ends y x).down refl refl refl refl refl
+opened stopped n x y =
+    by (nat_le x 16) (nat_le y 16) (is_running stopped x) (n.ends x y).down (n.ends y x).down refl refl refl refl refl
   where
-    by : (a b c d e : Bool) → nat_le x 16 ≡ a → nat_le y 16 ≡ b → is_running stopped x ≡ c → (n.ends x y).down ≡ d → (n.ends y x).down ≡ e → Opened stopped n x y
+    by : (a b c d e : Bool) → nat_le x 16 ≡ a → nat_le y 16 ≡ b → is_running stopped x ≡ c → (n.ends x y).down ≡ d
+        → (n.ends y x).down ≡ e → Opened stopped n x y
     by true true true false false low few runs up back =
-        is_open (record { sender = leb-true x 16 low; receiver = leb-true y 16 few; runs = runs; there = up; back = back })
-    by false b c d e low few runs up back = is_closed (λ o. let is : nat_le x 16 ≡ true = le-leb x 16 o.sender in absurd cc)
-    by true false c d e low few runs up back = is_closed (λ o. let is : nat_le y 16 ≡ true = le-leb y 16 o.receiver in absurd cc)
+        is_open (record {
+          sender = leb-true x 16 low;
+          receiver = leb-true y 16 few;
+          runs = runs;
+          there = up;
+          back = back;
+        })
+    by false b c d e low few runs up back =
+        is_closed (λ o. let is : nat_le x 16 ≡ true = le-leb x 16 o.sender in absurd cc)
+    by true false c d e low few runs up back =
+        is_closed (λ o. let is : nat_le y 16 ≡ true = le-leb y 16 o.receiver in absurd cc)
     by true true false d e low few runs up back = is_closed (λ o. let is = o.runs in absurd cc)
     by true true true true e low few runs up back = is_closed (λ o. let is = o.there in absurd cc)
     by true true true false true low few runs up back = is_closed (λ o. let is = o.back in absurd cc)
 
 -- no packet changes what was pushed
-pub ways-pushes : (r s : ℕ) (k : PacketKind) (ways : ℕ → ℕ → Way) (a b : ℕ) → (ways_by r s k ways a b).pushes ≡ (ways a b).pushes
+pub ways-pushes : (r s : ℕ) (k : PacketKind) (ways : ℕ → ℕ → Way) (a b : ℕ)
+    → (ways_by r s k ways a b).pushes ≡ (ways a b).pushes
 ways-pushes r s kind.Alive ways a b = refl
-ways-pushes r s (kind.Piece number piece) ways a b = put-all (λ a b w. w.pushes ≡ (ways a b).pushes) s r (coming number piece (ways s r)) ways refl (λ a b. refl) a b
-ways-pushes r s (kind.Acknowledgement number) ways a b = put-all (λ a b w. w.pushes ≡ (ways a b).pushes) r s (telling number (ways r s)) ways refl (λ a b. refl) a b
+ways-pushes r s (kind.Piece number piece) ways a b =
+    put-all (λ a b w. w.pushes ≡ (ways a b).pushes) s r (coming number piece (ways s r)) ways refl (λ a b. refl) a b
+ways-pushes r s (kind.Acknowledgement number) ways a b =
+    put-all (λ a b w. w.pushes ≡ (ways a b).pushes) r s (telling number (ways r s)) ways refl (λ a b. refl) a b
 
 -- and it changes the output of one way at most
-pub ways-out : (r s : ℕ) (k : PacketKind) (ways : ℕ → ℕ → Way) (a b : ℕ) → (a ≡ s → b ≡ r → ⊥) → (ways_by r s k ways a b).out ≡ (ways a b).out
+pub ways-out : (r s : ℕ) (k : PacketKind) (ways : ℕ → ℕ → Way) (a b : ℕ) → (a ≡ s → b ≡ r → ⊥)
+    → (ways_by r s k ways a b).out ≡ (ways a b).out
 ways-out r s kind.Alive ways a b n = refl
-ways-out r s (kind.Piece number piece) ways a b n = ap (λ (w : Way). w.out) (put-other s r (coming number piece (ways s r)) ways a b n)
-ways-out r s (kind.Acknowledgement number) ways a b n = put-all (λ a b w. w.out ≡ (ways a b).out) r s (telling number (ways r s)) ways refl (λ a b. refl) a b
+ways-out r s (kind.Piece number piece) ways a b n =
+    ap (λ (w : Way). w.out) (put-other s r (coming number piece (ways s r)) ways a b n)
+ways-out r s (kind.Acknowledgement number) ways a b n =
+    put-all (λ a b w. w.out ≡ (ways a b).out) r s (telling number (ways r s)) ways refl (λ a b. refl) a b
 
-module _ {site : Site} {stopped : List Bool} {owed sent : List Letter} {n : Net} (o : Owes site stopped owed sent n) (next : Net) (whole : IsWhole next) (s r : ℕ)
-    (pushes : (a b : ℕ) → (next.ways a b).pushes ≡ (n.ways a b).pushes) (out : (a b : ℕ) → (a ≡ s → b ≡ r → ⊥) → (next.ways a b).out ≡ (n.ways a b).out)
+module _ {site : Site} {stopped : List Bool} {owed sent : List Letter} {n : Net} (o : Owes site stopped owed sent n)
+    (next : Net) (whole : IsWhole next) (s r : ℕ)
+    (pushes : (a b : ℕ) → (next.ways a b).pushes ≡ (n.ways a b).pushes)
+    (out : (a b : ℕ) → (a ≡ s → b ≡ r → ⊥) → (next.ways a b).out ≡ (n.ways a b).out)
     (down : (a b : ℕ) → (next.ends a b).down ≡ (n.ends a b).down) where
   was : (a b : ℕ) → IsOpen stopped next a b → IsOpen stopped n a b
-  was a b one = record { sender = one.sender; receiver = one.receiver; runs = one.runs; there = sym (down a b) ∙ one.there; back = sym (down b a) ∙ one.back }
+  was a b one = record {
+    sender = one.sender;
+    receiver = one.receiver;
+    runs = one.runs;
+    there = sym (down a b)
+        ∙ one.there;
+    back = sym (down b a) ∙ one.back;
+  }
 
   kept : (a b : ℕ) (words : List ℤ) → IsAmong words (next.ways a b).pushes → IsPushed site stopped sent a b words
   kept a b words among = o.pushed a b words (subst (IsAmong words) (pushes a b) among)
 
   -- the rest is owed, if it is right for this channel, and for each other one as before
   by-rest : (rest : List Letter) → ((a b : ℕ) → (a ≡ s → b ≡ r → ⊥) → between a b rest ≡ between a b owed)
-      → (IsOpen stopped next s r → carried (next.ways s r).pushes ≡ carried (next.ways s r).out ++ between s r rest) → Owes site stopped rest sent next
+      → (IsOpen stopped next s r → carried (next.ways s r).pushes ≡ carried (next.ways s r).out ++ between s r rest)
+      → Owes site stopped rest sent next
   by-rest rest elsewhere here_too = record {
     pushed = kept;
     owes = λ a b one. by a b one (place s r a b);
   }
     where
-      by : (a b : ℕ) → IsOpen stopped next a b → Place s r a b → carried (next.ways a b).pushes ≡ carried (next.ways a b).out ++ between a b rest
+      by : (a b : ℕ) → IsOpen stopped next a b → Place s r a b
+          → carried (next.ways a b).pushes ≡ carried (next.ways a b).out ++ between a b rest
       by a b one (there m) =
           ap carried (pushes a b) ∙ o.owes a b (was a b one)
-          ∙ ap (λ ms. carried ms ++ between a b owed) (sym (out a b m)) ∙ ap (λ ms. carried (next.ways a b).out ++ ms) (sym (elsewhere a b m))
+          ∙ ap (λ ms. carried ms ++ between a b owed) (sym (out a b m))
+          ∙ ap (λ ms. carried (next.ways a b).out ++ ms) (sym (elsewhere a b m))
       by a b one (here e u) =
           subst (λ c. carried (next.ways c b).pushes ≡ carried (next.ways c b).out ++ between c b rest) (sym e)
           (subst (λ c. carried (next.ways s c).pushes ≡ carried (next.ways s c).out ++ between s c rest) (sym u)
           (here_too (subst (λ c. IsOpen stopped next s c) u (subst (λ c. IsOpen stopped next c b) e one))))
 
-  pub arrives : (h : Option (List ℤ)) → (next.ways s r).out ≡ (n.ways s r).out ++ option_to_list h → Arrives site stopped owed sent next s r h
+  pub arrives : (h : Option (List ℤ)) → (next.ways s r).out ≡ (n.ways s r).out ++ option_to_list h
+      → Arrives site stopped owed sent next s r h
   arrives None gained = hands_none (by-rest owed (λ a b m. refl) (λ one.
-      ap carried (pushes s r) ∙ o.owes s r (was s r one) ∙ ap (λ ms. carried ms ++ between s r owed) (sym (gained ∙ append-nil (n.ways s r).out))))
+      ap carried (pushes s r) ∙ o.owes s r (was s r one)
+      ∙ ap (λ ms. carried ms ++ between s r owed) (sym (gained ∙ append-nil (n.ways s r).out))))
   arrives (Some words) gained = by pushed.message pushed.is pushed.fits pushed.right
     where
       rest : List (List ℤ)
@@ -100,41 +137,54 @@ module _ {site : Site} {stopped : List Bool} {owed sent : List Letter} {n : Net}
 
       -- what was pushed: first what came out before, then these words, then the rest
       come : (next.ways s r).pushes ≡ (n.ways s r).out ++ words ∷ rest
-      come = (whole.joint s r).receiving.come ∙ ap (λ ms. ms ++ rest) gained ∙ append_assoc (n.ways s r).out (words ∷ []) rest
+      come = (whole.joint s r).receiving.come ∙ ap (λ ms. ms ++ rest) gained
+          ∙ append_assoc (n.ways s r).out (words ∷ []) rest
 
       pushed : IsPushed site stopped sent s r words
-      pushed = kept s r words (subst (IsAmong words) (sym come) (among-right words (n.ways s r).out (words ∷ rest) (inl refl)))
+      pushed = kept s r words (subst (IsAmong words) (sym come)
+          (among-right words (n.ways s r).out (words ∷ rest) (inl refl)))
 
       -- the first that an open channel owes is what comes out now
       first : IsOpen stopped next s r → carried (words ∷ []) ++ carried rest ≡ between s r owed
       first one = append_cancel_left (carried (n.ways s r).out) _ _
-          (ap (λ ms. carried (n.ways s r).out ++ ms) (sym (carried-append (words ∷ []) rest)) ∙ sym (carried-append (n.ways s r).out (words ∷ rest))
+          (ap (λ ms. carried (n.ways s r).out ++ ms) (sym (carried-append (words ∷ []) rest))
+          ∙ sym (carried-append (n.ways s r).out (words ∷ rest))
           ∙ ap carried (sym come ∙ pushes s r) ∙ o.owes s r (was s r one))
 
       all : carried (next.ways s r).pushes ≡ carried (next.ways s r).out ++ carried rest
       all = ap carried (whole.joint s r).receiving.come ∙ carried-append (next.ways s r).out rest
 
-      none : carried (words ∷ []) ≡ [] → IsOpen stopped next s r → carried (next.ways s r).pushes ≡ carried (next.ways s r).out ++ between s r owed
-      none e one = all ∙ ap (λ ms. carried (next.ways s r).out ++ ms) (ap (λ ms. ms ++ carried rest) (sym e) ∙ first one)
+      none : carried (words ∷ []) ≡ [] → IsOpen stopped next s r
+          → carried (next.ways s r).pushes ≡ carried (next.ways s r).out ++ between s r owed
+      none e one =
+          all ∙ ap (λ ms. carried (next.ways s r).out ++ ms) (ap (λ ms. ms ++ carried rest) (sym e) ∙ first one)
 
       reads : (told : NodeMessage) → words ≡ words_of told → Fits site told → understood site words ≡ Some told
       reads told is fits = ap (understood site) is ∙ known-again site told fits
 
-      carries : (told : NodeMessage) → words ≡ words_of told → Fits site told → carried (words ∷ []) ≡ option_to_list (message_of told)
+      carries : (told : NodeMessage) → words ≡ words_of told → Fits site told
+          → carried (words ∷ []) ≡ option_to_list (message_of told)
       carries told is fits = carried-one words ∙ ap option_to_list (ap carried_of is ∙ carried-of told fits.within)
 
-      letter : (message : Message) → words ≡ words_of (Carrying message) → Fits site (Carrying message) → IsTrueOf stopped sent s r (Carrying message)
+      letter : (message : Message) → words ≡ words_of (Carrying message) → Fits site (Carrying message)
+          → IsTrueOf stopped sent s r (Carrying message)
           → Opened stopped next s r → Arrives site stopped owed sent next s r (Some words)
       letter message is fits right (is_closed closed) =
-          hands_again message (reads (Carrying message) is fits) fits right (by-rest owed (λ a b m. refl) (λ one. absurd (closed one)))
+          hands_again message (reads (Carrying message) is fits) fits right
+          (by-rest owed (λ a b m. refl) (λ one. absurd (closed one)))
       letter message is fits right (is_open one) =
-          let took = takes s r message owed (carried rest) (sym (sym (ap (λ ms. ms ++ carried rest) (carries (Carrying message) is fits)) ∙ first one)) in
+          let took = takes s r message owed (carried rest)
+          (sym (sym (ap (λ ms. ms ++ carried rest) (carries (Carrying message) is fits)) ∙ first one)) in
           hands_letter message (reads (Carrying message) is fits) fits right took.taken
-          (by-rest took.rest took.elsewhere (λ again. all ∙ ap (λ ms. carried (next.ways s r).out ++ ms) (sym took.here)))
+          (by-rest took.rest took.elsewhere (λ again. all
+          ∙ ap (λ ms. carried (next.ways s r).out ++ ms) (sym took.here)))
 
-      by : (told : NodeMessage) → words ≡ words_of told → Fits site told → IsTrueOf stopped sent s r told → Arrives site stopped owed sent next s r (Some words)
+      by : (told : NodeMessage) → words ≡ words_of told → Fits site told → IsTrueOf stopped sent s r told
+          → Arrives site stopped owed sent next s r (Some words)
       by (Carrying message) is fits right = letter message is fits right (opened stopped next s r)
       by (Reporting node set) is fits right =
-          hands_other (Reporting node set) (reads (Reporting node set) is fits) fits right refl (by-rest owed (λ a b m. refl) (none (carries (Reporting node set) is fits)))
+          hands_other (Reporting node set) (reads (Reporting node set) is fits) fits right refl
+          (by-rest owed (λ a b m. refl) (none (carries (Reporting node set) is fits)))
       by (Declaring processor) is fits right =
-          hands_other (Declaring processor) (reads (Declaring processor) is fits) fits right refl (by-rest owed (λ a b m. refl) (none (carries (Declaring processor) is fits)))
+          hands_other (Declaring processor) (reads (Declaring processor) is fits) fits right refl
+          (by-rest owed (λ a b m. refl) (none (carries (Declaring processor) is fits)))

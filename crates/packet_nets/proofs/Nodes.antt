@@ -25,13 +25,15 @@ same (suc a) (suc b) = up (same a b)
         pred zero = zero
         pred (suc k) = k
 
-module _ (nodes : List Node) (x y : ℕ) (node : Node) (e0 e : End) (there : slice_get nodes x ≡ Some node) (has : slice_get node.ends y ≡ Some e0) where
+module _ (nodes : List Node) (x y : ℕ) (node : Node) (e0 e : End) (there : slice_get nodes x ≡ Some node)
+    (has : slice_get node.ends y ≡ Some e0) where
   abbrev new-node : Node
   new-node = record node { ends = slice_set node.ends y e }
 
   -- the changed end is the new one
   pub end-new : end_at (with_end x y node e nodes) x y ≡ Some e
-  end-new = ap (option_and_then (λ (one : Node). slice_get one.ends y)) (set-there nodes x node new-node there) ∙ set-there node.ends y e0 e has
+  end-new = ap (option_and_then (λ (one : Node). slice_get one.ends y)) (set-there nodes x node new-node there)
+      ∙ set-there node.ends y e0 e has
 
   pub end-was : end_at nodes x y ≡ Some e0
   end-was = ap (option_and_then (λ (one : Node). slice_get one.ends y)) there ∙ has
@@ -47,7 +49,8 @@ module _ (nodes : List Node) (x y : ℕ) (node : Node) (e0 e : End) (there : sli
       by (differ m) = ap (at b) (set-other nodes x a new-node m)
       by (are s) =
           subst (λ c. end_at (with_end x y node e nodes) c b ≡ end_at nodes c b) s
-          (ap (at b) (set-there nodes x node new-node there) ∙ set-other node.ends y b e (λ t. n (sym s) (sym t)) ∙ sym (ap (at b) there))
+          (ap (at b) (set-there nodes x node new-node there) ∙ set-other node.ends y b e (λ t. n (sym s) (sym t))
+          ∙ sym (ap (at b) there))
 
 -- ends don't change with a watch
 pub end-watch : (nodes : List Node) (x : ℕ) (node : Node) (watch : Watching) → slice_get nodes x ≡ Some node → (a b : ℕ)

@@ -1,5 +1,6 @@
 -- What a net owes, change by change.
-use Rattle.std.proofs.Common.{◌≡◌, inl, inr, ℕ, Bool, true, false, List, [], ◌∷◌, ◌++◌, Some, slice_get, slice_set, ap, sym, subst, ◌∙◌}
+use Rattle.std.proofs.Common.{◌≡◌, inl, inr, ℕ, Bool, true, false, List, [], ◌∷◌, ◌++◌, Some, slice_get, slice_set, ap}
+use Rattle.std.proofs.Common.{sym, subst, ◌∙◌}
 use Rattle.std.specs.Option.{option_to_list}
 use Rattle.std.proofs.lemmas.List.{append-nil, append_assoc}
 use Rattle.gd_words.specs.Members.{IsAmong}
@@ -13,64 +14,101 @@ use Rattle.letters.specs.Routes.{Letter}
 use Rattle.message_layout.specs.Messages.{NodeMessage, Carrying, Reporting, Declaring}
 use Rattle.message_layout.specs.Layout.{Fits, words_of}
 use Rattle.packet_nets.specs.Owing.{carried, between, IsTrueOf, IsPushed, IsOpen, Owes}
-use Rattle.packet_nets.proofs.Between.{letters_by, between-append, carried-append, carried-of, carried-one, by-here, by-elsewhere, without-between}
+use Rattle.packet_nets.proofs.Between.{letters_by, between-append, carried-append, carried-of, carried-one, by-here}
+use Rattle.packet_nets.proofs.Between.{by-elsewhere, without-between}
 use Rattle.packet_nets.proofs.Tied.{Place, here, there, place, put-other, stop-running, stop-stopped}
 
-module _ {site : Site} {stopped : List Bool} {owed sent : List Letter} {n : Net} (o : Owes site stopped owed sent n) where
+module _ {site : Site} {stopped : List Bool} {owed sent : List Letter} {n : Net}
+    (o : Owes site stopped owed sent n) where
   -- a net in which no way and no cut changed owes as much
-  pub calm-owes : (next : Net) → ((a b : ℕ) → (next.ways a b).pushes ≡ (n.ways a b).pushes) → ((a b : ℕ) → (next.ways a b).out ≡ (n.ways a b).out)
+  pub calm-owes : (next : Net) → ((a b : ℕ) → (next.ways a b).pushes ≡ (n.ways a b).pushes)
+      → ((a b : ℕ) → (next.ways a b).out ≡ (n.ways a b).out)
       → ((a b : ℕ) → (next.ends a b).down ≡ (n.ends a b).down) → Owes site stopped owed sent next
   calm-owes next pushes out down = record {
     pushed = λ a b words among. o.pushed a b words (subst (IsAmong words) (pushes a b) among);
-    owes = λ a b opened. ap carried (pushes a b) ∙ o.owes a b (was a b opened) ∙ ap (λ ms. carried ms ++ between a b owed) (sym (out a b));
+    owes = λ a b opened. ap carried (pushes a b) ∙ o.owes a b (was a b opened)
+        ∙ ap (λ ms. carried ms ++ between a b owed) (sym (out a b));
   }
     where
       was : (a b : ℕ) → IsOpen stopped next a b → IsOpen stopped n a b
-      was a b opened = record { sender = opened.sender; receiver = opened.receiver; runs = opened.runs; there = sym (down a b) ∙ opened.there; back = sym (down b a) ∙ opened.back }
+      was a b opened = record {
+        sender = opened.sender;
+        receiver = opened.receiver;
+        runs = opened.runs;
+        there = sym (down a b) ∙ opened.there;
+        back = sym (down b a) ∙ opened.back;
+      }
 
-  true-more : (more : List Letter) → ((letter : Letter) → IsAmong letter sent → IsAmong letter more) → (x y : ℕ) (told : NodeMessage) → IsTrueOf stopped sent x y told
+  true-more : (more : List Letter) → ((letter : Letter) → IsAmong letter sent → IsAmong letter more)
+      → (x y : ℕ) (told : NodeMessage) → IsTrueOf stopped sent x y told
       → IsTrueOf stopped more x y told
   true-more more up x y (Carrying message) is = up _ is
   true-more more up x y (Reporting node set) is = tt
   true-more more up x y (Declaring processor) is = is
 
   -- as many are owed when more letters were sent
-  pub more-owes : (more : List Letter) → ((letter : Letter) → IsAmong letter sent → IsAmong letter more) → Owes site stopped owed more n
+  pub more-owes : (more : List Letter) → ((letter : Letter) → IsAmong letter sent → IsAmong letter more)
+      → Owes site stopped owed more n
   more-owes more up = record {
     pushed = λ a b words among. let one = o.pushed a b words among in
-        record { message = one.message; is = one.is; fits = one.fits; right = true-more more up a b one.message one.right };
+        record {
+          message = one.message;
+          is = one.is;
+          fits = one.fits;
+          right = true-more more up a b one.message one.right;
+        };
     owes = o.owes;
   }
 
   -- one more push
   pub push-owes : (x y : ℕ) (told : NodeMessage) → Fits site told → IsTrueOf stopped sent x y told → (next : Net)
-      → next.ways ≡ put x y (pushing (words_of told) (n.ways x y)) n.ways → ((a b : ℕ) → (next.ends a b).down ≡ (n.ends a b).down)
+      → next.ways ≡ put x y (pushing (words_of told) (n.ways x y)) n.ways
+      → ((a b : ℕ) → (next.ends a b).down ≡ (n.ends a b).down)
       → Owes site stopped (owed ++ letters_by x y told) sent next
   push-owes x y told fits right next ways down = record {
-    pushed = λ a b words among. new a b words (subst (IsAmong words) (ap (λ (f : ℕ → ℕ → Way). (f a b).pushes) ways) among);
+    pushed = λ a b words among. new a b words
+        (subst (IsAmong words) (ap (λ (f : ℕ → ℕ → Way). (f a b).pushes) ways) among);
     owes = λ a b opened.
-        ap (λ (f : ℕ → ℕ → Way). carried (f a b).pushes) ways ∙ owes a b (was a b opened) ∙ ap (λ (f : ℕ → ℕ → Way). carried (f a b).out ++ between a b (owed ++ letters_by x y told)) (sym ways);
+        ap (λ (f : ℕ → ℕ → Way). carried (f a b).pushes) ways ∙ owes a b (was a b opened)
+        ∙ ap (λ (f : ℕ → ℕ → Way). carried (f a b).out ++ between a b (owed ++ letters_by x y told)) (sym ways);
   }
     where
       was : (a b : ℕ) → IsOpen stopped next a b → IsOpen stopped n a b
-      was a b opened = record { sender = opened.sender; receiver = opened.receiver; runs = opened.runs; there = sym (down a b) ∙ opened.there; back = sym (down b a) ∙ opened.back }
+      was a b opened = record {
+        sender = opened.sender;
+        receiver = opened.receiver;
+        runs = opened.runs;
+        there = sym (down a b) ∙ opened.there;
+        back = sym (down b a) ∙ opened.back;
+      }
 
-      new : (a b : ℕ) (words : _) → IsAmong words (put x y (pushing (words_of told) (n.ways x y)) n.ways a b).pushes → IsPushed site stopped sent a b words
+      new : (a b : ℕ) (words : _) → IsAmong words (put x y (pushing (words_of told) (n.ways x y)) n.ways a b).pushes
+          → IsPushed site stopped sent a b words
       new a b words = by (place x y a b)
         where
           one : IsAmong words ((n.ways x y).pushes ++ words_of told ∷ []) → IsPushed site stopped sent x y words
           one among = elim (among-either words (n.ways x y).pushes (words_of told ∷ []) among) [
             | inl before ↦ o.pushed x y words before
-            | inr now ↦ elim now [ inl same ↦ record { message = told; is = same; fits = fits; right = right } | inr none ↦ absurd none ]
+            | inr now ↦ elim now [
+              | inl same ↦ record { message = told; is = same; fits = fits; right = right }
+              | inr
+                  none ↦ absurd none
+            ]
           ]
 
-          by : Place x y a b → IsAmong words (put x y (pushing (words_of told) (n.ways x y)) n.ways a b).pushes → IsPushed site stopped sent a b words
+          by : Place x y a b → IsAmong words (put x y (pushing (words_of told) (n.ways x y)) n.ways a b).pushes
+              → IsPushed site stopped sent a b words
           by (here s u) among =
-              subst (λ c. IsPushed site stopped sent c b words) (sym s) (subst (λ c. IsPushed site stopped sent x c words) (sym u)
-              (one (subst (λ (w : Way). IsAmong words w.pushes) (put-same x y (pushing (words_of told) (n.ways x y)) n.ways)
+              subst (λ c. IsPushed site stopped sent c b words) (sym s)
+              (subst (λ c. IsPushed site stopped sent x c words) (sym u)
+              (one (subst (λ (w : Way). IsAmong words w.pushes)
+              (put-same x y (pushing (words_of told) (n.ways x y)) n.ways)
               (subst (λ c. IsAmong words (put x y (pushing (words_of told) (n.ways x y)) n.ways x c).pushes) u
-              (subst (λ c. IsAmong words (put x y (pushing (words_of told) (n.ways x y)) n.ways c b).pushes) s among)))))
-          by (there m) among = o.pushed a b words (subst (λ (w : Way). IsAmong words w.pushes) (put-other x y (pushing (words_of told) (n.ways x y)) n.ways a b m) among)
+              (subst (λ c. IsAmong words (put x y (pushing (words_of told) (n.ways x y)) n.ways c b).pushes) s
+              among)))))
+          by (there m) among = o.pushed a b words
+              (subst (λ (w : Way). IsAmong words w.pushes)
+              (put-other x y (pushing (words_of told) (n.ways x y)) n.ways a b m) among)
 
       Owed : (a b : ℕ) → Way → Type 0
       Owed a b w = carried w.pushes ≡ carried w.out ++ between a b (owed ++ letters_by x y told)
@@ -82,7 +120,8 @@ module _ {site : Site} {stopped : List Bool} {owed sent : List Letter} {n : Net}
           by (there m) =
               subst (Owed a b) (sym (put-other x y (pushing (words_of told) (n.ways x y)) n.ways a b m))
               (o.owes a b opened ∙ ap (λ ms. carried (n.ways a b).out ++ ms)
-              (sym (between-append a b owed (letters_by x y told) ∙ ap (λ ms. between a b owed ++ ms) (by-elsewhere x y told a b m) ∙ append-nil (between a b owed))))
+              (sym (between-append a b owed (letters_by x y told)
+              ∙ ap (λ ms. between a b owed ++ ms) (by-elsewhere x y told a b m) ∙ append-nil (between a b owed))))
           by (here s u) =
               subst (λ c. Owed c b (put x y (pushing (words_of told) (n.ways x y)) n.ways c b)) (sym s)
               (subst (λ c. Owed x c (put x y (pushing (words_of told) (n.ways x y)) n.ways x c)) (sym u)
@@ -90,52 +129,71 @@ module _ {site : Site} {stopped : List Bool} {owed sent : List Letter} {n : Net}
               (one (subst (λ c. IsOpen stopped n x c) u (subst (λ c. IsOpen stopped n c b) s opened)))))
             where
               last : carried (words_of told ∷ []) ≡ between x y (letters_by x y told)
-              last = carried-one (words_of told) ∙ ap option_to_list (carried-of told fits.within) ∙ sym (by-here x y told)
+              last = carried-one (words_of told) ∙ ap option_to_list (carried-of told fits.within)
+                  ∙ sym (by-here x y told)
 
               one : IsOpen stopped n x y → Owed x y (pushing (words_of told) (n.ways x y))
               one opened =
                   carried-append (n.ways x y).pushes (words_of told ∷ [])
                   ∙ ap (λ ms. ms ++ carried (words_of told ∷ [])) (o.owes x y opened)
                   ∙ append_assoc (carried (n.ways x y).out) (between x y owed) (carried (words_of told ∷ []))
-                  ∙ ap (λ ms. carried (n.ways x y).out ++ ms) (ap (λ ms. between x y owed ++ ms) last ∙ sym (between-append x y owed (letters_by x y told)))
+                  ∙ ap (λ ms. carried (n.ways x y).out ++ ms)
+                  (ap (λ ms. between x y owed ++ ms) last ∙ sym (between-append x y owed (letters_by x y told)))
 
   -- a letter may be owed on a closed channel without being pushed
-  pub closed-owes : (x y : ℕ) (told : NodeMessage) → (IsOpen stopped n x y → ⊥) → Owes site stopped (owed ++ letters_by x y told) sent n
+  pub closed-owes : (x y : ℕ) (told : NodeMessage) → (IsOpen stopped n x y → ⊥)
+      → Owes site stopped (owed ++ letters_by x y told) sent n
   closed-owes x y told closed = record {
     pushed = o.pushed;
     owes = λ a b opened. o.owes a b opened ∙ ap (λ ms. carried (n.ways a b).out ++ ms)
-        (sym (between-append a b owed (letters_by x y told) ∙ ap (λ ms. between a b owed ++ ms) (by-elsewhere x y told a b (other a b opened)) ∙ append-nil (between a b owed)));
+        (sym (between-append a b owed (letters_by x y told)
+        ∙ ap (λ ms. between a b owed ++ ms) (by-elsewhere x y told a b (other a b opened))
+        ∙ append-nil (between a b owed)));
   }
     where
       other : (a b : ℕ) → IsOpen stopped n a b → a ≡ x → b ≡ y → ⊥
       other a b opened s u = closed (subst (λ c. IsOpen stopped n x c) u (subst (λ c. IsOpen stopped n c b) s opened))
 
   -- letters between two nodes are struck off, if both channels between them are closed
-  pub without-owes : (x y : ℕ) (next : Net) → next.ways ≡ n.ways → ((a b : ℕ) → IsOpen stopped next a b → IsOpen stopped n a b) → (IsOpen stopped next x y → ⊥) → (IsOpen stopped next y x → ⊥)
+  pub without-owes : (x y : ℕ) (next : Net) → next.ways ≡ n.ways
+      → ((a b : ℕ) → IsOpen stopped next a b → IsOpen stopped n a b) → (IsOpen stopped next x y → ⊥)
+      → (IsOpen stopped next y x → ⊥)
       → Owes site stopped (without_those_between x y owed) sent next
   without-owes x y next ways was one other = record {
-    pushed = λ a b words among. o.pushed a b words (subst (IsAmong words) (ap (λ (f : ℕ → ℕ → Way). (f a b).pushes) ways) among);
+    pushed = λ a b words among. o.pushed a b words
+        (subst (IsAmong words) (ap (λ (f : ℕ → ℕ → Way). (f a b).pushes) ways) among);
     owes = λ a b opened.
         ap (λ (f : ℕ → ℕ → Way). carried (f a b).pushes) ways ∙ o.owes a b (was a b opened)
-        ∙ ap (λ ms. carried (n.ways a b).out ++ ms) (sym (without-between x y a b owed (not_one a b opened) (not_other a b opened)))
+        ∙ ap (λ ms. carried (n.ways a b).out ++ ms)
+        (sym (without-between x y a b owed (not_one a b opened) (not_other a b opened)))
         ∙ ap (λ (f : ℕ → ℕ → Way). carried (f a b).out ++ between a b (without_those_between x y owed)) (sym ways);
   }
     where
       not_one : (a b : ℕ) → IsOpen stopped next a b → a ≡ x → b ≡ y → ⊥
-      not_one a b opened s u = one (subst (λ c. IsOpen stopped next x c) u (subst (λ c. IsOpen stopped next c b) s opened))
+      not_one a b opened s u =
+          one (subst (λ c. IsOpen stopped next x c) u (subst (λ c. IsOpen stopped next c b) s opened))
 
       not_other : (a b : ℕ) → IsOpen stopped next a b → a ≡ y → b ≡ x → ⊥
-      not_other a b opened s u = other (subst (λ c. IsOpen stopped next y c) u (subst (λ c. IsOpen stopped next c b) s opened))
+      not_other a b opened s u =
+          other (subst (λ c. IsOpen stopped next y c) u (subst (λ c. IsOpen stopped next c b) s opened))
 
   -- a stop of a processor that runs
-  pub stop-owes : (processor : ℕ) → slice_get stopped processor ≡ Some false → Owes site (slice_set stopped processor true) owed sent (stopped_net processor n)
+  pub stop-owes : (processor : ℕ) → slice_get stopped processor ≡ Some false
+      → Owes site (slice_set stopped processor true) owed sent (stopped_net processor n)
   stop-owes processor runs = record {
     pushed = λ a b words among. let one = o.pushed a b words among in
         record { message = one.message; is = one.is; fits = one.fits; right = later a b one.message one.right };
-    owes = λ a b opened. o.owes a b (record { sender = opened.sender; receiver = opened.receiver; runs = stop-running stopped processor runs a opened.runs; there = opened.there; back = opened.back });
+    owes = λ a b opened. o.owes a b (record {
+      sender = opened.sender;
+      receiver = opened.receiver;
+      runs = stop-running stopped processor runs a opened.runs;
+      there = opened.there;
+      back = opened.back;
+    });
   }
     where
-      later : (a b : ℕ) (told : NodeMessage) → IsTrueOf stopped sent a b told → IsTrueOf (slice_set stopped processor true) sent a b told
+      later : (a b : ℕ) (told : NodeMessage) → IsTrueOf stopped sent a b told
+          → IsTrueOf (slice_set stopped processor true) sent a b told
       later a b (Carrying message) is = is
       later a b (Reporting node set) is = tt
       later a b (Declaring other) is = stop-stopped stopped processor runs other is

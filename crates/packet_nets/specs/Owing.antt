@@ -1,5 +1,6 @@
 -- What a net owes of the letters of a post: the tie between what was pushed and what is still to be handed over.
-use Rattle.std.specs.Prelude.{◌≡◌, ◌≤◌, ◌==◌, ◌&&◌, ℕ, ℤ, Bool, true, false, List, ◌++◌, length, slice_get, Option, Some, None, filter_map, map}
+use Rattle.std.specs.Prelude.{◌≡◌, ◌≤◌, ◌==◌, ◌&&◌, ℕ, ℤ, Bool, true, false, List, ◌++◌, length, slice_get, Option}
+use Rattle.std.specs.Prelude.{Some, None, filter_map, map}
 use Rattle.std.specs.List.{filter}
 use Rattle.std.specs.Option.{option_and_then}
 use Rattle.gd_words.specs.Members.{IsAmong}
@@ -35,7 +36,8 @@ goes x y letter = letter.sender == x && letter.receiver == y
 abbrev pub between : ℕ → ℕ → List Letter → List Message
 between x y letters = map (λ letter. letter.message) (filter (goes x y) letters)
 
--- a message from x to y is true: one of the world is that of a letter sent there, and a processor that is declared down has stopped
+-- a message from x to y is true: one of the world is that of a letter sent there, and a processor that is declared down
+-- has stopped
 abbrev pub IsTrueOf : List Bool → List Letter → ℕ → ℕ → NodeMessage → Type 0
 IsTrueOf stopped sent x y (Carrying message) = IsAmong (record { sender = x; receiver = y; message = message }) sent
 IsTrueOf stopped sent x y (Reporting node silent) = Unit {0}
@@ -50,7 +52,9 @@ pub record IsPushed (site : Site) (stopped : List Bool) (sent : List Letter) (x 
 
 -- the site understands these words, and they are a true message from x to y
 abbrev pub WasPushed : Site → List Bool → List Letter → ℕ → ℕ → List ℤ → Type 0
-WasPushed site stopped sent x y words = (message : NodeMessage) × (understood site words ≡ Some message) × Fits site message × IsTrueOf stopped sent x y message
+WasPushed site stopped sent x y words =
+    (message : NodeMessage) × (understood site words ≡ Some message) × Fits site message
+    × IsTrueOf stopped sent x y message
 
 -- the channel from x to y is open: x runs, and neither end was thrown away
 pub record IsOpen (stopped : List Bool) (n : Net) (x y : ℕ) : Type 0 where
@@ -60,13 +64,17 @@ pub record IsOpen (stopped : List Bool) (n : Net) (x y : ℕ) : Type 0 where
   pub there : (n.ends x y).down ≡ false
   pub back : (n.ends y x).down ≡ false
 
--- whatever was pushed was true and fits the site; and what was pushed into an open channel is what came out of it, and then what is owed there
+-- whatever was pushed was true and fits the site; and what was pushed into an open channel is what came out of it, and
+-- then what is owed there
 pub record Owes (site : Site) (stopped : List Bool) (owed sent : List Letter) (n : Net) : Type 0 where
   pub pushed : (x y : ℕ) (words : List ℤ) → IsAmong words (n.ways x y).pushes → IsPushed site stopped sent x y words
-  pub owes : (x y : ℕ) → IsOpen stopped n x y → carried (n.ways x y).pushes ≡ carried (n.ways x y).out ++ between x y owed
+  pub owes : (x y : ℕ) → IsOpen stopped n x y
+      → carried (n.ways x y).pushes ≡ carried (n.ways x y).out ++ between x y owed
 
--- while these packets are on the buses, the wires in the midst of an event hold what these letters owe, in a world in which these have stopped
-pub record Ties (site : Site) (stopped : List Bool) (on : List Packet) (midst : Midst) (owed sent : List Letter) : Type 0 where
+-- while these packets are on the buses, the wires in the midst of an event hold what these letters owe, in a world in
+-- which these have stopped
+pub record Ties (site : Site) (stopped : List Bool) (on : List Packet) (midst : Midst) (owed sent : List Letter) :
+    Type 0 where
   pub net : Net
   pub tied : IsTied stopped on midst net
   pub owes : Owes site stopped owed sent net

@@ -12,15 +12,18 @@ use Rattle.packet_nets.specs.Owing.{on_both}
 abbrev pub GoesOut : Packet → List Outgoing → Type 0
 GoesOut p out = (one : Outgoing) × IsAmong one out × (p ≡ one.packet)
 
--- between events the wires are those of a net in which just those packets are in flight that are on the buses, each sent by a node
+-- between events the wires are those of a net in which just those packets are in flight that are on the buses, each
+-- sent by a node
 pub record IsNet (stopped : List Bool) (wires : Wires) (n : Net) : Type 0 where
   pub tied : IsTied stopped (on_both wires) (nothing_sent wires.nodes) n
   pub held : (p : Packet) → IsAmong p n.flight → IsAmong p (on_both wires)
   pub senders : (p : Packet) → IsAmong p n.flight → p.sender ≤ 16
 
--- in the midst of an event that found such packets on the buses: what has gone on so far in the net of its beginning, while a and b don't stop, leads to that of
--- the wires; each packet in flight there is on the buses, or was sent, or came
-pub record IsPassing (a b : ℕ) (stopped : List Bool) (on : List Packet) (start : Net) (came : List Packet) (midst : Midst) : Type 0 where
+-- in the midst of an event that found such packets on the buses: what has gone on so far in the net of its beginning,
+-- while a and b don't stop, leads to that of the wires; each packet in flight there is on the buses, or was sent, or
+-- came
+pub record IsPassing (a b : ℕ) (stopped : List Bool) (on : List Packet) (start : Net) (came : List Packet)
+    (midst : Midst) : Type 0 where
   pub net : Net
   pub tied : IsTied stopped on midst net
   pub passes : Passes a b start came net

@@ -16,9 +16,10 @@ use Rattle.packet_wires.specs.Wires.{Midst, Outgoing}
 abbrev pub stands : List Bool → ℕ → Bool
 stands stopped x = unwrap_or (slice_get stopped x) false
 
--- the wires in the midst of an event are those of a net, while these packets are on the buses: between nodes up to 16 each has an end with each; the net is
--- whole, and its nodes have stopped where the world's don't run; the ends of a node that runs are the net's; what is on the buses and what the event has sent is in
--- flight in the net, which forgets no packet; and who is cut off has stopped
+-- the wires in the midst of an event are those of a net, while these packets are on the buses: between nodes up to 16
+-- each has an end with each; the net is whole, and its nodes have stopped where the world's don't run; the ends of a
+-- node that runs are the net's; what is on the buses and what the event has sent is in flight in the net, which forgets
+-- no packet; and who is cut off has stopped
 pub record IsTied (stopped : List Bool) (on : List Packet) (midst : Midst) (n : Net) : Type 0 where
   pub shape : (x y : ℕ) → x ≤ 16 → y ≤ 16 → (e : End) × (end_at midst.nodes x y ≡ Some e)
   pub whole : IsWhole n

@@ -8,7 +8,8 @@ ghost use Rattle.letters.specs.Posts.{without_those_between};
 ghost use Rattle.letters.specs.Routes.{Letter};
 ghost use Rattle.message_layout.specs.Layout.{Fits};
 ghost use Rattle.message_layout.specs.Messages.{Carrying};
-ghost use Rattle.packet_wires.specs.Wires.{Midst, Wires, all_posted, cut_off, declares, ticked, wires_at_boot, with_sent};
+ghost use Rattle.packet_wires.specs.Wires.{Midst, Wires, all_posted, cut_off, declares, ticked, wires_at_boot};
+ghost use Rattle.packet_wires.specs.Wires.{with_sent};
 ghost use Rattle.packet_nets.specs.Owing.{Ties, TiesAtRest, on_both};
 
 /// At the beginning nothing is owed.
@@ -18,29 +19,39 @@ pub fn wires_begin_owing_nothing()
 
 /// Letters that are posted are owed behind those that were.
 pub fn what_is_posted_is_owed()
-    ensures { (site : Site) (stopped : List Bool) (on : List Packet) (midst : Midst) (owed : List Letter) (sent : List Letter) (letters : List Letter)
-        → Ties site stopped on midst owed sent → ((letter : Letter) → IsAmong letter letters → Fits site (Carrying letter.message) × IsAmong letter sent)
+    ensures { (site : Site) (stopped : List Bool) (on : List Packet) (midst : Midst) (owed : List Letter)
+        (sent : List Letter) (letters : List Letter)
+        → Ties site stopped on midst owed sent → ((letter : Letter) → IsAmong letter letters
+        → Fits site (Carrying letter.message) × IsAmong letter sent)
         → Ties site stopped on (all_posted stopped letters midst) (owed ++ letters) sent }
 {}
 
 /// What a node sends at its ticks, and by which it declares a stopped processor down, changes nothing that is owed.
 pub fn ticks_owe_nothing_more()
-    ensures tick { (site : Site) (stopped : List Bool) (on : List Packet) (midst : Midst) (owed : List Letter) (sent : List Letter) (node : ℕ)
-        → is_running stopped node ≡ true → Ties site stopped on midst owed sent → Ties site stopped on (ticked site.processors node midst) owed sent }
-    ensures declare { (site : Site) (stopped : List Bool) (on : List Packet) (midst : Midst) (owed : List Letter) (sent : List Letter) (node processor : ℕ)
-        → is_running stopped node ≡ true → processor ≤ 15 → slice_get stopped processor ≡ Some true → Ties site stopped on midst owed sent
+    ensures tick { (site : Site) (stopped : List Bool) (on : List Packet) (midst : Midst) (owed : List Letter)
+        (sent : List Letter) (node : ℕ)
+        → is_running stopped node ≡ true → Ties site stopped on midst owed sent
+        → Ties site stopped on (ticked site.processors node midst) owed sent }
+    ensures declare { (site : Site) (stopped : List Bool) (on : List Packet) (midst : Midst) (owed : List Letter)
+        (sent : List Letter) (node processor : ℕ)
+        → is_running stopped node ≡ true → processor ≤ 15 → slice_get stopped processor ≡ Some true
+        → Ties site stopped on midst owed sent
         → Ties site stopped on (declares site.processors node processor midst) owed sent }
 {}
 
 /// When a node cuts a stopped processor off, what was owed between both is owed no more.
 pub fn what_is_cut_off_is_struck_off()
-    ensures { (site : Site) (stopped : List Bool) (on : List Packet) (midst : Midst) (owed : List Letter) (sent : List Letter) (node processor : ℕ)
-        → is_running stopped node ≡ true → slice_get stopped processor ≡ Some true → Ties site stopped on midst owed sent
+    ensures { (site : Site) (stopped : List Bool) (on : List Packet) (midst : Midst) (owed : List Letter)
+        (sent : List Letter) (node processor : ℕ)
+        → is_running stopped node ≡ true → slice_get stopped processor ≡ Some true
+        → Ties site stopped on midst owed sent
         → Ties site stopped on (cut_off node processor midst) (without_those_between node processor owed) sent }
 {}
 
 /// When an event is over, and what it sent is put on the buses, as much is owed.
 pub fn what_is_sent_is_in_flight()
-    ensures { (site : Site) (stopped : List Bool) (wires : Wires) (midst : Midst) (owed : List Letter) (sent : List Letter)
-        → Ties site stopped (on_both wires) midst owed sent → TiesAtRest site stopped (with_sent midst wires) owed sent }
+    ensures { (site : Site) (stopped : List Bool) (wires : Wires) (midst : Midst) (owed : List Letter)
+        (sent : List Letter)
+        → Ties site stopped (on_both wires) midst owed sent
+        → TiesAtRest site stopped (with_sent midst wires) owed sent }
 {}

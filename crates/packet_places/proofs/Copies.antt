@@ -1,5 +1,7 @@
 -- What changes of the world are computed changes copies in one processor alone, and sends from there.
-use Rattle.std.proofs.Common.{◌≡◌, ◌≢◌, ℕ, ℤ, Bool, true, false, if◌then◌else◌, nat_lt, ◌==◌, List, [], ◌∷◌, ◌++◌, map, Option, Some, None, slice_get, slice_set, option_map, option_and_then, refl, sym, ap, subst, ◌∙◌}
+use Rattle.std.proofs.Common.{◌≡◌, ◌≢◌, ℕ, ℤ, Bool, true, false, if◌then◌else◌, nat_lt, ◌==◌, List, [], ◌∷◌, ◌++◌, map}
+use Rattle.std.proofs.Common.{Option, Some, None, slice_get, slice_set, option_map, option_and_then, refl, sym, ap}
+use Rattle.std.proofs.Common.{subst, ◌∙◌}
 use Rattle.std.proofs.lemmas.Bool.{eqb-true}
 use Rattle.gd_words.specs.Members.{IsAmong}
 use Rattle.gd_words.specs.declared.message.Request.{Request}
@@ -21,13 +23,15 @@ use Rattle.world_semantics.specs.declared.role.Role.TheVariants.{Acting, Watchin
 use Rattle.world_semantics.specs.declared.which.Which.{Which}
 use Rattle.world_semantics.specs.declared.which.Which.TheVariants.{First, Second}
 use Rattle.world_semantics.specs.Core.{Core}
-use Rattle.world_semantics.specs.World.{Copy, Pair, Terminal, World, terminal_node, other_of, copy_of, with_copy, may_pass}
+use Rattle.world_semantics.specs.World.{Copy, Pair, Terminal, World, terminal_node, other_of, copy_of, with_copy}
+use Rattle.world_semantics.specs.World.{may_pass}
 use Rattle.world_semantics.specs.Kept.{own_acts}
 use Rattle.world_semantics.specs.Messages.{Message, Asking, Replying, Checkpointing, Taking, Sending, sent_at}
 use Rattle.world_semantics.specs.Own.{around}
 use Rattle.checkpoint_image.specs.Receive.{waits, came, repeated, all_repeated}
 use Rattle.world_semantics.specs.Passes.{checkpoint_of, after_sending, taken_of, kept_at_checkpoint}
-use Rattle.world_semantics.specs.Rules.{entered_request, taker, pair_after_down, pair_at_down, told_at_down, takeover_sendings}
+use Rattle.world_semantics.specs.Rules.{entered_request, taker, pair_after_down, pair_at_down, told_at_down}
+use Rattle.world_semantics.specs.Rules.{takeover_sendings}
 use Rattle.world_semantics.specs.Records.{records_of}
 use Rattle.world_semantics.specs.Running.{Done, Own, Stepped, own_at, run_pair, first_step, run_done, step_of_copy}
 use Rattle.world_semantics.proofs.Lifted.{lifted, mark_done, own_done, own_made, passed_done, run_as, run_at, sent_done}
@@ -39,14 +43,16 @@ use Rattle.computed_changes.specs.Fitting.{depths_of, put_fitting}
 use Rattle.computed_changes.specs.Checkpoints.{is_next_for, is_of_last}
 use Rattle.computed_changes.specs.Handed.{brought_to, handed_done, replied_done, step_by}
 use Rattle.computed_changes.specs.Replies.{awaits, awaits_at, copy_got, printed_at, printed_done, printed_where}
-use Rattle.computed_changes.proofs.Lifted.{acknowledged_where, applied_done, applied_made, applied_where, asked_done, checkpoint_done, got_done, got_where, taken_done}
+use Rattle.computed_changes.proofs.Lifted.{acknowledged_where, applied_done, applied_made, applied_where, asked_done}
+use Rattle.computed_changes.proofs.Lifted.{checkpoint_done, got_done, got_where, taken_done}
 use Rattle.computed_changes.specs.Stopped.{world_at_down}
 use Rattle.packet_places.specs.Places.{KeepsItsOwn}
 
 -- a change at a node: it sends from there, and each copy elsewhere keeps its own
 pub record IsDoneAt (node : ℕ) (w : World) (done : Done) : Type 0 where
   pub sendings : (sending : Sending) → IsAmong sending done.sendings → sending.node ≡ node
-  pub copies : (number : ℕ) (k : Which) (before after : Pair) → slice_get w.processes number ≡ Some before → slice_get done.world.processes number ≡ Some after
+  pub copies : (number : ℕ) (k : Which) (before after : Pair) → slice_get w.processes number ≡ Some before
+      → slice_get done.world.processes number ≡ Some after
       → (copy_of k before).processor ≢ node → KeepsItsOwn (copy_of k before) (copy_of k after)
 
 -- a change that may be made
@@ -55,57 +61,82 @@ AnyAt node w None = Unit {0}
 AnyAt node w (Some done) = IsDoneAt node w done
 
 pub keeps-same : (copy : Copy) → KeepsItsOwn copy copy
-keeps-same copy = record { processor = refl; role = refl; era = refl; number = refl; sent = refl; acknowledged = refl; core = refl; waiting = refl }
+keeps-same copy = record {
+  processor = refl;
+  role = refl;
+  era = refl;
+  number = refl;
+  sent = refl;
+  acknowledged = refl;
+  core = refl;
+  waiting = refl;
+}
 
-sent-from : (node : ℕ) (messages : List Message) (sending : Sending) → IsAmong sending (sent_at node messages) → sending.node ≡ node
-sent-from node messages sending among = ap (λ (s : Sending). s.node) (among-map (λ (message : Message). record { node = node; message = message }) messages sending among).same
+sent-from : (node : ℕ) (messages : List Message) (sending : Sending) → IsAmong sending (sent_at node messages)
+    → sending.node ≡ node
+sent-from node messages sending among =
+    ap (λ (s : Sending). s.node) (among-map (λ (message : Message). record { node = node; message = message }) messages
+    sending among).same
 
 -- nothing is sent, and the processes stay
-quiet-at : (node : ℕ) (w : World) (done : Done) → done.world.processes ≡ w.processes → ((sending : Sending) → IsAmong sending done.sendings → sending.node ≡ node) → IsDoneAt node w done
+quiet-at : (node : ℕ) (w : World) (done : Done) → done.world.processes ≡ w.processes
+    → ((sending : Sending) → IsAmong sending done.sendings → sending.node ≡ node) → IsDoneAt node w done
 quiet-at node w done same from = record {
   sendings = from;
   copies = λ number k before after there now away.
-      subst (λ (one : Pair). KeepsItsOwn (copy_of k before) (copy_of k one)) (some-same (sym there ∙ ap (λ (ps : List Pair). slice_get ps number) (sym same) ∙ now))
+      subst (λ (one : Pair). KeepsItsOwn (copy_of k before) (copy_of k one))
+      (some-same (sym there ∙ ap (λ (ps : List Pair). slice_get ps number) (sym same) ∙ now))
       (keeps-same (copy_of k before));
 }
 
 -- one copy of one process becomes another, and the rest of the process holds what the other copy had
 module _ (w : World) (number : ℕ) (k : Which) (pair : Pair) (there : slice_get w.processes number ≡ Some pair) where
-  one-changed : (copy : Copy) (rest : Pair) → KeepsItsOwn (copy_of (other_of k) pair) (copy_of (other_of k) rest) → (done : Done)
+  one-changed : (copy : Copy) (rest : Pair) → KeepsItsOwn (copy_of (other_of k) pair) (copy_of (other_of k) rest)
+      → (done : Done)
       → done.world.processes ≡ slice_set w.processes number (with_copy k copy rest)
-      → ((sending : Sending) → IsAmong sending done.sendings → sending.node ≡ (copy_of k pair).processor) → IsDoneAt (copy_of k pair).processor w done
+      → ((sending : Sending) → IsAmong sending done.sendings → sending.node ≡ (copy_of k pair).processor)
+      → IsDoneAt (copy_of k pair).processor w done
   one-changed copy rest keeps done same from = record {
     sendings = from;
     copies = λ n j before after was now away.
-        by n j before after was away (changed w.processes number (with_copy k copy rest) n after (ap (λ (ps : List Pair). slice_get ps n) (sym same) ∙ now));
+        by n j before after was away (changed w.processes number (with_copy k copy rest) n after
+        (ap (λ (ps : List Pair). slice_get ps n) (sym same) ∙ now));
   }
     where
-      which : (k j : Which) (before : Pair) → KeepsItsOwn (copy_of (other_of k) before) (copy_of (other_of k) rest) → (copy_of j before).processor ≢ (copy_of k before).processor
+      which : (k j : Which) (before : Pair) → KeepsItsOwn (copy_of (other_of k) before) (copy_of (other_of k) rest)
+          → (copy_of j before).processor ≢ (copy_of k before).processor
           → KeepsItsOwn (copy_of j before) (copy_of j (with_copy k copy rest))
       which First First before keeps away = absurd (away refl)
       which First Second before keeps away = keeps
       which Second First before keeps away = keeps
       which Second Second before keeps away = absurd (away refl)
 
-      by : (n : ℕ) (j : Which) (before after : Pair) → slice_get w.processes n ≡ Some before → (copy_of j before).processor ≢ (copy_of k pair).processor
-          → Changed w.processes number (with_copy k copy rest) n after → KeepsItsOwn (copy_of j before) (copy_of j after)
+      by : (n : ℕ) (j : Which) (before after : Pair) → slice_get w.processes n ≡ Some before
+          → (copy_of j before).processor ≢ (copy_of k pair).processor
+          → Changed w.processes number (with_copy k copy rest) n after
+          → KeepsItsOwn (copy_of j before) (copy_of j after)
       by n j before after was away (is_new here new) =
           let one : pair ≡ before = some-same (sym there ∙ ap (slice_get w.processes) here ∙ was) in
           subst (λ (p : Pair). KeepsItsOwn (copy_of j before) (copy_of j p)) (sym new)
           (subst (λ (p : Pair). KeepsItsOwn (copy_of j p) (copy_of j (with_copy k copy rest))) one
-          (which k j pair keeps (subst (λ (p : Pair). (copy_of j p).processor ≢ (copy_of k pair).processor) (sym one) away)))
+          (which k j pair keeps (subst (λ (p : Pair). (copy_of j p).processor ≢ (copy_of k pair).processor) (sym one)
+          away)))
       by n j before after was away (is_same other now) =
-          subst (λ (p : Pair). KeepsItsOwn (copy_of j before) (copy_of j p)) (some-same (sym was ∙ now)) (keeps-same (copy_of j before))
+          subst (λ (p : Pair). KeepsItsOwn (copy_of j before) (copy_of j p)) (some-same (sym was ∙ now))
+          (keeps-same (copy_of j before))
 
   alone : (copy : Copy) (done : Done) → done.world.processes ≡ slice_set w.processes number (with_copy k copy pair)
-      → ((sending : Sending) → IsAmong sending done.sendings → sending.node ≡ (copy_of k pair).processor) → IsDoneAt (copy_of k pair).processor w done
+      → ((sending : Sending) → IsAmong sending done.sendings → sending.node ≡ (copy_of k pair).processor)
+      → IsDoneAt (copy_of k pair).processor w done
   alone copy done same from = one-changed copy pair (keeps-same (copy_of (other_of k) pair)) done same from
 
   -- an act of the copy
   own-at-it : (o : Own) → IsDoneAt (copy_of k pair).processor w (own_done number k pair w o)
-  own-at-it o = one-changed _ (record pair { sectors = o.after.sectors }) (others k) (own_done number k pair w o) refl (sent-from (copy_of k pair).processor o.messages)
+  own-at-it o = one-changed _ (record pair { sectors = o.after.sectors }) (others k) (own_done number k pair w o) refl
+      (sent-from (copy_of k pair).processor o.messages)
     where
-      others : (k : Which) → KeepsItsOwn (copy_of (other_of k) pair) (copy_of (other_of k) (record pair { sectors = o.after.sectors }))
+      others : (k : Which) → KeepsItsOwn (copy_of (other_of k) pair)
+          (copy_of (other_of k) (record pair { sectors = o.after.sectors }))
       others First = keeps-same pair.second
       others Second = keeps-same pair.first
 
@@ -121,23 +152,33 @@ module _ (w : World) (number : ℕ) (k : Which) (pair : Pair) (there : slice_get
   mark-at true sent = passed-at (nat_lt (copy_of k pair).position (own_acts number w.kept))
   mark-at false true = tt
   mark-at false false =
-      one-changed (after_sending (copy_of k pair)) (record pair { checkpoints = checkpoint_of number (copy_of k pair) ∷ pair.checkpoints })
+      one-changed (after_sending (copy_of k pair))
+      (record pair { checkpoints = checkpoint_of number (copy_of k pair) ∷ pair.checkpoints })
       (others k (checkpoint_of number (copy_of k pair) ∷ pair.checkpoints)) (sent_done number k pair w) refl
       (sent-from (copy_of k pair).processor (Checkpointing (checkpoint_of number (copy_of k pair)) ∷ []))
     where
-      others : (k : Which) (all : List ImageMessage) → KeepsItsOwn (copy_of (other_of k) pair) (copy_of (other_of k) (record pair { checkpoints = all }))
+      others : (k : Which) (all : List ImageMessage)
+          → KeepsItsOwn (copy_of (other_of k) pair) (copy_of (other_of k) (record pair { checkpoints = all }))
       others First all = keeps-same pair.second
       others Second all = keeps-same pair.first
 
-  run-at-point : (site : Site) (stands : Point) → AnyAt (copy_of k pair).processor w (run_at site number k pair w stands)
+  run-at-point : (site : Site) (stands : Point)
+      → AnyAt (copy_of k pair).processor w (run_at site number k pair w stands)
   run-at-point site point.AtCheckpoint = mark-at (may_pass w.marks k pair) (copy_of k pair).sent
-  run-at-point site point.Inner = own-any (own_at site number (copy_of k pair).core (around (copy_of k pair) pair w) point.Inner)
-  run-at-point site point.Take = own-any (own_at site number (copy_of k pair).core (around (copy_of k pair) pair w) point.Take)
-  run-at-point site point.Ask = own-any (own_at site number (copy_of k pair).core (around (copy_of k pair) pair w) point.Ask)
-  run-at-point site point.Await = own-any (own_at site number (copy_of k pair).core (around (copy_of k pair) pair w) point.Await)
-  run-at-point site point.Answer = own-any (own_at site number (copy_of k pair).core (around (copy_of k pair) pair w) point.Answer)
-  run-at-point site point.Device = own-any (own_at site number (copy_of k pair).core (around (copy_of k pair) pair w) point.Device)
-  run-at-point site point.Ended = own-any (own_at site number (copy_of k pair).core (around (copy_of k pair) pair w) point.Ended)
+  run-at-point site point.Inner =
+      own-any (own_at site number (copy_of k pair).core (around (copy_of k pair) pair w) point.Inner)
+  run-at-point site point.Take =
+      own-any (own_at site number (copy_of k pair).core (around (copy_of k pair) pair w) point.Take)
+  run-at-point site point.Ask =
+      own-any (own_at site number (copy_of k pair).core (around (copy_of k pair) pair w) point.Ask)
+  run-at-point site point.Await =
+      own-any (own_at site number (copy_of k pair).core (around (copy_of k pair) pair w) point.Await)
+  run-at-point site point.Answer =
+      own-any (own_at site number (copy_of k pair).core (around (copy_of k pair) pair w) point.Answer)
+  run-at-point site point.Device =
+      own-any (own_at site number (copy_of k pair).core (around (copy_of k pair) pair w) point.Device)
+  run-at-point site point.Ended =
+      own-any (own_at site number (copy_of k pair).core (around (copy_of k pair) pair w) point.Ended)
 
   run-role : (site : Site) (role : Role) → AnyAt (copy_of k pair).processor w (run_as site number k pair w role)
   run-role site Acting = run-at-point site (process.point (copy_of k pair).core.state)
@@ -145,8 +186,10 @@ module _ (w : World) (number : ℕ) (k : Which) (pair : Pair) (there : slice_get
   run-role site Gone = tt
 
   -- a reply that comes to the copy
-  got-at : (site : Site) (reply : Reply) (role : Role) → AnyAt (copy_of k pair).processor w (got_done site number reply k pair w role)
-  got-at site reply Acting = by (awaits site number (copy_of k pair).core reply (process.point (copy_of k pair).core.state))
+  got-at : (site : Site) (reply : Reply) (role : Role)
+      → AnyAt (copy_of k pair).processor w (got_done site number reply k pair w role)
+  got-at site reply Acting =
+      by (awaits site number (copy_of k pair).core reply (process.point (copy_of k pair).core.state))
     where
       by : (test : Bool) → AnyAt (copy_of k pair).processor w (got_where number reply k pair w test)
       by true = alone (copy_got number reply.words w.kept (copy_of k pair)) _ refl (λ sending among. absurd among)
@@ -156,33 +199,70 @@ module _ (w : World) (number : ℕ) (k : Which) (pair : Pair) (there : slice_get
 
 -- A request, a checkpoint, or that one was taken, at a copy of the process that it names
 
-asked-at : (w : World) (request : Request) (k : Which) (pair : Pair) → slice_get w.processes request.process ≡ Some pair → (role : Role)
+asked-at : (w : World) (request : Request) (k : Which) (pair : Pair)
+    → slice_get w.processes request.process ≡ Some pair → (role : Role)
     → AnyAt (copy_of k pair).processor w (asked_done request k pair w role)
 asked-at w request k pair there Acting =
-    alone w request.process k pair there (record (copy_of k pair) { waiting = came (copy_of k pair).core.receive (copy_of k pair).waiting request }) _ refl
+    alone w request.process k pair there (record (copy_of k pair)
+    { waiting = came (copy_of k pair).core.receive (copy_of k pair).waiting request }) _ refl
     (sent-from (copy_of k pair).processor (map Replying (repeated (copy_of k pair).core.receive request)))
 asked-at w request k pair there Watching =
-    alone w request.process k pair there (record (copy_of k pair) { waiting = waits (copy_of k pair).waiting request }) _ refl (λ sending among. absurd among)
+    alone w request.process k pair there (record (copy_of k pair) { waiting = waits (copy_of k pair).waiting request })
+    _ refl (λ sending among. absurd among)
 asked-at w request k pair there Gone = tt
 
 others-freed : (pair : Pair) (k : Which) (position base : ℕ) (takens : List TakenMessage)
     → KeepsItsOwn (copy_of (other_of k) pair)
-    (copy_of (other_of k) (with_copy (other_of k) (record (copy_of (other_of k) pair) { position = position; held = [] }) (record pair { base = base; takens = takens })))
-others-freed pair First position base takens = record { processor = refl; role = refl; era = refl; number = refl; sent = refl; acknowledged = refl; core = refl; waiting = refl }
-others-freed pair Second position base takens = record { processor = refl; role = refl; era = refl; number = refl; sent = refl; acknowledged = refl; core = refl; waiting = refl }
+    (copy_of (other_of k) (with_copy (other_of k)
+    (record (copy_of (other_of k) pair) { position = position; held = [] })
+    (record pair { base = base; takens = takens })))
+others-freed pair First position base takens =
+    record {
+      processor = refl;
+      role = refl;
+      era = refl;
+      number = refl;
+      sent = refl;
+      acknowledged = refl;
+      core = refl;
+      waiting = refl;
+    }
+others-freed pair Second position base takens =
+    record {
+      processor = refl;
+      role = refl;
+      era = refl;
+      number = refl;
+      sent = refl;
+      acknowledged = refl;
+      core = refl;
+      waiting = refl;
+    }
 
-applied-core : (w : World) (message : ImageMessage) (k : Which) (pair : Pair) → slice_get w.processes message.process ≡ Some pair → (core : Core)
+applied-core : (w : World) (message : ImageMessage) (k : Which) (pair : Pair)
+    → slice_get w.processes message.process ≡ Some pair → (core : Core)
     → IsDoneAt (copy_of k pair).processor w (applied_done message k pair w core)
 applied-core w message k pair there core =
     one-changed w message.process k pair there (record (copy_of k pair) { core = core; number = message.number })
     (with_copy (other_of k)
-    (record (copy_of (other_of k) pair) { position = own_acts message.process ((copy_of (other_of k) pair).held ++ w.kept); held = [] })
-    (record pair { base = own_acts message.process (kept_at_checkpoint message.process (copy_of (other_of k) pair) w.kept); takens = taken_of message ∷ pair.takens }))
+    (record (copy_of (other_of k) pair) {
+      position =
+          own_acts message.process ((copy_of (other_of k) pair).held ++ w.kept);
+      held = [];
+    })
+    (record pair {
+      base = own_acts message.process
+          (kept_at_checkpoint message.process (copy_of (other_of k) pair) w.kept);
+      takens =
+          taken_of message ∷ pair.takens;
+    }))
     (others-freed pair k (own_acts message.process ((copy_of (other_of k) pair).held ++ w.kept))
-    (own_acts message.process (kept_at_checkpoint message.process (copy_of (other_of k) pair) w.kept)) (taken_of message ∷ pair.takens))
+    (own_acts message.process (kept_at_checkpoint message.process (copy_of (other_of k) pair) w.kept))
+    (taken_of message ∷ pair.takens))
     (applied_done message k pair w core) refl (sent-from (copy_of k pair).processor (Taking (taken_of message) ∷ []))
 
-applied-at : (site : Site) (w : World) (message : ImageMessage) (k : Which) (pair : Pair) → slice_get w.processes message.process ≡ Some pair → (role : Role)
+applied-at : (site : Site) (w : World) (message : ImageMessage) (k : Which) (pair : Pair)
+    → slice_get w.processes message.process ≡ Some pair → (role : Role)
     → AnyAt (copy_of k pair).processor w (checkpoint_done site message k pair w role)
 applied-at site w message k pair there Acting = tt
 applied-at site w message k pair there Gone = tt
@@ -196,14 +276,17 @@ applied-at site w message k pair there Watching = by (is_next_for (copy_of k pai
     by false = tt
     by true = put (put_fitting (depths_of site message.process) (copy_of k pair).core message.image)
 
-taken-at : (w : World) (taken : TakenMessage) (k : Which) (pair : Pair) → slice_get w.processes taken.process ≡ Some pair → (role : Role)
+taken-at : (w : World) (taken : TakenMessage) (k : Which) (pair : Pair)
+    → slice_get w.processes taken.process ≡ Some pair → (role : Role)
     → AnyAt (copy_of k pair).processor w (taken_done taken k pair w role)
-taken-at w taken k pair there Acting = by (is_of_last (copy_of k pair).sent (copy_of k pair).era (copy_of k pair).number taken)
+taken-at w taken k pair there Acting =
+    by (is_of_last (copy_of k pair).sent (copy_of k pair).era (copy_of k pair).number taken)
   where
     by : (test : Bool) → AnyAt (copy_of k pair).processor w (acknowledged_where taken k pair w test)
     by false = tt
     by true =
-        alone w taken.process k pair there (record (copy_of k pair) { acknowledged = true }) _ refl (λ sending among. absurd among)
+        alone w taken.process k pair there (record (copy_of k pair) { acknowledged = true }) _ refl
+        (λ sending among. absurd among)
 taken-at w taken k pair there Watching = tt
 taken-at w taken k pair there Gone = tt
 
@@ -220,14 +303,16 @@ run-somewhere site number w = by (slice_get w.processes number) refl
     some node None at = tt
     some node (Some done) at = (node, at)
 
-    first : (one other : Option Stepped) → SomeAt w (lifted number w one) → SomeAt w (lifted number w other) → SomeAt w (lifted number w (first_step one other))
+    first : (one other : Option Stepped) → SomeAt w (lifted number w one) → SomeAt w (lifted number w other)
+        → SomeAt w (lifted number w (first_step one other))
     first None other at at_other = at_other
     first (Some step) other at at_other = at
 
     by : (found : Option Pair) → slice_get w.processes number ≡ found → SomeAt w (run_pair site number w found)
     by None there = tt
     by (Some pair) there =
-        first (step_of_copy site number pair w.marks (records_of w) First) (step_of_copy site number pair w.marks (records_of w) Second)
+        first (step_of_copy site number pair w.marks (records_of w) First)
+        (step_of_copy site number pair w.marks (records_of w) Second)
         (some pair.first.processor _ (run-role w number First pair there site pair.first.role))
         (some pair.second.processor _ (run-role w number Second pair there site pair.second.role))
 
@@ -236,11 +321,14 @@ run-somewhere site number w = by (slice_get w.processes number) refl
 pub enter-there : (site : Site) (number : ℕ) (w : World) → AnyAt terminal_node w (enter_done site number w)
 enter-there site number w = by (slice_get w.terminals number)
   where
-    words : (terminal : Terminal) (opener : Opener) (found : Option (List ℤ)) → AnyAt terminal_node w (option_map (entered_done number terminal w opener) found)
+    words : (terminal : Terminal) (opener : Opener) (found : Option (List ℤ))
+        → AnyAt terminal_node w (option_map (entered_done number terminal w opener) found)
     words terminal opener None = tt
-    words terminal opener (Some asked) = quiet-at terminal_node w (entered_done number terminal w opener asked) refl (sent-from terminal_node (Asking (entered_request opener terminal asked) ∷ []))
+    words terminal opener (Some asked) = quiet-at terminal_node w (entered_done number terminal w opener asked) refl
+        (sent-from terminal_node (Asking (entered_request opener terminal asked) ∷ []))
 
-    to : (terminal : Terminal) (opener : Option Opener) → AnyAt terminal_node w (enter_to number terminal w (next_request site number terminal.entered) opener)
+    to : (terminal : Terminal) (opener : Option Opener)
+        → AnyAt terminal_node w (enter_to number terminal w (next_request site number terminal.entered) opener)
     to terminal None = tt
     to terminal (Some opener) = words terminal opener (next_request site number terminal.entered)
 
@@ -266,21 +354,26 @@ module _ (node : ℕ) (w : World) where
           → AnyAt (copy_of k pair).processor w (lifted number w (step_by site number pair (records_of w) message k))
           → AnyAt node w (lifted number w (step_by site number pair (records_of w) message k))
       moved k pair here at =
-          subst (λ n. AnyAt n w (lifted number w (step_by site number pair (records_of w) message k))) (eqb-true (copy_of k pair).processor node here) at
+          subst (λ n. AnyAt n w (lifted number w (step_by site number pair (records_of w) message k)))
+          (eqb-true (copy_of k pair).processor node here) at
 
-      two : (pair : Pair) → slice_get w.processes number ≡ Some pair → (first second : Bool) → (pair.first.processor == node) ≡ first → (pair.second.processor == node) ≡ second
+      two : (pair : Pair) → slice_get w.processes number ≡ Some pair → (first second : Bool)
+          → (pair.first.processor == node) ≡ first → (pair.second.processor == node) ≡ second
           → AnyAt node w
           (lifted number w
-          (option_and_then (step_by site number pair (records_of w) message) (if first then Some First else if second then Some Second else None)))
+          (option_and_then (step_by site number pair (records_of w) message)
+          (if first then Some First else if second then Some Second else None)))
       two pair there true second here too = moved First pair here (each First pair there)
       two pair there false true here too = moved Second pair too (each Second pair there)
       two pair there false false here too = tt
 
-      by : (found : Option Pair) → slice_get w.processes number ≡ found → AnyAt node w (brought_to site number node message w found)
+      by : (found : Option Pair) → slice_get w.processes number ≡ found
+          → AnyAt node w (brought_to site number node message w found)
       by None there = tt
       by (Some pair) there = two pair there (pair.first.processor == node) (pair.second.processor == node) refl refl
 
-  printed-there : (site : Site) (number : ℕ) (reply : Reply) (test : Bool) → AnyAt node w (printed_at site number reply w test)
+  printed-there : (site : Site) (number : ℕ) (reply : Reply) (test : Bool)
+      → AnyAt node w (printed_at site number reply w test)
   printed-there site number reply false = tt
   printed-there site number reply true = by (slice_get w.terminals number)
     where
@@ -296,7 +389,8 @@ module _ (node : ℕ) (w : World) where
   handed-there site (Asking request) =
       at-copy-at site request.process (Asking request)
       (λ k pair there. asked-at w request k pair there (copy_of k pair).role)
-  handed-there site (Replying reply) = by (option_map (λ (opener : OpenerSpec). opener.who) (slice_get (openers_of site reply.process) reply.opener))
+  handed-there site (Replying reply) =
+      by (option_map (λ (opener : OpenerSpec). opener.who) (slice_get (openers_of site reply.process) reply.opener))
     where
       by : (found : Option Who) → AnyAt node w (replied_done site node reply w found)
       by None = tt
@@ -315,29 +409,57 @@ module _ (node : ℕ) (w : World) where
 
 pub marked-there : (node processor : ℕ) (w : World) → IsDoneAt node w (world_at_down node processor w)
 marked-there node processor w = record {
-  sendings = λ sending among. let one = among-flat_map (told_at_down node processor) w.processes sending among in from sending one.item (taker node processor one.item) refl one.within;
-  copies = λ number k before after there now away. copies number k before after there away (mapped (pair_at_down node processor) w.processes number after now);
+  sendings = λ sending among. let one = among-flat_map (told_at_down node processor) w.processes sending among in
+      from sending one.item (taker node processor one.item) refl one.within;
+  copies = λ number k before after there now away.
+      copies number k before after there away (mapped (pair_at_down node processor) w.processes number after now);
 }
   where
-    from : (sending : Sending) (pair : Pair) (who : Option Which) → taker node processor pair ≡ who → IsAmong sending (takeover_sendings who pair) → sending.node ≡ node
+    from : (sending : Sending) (pair : Pair) (who : Option Which) → taker node processor pair ≡ who
+        → IsAmong sending (takeover_sendings who pair) → sending.node ≡ node
     from sending pair None is among = absurd among
     from sending pair (Some k) is among =
-        sent-from (copy_of k pair).processor (map Replying (all_repeated (copy_of k pair).core.receive (copy_of k pair).waiting)) sending among ∙ (taker-is node processor pair k is).there
+        sent-from (copy_of k pair).processor (map Replying
+        (all_repeated (copy_of k pair).core.receive (copy_of k pair).waiting)) sending among
+        ∙ (taker-is node processor pair k is).there
 
-    pick : (k j : Which) (pair : Pair) → (copy_of k pair).processor ≡ node → (copy_of j pair).processor ≢ node → KeepsItsOwn (copy_of j pair) (copy_of j (pair_after_down (Some k) pair))
+    pick : (k j : Which) (pair : Pair) → (copy_of k pair).processor ≡ node → (copy_of j pair).processor ≢ node
+        → KeepsItsOwn (copy_of j pair) (copy_of j (pair_after_down (Some k) pair))
     pick First First pair here away = absurd (away here)
-    pick First Second pair here away = record { processor = refl; role = refl; era = refl; number = refl; sent = refl; acknowledged = refl; core = refl; waiting = refl }
-    pick Second First pair here away = record { processor = refl; role = refl; era = refl; number = refl; sent = refl; acknowledged = refl; core = refl; waiting = refl }
+    pick First Second pair here away = record {
+      processor = refl;
+      role = refl;
+      era = refl;
+      number = refl;
+      sent = refl;
+      acknowledged = refl;
+      core = refl;
+      waiting = refl;
+    }
+    pick Second First pair here away = record {
+      processor = refl;
+      role = refl;
+      era = refl;
+      number = refl;
+      sent = refl;
+      acknowledged = refl;
+      core = refl;
+      waiting = refl;
+    }
     pick Second Second pair here away = absurd (away here)
 
-    kept : (k : Which) (pair : Pair) → (copy_of k pair).processor ≢ node → (who : Option Which) → taker node processor pair ≡ who
+    kept : (k : Which) (pair : Pair) → (copy_of k pair).processor ≢ node → (who : Option Which)
+        → taker node processor pair ≡ who
         → KeepsItsOwn (copy_of k pair) (copy_of k (pair_after_down who pair))
     kept k pair away None is = keeps-same (copy_of k pair)
     kept k pair away (Some j) is = pick j k pair (taker-is node processor pair j is).there away
 
-    copies : (number : ℕ) (k : Which) (before after : Pair) → slice_get w.processes number ≡ Some before → (copy_of k before).processor ≢ node
-        → (pair : Pair) × (slice_get w.processes number ≡ Some pair) × (after ≡ pair_at_down node processor pair) → KeepsItsOwn (copy_of k before) (copy_of k after)
+    copies : (number : ℕ) (k : Which) (before after : Pair) → slice_get w.processes number ≡ Some before
+        → (copy_of k before).processor ≢ node
+        → (pair : Pair) × (slice_get w.processes number ≡ Some pair) × (after ≡ pair_at_down node processor pair)
+        → KeepsItsOwn (copy_of k before) (copy_of k after)
     copies number k before after there away (pair, at, is) =
         let same : pair ≡ before = some-same (sym at ∙ there) in
         subst (λ (p : Pair). KeepsItsOwn (copy_of k before) (copy_of k p)) (sym is)
-        (subst (λ (p : Pair). KeepsItsOwn (copy_of k before) (copy_of k (pair_at_down node processor p))) (sym same) (kept k before away (taker node processor before) refl))
+        (subst (λ (p : Pair). KeepsItsOwn (copy_of k before) (copy_of k (pair_at_down node processor p))) (sym same)
+        (kept k before away (taker node processor before) refl))

@@ -1,5 +1,6 @@
 -- What each event changes, and where.
-use Rattle.std.proofs.Common.{◌≡◌, ℕ, zero, suc, ◌==◌, ℤ, Bool, true, false, if◌then◌else◌, List, [], ◌∷◌, ◌++◌, map, Option, Some, None, slice_get, slice_set, refl, sym, ap, subst, ◌∙◌, inl, inr}
+use Rattle.std.proofs.Common.{◌≡◌, ℕ, zero, suc, ◌==◌, ℤ, Bool, true, false, if◌then◌else◌, List, [], ◌∷◌, ◌++◌, map}
+use Rattle.std.proofs.Common.{Option, Some, None, slice_get, slice_set, refl, sym, ap, subst, ◌∙◌, inl, inr}
 use Rattle.gd_words.specs.Members.{IsAmong}
 use Rattle.gd_words.proofs.Among.{among-either}
 use Rattle.tal_tree.specs.declared.site.Site.{Site}
@@ -20,7 +21,8 @@ use Rattle.world_semantics.proofs.Lists.{set-there, some-same}
 use Rattle.world_semantics.proofs.Members.{among-map}
 use Rattle.computed_changes.specs.Entered.{enter_done}
 use Rattle.computed_changes.specs.Handed.{handed_done}
-use Rattle.computed_changes.specs.Stopped.{stop_done, stop_where, stopped_world, marked_where, mark_where, may_note, world_at_down}
+use Rattle.computed_changes.specs.Stopped.{stop_done, stop_where, stopped_world, marked_where, mark_where, may_note}
+use Rattle.computed_changes.specs.Stopped.{world_at_down}
 use Rattle.letters.specs.Routes.{Letter, letters_of}
 use Rattle.letters.specs.Again.{sent_again}
 use Rattle.letter_laws.proofs.Given.{letter-from}
@@ -30,15 +32,22 @@ use Rattle.message_layout.specs.Messages.{NodeMessage, Carrying, Reporting, Decl
 use Rattle.message_layout.specs.Reading.{understood}
 use Rattle.packet_wires.specs.Nodes.{end_at}
 use Rattle.packet_wires.specs.Wires.{Wires, Midst, bus_named, goes_over, arrived, learns, ticked, cut_off}
-use Rattle.packet_wires.specs.Play.{Packeted, Underway, begun, after_done, made_by, after_any, after_marked, marked_by, marks, handed, handed_any, handed_words, completed, received, deliver_acted, lose_acted, repeat_acted, fail_acted, marks_and_declares, pulled, pulls, line_of, pulls_its, tick_acted, packet_at, acted, taken_off, ended, play}
+use Rattle.packet_wires.specs.Play.{Packeted, Underway, begun, after_done, made_by, after_any, after_marked, marked_by}
+use Rattle.packet_wires.specs.Play.{marks, handed, handed_any, handed_words, completed, received, deliver_acted}
+use Rattle.packet_wires.specs.Play.{lose_acted, repeat_acted, fail_acted, marks_and_declares, pulled, pulls, line_of}
+use Rattle.packet_wires.specs.Play.{pulls_its, tick_acted, packet_at, acted, taken_off, ended, play}
 use Rattle.packet_places.specs.Places.{KeepsItsOwn, CopiesStay, StaysElsewhere}
-use Rattle.packet_places.proofs.Copies.{IsDoneAt, AnyAt, SomeAt, keeps-same, run-somewhere, enter-there, handed-there, marked-there}
-use Rattle.packet_places.proofs.Nodes.{OnlyAt, learns-only, posted-only, arrived-only, ticked-only, cut-only, declares-only}
+use Rattle.packet_places.proofs.Copies.{IsDoneAt, AnyAt, SomeAt, keeps-same, run-somewhere, enter-there, handed-there}
+use Rattle.packet_places.proofs.Copies.{marked-there}
+use Rattle.packet_places.proofs.Nodes.{OnlyAt, learns-only, posted-only, arrived-only, ticked-only, cut-only}
+use Rattle.packet_places.proofs.Nodes.{declares-only}
 
 -- Letters of sendings at a node are sent by it
-letters-by : (site : Site) (w : World) (node : ℕ) (sendings : List Sending) → ((sending : Sending) → IsAmong sending sendings → sending.node ≡ node)
+letters-by : (site : Site) (w : World) (node : ℕ) (sendings : List Sending)
+    → ((sending : Sending) → IsAmong sending sendings → sending.node ≡ node)
     → (letter : Letter) → IsAmong letter (letters_of site w sendings) → letter.sender ≡ node
-letters-by site w node sendings from letter among = let one = letter-from site w sendings letter among in one.sender ∙ from one.sending one.among
+letters-by site w node sendings from letter among =
+    let one = letter-from site w sendings letter among in one.sender ∙ from one.sending one.among
 
 -- in the midst of an event, away from a node all stays as it was
 record Keeps (node : ℕ) (s next : Underway) : Type 0 where
@@ -46,22 +55,26 @@ record Keeps (node : ℕ) (s next : Underway) : Type 0 where
   pub copies : CopiesStay node s.world next.world
 
 -- wires alone are changed
-wires-stay : {node : ℕ} (s : Underway) (midst : Midst) → OnlyAt node s.wires midst → Keeps node s (record s { wires = midst })
+wires-stay : {node : ℕ} (s : Underway) (midst : Midst) → OnlyAt node s.wires midst
+    → Keeps node s (record s { wires = midst })
 wires-stay s midst only = record {
   nodes = only;
   copies = λ number k before after there now away same.
-      subst (λ (p : Pair). KeepsItsOwn (copy_of k before) (copy_of k p)) (some-same (sym there ∙ now)) (keeps-same (copy_of k before));
+      subst (λ (p : Pair). KeepsItsOwn (copy_of k before) (copy_of k p)) (some-same (sym there ∙ now))
+      (keeps-same (copy_of k before));
 }
 
 -- a change of the world at the node, and its letters
 done-stays : {node : ℕ} (s : Underway) (done : Done) → IsDoneAt node s.world done → Keeps node s (after_done s done)
 done-stays {node = node} s done at = record {
-  nodes = posted-only node done.world.stopped (letters_of s.site done.world done.sendings) s.wires (letters-by s.site done.world node done.sendings at.sendings);
+  nodes = posted-only node done.world.stopped (letters_of s.site done.world done.sendings) s.wires
+      (letters-by s.site done.world node done.sendings at.sendings);
   copies = λ number k before after there now away same. at.copies number k before after there now away;
 }
 
 -- first the wires change at the node, and then something else there
-through : {node : ℕ} {next : Underway} (s : Underway) (midst : Midst) → OnlyAt node s.wires midst → Keeps node (record s { wires = midst }) next → Keeps node s next
+through : {node : ℕ} {next : Underway} (s : Underway) (midst : Midst) → OnlyAt node s.wires midst
+    → Keeps node (record s { wires = midst }) next → Keeps node s next
 through s midst only stays = record { nodes = λ x n. stays.nodes x n ∙ only x n; copies = stays.copies }
 
 same-stays : {node : ℕ} (s : Underway) → Keeps node s s
@@ -69,13 +82,15 @@ same-stays s = wires-stay s s.wires (λ x n. refl)
 
 -- Marks
 
-marked-stays : (node processor : ℕ) (s : Underway) → Keeps node s (after_marked node processor s (world_at_down node processor s.world))
+marked-stays : (node processor : ℕ) (s : Underway)
+    → Keeps node s (after_marked node processor s (world_at_down node processor s.world))
 marked-stays node processor s = record {
   nodes = λ x n.
       posted-only node s.world.stopped
       (letters_of s.site done.world (done.sendings ++ sent_again s.site s.world done.world node processor))
       (cut_off node processor s.wires)
-      (letters-by s.site done.world node (done.sendings ++ sent_again s.site s.world done.world node processor) from) x n
+      (letters-by s.site done.world node (done.sendings ++ sent_again s.site s.world done.world node processor) from) x
+      n
       ∙ cut-only node processor s.wires x n;
   copies = λ number k before after there now away same. at.copies number k before after there now away;
 }
@@ -86,11 +101,15 @@ marked-stays node processor s = record {
     at : IsDoneAt node s.world (world_at_down node processor s.world)
     at = marked-there node processor s.world
 
-    from : (sending : Sending) → IsAmong sending ((world_at_down node processor s.world).sendings ++ sent_again s.site s.world (world_at_down node processor s.world).world node processor) → sending.node ≡ node
+    from : (sending : Sending) → IsAmong sending
+        ((world_at_down node processor s.world).sendings
+        ++ sent_again s.site s.world (world_at_down node processor s.world).world node processor) → sending.node ≡ node
     from sending among =
-        elim (among-either sending (world_at_down node processor s.world).sendings (sent_again s.site s.world (world_at_down node processor s.world).world node processor) among) [
+        elim (among-either sending (world_at_down node processor s.world).sendings
+        (sent_again s.site s.world (world_at_down node processor s.world).world node processor) among) [
           | inl told ↦ at.sendings sending told
-          | inr again ↦ ap (λ (one : Sending). one.node) (among-map (λ message. record { node = node; message = message }) _ sending again).same
+          | inr again ↦ ap (λ (one : Sending). one.node)
+              (among-map (λ message. record { node = node; message = message }) _ sending again).same
         ]
 
 record Marks (node processor : ℕ) (s next : Underway) : Type 0 where
@@ -107,7 +126,8 @@ marks-stay node processor s = by (slice_get s.world.stopped processor)
     may false = none
     may true = record { stays = marked-stays node processor s; stopped = refl }
 
-    by : (found : Option Bool) → Marks node processor s (marked_by node processor s (mark_where node processor s.world found))
+    by : (found : Option Bool) → Marks node processor s
+        (marked_by node processor s (mark_where node processor s.world found))
     by None = none
     by (Some false) = none
     by (Some true) = may (may_note node processor s.world)
@@ -116,7 +136,8 @@ told-stay : (node processor : ℕ) (s : Underway) → Marks node processor s (ma
 told-stay node processor s =
     let one = marks-stay node processor s in record {
       stays = record {
-        nodes = λ x n. declares-only (marks node processor s).site.processors node processor (marks node processor s).wires x n ∙ one.stays.nodes x n;
+        nodes = λ x n. declares-only (marks node processor s).site.processors node processor
+            (marks node processor s).wires x n ∙ one.stays.nodes x n;
         copies = one.stays.copies;
       };
       stopped = one.stopped;
@@ -129,9 +150,11 @@ any-stays s None at = same-stays s
 any-stays s (Some done) at = done-stays s done at
 
 handed-stays : (node : ℕ) (message : NodeMessage) (s : Underway) → Keeps node s (handed node message s)
-handed-stays node (Carrying message) s = any-stays s (handed_done s.site node message s.world) (handed-there node s.world s.site message)
+handed-stays node (Carrying message) s =
+    any-stays s (handed_done s.site node message s.world) (handed-there node s.world s.site message)
 handed-stays node (Reporting from silent) s =
-    wires-stay s (learns node (changed_at from (watching.neighbour_after_report silent)) s.wires) (learns-only node (changed_at from (watching.neighbour_after_report silent)) s.wires)
+    wires-stay s (learns node (changed_at from (watching.neighbour_after_report silent)) s.wires)
+    (learns-only node (changed_at from (watching.neighbour_after_report silent)) s.wires)
 handed-stays node (Declaring processor) s = (marks-stay node processor s).stays
 
 words-stay : (node : ℕ) (words : Option (List ℤ)) (s : Underway) → Keeps node s (handed_words node words s)
@@ -154,37 +177,47 @@ StaysIf node s Skips = Unit {0}
 StaysIf node s (WouldStop processor) = Unit {0}
 
 -- what is taken off a bus, and what is put on, is at no node
-over-stays : (node : ℕ) (s : Packeted) (wires : Wires) (played : Played Midst) → KeepsIf node (begun s) played → StaysIf node s (ended wires played)
+over-stays : (node : ℕ) (s : Packeted) (wires : Wires) (played : Played Midst) → KeepsIf node (begun s) played
+    → StaysIf node s (ended wires played)
 over-stays node s wires (Makes next) keeps = record { nodes = keeps.nodes; copies = keeps.copies }
 over-stays node s wires Skips keeps = tt
 over-stays node s wires (WouldStop processor) keeps = tt
 
-deliver-found : (name : BusName) (s : Underway) (packet : Packet) → KeepsIf packet.receiver s (deliver_acted name s (Some packet))
+deliver-found : (name : BusName) (s : Underway) (packet : Packet)
+    → KeepsIf packet.receiver s (deliver_acted name s (Some packet))
 deliver-found name s packet = by (is_running s.world.stopped packet.receiver)
   where
     by : (test : Bool) → KeepsIf packet.receiver s (Makes (if test then received name packet s else s))
     by false = same-stays s
     by true =
         through s (arrived name packet s.wires) (arrived-only name packet s.wires)
-        (words-stay packet.receiver (completed packet (end_at s.wires.nodes packet.receiver packet.sender)) (record s { wires = arrived name packet s.wires }))
+        (words-stay packet.receiver (completed packet (end_at s.wires.nodes packet.receiver packet.sender))
+        (record s { wires = arrived name packet s.wires }))
 
-pub deliver-stays : (s next : Packeted) (y : Bool) (k : ℕ) (packet : Packet) → packet_at s (bus_named y) k ≡ Some packet → play s (Deliver y k) ≡ Makes next
+pub deliver-stays : (s next : Packeted) (y : Bool) (k : ℕ) (packet : Packet)
+    → packet_at s (bus_named y) k ≡ Some packet → play s (Deliver y k) ≡ Makes next
     → StaysElsewhere packet.receiver s next
 deliver-stays s next y k packet there made =
-    subst (StaysIf packet.receiver s) (ap (λ o. ended (taken_off (Deliver y k) s.wires) (deliver_acted (bus_named y) (begun s) o)) (sym there) ∙ made)
-    (over-stays packet.receiver s (taken_off (Deliver y k) s.wires) (deliver_acted (bus_named y) (begun s) (Some packet)) (deliver-found (bus_named y) (begun s) packet))
+    subst (StaysIf packet.receiver s) (ap (λ o.
+    ended (taken_off (Deliver y k) s.wires) (deliver_acted (bus_named y) (begun s) o)) (sym there) ∙ made)
+    (over-stays packet.receiver s (taken_off (Deliver y k) s.wires)
+    (deliver_acted (bus_named y) (begun s) (Some packet)) (deliver-found (bus_named y) (begun s) packet))
 
-pub lose-stays : (s next : Packeted) (y : Bool) (k node : ℕ) → play s (Lose y k) ≡ Makes next → StaysElsewhere node s next
+pub lose-stays : (s next : Packeted) (y : Bool) (k node : ℕ) → play s (Lose y k) ≡ Makes next
+    → StaysElsewhere node s next
 lose-stays s next y k node made =
-    subst (StaysIf node s) made (over-stays node s (taken_off (Lose y k) s.wires) (acted s (Lose y k)) (by (packet_at s (bus_named y) k)))
+    subst (StaysIf node s) made (over-stays node s (taken_off (Lose y k) s.wires) (acted s (Lose y k))
+    (by (packet_at s (bus_named y) k)))
   where
     by : (found : Option Packet) → KeepsIf node (begun s) (lose_acted (begun s) found)
     by None = tt
     by (Some packet) = same-stays (begun s)
 
-pub repeat-stays : (s next : Packeted) (y : Bool) (k node : ℕ) → play s (Repeat y k) ≡ Makes next → StaysElsewhere node s next
+pub repeat-stays : (s next : Packeted) (y : Bool) (k node : ℕ) → play s (Repeat y k) ≡ Makes next
+    → StaysElsewhere node s next
 repeat-stays s next y k node made =
-    subst (StaysIf node s) made (over-stays node s (taken_off (Repeat y k) s.wires) (acted s (Repeat y k)) (by (packet_at s (bus_named y) k)))
+    subst (StaysIf node s) made (over-stays node s (taken_off (Repeat y k) s.wires) (acted s (Repeat y k))
+    (by (packet_at s (bus_named y) k)))
   where
     by : (found : Option Packet) → KeepsIf node (begun s) (repeat_acted (bus_named y) (begun s) found)
     by None = tt
@@ -192,8 +225,10 @@ repeat-stays s next y k node made =
 
 -- Runs and entries
 
-pub run-stays : (s next : Packeted) (number : ℕ) → play s (Run number) ≡ Makes next → (node : ℕ) × StaysElsewhere node s next
-run-stays s next number made = subst Somewhere made (by (run_done s.site number s.world) (run-somewhere s.site number s.world))
+pub run-stays : (s next : Packeted) (number : ℕ) → play s (Run number) ≡ Makes next
+    → (node : ℕ) × StaysElsewhere node s next
+run-stays s next number made =
+    subst Somewhere made (by (run_done s.site number s.world) (run-somewhere s.site number s.world))
   where
     Somewhere : Played Wires → Type 0
     Somewhere (Makes next) = (node : ℕ) × StaysElsewhere node s next
@@ -202,19 +237,24 @@ run-stays s next number made = subst Somewhere made (by (run_done s.site number 
 
     by : (done : Option Done) → SomeAt s.world done → Somewhere (ended s.wires (made_by (begun s) done))
     by None at = tt
-    by (Some done) (node, at) = (node, over-stays node s s.wires (Makes (after_done (begun s) done)) (done-stays (begun s) done at))
+    by (Some done) (node, at) =
+        (node, over-stays node s s.wires (Makes (after_done (begun s) done)) (done-stays (begun s) done at))
 
-pub enter-stays : (s next : Packeted) (terminal : ℕ) → play s (Enter terminal) ≡ Makes next → StaysElsewhere terminal_node s next
+pub enter-stays : (s next : Packeted) (terminal : ℕ) → play s (Enter terminal) ≡ Makes next
+    → StaysElsewhere terminal_node s next
 enter-stays s next terminal made =
-    subst (StaysIf terminal_node s) made (over-stays terminal_node s s.wires (acted s (Enter terminal)) (by (enter_done s.site terminal s.world) (enter-there s.site terminal s.world)))
+    subst (StaysIf terminal_node s) made (over-stays terminal_node s s.wires (acted s (Enter terminal))
+    (by (enter_done s.site terminal s.world) (enter-there s.site terminal s.world)))
   where
-    by : (done : Option Done) → AnyAt terminal_node s.world done → KeepsIf terminal_node (begun s) (made_by (begun s) done)
+    by : (done : Option Done) → AnyAt terminal_node s.world done
+        → KeepsIf terminal_node (begun s) (made_by (begun s) done)
     by None at = tt
     by (Some done) at = done-stays (begun s) done at
 
 -- Stops
 
-map-there : {A B : Type 0} (f : A → B) (xs : List A) (k : ℕ) (x : A) → slice_get xs k ≡ Some x → slice_get (map f xs) k ≡ Some (f x)
+map-there : {A B : Type 0} (f : A → B) (xs : List A) (k : ℕ) (x : A) → slice_get xs k ≡ Some x
+    → slice_get (map f xs) k ≡ Some (f x)
 map-there f [] k x there = absurd cc
 map-there f (y ∷ xs) zero x there = ap (λ z. Some (f z)) (some-same there)
 map-there f (y ∷ xs) (suc k) x there = map-there f xs k x there
@@ -233,7 +273,8 @@ keeps-then first second = record {
 
 -- a copy in a processor that didn't stop
 stop-keeps : (processor : ℕ) (stopped : List Bool) → slice_get stopped processor ≡ Some false → (copy : Copy)
-    → slice_get (slice_set stopped processor true) copy.processor ≡ slice_get stopped copy.processor → KeepsItsOwn copy (stopped_copy processor copy)
+    → slice_get (slice_set stopped processor true) copy.processor ≡ slice_get stopped copy.processor
+    → KeepsItsOwn copy (stopped_copy processor copy)
 stop-keeps processor stopped runs copy same = by (copy.processor == processor) refl
   where
     of : (test : Bool) → test ≡ false → KeepsItsOwn copy (record copy { role = if test then Gone else copy.role })
@@ -245,16 +286,20 @@ stop-keeps processor stopped runs copy same = by (copy.processor == processor) r
     by true is =
         let here : copy.processor ≡ processor = eqb-true copy.processor processor is in
         let bad : Some true ≡ Some false =
-        sym (set-there stopped processor false true runs) ∙ ap (slice_get (slice_set stopped processor true)) (sym here) ∙ same ∙ ap (slice_get stopped) here ∙ runs in
+        sym (set-there stopped processor false true runs)
+        ∙ ap (slice_get (slice_set stopped processor true)) (sym here) ∙ same ∙ ap (slice_get stopped) here
+        ∙ runs in
         absurd cc
 
 stop-copies : (processor : ℕ) (w : World) → slice_get w.stopped processor ≡ Some false → (k : Which) (pair : Pair)
-    → slice_get (slice_set w.stopped processor true) (copy_of k pair).processor ≡ slice_get w.stopped (copy_of k pair).processor
+    → slice_get (slice_set w.stopped processor true) (copy_of k pair).processor
+    ≡ slice_get w.stopped (copy_of k pair).processor
     → KeepsItsOwn (copy_of k pair) (copy_of k (stopped_pair processor pair))
 stop-copies processor w runs First pair same = stop-keeps processor w.stopped runs pair.first same
 stop-copies processor w runs Second pair same = stop-keeps processor w.stopped runs pair.second same
 
-stopped-place : (processor : ℕ) (k : Which) (pair : Pair) → (copy_of k (stopped_pair processor pair)).processor ≡ (copy_of k pair).processor
+stopped-place : (processor : ℕ) (k : Which) (pair : Pair)
+    → (copy_of k (stopped_pair processor pair)).processor ≡ (copy_of k pair).processor
 stopped-place processor First pair = refl
 stopped-place processor Second pair = refl
 
@@ -262,22 +307,28 @@ fail-keeps : (s : Underway) (processor node : ℕ) → KeepsIf node s (fail_acte
 fail-keeps s processor node = by (slice_get s.world.stopped processor) refl
   where
     stops : slice_get s.world.stopped processor ≡ Some false → (test : Bool)
-        → KeepsIf node s (if test then WouldStop processor else Makes (record s { world = stopped_world processor s.world }))
+        → KeepsIf node s (if test then WouldStop processor else Makes
+        (record s { world = stopped_world processor s.world }))
     stops runs true = tt
     stops runs false = record {
       nodes = λ x n. refl;
       copies = λ number k before after there now away same.
-          subst (λ (p : Pair). KeepsItsOwn (copy_of k before) (copy_of k p)) (some-same (sym (map-there (stopped_pair processor) s.world.processes number before there) ∙ now))
+          subst (λ (p : Pair). KeepsItsOwn (copy_of k before) (copy_of k p))
+          (some-same (sym (map-there (stopped_pair processor) s.world.processes number before there) ∙ now))
           (stop-copies processor s.world runs k before same);
     }
 
-    by : (found : Option Bool) → slice_get s.world.stopped processor ≡ found → KeepsIf node s (fail_acted processor s (stop_where processor s.world found))
+    by : (found : Option Bool) → slice_get s.world.stopped processor ≡ found
+        → KeepsIf node s (fail_acted processor s (stop_where processor s.world found))
     by None runs = tt
     by (Some true) runs = tt
     by (Some false) runs = stops runs (has_stopped s.world.stopped)
 
-pub fail-stays : (s next : Packeted) (processor node : ℕ) → play s (Fail processor) ≡ Makes next → StaysElsewhere node s next
-fail-stays s next processor node made = subst (StaysIf node s) made (over-stays node s s.wires (acted s (Fail processor)) (fail-keeps (begun s) processor node))
+pub fail-stays : (s next : Packeted) (processor node : ℕ) → play s (Fail processor) ≡ Makes next
+    → StaysElsewhere node s next
+fail-stays s next processor node made =
+    subst (StaysIf node s) made (over-stays node s s.wires (acted s (Fail processor))
+    (fail-keeps (begun s) processor node))
 
 -- Ticks
 
@@ -289,9 +340,13 @@ held-stays node processor s runs =
       nodes = told.stays.nodes;
       copies = λ number k before after there now away same.
           keeps-then
-          (stop-copies processor s.world runs k before (ap (λ (stopped : List Bool). slice_get stopped (copy_of k before).processor) (sym told.stopped) ∙ same))
-          (told.stays.copies number k (stopped_pair processor before) after (map-there (stopped_pair processor) s.world.processes number before there) now
-          (λ at. away (sym (stopped-place processor k before) ∙ at)) (ap (λ (stopped : List Bool). slice_get stopped (copy_of k (stopped_pair processor before)).processor) told.stopped));
+          (stop-copies processor s.world runs k before
+          (ap (λ (stopped : List Bool). slice_get stopped (copy_of k before).processor) (sym told.stopped) ∙ same))
+          (told.stays.copies number k (stopped_pair processor before) after
+          (map-there (stopped_pair processor) s.world.processes number before there) now
+          (λ at. away (sym (stopped-place processor k before) ∙ at))
+          (ap (λ (stopped : List Bool). slice_get stopped (copy_of k (stopped_pair processor before)).processor)
+          told.stopped));
     }
 
 tick-keeps : (s : Underway) (node : ℕ) → KeepsIf node s (tick_acted node s)
@@ -302,25 +357,31 @@ tick-keeps s node = by (is_running s.world.stopped node)
 
     stops : (processor : ℕ) → slice_get s.world.stopped processor ≡ Some false → (test : Bool)
         → KeepsIf node s (if test then WouldStop processor
-        else Makes (marks_and_declares node processor (record s { world = stopped_world processor s.world; wires = ticked s.site.processors node s.wires })))
+        else Makes (marks_and_declares node processor
+        (record s { world = stopped_world processor s.world; wires = ticked s.site.processors node s.wires })))
     stops processor runs true = tt
     stops processor runs false =
-        through s (ticked s.site.processors node s.wires) only (held-stays node processor (record s { wires = ticked s.site.processors node s.wires }) runs)
+        through s (ticked s.site.processors node s.wires) only
+        (held-stays node processor (record s { wires = ticked s.site.processors node s.wires }) runs)
 
     pull : (processor : ℕ) (found : Option Bool) → slice_get s.world.stopped processor ≡ found
         → KeepsIf node s (pulled node processor (record s { wires = ticked s.site.processors node s.wires }) found)
     pull processor None runs = wires-stay s (ticked s.site.processors node s.wires) only
     pull processor (Some true) runs =
-        through s (ticked s.site.processors node s.wires) only (told-stay node processor (record s { wires = ticked s.site.processors node s.wires })).stays
+        through s (ticked s.site.processors node s.wires) only
+        (told-stay node processor (record s { wires = ticked s.site.processors node s.wires })).stays
     pull processor (Some false) runs = stops processor runs (has_stopped s.world.stopped)
 
-    line : (found : Option ℕ) → KeepsIf node s (pulls node (record s { wires = ticked s.site.processors node s.wires }) found)
+    line : (found : Option ℕ) → KeepsIf node s
+        (pulls node (record s { wires = ticked s.site.processors node s.wires }) found)
     line None = wires-stay s (ticked s.site.processors node s.wires) only
     line (Some processor) = pull processor (slice_get s.world.stopped processor) refl
 
-    by : (test : Bool) → KeepsIf node s (if test then pulls_its node (record s { wires = ticked s.site.processors node s.wires }) else Skips)
+    by : (test : Bool) → KeepsIf node s (if test then pulls_its node
+        (record s { wires = ticked s.site.processors node s.wires }) else Skips)
     by false = tt
     by true = line (line_of node (record s { wires = ticked s.site.processors node s.wires }))
 
 pub tick-stays : (s next : Packeted) (node : ℕ) → play s (Tick node) ≡ Makes next → StaysElsewhere node s next
-tick-stays s next node made = subst (StaysIf node s) made (over-stays node s s.wires (acted s (Tick node)) (tick-keeps (begun s) node))
+tick-stays s next node made =
+    subst (StaysIf node s) made (over-stays node s s.wires (acted s (Tick node)) (tick-keeps (begun s) node))

@@ -8,16 +8,22 @@ ghost use Rattle.packet_wires.specs.Play.{Packeted, packet_at, play};
 ghost use Rattle.packet_wires.specs.Wires.{bus_named};
 ghost use Rattle.packet_places.specs.Places.{StaysElsewhere};
 
-/// An event changes only what is at one node: a run at some node, an entry at that of the terminals, a delivery at the packet's
-/// receiver, a tick at its node. What is lost, what is repeated and who fails changes nothing at any other node. A
-/// processor that stops loses its copies.
+/// An event changes only what is at one node: a run at some node, an entry at that of the terminals, a delivery at the
+/// packet's receiver, a tick at its node. What is lost, what is repeated and who fails changes nothing at any other
+/// node. A processor that stops loses its copies.
 pub fn an_event_stays_at_its_node()
-    ensures run { (s next : Packeted) (number : ℕ) → play s (Run number) ≡ Makes next → (node : ℕ) × StaysElsewhere node s next }
-    ensures enter { (s next : Packeted) (terminal : ℕ) → play s (Enter terminal) ≡ Makes next → StaysElsewhere terminal_node s next }
-    ensures deliver { (s next : Packeted) (y : Bool) (k : ℕ) (packet : Packet) → packet_at s (bus_named y) k ≡ Some packet → play s (Deliver y k) ≡ Makes next
+    ensures run { (s next : Packeted) (number : ℕ) → play s (Run number) ≡ Makes next
+        → (node : ℕ) × StaysElsewhere node s next }
+    ensures enter { (s next : Packeted) (terminal : ℕ) → play s (Enter terminal) ≡ Makes next
+        → StaysElsewhere terminal_node s next }
+    ensures deliver { (s next : Packeted) (y : Bool) (k : ℕ) (packet : Packet)
+        → packet_at s (bus_named y) k ≡ Some packet → play s (Deliver y k) ≡ Makes next
         → StaysElsewhere packet.receiver s next }
-    ensures lose { (s next : Packeted) (y : Bool) (k node : ℕ) → play s (Lose y k) ≡ Makes next → StaysElsewhere node s next }
-    ensures repeat { (s next : Packeted) (y : Bool) (k node : ℕ) → play s (Repeat y k) ≡ Makes next → StaysElsewhere node s next }
+    ensures lose { (s next : Packeted) (y : Bool) (k node : ℕ) → play s (Lose y k) ≡ Makes next
+        → StaysElsewhere node s next }
+    ensures repeat { (s next : Packeted) (y : Bool) (k node : ℕ) → play s (Repeat y k) ≡ Makes next
+        → StaysElsewhere node s next }
     ensures tick { (s next : Packeted) (node : ℕ) → play s (Tick node) ≡ Makes next → StaysElsewhere node s next }
-    ensures fail { (s next : Packeted) (processor node : ℕ) → play s (Fail processor) ≡ Makes next → StaysElsewhere node s next }
+    ensures fail { (s next : Packeted) (processor node : ℕ) → play s (Fail processor) ≡ Makes next
+        → StaysElsewhere node s next }
 {}

@@ -28,10 +28,12 @@ pub heard-all : (end_of (rounds 3 4 three_at_boot) (event.Tick 0 ∷ [])).world.
 unfolding out-What shown-the_row-Statement-0 shown out int_wrap
 heard-all = refl
 
-pub twice-marks : (end_of held down_twice).world.marks ≡ record { node = 2; down = 1 } ∷ record { node = 0; down = 1 } ∷ []
+pub twice-marks : (end_of held down_twice).world.marks
+    ≡ record { node = 2; down = 1 } ∷ record { node = 0; down = 1 } ∷ []
 unfolding out-What shown-the_row-Statement-0 shown out int_wrap
 twice-marks = refl
 
-pub twice-buses : (seen (end_of held down_twice)).x ≡ alive 0 1 ∷ alive 0 2 ∷ last 0 16 1 ∷ acknowledged 2 0 2 ∷ acknowledged 2 0 2 ∷ []
+pub twice-buses : (seen (end_of held down_twice)).x
+    ≡ alive 0 1 ∷ alive 0 2 ∷ last 0 16 1 ∷ acknowledged 2 0 2 ∷ acknowledged 2 0 2 ∷ []
 unfolding out-What shown-the_row-Statement-0 shown out int_wrap
 twice-buses = refl

@@ -7,7 +7,8 @@ use Rattle.tal_tree.specs.declared.statement.What.TheBlock.{shown-the_row-Statem
 use Rattle.world_semantics.specs.Examples.{reply}
 use Rattle.packet_wires.specs.Idle.{is_idle}
 use Rattle.packet_wires.specs.Sights.{buses_from, end_of}
-use Rattle.packet_wires.specs.Examples.{adder_at_boot, buses_of_lost, buses_to_checkpoint, buses_to_reply, lost_piece, served, up_to_checkpoint, up_to_reply}
+use Rattle.packet_wires.specs.Examples.{adder_at_boot, buses_of_lost, buses_to_checkpoint, buses_to_reply, lost_piece}
+use Rattle.packet_wires.specs.Examples.{served, up_to_checkpoint, up_to_reply}
 
 pub serving-checkpoint : buses_from adder_at_boot up_to_checkpoint ≡ buses_to_checkpoint
 unfolding out-What shown-the_row-Statement-0 shown out int_wrap

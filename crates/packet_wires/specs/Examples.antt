@@ -1,5 +1,6 @@
 -- Worked runs of the adder over packets: which packets are on the buses after each event.
-use Rattle.std.specs.Prelude.{ℕ, zero, suc, ◌==◌, pos, Bool, true, false, if◌then◌else◌, List, [], ◌∷◌, ◌++◌, Option, Some, None}
+use Rattle.std.specs.Prelude.{ℕ, zero, suc, ◌==◌, pos, Bool, true, false, if◌then◌else◌, List, [], ◌∷◌, ◌++◌, Option}
+use Rattle.std.specs.Prelude.{Some, None}
 use Rattle.schedule.specs.declared.event.Event.{Event}
 use Rattle.schedule.specs.declared.event.Event.TheVariants as event
 use Rattle.packet_words.specs.declared.packet.Packet.{Packet}
@@ -22,8 +23,9 @@ abbrev pub times : ℕ → List Event → List Event
 times zero events = []
 times (suc more) events = events ++ times more events
 
--- A request is served: it goes in one piece, and is acknowledged. The program takes it, adds, and sends its checkpoint, which goes in three pieces, each after
--- the one before it was acknowledged. The backup acknowledges the last piece, and then tells that it took the checkpoint. The reply goes in one piece
+-- A request is served: it goes in one piece, and is acknowledged. The program takes it, adds, and sends its checkpoint,
+-- which goes in three pieces, each after the one before it was acknowledged. The backup acknowledges the last piece,
+-- and then tells that it took the checkpoint. The reply goes in one piece
 
 abbrev pub up_to_checkpoint : List Event
 up_to_checkpoint = event.Enter 0 ∷ run ∷ run ∷ run ∷ next_x ∷ next_x ∷ run ∷ run ∷ run ∷ run ∷ []
@@ -65,12 +67,14 @@ buses_to_reply =
 abbrev pub served : Packeted
 served = end_of (end_of adder_at_boot up_to_checkpoint) up_to_reply
 
--- A piece is lost: its sender sends it again at its second tick over bus Y, and at its third one over bus X, each time with the number that it had. What comes
--- second is acknowledged again, over the bus on which it came, and hands nothing over; the second acknowledgement ends nothing
+-- A piece is lost: its sender sends it again at its second tick over bus Y, and at its third one over bus X, each time
+-- with the number that it had. What comes second is acknowledged again, over the bus on which it came, and hands
+-- nothing over; the second acknowledgement ends nothing
 
 abbrev pub lost_piece : List Event
 lost_piece =
-    event.Enter 0 ∷ event.Lose false 0 ∷ event.Tick 16 ∷ event.Tick 16 ∷ next_y ∷ event.Tick 16 ∷ next_x ∷ next_y ∷ next_x ∷ event.Tick 16 ∷ []
+    event.Enter 0 ∷ event.Lose false 0 ∷ event.Tick 16 ∷ event.Tick 16 ∷ next_y ∷ event.Tick 16 ∷ next_x ∷ next_y
+    ∷ next_x ∷ event.Tick 16 ∷ []
 
 abbrev pub buses_of_lost : List Buses
 buses_of_lost =
@@ -86,9 +90,9 @@ buses_of_lost =
     ∷ none
     ∷ []
 
--- A processor stops between the pieces of its checkpoint: two of three came. Processor 1 hears nothing of processor 0. At its second tick its check misses 0 for
--- the first time, and at its fourth one again: it reports, pulls the line, marks 0, takes over at the beginning, and tells the node of the terminals, which marks
--- 0 and asks processor 1
+-- A processor stops between the pieces of its checkpoint: two of three came. Processor 1 hears nothing of processor 0.
+-- At its second tick its check misses 0 for the first time, and at its fourth one again: it reports, pulls the line,
+-- marks 0, takes over at the beginning, and tells the node of the terminals, which marks 0 and asks processor 1
 
 abbrev pub before_third_piece : Packeted
 before_third_piece = end_of (end_of adder_at_boot up_to_checkpoint) (times 4 (next_x ∷ []) ++ event.Fail 0 ∷ [])
@@ -101,7 +105,8 @@ abbrev pub lives : ℕ → List Sight
 lives zero = []
 lives (suc more) = alive 1 0 ∷ lives more
 
--- the third piece of processor 0 still stands on bus X. At the fourth tick a report to 0 is pushed before 0 is marked, and two messages go to the terminals' node
+-- the third piece of processor 0 still stands on bus X. At the fourth tick a report to 0 is pushed before 0 is marked,
+-- and two messages go to the terminals' node
 abbrev pub buses_alone : List Buses
 buses_alone =
     record { x = last 0 1 3 ∷ lives 1; y = lives 1 }
@@ -117,7 +122,8 @@ taken_over = end_of before_third_piece ticks_alone
 abbrev pub after_takeover : List Event
 after_takeover = times 9 (next_x ∷ []) ++ times 12 (run ∷ []) ++ times 8 (next_x ∷ []) ++ run ∷ []
 
--- Three processors, of which one is muted: all its packets are lost. The others report it, and processor 0 pulls its line when it has the report of processor 2
+-- Three processors, of which one is muted: all its packets are lost. The others report it, and processor 0 pulls its
+-- line when it has the report of processor 2
 
 abbrev pub three_at_boot : Packeted
 three_at_boot = packeted_at_boot (record (adder_for (pos 5 ∷ [])) { processors = 3 })
@@ -144,7 +150,8 @@ drained muted (suc more) s = drained muted more (played_if s (oldest muted s.wir
 -- rounds in which all three tick, and then the buses are drained
 abbrev pub rounds : ℕ → ℕ → Packeted → Packeted
 rounds muted zero s = s
-rounds muted (suc more) s = rounds muted more (drained muted 30 (end_of s (event.Tick 0 ∷ event.Tick 1 ∷ event.Tick 2 ∷ [])))
+rounds muted (suc more) s =
+    rounds muted more (drained muted 30 (end_of s (event.Tick 0 ∷ event.Tick 1 ∷ event.Tick 2 ∷ [])))
 
 abbrev pub after_four : Packeted
 after_four = rounds 1 4 three_at_boot
@@ -160,6 +167,7 @@ buses_held = record {
   y = alive 0 1 ∷ alive 0 2 ∷ last 0 1 1 ∷ [];
 }
 
--- the message that 1 is down stands twice, and both come to processor 2: the second one is acknowledged as the first one, and changes nothing else
+-- the message that 1 is down stands twice, and both come to processor 2: the second one is acknowledged as the first
+-- one, and changes nothing else
 abbrev pub down_twice : List Event
 down_twice = event.Repeat false 2 ∷ event.Deliver false 2 ∷ event.Deliver false 3 ∷ []

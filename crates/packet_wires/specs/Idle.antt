@@ -1,4 +1,5 @@
--- Whether nothing is left to do in a state over packets, computed. Our own rule: what it says of terminals, processes and marks is that of whole messages.
+-- Whether nothing is left to do in a state over packets, computed. Our own rule: what it says of terminals, processes
+-- and marks is that of whole messages.
 use Rattle.std.specs.Prelude.{ℕ, ◌&&◌, ◌||◌, Bool, true, not, List, Option, Some, None}
 use Rattle.std.specs.List.{list_all}
 use Rattle.link_control.specs.Ends.{End, is_empty}
@@ -20,8 +21,10 @@ is_quiet stopped nodes x y = not (is_running stopped x && is_running stopped y) 
 abbrev pub all_quiet : List Bool → List Node → Bool
 all_quiet stopped nodes = list_all (λ x. list_all (is_quiet stopped nodes x) all_nodes) all_nodes
 
--- nothing is left to do: no terminal can enter, no process can run or waits at a checkpoint, channels hold nothing, and what has stopped is marked
+-- nothing is left to do: no terminal can enter, no process can run or waits at a checkpoint, channels hold nothing, and
+-- what has stopped is marked
 abbrev pub is_idle : Packeted → Bool
 is_idle s =
     none_enters s.site s.world
-    && (none_runs s.site s.world && (none_waits s.world.processes && (all_quiet s.world.stopped s.wires.nodes && all_noted s.world)))
+    && (none_runs s.site s.world && (none_waits s.world.processes
+    && (all_quiet s.world.stopped s.wires.nodes && all_noted s.world)))

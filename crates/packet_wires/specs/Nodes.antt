@@ -1,5 +1,6 @@
--- What the nodes of a site have: their ends of channels, and what they know of the processors. Processors that share no memory and send each other packets are
--- Bartlett's; a channel for each ordered pair of nodes, and a node of its own for the terminals, are this project's own rules.
+-- What the nodes of a site have: their ends of channels, and what they know of the processors. Processors that share no
+-- memory and send each other packets are Bartlett's; a channel for each ordered pair of nodes, and a node of its own
+-- for the terminals, are this project's own rules.
 use Rattle.std.specs.Prelude.{ℕ, zero, suc, ◌+◌, ◌==◌, not, List, [], ◌∷◌, map, slice_get, slice_set, Option}
 use Rattle.std.specs.List.{filter}
 use Rattle.std.specs.Option.{option_and_then}
@@ -7,7 +8,8 @@ use Rattle.packet_words.specs.declared.packet.Incarnation.{Incarnation}
 use Rattle.link_control.specs.Ends.{End, new_end}
 use Rattle.alive_regroup.specs.Watching.{Watching, begun}
 
--- a node has an end of a channel with each node, itself included, by the other one's number; and it watches the processors
+-- a node has an end of a channel with each node, itself included, by the other one's number; and it watches the
+-- processors
 pub record Node : Type 0 where
   pub ends : List End
   pub watch : Watching
@@ -17,7 +19,8 @@ abbrev pub numbers : ℕ → ℕ → List ℕ
 numbers first zero = []
 numbers first (suc more) = first ∷ numbers (first + 1) more
 
--- the numbers that nodes may have: 16 is that of the terminals, and a number below it that of a processor, if the site has so many
+-- the numbers that nodes may have: 16 is that of the terminals, and a number below it that of a processor, if the site
+-- has so many
 abbrev pub all_nodes : List ℕ
 all_nodes = numbers 0 17
 

@@ -1,6 +1,8 @@
--- What each event makes of a state in the machine over packets: the world of copies, with both buses and the nodes under it. It takes its packet off a bus;
--- then it changes world and nodes, which see no bus; and when it is over, what it sent is put on the buses.
-use Rattle.std.specs.Prelude.{◌≤◌, ℕ, ◌+◌, Bool, true, false, ℤ, if◌then◌else◌, List, [], ◌++◌, length, slice_get, Option, Some, None}
+-- What each event makes of a state in the machine over packets: the world of copies, with both buses and the nodes
+-- under it. It takes its packet off a bus; then it changes world and nodes, which see no bus; and when it is over, what
+-- it sent is put on the buses.
+use Rattle.std.specs.Prelude.{◌≤◌, ℕ, ◌+◌, Bool, true, false, ℤ, if◌then◌else◌, List, [], ◌++◌, length, slice_get}
+use Rattle.std.specs.Prelude.{Option, Some, None}
 use Rattle.std.specs.Option.{option_and_then, option_map}
 use Rattle.tal_tree.specs.declared.site.Site.{Site}
 use Rattle.schedule.specs.declared.event.Event.{Event}
@@ -24,7 +26,9 @@ use Rattle.message_layout.specs.Messages.{NodeMessage, Carrying, Reporting, Decl
 use Rattle.message_layout.specs.Reading.{understood}
 use Rattle.packet_wires.specs.Nodes.{end_at}
 use Rattle.packet_wires.specs.Lines.{line_pulled}
-use Rattle.packet_wires.specs.Wires.{Wires, Outgoing, Midst, nothing_sent, wires_at_boot, on_bus, bus_named, without_packet, packets_over, with_sent, goes_over, all_posted, arrived, learns, ticked, cut_off, declares}
+use Rattle.packet_wires.specs.Wires.{Wires, Outgoing, Midst, nothing_sent, wires_at_boot, on_bus, bus_named}
+use Rattle.packet_wires.specs.Wires.{without_packet, packets_over, with_sent, goes_over, all_posted, arrived, learns}
+use Rattle.packet_wires.specs.Wires.{ticked, cut_off, declares}
 
 -- a state over packets
 abbrev pub Packeted : Type 0
@@ -49,7 +53,10 @@ over wires s = record { site = s.site; world = s.world; wires = with_sent s.wire
 
 -- the state after a change of its world: what the change sent is posted by the routes that the world then has
 abbrev pub after_done : Underway → Done → Underway
-after_done s done = record s { world = done.world; wires = all_posted done.world.stopped (letters_of s.site done.world done.sendings) s.wires }
+after_done s done = record s {
+  world = done.world;
+  wires = all_posted done.world.stopped (letters_of s.site done.world done.sendings) s.wires;
+}
 
 abbrev pub made_by : Underway → Option Done → Played Midst
 made_by s None = Skips
@@ -62,12 +69,14 @@ after_any s (Some done) = after_done s done
 
 -- Marks
 
--- the state after a node marked a processor: it cuts that one off, and then it posts what the mark sends, and what it has to send again
+-- the state after a node marked a processor: it cuts that one off, and then it posts what the mark sends, and what it
+-- has to send again
 abbrev pub after_marked : ℕ → ℕ → Underway → Done → Underway
 after_marked node processor s done = record s {
   world = done.world;
   wires =
-      all_posted done.world.stopped (letters_of s.site done.world (done.sendings ++ sent_again s.site s.world done.world node processor))
+      all_posted done.world.stopped (letters_of s.site done.world
+      (done.sendings ++ sent_again s.site s.world done.world node processor))
       (cut_off node processor s.wires);
 }
 
@@ -81,10 +90,12 @@ marks node processor s = marked_by node processor s (down_done node processor s.
 
 -- Packets that come
 
--- a message is handed over at a node: it changes the world, or the node notes the report of another one, or it marks the processor that is down
+-- a message is handed over at a node: it changes the world, or the node notes the report of another one, or it marks
+-- the processor that is down
 abbrev pub handed : ℕ → NodeMessage → Underway → Underway
 handed node (Carrying message) s = after_any s (handed_done s.site node message s.world)
-handed node (Reporting from silent) s = record s { wires = learns node (changed_at from (watching.neighbour_after_report silent)) s.wires }
+handed node (Reporting from silent) s =
+    record s { wires = learns node (changed_at from (watching.neighbour_after_report silent)) s.wires }
 handed node (Declaring processor) s = marks node processor s
 
 abbrev pub handed_any : ℕ → Option NodeMessage → Underway → Underway
@@ -103,12 +114,14 @@ completed packet e = option_and_then (handed_by_packet packet) e
 -- the receiver takes a packet in, and is handed the message that is whole with it
 abbrev pub received : BusName → Packet → Underway → Underway
 received name packet s =
-    handed_words packet.receiver (completed packet (end_at s.wires.nodes packet.receiver packet.sender)) (record s { wires = arrived name packet s.wires })
+    handed_words packet.receiver (completed packet (end_at s.wires.nodes packet.receiver packet.sender))
+    (record s { wires = arrived name packet s.wires })
 
 -- a packet that is delivered comes to its receiver; one that has stopped drops it
 abbrev pub deliver_acted : BusName → Underway → Option Packet → Played Midst
 deliver_acted name s None = Skips
-deliver_acted name s (Some packet) = Makes (if is_running s.world.stopped packet.receiver then received name packet s else s)
+deliver_acted name s (Some packet) =
+    Makes (if is_running s.world.stopped packet.receiver then received name packet s else s)
 
 -- a packet that is lost comes to nobody
 abbrev pub lose_acted : Underway → Option Packet → Played Midst
@@ -125,7 +138,8 @@ repeat_acted name s (Some packet) = Makes (record s { wires = goes_over name pac
 -- a processor stops, where it is the first
 abbrev pub fail_acted : ℕ → Underway → Option Done → Played Midst
 fail_acted processor s None = Skips
-fail_acted processor s (Some done) = if has_stopped s.world.stopped then WouldStop processor else Makes (record s { world = done.world })
+fail_acted processor s (Some done) =
+    if has_stopped s.world.stopped then WouldStop processor else Makes (record s { world = done.world })
 
 -- a node tells the others that a processor is down
 abbrev pub declared : ℕ → ℕ → Underway → Underway
@@ -157,7 +171,8 @@ pulls_its node s = pulls node s (line_of node s)
 -- a node that runs sends what its tick sends, and then pulls a line, if one is to be pulled
 abbrev pub tick_acted : ℕ → Underway → Played Midst
 tick_acted node s =
-    if is_running s.world.stopped node then pulls_its node (record s { wires = ticked s.site.processors node s.wires }) else Skips
+    if is_running s.world.stopped node then pulls_its node (record s { wires = ticked s.site.processors node s.wires })
+    else Skips
 
 -- Events
 
@@ -205,7 +220,8 @@ sent_by s event = out_of (acted s event)
 
 -- an event is clear: each bus has room for all that it sends over it
 abbrev pub IsClear : Packeted → Event → Type 0
-IsClear s event = (name : BusName) → length (on_bus name (taken_off event s.wires)) + length (packets_over name (sent_by s event)) ≤ 4096
+IsClear s event = (name : BusName) → length (on_bus name (taken_off event s.wires))
+    + length (packets_over name (sent_by s event)) ≤ 4096
 
 -- What is told of the buses
 

@@ -1,6 +1,8 @@
--- What lies under the world of copies in the machine over packets: both buses and the nodes; and what a node sends, takes in and does at its ticks. Two buses,
--- packets that are acknowledged and sent again over the other bus, and I'm-alive packets over both are Bartlett's; numbers and orders are this project's own.
-use Rattle.std.specs.Prelude.{ℕ, ◌==◌, Bool, true, false, ℤ, List, [], ◌∷◌, ◌++◌, map, slice_get, Option, Some, None, if◌then◌else◌}
+-- What lies under the world of copies in the machine over packets: both buses and the nodes; and what a node sends,
+-- takes in and does at its ticks. Two buses, packets that are acknowledged and sent again over the other bus, and
+-- I'm-alive packets over both are Bartlett's; numbers and orders are this project's own.
+use Rattle.std.specs.Prelude.{ℕ, ◌==◌, Bool, true, false, ℤ, List, [], ◌∷◌, ◌++◌, map, slice_get, Option, Some, None}
+use Rattle.std.specs.Prelude.{if◌then◌else◌}
 use Rattle.std.specs.List.{filter, remove}
 use Rattle.packet_words.specs.declared.bus_name.BusName.{BusName}
 use Rattle.packet_words.specs.declared.bus_name.BusName.TheVariants as bus
@@ -9,7 +11,8 @@ use Rattle.packet_words.specs.declared.packet.PacketKind.{PacketKind}
 use Rattle.packet_words.specs.declared.packet.PacketKind.TheVariants as kind
 use Rattle.bus_model.specs.Packets.{sent}
 use Rattle.link_control.specs.declared.channel.Resent.{Resent}
-use Rattle.link_control.specs.Ends.{End, packet_of, after_push, sent_by_push, after_packet, sent_by_packet, after_tick, sent_by_tick, after_down}
+use Rattle.link_control.specs.Ends.{End, packet_of, after_push, sent_by_push, after_packet, sent_by_packet, after_tick}
+use Rattle.link_control.specs.Ends.{sent_by_tick, after_down}
 use Rattle.alive_regroup.specs.declared.set.ProcessorSet.{ProcessorSet}
 use Rattle.alive_regroup.specs.Watching as watching
 use Rattle.alive_regroup.specs.Watching.{Watching, changed_at, told_by_tick}
@@ -19,7 +22,8 @@ use Rattle.message_layout.specs.Messages.{NodeMessage, Carrying, Reporting, Decl
 use Rattle.message_layout.specs.Layout.{words_of}
 use Rattle.packet_wires.specs.Nodes.{Node, nodes_at_boot, all_nodes, others, with_end, with_watch}
 
--- the packets on bus X and those on bus Y, each in their order; and the nodes 0 to 16. What a stopped node had stays as it was, and nothing looks at it
+-- the packets on bus X and those on bus Y, each in their order; and the nodes 0 to 16. What a stopped node had stays as
+-- it was, and nothing looks at it
 pub record Wires : Type 0 where
   pub x : List Packet
   pub y : List Packet
@@ -34,7 +38,8 @@ pub record Outgoing : Type 0 where
   pub bus : BusName
   pub packet : Packet
 
--- what an event sees of the wires: the nodes, and what it has sent so far, in its order. It sees no bus: what it sent is put on the buses when it is over
+-- what an event sees of the wires: the nodes, and what it has sent so far, in its order. It sees no bus: what it sent
+-- is put on the buses when it is over
 pub record Midst : Type 0 where
   pub nodes : List Node
   pub out : List Outgoing
@@ -133,7 +138,8 @@ for_each does (y ∷ ys) midst = for_each does ys (does y midst)
 
 -- a message is pushed at an end; what that sends goes over bus X
 abbrev pub push_at : ℕ → ℕ → List ℤ → Node → End → Midst → Midst
-push_at x y words node e midst = any_goes_over bus.X (sent_by_push words e) (end_changed x y node (after_push words e) midst)
+push_at x y words node e midst =
+    any_goes_over bus.X (sent_by_push words e) (end_changed x y node (after_push words e) midst)
 
 -- the node x sends y a message
 abbrev pub sends : ℕ → ℕ → NodeMessage → Midst → Midst
@@ -146,7 +152,8 @@ sends_all x message ys midst = for_each (λ y. sends x y message) ys midst
 -- a letter is sent by its sender, unless that has stopped
 abbrev pub posted : List Bool → Letter → Midst → Midst
 posted stopped letter midst =
-    if is_running stopped letter.sender then sends letter.sender letter.receiver (Carrying letter.message) midst else midst
+    if is_running stopped letter.sender then sends letter.sender letter.receiver (Carrying letter.message) midst else
+    midst
 
 -- letters are sent in their order
 abbrev pub all_posted : List Bool → List Letter → Midst → Midst
@@ -155,8 +162,8 @@ all_posted stopped (letter ∷ letters) midst = all_posted stopped letters (post
 
 -- Packets that come
 
--- the bus over which the answer to a packet goes: the acknowledgement of a piece takes that on which the piece came, and the piece that an acknowledgement
--- lets go takes bus X
+-- the bus over which the answer to a packet goes: the acknowledgement of a piece takes that on which the piece came,
+-- and the piece that an acknowledgement lets go takes bus X
 abbrev pub bus_of_answer : BusName → PacketKind → BusName
 bus_of_answer name kind.Alive = bus.X
 bus_of_answer name (kind.Piece number piece) = name
@@ -170,22 +177,26 @@ heard_of sender (kind.Acknowledgement number) watch = watch
 
 abbrev pub arrive_at : BusName → Packet → Node → End → Midst → Midst
 arrive_at name packet node e midst =
-    any_goes_over (bus_of_answer name packet.kind) (sent_by_packet packet e) (end_changed packet.receiver packet.sender node (after_packet packet e) midst)
+    any_goes_over (bus_of_answer name packet.kind) (sent_by_packet packet e)
+    (end_changed packet.receiver packet.sender node (after_packet packet e) midst)
 
 -- the receiver of a packet takes it in: first its end and the answer, then what it hears
 abbrev pub arrived : BusName → Packet → Midst → Midst
 arrived name packet midst =
-    learns packet.receiver (heard_of packet.sender packet.kind) (at_end packet.receiver packet.sender (arrive_at name packet) midst)
+    learns packet.receiver (heard_of packet.sender packet.kind)
+    (at_end packet.receiver packet.sender (arrive_at name packet) midst)
 
 -- Ticks
 
 -- an I'm-alive packet goes over bus X and then one over bus Y, to a node that isn't marked down
 abbrev pub alive_at : Node → End → Midst → Midst
-alive_at node e midst = if e.down then midst else goes_over bus.Y (packet_of e kind.Alive) (goes_over bus.X (packet_of e kind.Alive) midst)
+alive_at node e midst =
+    if e.down then midst else goes_over bus.Y (packet_of e kind.Alive) (goes_over bus.X (packet_of e kind.Alive) midst)
 
 -- a processor tells the others that it is alive, in rising order; the node of the terminals tells none
 abbrev pub tells_alive : ℕ → ℕ → Midst → Midst
-tells_alive processors x midst = if x == terminal_node then midst else for_each (λ y. at_end x y alive_at) (others processors x) midst
+tells_alive processors x midst =
+    if x == terminal_node then midst else for_each (λ y. at_end x y alive_at) (others processors x) midst
 
 -- a processor reports a silent set to the others, where a check gave another one than the last
 abbrev pub reports : ℕ → ℕ → Option ProcessorSet → Midst → Midst
@@ -193,7 +204,8 @@ reports processors x None midst = midst
 reports processors x (Some silent) midst = sends_all x (Reporting x silent) (others processors x) midst
 
 abbrev pub check_at : ℕ → ℕ → Node → Midst → Midst
-check_at processors x node midst = reports processors x (told_by_tick node.watch) (watch_changed x watching.after_tick node midst)
+check_at processors x node midst =
+    reports processors x (told_by_tick node.watch) (watch_changed x watching.after_tick node midst)
 
 -- a node counts its ticks; a processor checks at every second one, and reports
 abbrev pub checks : ℕ → ℕ → Midst → Midst
@@ -220,7 +232,8 @@ down_at x y node e midst = end_changed x y node (after_down e) midst
 abbrev pub cut_off : ℕ → ℕ → Midst → Midst
 cut_off x y midst = learns x (changed_at y watching.neighbour_after_down) (at_end x y (down_at x y) midst)
 
--- the node x tells all others that a processor is down, first the processors and then the node of the terminals. It sends the one that is down nothing, as
--- it has cut that one off
+-- the node x tells all others that a processor is down, first the processors and then the node of the terminals. It
+-- sends the one that is down nothing, as it has cut that one off
 abbrev pub declares : ℕ → ℕ → ℕ → Midst → Midst
-declares processors x processor midst = sends_all x (Declaring processor) (others processors x ++ terminal_node ∷ []) midst
+declares processors x processor midst =
+    sends_all x (Declaring processor) (others processors x ++ terminal_node ∷ []) midst

@@ -4,10 +4,13 @@ ghost use Rattle.schedule.specs.declared.event.Event.TheVariants as event;
 ghost use Rattle.world_semantics.specs.Examples.{reply};
 ghost use Rattle.packet_wires.specs.Idle.{is_idle};
 ghost use Rattle.packet_wires.specs.Sights.{acknowledged, alive, buses_from, end_of, last, seen};
-ghost use Rattle.packet_wires.specs.Examples.{adder_at_boot, after_four, after_takeover, before_third_piece, buses_alone, buses_held, buses_of_lost, buses_to_checkpoint, buses_to_reply, down_twice, held, lost_piece, rounds, served, taken_over, three_at_boot, ticks_alone, up_to_checkpoint, up_to_reply};
+ghost use Rattle.packet_wires.specs.Examples.{adder_at_boot, after_four, after_takeover, before_third_piece};
+ghost use Rattle.packet_wires.specs.Examples.{buses_alone, buses_held, buses_of_lost, buses_to_checkpoint};
+ghost use Rattle.packet_wires.specs.Examples.{buses_to_reply, down_twice, held, lost_piece, rounds, served, taken_over};
+ghost use Rattle.packet_wires.specs.Examples.{three_at_boot, ticks_alone, up_to_checkpoint, up_to_reply};
 
-/// A request is served with nothing lost: one piece of the request, three of the checkpoint, one that it was taken, and one of the
-/// reply, each acknowledged before the next one of its channel goes. Then nothing is left to do.
+/// A request is served with nothing lost: one piece of the request, three of the checkpoint, one that it was taken, and
+/// one of the reply, each acknowledged before the next one of its channel goes. Then nothing is left to do.
 pub fn an_adder_serves()
     ensures checkpoint { buses_from adder_at_boot up_to_checkpoint ≡ buses_to_checkpoint }
     ensures answer { buses_from (end_of adder_at_boot up_to_checkpoint) up_to_reply ≡ buses_to_reply }
@@ -15,14 +18,15 @@ pub fn an_adder_serves()
     ensures idle { is_idle served ≡ true }
 {}
 
-/// A piece that is lost goes over bus Y at its sender's second tick and over bus X at the third, with its number. It is handed over
-/// once, and each of its packets is acknowledged over the bus on which it came.
+/// A piece that is lost goes over bus Y at its sender's second tick and over bus X at the third, with its number. It is
+/// handed over once, and each of its packets is acknowledged over the bus on which it came.
 pub fn a_lost_piece_is_sent_again()
     ensures { buses_from adder_at_boot lost_piece ≡ buses_of_lost }
 {}
 
-/// A processor stops between the pieces of its checkpoint. The other one misses it at two checks, and pulls its line at the second
-/// of them; what came of the checkpoint is thrown away, so the takeover begins the program. The reply is printed once.
+/// A processor stops between the pieces of its checkpoint. The other one misses it at two checks, and pulls its line at
+/// the second of them; what came of the checkpoint is thrown away, so the takeover begins the program. The reply is
+/// printed once.
 pub fn a_checkpoint_in_part_is_thrown_away()
     ensures stopped { before_third_piece.world.stopped ≡ true ∷ false ∷ [] }
     ensures alone { buses_from before_third_piece ticks_alone ≡ buses_alone }
@@ -31,8 +35,9 @@ pub fn a_checkpoint_in_part_is_thrown_away()
     ensures idle { is_idle (end_of taken_over after_takeover) ≡ true }
 {}
 
-/// Of three processors one is muted. At their fourth ticks the others report it, and at its fifth tick processor 0 has the report of
-/// processor 2: it stops the muted one by its line, marks it, and tells processor 2 and the node of the terminals, in this order.
+/// Of three processors one is muted. At their fourth ticks the others report it, and at its fifth tick processor 0 has
+/// the report of processor 2: it stops the muted one by its line, marks it, and tells processor 2 and the node of the
+/// terminals, in this order.
 pub fn a_muted_processor_is_held()
     ensures before { after_four.world.stopped ≡ false ∷ false ∷ false ∷ [] }
     ensures stopped { held.world.stopped ≡ false ∷ true ∷ false ∷ [] }
@@ -47,7 +52,8 @@ pub fn a_heard_processor_is_not_held()
 
 /// That a processor is down comes twice: the second packet is acknowledged again, and no second mark is made.
 pub fn a_second_message_marks_nothing()
-    ensures marks { (end_of held down_twice).world.marks ≡ record { node = 2; down = 1 } ∷ record { node = 0; down = 1 } ∷ [] }
+    ensures marks { (end_of held down_twice).world.marks
+        ≡ record { node = 2; down = 1 } ∷ record { node = 0; down = 1 } ∷ [] }
     ensures buses { (seen (end_of held down_twice)).x
         ≡ alive 0 1 ∷ alive 0 2 ∷ last 0 16 1 ∷ acknowledged 2 0 2 ∷ acknowledged 2 0 2 ∷ [] }
 {}

@@ -1,5 +1,6 @@
 -- The 16 words of a packet. That packets have 16 words is Bartlett's; the places of the words are this project's own.
-use Rattle.std.specs.Prelude.{ℕ, ◌+◌, ◌-◌, ◌*◌, ◌/◌, ◌%◌, ◌==◌, ◌&&◌, ◌||◌, nat_le, nat_lt, ℤ, pos, Bool, true, List, [], ◌∷◌, ◌++◌, length, replicate, if◌then◌else◌}
+use Rattle.std.specs.Prelude.{ℕ, ◌+◌, ◌-◌, ◌*◌, ◌/◌, ◌%◌, ◌==◌, ◌&&◌, ◌||◌, nat_le, nat_lt, ℤ, pos, Bool, true, List}
+use Rattle.std.specs.Prelude.{[], ◌∷◌, ◌++◌, length, replicate, if◌then◌else◌}
 use Rattle.std.specs.Int.{w16, cast_signed}
 use Rattle.packet_words.specs.declared.packet.Packet.{Packet}
 use Rattle.packet_words.specs.declared.packet.PacketKind.{PacketKind}
@@ -8,7 +9,8 @@ use Rattle.packet_words.specs.declared.piece.Piece.{Piece}
 
 -- a piece has one to ten words, and ten unless it is the last
 abbrev pub is_piece : Piece → Bool
-is_piece piece = nat_lt 0 (length piece.words) && nat_le (length piece.words) 10 && (piece.last || (length piece.words == 10))
+is_piece piece =
+    nat_lt 0 (length piece.words) && nat_le (length piece.words) 10 && (piece.last || (length piece.words == 10))
 
 -- pieces and their acknowledgements are numbered from 1
 abbrev pub is_kind : PacketKind → Bool
@@ -19,7 +21,8 @@ is_kind (kind.Acknowledgement number) = nat_lt 0 number
 -- what may go over a bus: nodes to 16, incarnations to 127, and a kind within its ranges
 abbrev pub is_packet : Packet → Bool
 is_packet packet =
-    nat_le packet.sender 16 && nat_le packet.receiver 16 && nat_le packet.incarnation.sender 127 && nat_le packet.incarnation.receiver 127
+    nat_le packet.sender 16 && nat_le packet.receiver 16 && nat_le packet.incarnation.sender 127
+    && nat_le packet.incarnation.receiver 127
     && is_kind packet.kind
 
 -- the word of the pattern of 16 bits that a number has
@@ -51,8 +54,8 @@ content_of kind.Alive = filled []
 content_of (kind.Piece number piece) = filled piece.words
 content_of (kind.Acknowledgement number) = filled []
 
--- the words of a packet: sender and receiver; the kind; the incarnations; the number's high half and its low one; the piece's shape; ten words of
--- content
+-- the words of a packet: sender and receiver; the kind; the incarnations; the number's high half and its low one; the
+-- piece's shape; ten words of content
 abbrev pub words_of : Packet → List ℤ
 words_of packet =
     pattern (packet.sender * 32 + packet.receiver)

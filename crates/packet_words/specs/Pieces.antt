@@ -1,5 +1,6 @@
 -- Messages in pieces of ten words.
-use Rattle.std.specs.Prelude.{ℕ, suc, ◌-◌, ◌*◌, ◌/◌, ℤ, nat_le, nat_lt, List, [], ◌++◌, length, take, drop, Option, Some, None, if◌then◌else◌}
+use Rattle.std.specs.Prelude.{ℕ, suc, ◌-◌, ◌*◌, ◌/◌, ℤ, nat_le, nat_lt, List, [], ◌++◌, length, take, drop, Option}
+use Rattle.std.specs.Prelude.{Some, None, if◌then◌else◌}
 use Rattle.packet_words.specs.declared.piece.Piece.{Piece}
 
 -- how many pieces a message has: one for ten words, and one for what is left

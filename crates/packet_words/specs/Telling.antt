@@ -24,5 +24,6 @@ told words = record {
   sender = number_at 0 words / 32 % 32;
   receiver = number_at 0 words % 32;
   incarnation = record { sender = number_at 2 words / 128 % 128; receiver = number_at 2 words % 128 };
-  kind = kind_told (number_at 1 words) (number_at 3 words * 65536 + number_at 4 words) (number_at 5 words) (drop 6 words);
+  kind = kind_told (number_at 1 words) (number_at 3 words * 65536 + number_at 4 words) (number_at 5 words)
+      (drop 6 words);
 }

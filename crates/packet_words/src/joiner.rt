@@ -6,7 +6,8 @@ use gd_words::{List, NoMemory};
 use std::alloc::Global;
 use std::marker::Model;
 
-/// The words of a message's pieces that came, none at its beginning. Room that it has once it keeps for the messages to come.
+/// The words of a message's pieces that came, none at its beginning. Room that it has once it keeps for the messages to
+/// come.
 #[derive(Drop)]
 pub struct Joiner {
     words: Vec<i16>,

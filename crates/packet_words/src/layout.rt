@@ -35,7 +35,8 @@ impl Packet {
     pub fn from_words(words: &[i16; 16]) -> Option<Packet>
         ensures packet { IfSome result (λ packet. is_packet packet ≡ true) }
         ensures words { IfSome result (λ packet. words_of packet ≡ words.now) }
-        ensures none { IfNone result ((packet : Packet) → number_in packet.kind < 2 ^ 32 → is_packet packet ≡ true → words_of packet ≢ words.now) }
+        ensures none { IfNone result ((packet : Packet) → number_in packet.kind < 2 ^ 32 → is_packet packet ≡ true
+            → words_of packet ≢ words.now) }
     {
         let packet = told(words);
         if is_told_by(&packet, words) {
@@ -168,6 +169,7 @@ fn told(words: &[i16]) -> Packet
 
 /// Packets within their ranges are told apart by their words.
 pub fn words_tell_their_packet()
-    ensures { (one other : Packet) → is_packet one ≡ true → is_packet other ≡ true → number_in one.kind < 2 ^ 32 → number_in other.kind < 2 ^ 32
+    ensures { (one other : Packet) → is_packet one ≡ true → is_packet other ≡ true → number_in one.kind < 2 ^ 32
+        → number_in other.kind < 2 ^ 32
         → words_of one ≡ words_of other → one ≡ other }
 {}

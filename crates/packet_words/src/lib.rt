@@ -1,8 +1,8 @@
 //! Packets on the buses between nodes, and the pieces of ten words in which messages go.
 //!
 //! Below stands `gd_words`. The layers above use that a packet has its 16 words and 16 words at most one packet
-//! (`Packet::to_words`, `Packet::from_words`), that `cut` gives the pieces of a message, and that a `Joiner` gives the message of
-//! the pieces that came and takes memory for none but whole messages once it has room.
+//! (`Packet::to_words`, `Packet::from_words`), that `cut` gives the pieces of a message, and that a `Joiner` gives the
+//! message of the pieces that came and takes memory for none but whole messages once it has room.
 #![tactic(auto)]
 
 pub mod bus_name;

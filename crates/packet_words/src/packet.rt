@@ -19,8 +19,8 @@ pub struct Incarnation {
     pub receiver: u8,
 }
 
-/// What a packet tells: that its sender is alive, a piece of a message by its number on the channel, or that the piece of
-/// this number was kept. Numbers are from 1.
+/// What a packet tells: that its sender is alive, a piece of a message by its number on the channel, or that the piece
+/// of this number was kept. Numbers are from 1.
 #[derive(Drop)]
 pub enum PacketKind {
     Alive,

@@ -14,8 +14,10 @@ use Rattle.packet_nets.proofs.Arriving.{Arrives, hands_none, hands_other, hands_
 use Rattle.packet_nets.proofs.Sending.{Came, came}
 use Rattle.packets_laws.proofs.Playing.{stands-there}
 
-pub comes-right : (s : Packeted) (owed sent : List Letter) (T : TiesAtRest s.site s.world.stopped s.wires owed sent) (name : BusName) (k : ℕ) (p : Packet) (words : List ℤ)
-    → packet_at s name k ≡ Some p → is_running s.world.stopped p.receiver ≡ true → completed p (end_at s.wires.nodes p.receiver p.sender) ≡ Some words
+pub comes-right : (s : Packeted) (owed sent : List Letter) (T : TiesAtRest s.site s.world.stopped s.wires owed sent)
+    (name : BusName) (k : ℕ) (p : Packet) (words : List ℤ)
+    → packet_at s name k ≡ Some p → is_running s.world.stopped p.receiver ≡ true
+    → completed p (end_at s.wires.nodes p.receiver p.sender) ≡ Some words
     → WasPushed s.site s.world.stopped sent p.sender p.receiver words
 comes-right s owed sent T name k p words at runs is =
     subst Right is (of all.net (completed p (end_at s.wires.nodes p.receiver p.sender)) all.arrived)
@@ -24,11 +26,13 @@ comes-right s owed sent T name k p words at runs is =
     Right None = Unit {0}
     Right (Some words) = WasPushed s.site s.world.stopped sent p.sender p.receiver words
 
-    of : (next : Net) (h : Option (List ℤ)) → Arrives s.site s.world.stopped owed sent next p.sender p.receiver h → Right h
+    of : (next : Net) (h : Option (List ℤ)) → Arrives s.site s.world.stopped owed sent next p.sender p.receiver h
+        → Right h
     of next None (hands_none o) = tt
     of next (Some words) (hands_other told reads fits right none o) = (told, reads, fits, right)
     of next (Some words) (hands_letter message reads fits among taken o) = (Carrying message, reads, fits, among)
     of next (Some words) (hands_again message reads fits among o) = (Carrying message, reads, fits, among)
 
-    all : Came s.site s.world.stopped (on_both s.wires) (arrived name p (nothing_sent s.wires.nodes)) owed sent p.sender p.receiver (completed p (end_at s.wires.nodes p.receiver p.sender))
+    all : Came s.site s.world.stopped (on_both s.wires) (arrived name p (nothing_sent s.wires.nodes)) owed sent
+        p.sender p.receiver (completed p (end_at s.wires.nodes p.receiver p.sender))
     all = came (nothing_sent s.wires.nodes) T name p (T.tied.flight p (stands-there s name k p at)) runs

@@ -1,5 +1,6 @@
 -- Which processors an event stops: at most one in a run.
-use Rattle.std.proofs.Common.{◌≡◌, ℕ, zero, suc, ℤ, Bool, true, false, if◌then◌else◌, List, [], ◌∷◌, replicate, Option, Some, None, slice_get, slice_set, refl, sym, subst, ◌∙◌}
+use Rattle.std.proofs.Common.{◌≡◌, ℕ, zero, suc, ℤ, Bool, true, false, if◌then◌else◌, List, [], ◌∷◌, replicate, Option}
+use Rattle.std.proofs.Common.{Some, None, slice_get, slice_set, refl, sym, subst, ◌∙◌}
 use Rattle.tal_tree.specs.declared.site.Site.{Site}
 use Rattle.schedule.specs.declared.event.Event.{Event}
 use Rattle.schedule.specs.declared.event.Event.TheVariants.{Run, Enter, Deliver, Lose, Repeat, Tick, Fail}
@@ -17,7 +18,10 @@ use Rattle.world_semantics.proofs.Lists.{Changed, is_new, is_same, changed}
 use Rattle.message_wires_laws.proofs.Stopping.{StopsNone, run-none, enter-none, handed-none, mark-none}
 use Rattle.message_layout.specs.Messages.{NodeMessage, Carrying, Reporting, Declaring}
 use Rattle.message_layout.specs.Reading.{understood}
-use Rattle.packet_wires.specs.Play.{Packeted, Underway, begun, made_by, after_any, marked_by, marks, handed, handed_any, handed_words, completed, received, deliver_acted, lose_acted, repeat_acted, fail_acted, marks_and_declares, pulled, pulls, line_of, pulls_its, tick_acted, packet_at, acted, taken_off, ended, play}
+use Rattle.packet_wires.specs.Play.{Packeted, Underway, begun, made_by, after_any, marked_by, marks, handed, handed_any}
+use Rattle.packet_wires.specs.Play.{handed_words, completed, received, deliver_acted, lose_acted, repeat_acted}
+use Rattle.packet_wires.specs.Play.{fail_acted, marks_and_declares, pulled, pulls, line_of, pulls_its, tick_acted}
+use Rattle.packet_wires.specs.Play.{packet_at, acted, taken_off, ended, play}
 use Rattle.packet_wires.specs.Nodes.{end_at}
 use Rattle.packet_wires.specs.Runs.{IsPlayed, played_none, played_more, skipped}
 use Rattle.packet_wires.specs.Wires.{Wires, Midst, bus_named, arrived, ticked}
@@ -32,7 +36,8 @@ pub data Goes {W V : Type 0} (s : State W) : Played V → Type 0 where
   skips : Goes s Skips
   would_stop : (processor : ℕ) → Goes s (WouldStop processor)
   stops_none : {next : State V} → next.site ≡ s.site → next.world.stopped ≡ s.world.stopped → Goes s (Makes next)
-  stops_one : {next : State V} (processor : ℕ) → next.site ≡ s.site → has_stopped s.world.stopped ≡ false → next.world.stopped ≡ slice_set s.world.stopped processor true
+  stops_one : {next : State V} (processor : ℕ) → next.site ≡ s.site → has_stopped s.world.stopped ≡ false
+      → next.world.stopped ≡ slice_set s.world.stopped processor true
       → Goes s (Makes next)
 
 made-goes : (s : Underway) (done : Option Done) → StopsNone s.world done → Goes s (made_by s done)
@@ -47,7 +52,8 @@ marks-stay node processor s = by (down_done node processor s.world) (mark-none s
     by (Some done) none = record { site = refl; stopped = none }
 
 handed-stay : (node : ℕ) (told : NodeMessage) (s : Underway) → Stays s (handed node told s)
-handed-stay node (Carrying message) s = by (handed_done s.site node message s.world) (handed-none s.site s.world node message)
+handed-stay node (Carrying message) s =
+    by (handed_done s.site node message s.world) (handed-none s.site s.world node message)
   where
     by : (done : Option Done) → StopsNone s.world done → Stays s (after_any s done)
     by None none = record { site = refl; stopped = refl }
@@ -69,14 +75,16 @@ deliver-goes name s (Some p) = by (is_running s.world.stopped p.receiver)
   where
     by : (test : Bool) → Goes s (Makes (if test then received name p s else s))
     by true =
-        let stay = words-stay p.receiver (completed p (end_at s.wires.nodes p.receiver p.sender)) (record s { wires = arrived name p s.wires }) in
+        let stay = words-stay p.receiver (completed p (end_at s.wires.nodes p.receiver p.sender))
+        (record s { wires = arrived name p s.wires }) in
         stops_none stay.site stay.stopped
     by false = stops_none refl refl
 
 fail-goes : (processor : ℕ) (s : Underway) → Goes s (fail_acted processor s (stop_done processor s.world))
 fail-goes processor s = by (slice_get s.world.stopped processor)
   where
-    first : (test : Bool) → has_stopped s.world.stopped ≡ test → Goes s (if test then WouldStop processor else Makes (record s { world = stopped_world processor s.world }))
+    first : (test : Bool) → has_stopped s.world.stopped ≡ test
+        → Goes s (if test then WouldStop processor else Makes (record s { world = stopped_world processor s.world }))
     first true e = would_stop processor
     first false e = stops_one processor refl e refl
 
@@ -93,19 +101,24 @@ tick-goes node s = by (is_running s.world.stopped node)
     line midst (Some processor) = at (slice_get s.world.stopped processor)
       where
         first : (test : Bool) → has_stopped s.world.stopped ≡ test
-            → Goes s (if test then WouldStop processor else Makes (marks_and_declares node processor (record s { world = stopped_world processor s.world; wires = midst })))
+            → Goes s (if test then WouldStop processor else Makes
+            (marks_and_declares node processor (record s { world = stopped_world processor s.world; wires = midst })))
         first true e = would_stop processor
         first false e =
-            let stay = marks-stay node processor (record s { world = stopped_world processor s.world; wires = midst }) in
+            let stay = marks-stay node processor (record s
+            { world = stopped_world processor s.world; wires = midst }) in
             stops_one processor stay.site e stay.stopped
 
         at : (stopped : Option Bool) → Goes s (pulled node processor (record s { wires = midst }) stopped)
         at None = stops_none refl refl
-        at (Some true) = let stay = marks-stay node processor (record s { wires = midst }) in stops_none stay.site stay.stopped
+        at (Some true) =
+            let stay = marks-stay node processor (record s { wires = midst }) in stops_none stay.site stay.stopped
         at (Some false) = first (has_stopped s.world.stopped) refl
 
-    by : (test : Bool) → Goes s (if test then pulls_its node (record s { wires = ticked s.site.processors node s.wires }) else Skips)
-    by true = line (ticked s.site.processors node s.wires) (line_of node (record s { wires = ticked s.site.processors node s.wires }))
+    by : (test : Bool) → Goes s (if test then pulls_its node
+        (record s { wires = ticked s.site.processors node s.wires }) else Skips)
+    by true = line (ticked s.site.processors node s.wires)
+        (line_of node (record s { wires = ticked s.site.processors node s.wires }))
     by false = skips
 
 acted-goes : (s : Packeted) (event : Event) → Goes (begun s) (acted s event)
@@ -138,7 +151,8 @@ play-goes s event = by (acted s event) (acted-goes s event)
 
 pub played-site : {site : Site} {events : List Event} {s : Packeted} → IsPlayed site events s → s.site ≡ site
 played-site played_none = refl
-played-site {site = site} (played_more {s = s} {next = next} event before e) = subst OfSite e (by (play s event) (play-goes s event) (played-site before))
+played-site {site = site} (played_more {s = s} {next = next} event before e) =
+    subst OfSite e (by (play s event) (play-goes s event) (played-site before))
   where
     OfSite : Played Wires → Type 0
     OfSite (Makes next) = next.site ≡ site
@@ -158,7 +172,8 @@ none-stopped (true ∷ stopped) k none at = cc
 none-stopped (false ∷ stopped) zero none at = cc
 none-stopped (false ∷ stopped) (suc k) none at = none-stopped stopped k none at
 
-first-stopped : (stopped : List Bool) (processor one : ℕ) → has_stopped stopped ≡ false → slice_get (slice_set stopped processor true) one ≡ Some true → processor ≡ one
+first-stopped : (stopped : List Bool) (processor one : ℕ) → has_stopped stopped ≡ false
+    → slice_get (slice_set stopped processor true) one ≡ Some true → processor ≡ one
 first-stopped stopped processor one none at = of (changed stopped processor true one true at)
   where
     of : Changed stopped processor true one true → processor ≡ one
@@ -170,8 +185,10 @@ none-at-boot zero = refl
 none-at-boot (suc processors) = none-at-boot processors
 
 pub played-one : {site : Site} {events : List Event} {s : Packeted} → IsPlayed site events s → OneStops s.world
-played-one {site = site} played_none = λ one other at there. absurd (none-stopped (boot site).stopped one (none-at-boot site.processors) at)
-played-one (played_more {s = s} {next = next} event before e) = subst IsOne e (by (play s event) (play-goes s event) (played-one before))
+played-one {site = site} played_none =
+    λ one other at there. absurd (none-stopped (boot site).stopped one (none-at-boot site.processors) at)
+played-one (played_more {s = s} {next = next} event before e) =
+    subst IsOne e (by (play s event) (play-goes s event) (played-one before))
   where
     IsOne : Played Wires → Type 0
     IsOne (Makes next) = OneStops next.world
@@ -181,7 +198,10 @@ played-one (played_more {s = s} {next = next} event before e) = subst IsOne e (b
     by : (played : Played Wires) → Goes s played → OneStops s.world → IsOne played
     by Skips skips was = tt
     by (WouldStop _) (would_stop processor) was = tt
-    by (Makes made) (stops_none same none) was = subst (λ (stopped : List Bool). (one other : ℕ) → slice_get stopped one ≡ Some true → slice_get stopped other ≡ Some true → one ≡ other) (sym none) was
+    by (Makes made) (stops_none same none) was =
+        subst (λ (stopped : List Bool). (one other : ℕ) → slice_get stopped one ≡ Some true
+        → slice_get stopped other ≡ Some true → one ≡ other) (sym none) was
     by (Makes made) (stops_one processor same first one) was =
-        rw one (λ a b at there. sym (first-stopped s.world.stopped processor a first at) ∙ first-stopped s.world.stopped processor b first there)
+        rw one (λ a b at there. sym (first-stopped s.world.stopped processor a first at)
+        ∙ first-stopped s.world.stopped processor b first there)
 played-one (skipped event before e) = played-one before

@@ -1,5 +1,6 @@
 -- Idle over packets, and idle as a post.
-use Rattle.std.proofs.Common.{◌≡◌, ◌≤◌, ◌<◌, inl, inr, ℕ, zero, suc, ◌+◌, ℤ, Bool, true, false, not, ◌||◌, List, [], ◌∷◌, ◌++◌, Some, refl, sym, ap, subst, ◌∙◌, arith}
+use Rattle.std.proofs.Common.{◌≡◌, ◌≤◌, ◌<◌, inl, inr, ℕ, zero, suc, ◌+◌, ℤ, Bool, true, false, not, ◌||◌, List, []}
+use Rattle.std.proofs.Common.{◌∷◌, ◌++◌, Some, refl, sym, ap, subst, ◌∙◌, arith}
 use Rattle.std.specs.List.{list_all}
 use Rattle.std.specs.Cmp.Derive.{both_true}
 use Rattle.std.proofs.lemmas.List.{append-nil, append_cancel_left}
@@ -31,9 +32,17 @@ bare s = record { site = s.site; world = s.world; wires = wires_at_boot }
 all-handed : (w : Way) → IsJoint w → w.sender.queue ≡ [] → w.out ≡ w.pushes
 all-handed w j e =
     let r = j.receiving in
-    let done : w.pushes ≡ j.sending.done = j.sending.sent ∙ ap (λ xs. j.sending.done ++ xs) e ∙ append-nil j.sending.done in
+    let done : w.pushes ≡ j.sending.done =
+    j.sending.sent ∙ ap (λ xs. j.sending.done ++ xs) e ∙ append-nil j.sending.done in
     let none : r.rest ≡ [] =
-    none-left r.some r.rest r.in_part (omega (arith, j.acknowledged_is_kept, j.sending.count, r.count, ap total (sym r.come ∙ done), total-append w.out r.rest)) in
+    none-left r.some r.rest r.in_part (omega (
+      arith,
+      j.acknowledged_is_kept,
+      j.sending.count,
+      r.count,
+      ap total (sym r.come ∙ done),
+      total-append w.out r.rest,
+    )) in
     sym (r.come ∙ ap (λ xs. w.out ++ xs) none ∙ append-nil w.out)
 
 none-is : (queue : List (List ℤ)) → is_none queue ≡ true → queue ≡ []
@@ -41,29 +50,40 @@ none-is [] e = refl
 none-is (q ∷ queue) e = absurd cc
 
 -- a test that all numbers of a row pass is passed by each
-all-numbers : (test : ℕ → Bool) (from many : ℕ) → list_all test (numbers from many) ≡ true → (k : ℕ) → k < many → test (from + k) ≡ true
+all-numbers : (test : ℕ → Bool) (from many : ℕ) → list_all test (numbers from many) ≡ true → (k : ℕ) → k < many
+    → test (from + k) ≡ true
 all-numbers test from zero all k low = absurd (omega (arith, low))
 all-numbers test from (suc many) all zero low = ap test (omega arith) ∙ (both-true (test from) _ all).0
-all-numbers test from (suc many) all (suc k) low = ap test (omega arith) ∙ all-numbers test (from + 1) many (both-true (test from) _ all).1 k (omega (arith, low))
+all-numbers test from (suc many) all (suc k) low =
+    ap test (omega arith) ∙ all-numbers test (from + 1) many (both-true (test from) _ all).1 k (omega (arith, low))
 
 all-nodes : (test : ℕ → Bool) → list_all test all_nodes ≡ true → (k : ℕ) → k ≤ 16 → test k ≡ true
 all-nodes test all k low = ap test (omega arith) ∙ all-numbers test 0 17 all k (omega (arith, low))
 
 -- an owed letter counts among those of its sender and receiver
-owed-between : (letter : Letter) (owed : List Letter) → IsAmong letter owed → between letter.sender letter.receiver owed ≡ [] → ⊥
+owed-between : (letter : Letter) (owed : List Letter) → IsAmong letter owed
+    → between letter.sender letter.receiver owed ≡ [] → ⊥
 owed-between letter [] among none = among
 owed-between letter (one ∷ owed) (inl same) none =
-    let here : goes letter.sender letter.receiver one ≡ true = subst (λ (l : Letter). goes letter.sender letter.receiver l ≡ true) same (goes-there letter.sender letter.receiver letter.message) in
-    let bad : one.message ∷ between letter.sender letter.receiver owed ≡ [] = sym (between-yes letter.sender letter.receiver one owed here) ∙ none in absurd cc
-owed-between letter (one ∷ owed) (inr among) none = by (goes letter.sender letter.receiver one) refl (owed-between letter owed among)
+    let here : goes letter.sender letter.receiver one ≡ true =
+    subst (λ (l : Letter). goes letter.sender letter.receiver l ≡ true) same
+    (goes-there letter.sender letter.receiver letter.message) in
+    let bad : one.message ∷ between letter.sender letter.receiver owed ≡ [] =
+    sym (between-yes letter.sender letter.receiver one owed here) ∙ none in absurd cc
+owed-between letter (one ∷ owed) (inr among) none =
+    by (goes letter.sender letter.receiver one) refl (owed-between letter owed among)
   where
-    by : (test : Bool) → goes letter.sender letter.receiver one ≡ test → (between letter.sender letter.receiver owed ≡ [] → ⊥) → ⊥
-    by true g rest = let bad : one.message ∷ between letter.sender letter.receiver owed ≡ [] = sym (between-yes letter.sender letter.receiver one owed g) ∙ none in absurd cc
+    by : (test : Bool) → goes letter.sender letter.receiver one ≡ test
+        → (between letter.sender letter.receiver owed ≡ [] → ⊥) → ⊥
+    by true g rest = let bad : one.message ∷ between letter.sender letter.receiver owed ≡ [] =
+        sym (between-yes letter.sender letter.receiver one owed g) ∙ none in absurd cc
     by false g rest = rest (sym (between-no letter.sender letter.receiver one owed g) ∙ none)
 
-module _ (s : Packeted) (owed sent : List Letter) (few : s.site.processors ≤ 16) (T : TiesAtRest s.site s.world.stopped s.wires owed sent) where
+module _ (s : Packeted) (owed sent : List Letter) (few : s.site.processors ≤ 16)
+    (T : TiesAtRest s.site s.world.stopped s.wires owed sent) where
   -- quiet channels owe nothing between nodes that run
-  none-owed : all_quiet s.world.stopped s.wires.nodes ≡ true → (letter : Letter) → IsAmong letter owed → is_running s.world.stopped letter.sender ≡ true
+  none-owed : all_quiet s.world.stopped s.wires.nodes ≡ true → (letter : Letter) → IsAmong letter owed
+      → is_running s.world.stopped letter.sender ≡ true
       → is_running s.world.stopped letter.receiver ≡ true → ⊥
   none-owed quiet letter among sends receives = owed-between letter owed among none
     where
@@ -82,10 +102,17 @@ module _ (s : Packeted) (owed sent : List Letter) (few : s.site.processors ≤ 1
         where
           by : (d : Bool) → (T.net.ends a b).down ≡ d → (T.net.ends a b).down ≡ false
           by false e = e
-          by true e = let gone : true ≡ false = sym (T.tied.down a b e) ∙ running-stands s.world.stopped b runs in absurd cc
+          by true e = let gone : true ≡ false =
+              sym (T.tied.down a b e) ∙ running-stands s.world.stopped b runs in absurd cc
 
       opens : IsOpen s.world.stopped T.net letter.sender letter.receiver
-      opens = record { sender = low; receiver = low_too; runs = sends; there = up letter.sender letter.receiver receives; back = up letter.receiver letter.sender sends }
+      opens = record {
+        sender = low;
+        receiver = low_too;
+        runs = sends;
+        there = up letter.sender letter.receiver receives;
+        back = up letter.receiver letter.sender sends;
+      }
 
       live : Runs T.net letter.sender letter.receiver
       live = (T.tied.stood letter.sender ∙ ap not sends, up letter.sender letter.receiver receives)
@@ -96,16 +123,21 @@ module _ (s : Packeted) (owed sent : List Letter) (few : s.site.processors ≤ 1
       empty : is_empty (T.net.ends letter.sender letter.receiver) ≡ true
       empty =
           ap is_empty (T.tied.ends letter.sender letter.receiver it.0 sends it.1) ∙ ap holds_nothing (sym it.1)
-          ∙ ap (λ b. not b || holds_nothing (end_at s.wires.nodes letter.sender letter.receiver)) (sym (both_true sends receives))
-          ∙ all-nodes (is_quiet s.world.stopped s.wires.nodes letter.sender) (all-nodes (λ x. list_all (is_quiet s.world.stopped s.wires.nodes x) all_nodes) quiet letter.sender low) letter.receiver low_too
+          ∙ ap (λ b. not b || holds_nothing (end_at s.wires.nodes letter.sender letter.receiver))
+          (sym (both_true sends receives))
+          ∙ all-nodes (is_quiet s.world.stopped s.wires.nodes letter.sender)
+          (all-nodes (λ x. list_all (is_quiet s.world.stopped s.wires.nodes x) all_nodes) quiet letter.sender low)
+          letter.receiver low_too
 
       all : (T.net.ways letter.sender letter.receiver).out ≡ (T.net.ways letter.sender letter.receiver).pushes
       all = all-handed (T.net.ways letter.sender letter.receiver) (T.tied.whole.joint letter.sender letter.receiver)
-          (sym (ap (λ (s : Sending). s.queue) (T.tied.whole.tied letter.sender letter.receiver live).sending) ∙ none-is (T.net.ends letter.sender letter.receiver).sending.queue empty)
+          (sym (ap (λ (s : Sending). s.queue) (T.tied.whole.tied letter.sender letter.receiver live).sending)
+          ∙ none-is (T.net.ends letter.sender letter.receiver).sending.queue empty)
 
       none : between letter.sender letter.receiver owed ≡ []
       none = append_cancel_left (carried (T.net.ways letter.sender letter.receiver).out) _ _
-          (sym (T.owes.owes letter.sender letter.receiver opens) ∙ ap carried (sym all) ∙ sym (append-nil (carried (T.net.ways letter.sender letter.receiver).out)))
+          (sym (T.owes.owes letter.sender letter.receiver opens) ∙ ap carried (sym all)
+          ∙ sym (append-nil (carried (T.net.ways letter.sender letter.receiver).out)))
 
   -- an idle state is idle without its wires, and its channels are quiet
   parts : is_idle s ≡ true → (whole.is_idle (bare s) ≡ true) × (all_quiet s.world.stopped s.wires.nodes ≡ true)

@@ -13,10 +13,12 @@ use Rattle.packet_wires.specs.Runs.{IsPlayed}
 use Rattle.packets_laws.proofs.Going.{played-one}
 use Rattle.packets_laws.proofs.Runs.{played-world}
 
-module _ (site : Site) (events : List Event) (s : Packeted) (fit : IsFit site) (small : IsSmall site) (out : IsLaidOut site) (few : length events < 4294967296)
+module _ (site : Site) (events : List Event) (s : Packeted) (fit : IsFit site) (small : IsSmall site)
+    (out : IsLaidOut site) (few : length events < 4294967296)
     (played : IsPlayed site events s) where
   pub marks-stopped : (mark : Down) → IsAmong mark s.world.marks → slice_get s.world.stopped mark.down ≡ Some true
   marks-stopped mark among = run-marks (played-world site fit small out events s few played) mark among
 
   pub marks-same : (one other : Down) → IsAmong one s.world.marks → IsAmong other s.world.marks → one.down ≡ other.down
-  marks-same one other among there = played-one played one.down other.down (marks-stopped one among) (marks-stopped other there)
+  marks-same one other among there =
+      played-one played one.down other.down (marks-stopped one among) (marks-stopped other there)

@@ -1,5 +1,7 @@
 -- Each event goes on in the net of its state.
-use Rattle.std.proofs.Common.{◌≡◌, ◌≢◌, ◌≤◌, ◌⊎◌, inl, inr, ℕ, zero, suc, ◌+◌, ℤ, Bool, true, false, if◌then◌else◌, List, [], ◌∷◌, ◌++◌, length, Option, Some, None, slice_get, slice_set, refl, sym, ap, subst, ◌∙◌}
+use Rattle.std.proofs.Common.{◌≡◌, ◌≢◌, ◌≤◌, ◌⊎◌, inl, inr, ℕ, zero, suc, ◌+◌, ℤ, Bool, true, false, if◌then◌else◌}
+use Rattle.std.proofs.Common.{List, [], ◌∷◌, ◌++◌, length, Option, Some, None, slice_get, slice_set, refl, sym, ap}
+use Rattle.std.proofs.Common.{subst, ◌∙◌}
 use Rattle.std.specs.List.{remove}
 use Rattle.std.specs.Option.{option_to_list}
 use Rattle.gd_words.specs.Members.{IsAmong}
@@ -26,11 +28,16 @@ use Rattle.message_wires_laws.proofs.Stopping.{StopsNone, run-none, enter-none, 
 use Rattle.message_layout.specs.Messages.{NodeMessage, Carrying, Reporting, Declaring}
 use Rattle.message_layout.specs.Reading.{understood}
 use Rattle.packet_wires.specs.Nodes.{end_at}
-use Rattle.packet_wires.specs.Play.{Packeted, Underway, begun, made_by, after_any, marked_by, marks, handed, handed_any, handed_words, completed, received, deliver_acted, lose_acted, repeat_acted, fail_acted, marks_and_declares, pulled, pulls, line_of, pulls_its, tick_acted, packet_at, acted, taken_off, ended, out_of, play}
-use Rattle.packet_wires.specs.Wires.{Wires, Midst, bus_named, on_bus, packets_over, without_packet, all_posted, arrived, ticked, cut_off}
+use Rattle.packet_wires.specs.Play.{Packeted, Underway, begun, made_by, after_any, marked_by, marks, handed, handed_any}
+use Rattle.packet_wires.specs.Play.{handed_words, completed, received, deliver_acted, lose_acted, repeat_acted}
+use Rattle.packet_wires.specs.Play.{fail_acted, marks_and_declares, pulled, pulls, line_of, pulls_its, tick_acted}
+use Rattle.packet_wires.specs.Play.{packet_at, acted, taken_off, ended, out_of, play}
+use Rattle.packet_wires.specs.Wires.{Wires, Midst, bus_named, on_bus, packets_over, without_packet, all_posted, arrived}
+use Rattle.packet_wires.specs.Wires.{ticked, cut_off}
 use Rattle.packet_nets.specs.Owing.{on_both}
 use Rattle.packet_nets.specs.Passing.{IsPassing, IsCut}
-use Rattle.packet_nets.proofs.Passing.{come-passes, drop-passes, watched-passes, cut-passes, again-passes, posted-passes, ticked-passes, declares-passes, stop-passes, ticked-cut}
+use Rattle.packet_nets.proofs.Passing.{come-passes, drop-passes, watched-passes, cut-passes, again-passes}
+use Rattle.packet_nets.proofs.Passing.{posted-passes, ticked-passes, declares-passes, stop-passes, ticked-cut}
 use Rattle.packet_nets.proofs.Resting.{begins-passing, rest-lost, rest-net, rest-clear}
 use Rattle.packet_nets.proofs.Ticking.{pulled-other}
 use Rattle.packet_nets.proofs.Tied.{stop-running}
@@ -45,48 +52,64 @@ Passing a b on start came s = IsPassing a b s.world.stopped on start came s.wire
 
 -- what is made of it, if a state is made in which both run
 abbrev LeadsOn : ℕ → ℕ → List Packet → Net → List Packet → Played Midst → Type 0
-LeadsOn a b on start came (Makes s) = is_running s.world.stopped a ≡ true → is_running s.world.stopped b ≡ true → Passing a b on start came s
+LeadsOn a b on start came (Makes s) =
+    is_running s.world.stopped a ≡ true → is_running s.world.stopped b ≡ true → Passing a b on start came s
 LeadsOn a b on start came Skips = Unit {0}
 LeadsOn a b on start came (WouldStop processor) = Unit {0}
 
 -- who runs after a stop isn't the one that stopped
-apart-of : (stopped : List Bool) (processor a : ℕ) → slice_get stopped processor ≡ Some false → is_running (slice_set stopped processor true) a ≡ true → processor ≢ a
+apart-of : (stopped : List Bool) (processor a : ℕ) → slice_get stopped processor ≡ Some false
+    → is_running (slice_set stopped processor true) a ≡ true → processor ≢ a
 apart-of stopped processor a at runs same =
-    let gone : is_running (slice_set stopped processor true) processor ≡ false = ap (runs_by processor) (now-stopped stopped processor at) in
-    let bad : true ≡ false = sym (subst (λ c. is_running (slice_set stopped processor true) c ≡ true) (sym same) runs) ∙ gone in absurd cc
+    let gone : is_running (slice_set stopped processor true) processor ≡ false =
+    ap (runs_by processor) (now-stopped stopped processor at) in
+    let bad : true ≡ false =
+    sym (subst (λ c. is_running (slice_set stopped processor true) c ≡ true) (sym same) runs) ∙ gone in absurd cc
 
 module _ {a b : ℕ} {on : List Packet} {start : Net} where
   -- letters are posted after a change that stops nobody
-  posted-leads : {came : List Packet} {stopped : List Bool} (later : List Bool) (midst : Midst) (letters : List Letter) → later ≡ stopped → IsPassing a b stopped on start came midst
+  posted-leads : {came : List Packet} {stopped : List Bool} (later : List Bool) (midst : Midst) (letters : List Letter)
+      → later ≡ stopped → IsPassing a b stopped on start came midst
       → IsPassing a b later on start came (all_posted later letters midst)
-  posted-leads {came = came} later midst letters same P = posted-passes letters midst (subst (λ ones. IsPassing a b ones on start came midst) (sym same) P)
+  posted-leads {came = came} later midst letters same P =
+      posted-passes letters midst (subst (λ ones. IsPassing a b ones on start came midst) (sym same) P)
 
-  any-leads : {came : List Packet} (s : Underway) (done : Option Done) → StopsNone s.world done → Passing a b on start came s → Passing a b on start came (after_any s done)
+  any-leads : {came : List Packet} (s : Underway) (done : Option Done) → StopsNone s.world done
+      → Passing a b on start came s → Passing a b on start came (after_any s done)
   any-leads s None none P = P
-  any-leads s (Some done) none P = posted-leads done.world.stopped s.wires (letters_of s.site done.world done.sendings) none P
+  any-leads s (Some done) none P =
+      posted-leads done.world.stopped s.wires (letters_of s.site done.world done.sendings) none P
 
-  made-leads : {came : List Packet} (s : Underway) (done : Option Done) → StopsNone s.world done → Passing a b on start came s → LeadsOn a b on start came (made_by s done)
+  made-leads : {came : List Packet} (s : Underway) (done : Option Done) → StopsNone s.world done
+      → Passing a b on start came s → LeadsOn a b on start came (made_by s done)
   made-leads s None none P = tt
   made-leads s (Some done) none P = λ one other. any-leads s (Some done) none P
 
-  marks-lead : {came : List Packet} (node processor : ℕ) (s : Underway) → is_running s.world.stopped node ≡ true → Passing a b on start came s
+  marks-lead : {came : List Packet} (node processor : ℕ) (s : Underway) → is_running s.world.stopped node ≡ true
+      → Passing a b on start came s
       → Passing a b on start came (marks node processor s)
-  marks-lead {came = came} node processor s runs P = by (down_done node processor s.world) refl (mark-none s.site s.world node processor)
+  marks-lead {came = came} node processor s runs P =
+      by (down_done node processor s.world) refl (mark-none s.site s.world node processor)
     where
-      by : (done : Option Done) → down_done node processor s.world ≡ done → StopsNone s.world done → Passing a b on start came (marked_by node processor s done)
+      by : (done : Option Done) → down_done node processor s.world ≡ done → StopsNone s.world done
+          → Passing a b on start came (marked_by node processor s done)
       by None e none = P
       by (Some done) e none =
           posted-leads done.world.stopped (cut_off node processor s.wires)
           (letters_of s.site done.world (done.sendings ++ sent_again s.site s.world done.world node processor)) none
           (cut-passes node processor runs (mark-gone node processor s.world done e) s.wires P)
 
-  handed-leads : {came : List Packet} (node : ℕ) (told : NodeMessage) (s : Underway) → is_running s.world.stopped node ≡ true → Passing a b on start came s
+  handed-leads : {came : List Packet} (node : ℕ) (told : NodeMessage) (s : Underway)
+      → is_running s.world.stopped node ≡ true → Passing a b on start came s
       → Passing a b on start came (handed node told s)
-  handed-leads node (Carrying message) s runs P = any-leads s (handed_done s.site node message s.world) (handed-none s.site s.world node message) P
-  handed-leads node (Reporting from set) s runs P = watched-passes node (changed_at from (watching.neighbour_after_report set)) s.wires P
+  handed-leads node (Carrying message) s runs P =
+      any-leads s (handed_done s.site node message s.world) (handed-none s.site s.world node message) P
+  handed-leads node (Reporting from set) s runs P =
+      watched-passes node (changed_at from (watching.neighbour_after_report set)) s.wires P
   handed-leads node (Declaring processor) s runs P = marks-lead node processor s runs P
 
-  words-lead : {came : List Packet} (node : ℕ) (words : Option (List ℤ)) (s : Underway) → is_running s.world.stopped node ≡ true → Passing a b on start came s
+  words-lead : {came : List Packet} (node : ℕ) (words : Option (List ℤ)) (s : Underway)
+      → is_running s.world.stopped node ≡ true → Passing a b on start came s
       → Passing a b on start came (handed_words node words s)
   words-lead node None s runs P = P
   words-lead {came = came} node (Some words) s runs P = by (understood s.site words)
@@ -95,60 +118,76 @@ module _ {a b : ℕ} {on : List Packet} {start : Net} where
       by None = P
       by (Some told) = handed-leads node told s runs P
 
-  deliver-leads : (name : BusName) (s : Underway) (packet : Option Packet) → ((p : Packet) → packet ≡ Some p → IsAmong p on) → Passing a b on start [] s
+  deliver-leads : (name : BusName) (s : Underway) (packet : Option Packet)
+      → ((p : Packet) → packet ≡ Some p → IsAmong p on) → Passing a b on start [] s
       → LeadsOn a b on start (option_to_list packet) (deliver_acted name s packet)
   deliver-leads name s None stands P = tt
   deliver-leads name s (Some p) stands P = λ one other. by (is_running s.world.stopped p.receiver) refl
     where
-      by : (test : Bool) → is_running s.world.stopped p.receiver ≡ test → Passing a b on start (p ∷ []) (if test then received name p s else s)
+      by : (test : Bool) → is_running s.world.stopped p.receiver ≡ test
+          → Passing a b on start (p ∷ []) (if test then received name p s else s)
       by true runs =
-          words-lead p.receiver (completed p (end_at s.wires.nodes p.receiver p.sender)) (record s { wires = arrived name p s.wires }) runs
+          words-lead p.receiver (completed p (end_at s.wires.nodes p.receiver p.sender))
+          (record s { wires = arrived name p s.wires }) runs
           (come-passes name p (stands p refl) runs s.wires P)
       by false rests = drop-passes p rests s.wires P
 
-  lose-leads : (s : Underway) (packet : Option Packet) → Passing a b on start [] s → LeadsOn a b on start [] (lose_acted s packet)
+  lose-leads : (s : Underway) (packet : Option Packet) → Passing a b on start [] s
+      → LeadsOn a b on start [] (lose_acted s packet)
   lose-leads s None P = tt
   lose-leads s (Some p) P = λ one other. P
 
-  repeat-leads : (name : BusName) (s : Underway) (packet : Option Packet) → ((p : Packet) → packet ≡ Some p → IsAmong p on) → Passing a b on start [] s
+  repeat-leads : (name : BusName) (s : Underway) (packet : Option Packet)
+      → ((p : Packet) → packet ≡ Some p → IsAmong p on) → Passing a b on start [] s
       → LeadsOn a b on start [] (repeat_acted name s packet)
   repeat-leads name s None stands P = tt
   repeat-leads name s (Some p) stands P = λ one other. again-passes name p (stands p refl) s.wires P
 
-  fail-leads : (processor : ℕ) (s : Underway) → Passing a b on start [] s → LeadsOn a b on start [] (fail_acted processor s (stop_done processor s.world))
+  fail-leads : (processor : ℕ) (s : Underway) → Passing a b on start [] s
+      → LeadsOn a b on start [] (fail_acted processor s (stop_done processor s.world))
   fail-leads processor s P = by (slice_get s.world.stopped processor) refl
     where
       stops : slice_get s.world.stopped processor ≡ Some false → (test : Bool)
-          → LeadsOn a b on start [] (if test then WouldStop processor else Makes (record s { world = stopped_world processor s.world }))
+          → LeadsOn a b on start [] (if test then WouldStop processor else Makes
+          (record s { world = stopped_world processor s.world }))
       stops at true = tt
-      stops at false = λ one other. stop-passes processor at (apart-of s.world.stopped processor a at one) (apart-of s.world.stopped processor b at other) P
+      stops at false = λ one other. stop-passes processor at (apart-of s.world.stopped processor a at one)
+          (apart-of s.world.stopped processor b at other) P
 
-      by : (stopped : Option Bool) → slice_get s.world.stopped processor ≡ stopped → LeadsOn a b on start [] (fail_acted processor s (stop_where processor s.world stopped))
+      by : (stopped : Option Bool) → slice_get s.world.stopped processor ≡ stopped
+          → LeadsOn a b on start [] (fail_acted processor s (stop_where processor s.world stopped))
       by None at = tt
       by (Some true) at = tt
       by (Some false) at = stops at (has_stopped s.world.stopped)
 
   -- the node marks a processor, and tells the others
-  told-lead : (node processor : ℕ) (s : Underway) → is_running s.world.stopped node ≡ true → Passing a b on start [] s → Passing a b on start [] (marks_and_declares node processor s)
+  told-lead : (node processor : ℕ) (s : Underway) → is_running s.world.stopped node ≡ true → Passing a b on start [] s
+      → Passing a b on start [] (marks_and_declares node processor s)
   told-lead node processor s runs P =
-      declares-passes (marks node processor s).site.processors node processor (subst (λ ones. is_running ones node ≡ true) (sym (marks-stay node processor s).stopped) runs)
+      declares-passes (marks node processor s).site.processors node processor
+      (subst (λ ones. is_running ones node ≡ true) (sym (marks-stay node processor s).stopped) runs)
       (marks node processor s).wires (marks-lead node processor s runs P)
 
-  line-leads : (node : ℕ) (s : Underway) (line : Option ℕ) → ((processor : ℕ) → line ≡ Some processor → processor ≢ node) → is_running s.world.stopped node ≡ true
+  line-leads : (node : ℕ) (s : Underway) (line : Option ℕ)
+      → ((processor : ℕ) → line ≡ Some processor → processor ≢ node) → is_running s.world.stopped node ≡ true
       → Passing a b on start [] s → LeadsOn a b on start [] (pulls node s line)
   line-leads node s None other runs P = λ one two. P
   line-leads node s (Some processor) other runs P = by (slice_get s.world.stopped processor) refl
     where
       stops : slice_get s.world.stopped processor ≡ Some false → (test : Bool)
-          → LeadsOn a b on start [] (if test then WouldStop processor else Makes (marks_and_declares node processor (record s { world = stopped_world processor s.world })))
+          → LeadsOn a b on start [] (if test then WouldStop processor else Makes
+          (marks_and_declares node processor (record s { world = stopped_world processor s.world })))
       stops at true = tt
       stops at false = λ one two.
           let same = (marks-stay node processor (record s { world = stopped_world processor s.world })).stopped in
-          told-lead node processor (record s { world = stopped_world processor s.world }) (still-running s.world.stopped processor node (other processor refl) runs)
-          (stop-passes processor at (apart-of s.world.stopped processor a at (subst (λ ones. is_running ones a ≡ true) same one))
+          told-lead node processor (record s { world = stopped_world processor s.world })
+          (still-running s.world.stopped processor node (other processor refl) runs)
+          (stop-passes processor at (apart-of s.world.stopped processor a at
+          (subst (λ ones. is_running ones a ≡ true) same one))
           (apart-of s.world.stopped processor b at (subst (λ ones. is_running ones b ≡ true) same two)) P)
 
-      by : (stopped : Option Bool) → slice_get s.world.stopped processor ≡ stopped → LeadsOn a b on start [] (pulled node processor s stopped)
+      by : (stopped : Option Bool) → slice_get s.world.stopped processor ≡ stopped
+          → LeadsOn a b on start [] (pulled node processor s stopped)
       by None at = λ one two. P
       by (Some true) at = λ one two. told-lead node processor s runs P
       by (Some false) at = stops at (has_stopped s.world.stopped)
@@ -157,11 +196,14 @@ module _ {a b : ℕ} {on : List Packet} {start : Net} where
   tick-leads node s P = by (is_running s.world.stopped node) refl
     where
       by : (test : Bool) → is_running s.world.stopped node ≡ test
-          → LeadsOn a b on start [] (if test then pulls_its node (record s { wires = ticked s.site.processors node s.wires }) else Skips)
+          → LeadsOn a b on start [] (if test then pulls_its node
+          (record s { wires = ticked s.site.processors node s.wires }) else Skips)
       by false rests = tt
       by true runs =
-          line-leads node (record s { wires = ticked s.site.processors node s.wires }) (line_of node (record s { wires = ticked s.site.processors node s.wires }))
-          (λ processor is. (pulled-other node (ticked s.site.processors node s.wires).nodes processor is).0) runs (ticked-passes s.site.processors node runs s.wires P)
+          line-leads node (record s { wires = ticked s.site.processors node s.wires })
+          (line_of node (record s { wires = ticked s.site.processors node s.wires }))
+          (λ processor is. (pulled-other node (ticked s.site.processors node s.wires).nodes processor is).0) runs
+          (ticked-passes s.site.processors node runs s.wires P)
 
 -- A whole event
 
@@ -175,29 +217,35 @@ acted-leads a b s event n few N = by event
     by : (event : Event) → LeadsOn a b (on_both s.wires) n (option_to_list (delivered s event)) (acted s event)
     by (Run number) = made-leads (begun s) (run_done s.site number s.world) (run-none s.site s.world number) P
     by (Enter number) = made-leads (begun s) (enter_done s.site number s.world) (enter-none s.site s.world number) P
-    by (Deliver y k) = deliver-leads (bus_named y) (begun s) (packet_at s (bus_named y) k) (stands-there s (bus_named y) k) P
+    by (Deliver y k) =
+        deliver-leads (bus_named y) (begun s) (packet_at s (bus_named y) k) (stands-there s (bus_named y) k) P
     by (Lose y k) = lose-leads (begun s) (packet_at s (bus_named y) k) P
-    by (Repeat y k) = repeat-leads (bus_named y) (begun s) (packet_at s (bus_named y) k) (stands-there s (bus_named y) k) P
+    by (Repeat y k) =
+        repeat-leads (bus_named y) (begun s) (packet_at s (bus_named y) k) (stands-there s (bus_named y) k) P
     by (Tick node) = tick-leads node (begun s) P
     by (Fail processor) = fail-leads processor (begun s) P
 
 -- what was on a bus is still there, or was taken off
-kept-or-taken : (p : Packet) (on : List Packet) (k : ℕ) → IsAmong p on → IsAmong p (remove on k) ⊎ IsAmong p (option_to_list (slice_get on k))
+kept-or-taken : (p : Packet) (on : List Packet) (k : ℕ) → IsAmong p on
+    → IsAmong p (remove on k) ⊎ IsAmong p (option_to_list (slice_get on k))
 kept-or-taken p [] k among = absurd among
 kept-or-taken p (one ∷ on) zero (inl same) = inr (inl same)
 kept-or-taken p (one ∷ on) zero (inr among) = inl among
 kept-or-taken p (one ∷ on) (suc k) (inl same) = inl (inl same)
-kept-or-taken p (one ∷ on) (suc k) (inr among) = elim (kept-or-taken p on k among) [ inl still ↦ inl (inr still) | inr taken ↦ inr taken ]
+kept-or-taken p (one ∷ on) (suc k) (inr among) =
+    elim (kept-or-taken p on k among) [ inl still ↦ inl (inr still) | inr taken ↦ inr taken ]
 
 bus-or-taken : (s : Packeted) (name : BusName) (k : ℕ) (p : Packet) → IsAmong p (on_both s.wires)
     → IsAmong p (on_both (without_packet name k s.wires)) ⊎ IsAmong p (option_to_list (packet_at s name k))
 bus-or-taken s bus.X k p among = elim (among-either p s.wires.x s.wires.y among) [
-  | inl one ↦ elim (kept-or-taken p s.wires.x k one) [ inl still ↦ inl (among-left p (remove s.wires.x k) s.wires.y still) | inr taken ↦ inr taken ]
+  | inl one ↦ elim (kept-or-taken p s.wires.x k one)
+      [ inl still ↦ inl (among-left p (remove s.wires.x k) s.wires.y still) | inr taken ↦ inr taken ]
   | inr other ↦ inl (among-right p (remove s.wires.x k) s.wires.y other)
 ]
 bus-or-taken s bus.Y k p among = elim (among-either p s.wires.x s.wires.y among) [
   | inl one ↦ inl (among-left p s.wires.x (remove s.wires.y k) one)
-  | inr other ↦ elim (kept-or-taken p s.wires.y k other) [ inl still ↦ inl (among-right p s.wires.x (remove s.wires.y k) still) | inr taken ↦ inr taken ]
+  | inr other ↦ elim (kept-or-taken p s.wires.y k other)
+      [ inl still ↦ inl (among-right p s.wires.x (remove s.wires.y k) still) | inr taken ↦ inr taken ]
 ]
 
 event-keeps : (s : Packeted) (event : Event) → TakesToDeliver event → (p : Packet) → IsAmong p (on_both s.wires)
@@ -215,12 +263,14 @@ among-some p found is = subst (λ o. IsAmong p (option_to_list o)) (sym is) (inl
 
 -- what an event makes, if it makes a state in which both run, is passed
 abbrev PassesIf : ℕ → ℕ → Packeted → Event → Net → Played Wires → Type 0
-PassesIf a b s event n (Makes next) = is_running next.world.stopped a ≡ true → is_running next.world.stopped b ≡ true → IsPassed a b s event next n
+PassesIf a b s event n (Makes next) =
+    is_running next.world.stopped a ≡ true → is_running next.world.stopped b ≡ true → IsPassed a b s event next n
 PassesIf a b s event n Skips = Unit {0}
 PassesIf a b s event n (WouldStop processor) = Unit {0}
 
 over-passes : (a b : ℕ) (s : Packeted) (event : Event) (n : Net) (played : Played Midst) → acted s event ≡ played
-    → LeadsOn a b (on_both s.wires) n (option_to_list (delivered s event)) played → PassesIf a b s event n (ended (taken_off event s.wires) played)
+    → LeadsOn a b (on_both s.wires) n (option_to_list (delivered s event)) played
+    → PassesIf a b s event n (ended (taken_off event s.wires) played)
 over-passes a b s event n Skips is leads = tt
 over-passes a b s event n (WouldStop processor) is leads = tt
 over-passes a b s event n (Makes after) is leads = λ one other.
@@ -232,19 +282,24 @@ over-passes a b s event n (Makes after) is leads = λ one other.
       lost = rest-lost s.wires (taken_off event s.wires) after.wires P (among-taken event s.wires);
       net = rest-net s.wires (taken_off event s.wires) after.wires P (among-taken event s.wires);
       clear = λ clear takes. rest-clear s.wires (taken_off event s.wires) after.wires P (among-taken event s.wires)
-          (λ name. subst (λ out. length (on_bus name (taken_off event s.wires)) + length (packets_over name out) ≤ 4096) (ap out_of is) (clear name))
+          (λ name. subst (λ out. length (on_bus name (taken_off event s.wires)) + length (packets_over name out)
+          ≤ 4096) (ap out_of is) (clear name))
           (event-keeps s event takes);
       few = P.few;
     }
 
-pub event-passes : (s : Packeted) (event : Event) (next : Packeted) (n : Net) (a b : ℕ) → length s.world.stopped ≤ 16 → IsNetOf s n → play s event ≡ Makes next
+pub event-passes : (s : Packeted) (event : Event) (next : Packeted) (n : Net) (a b : ℕ) → length s.world.stopped ≤ 16
+    → IsNetOf s n → play s event ≡ Makes next
     → is_running next.world.stopped a ≡ true → is_running next.world.stopped b ≡ true → IsPassed a b s event next n
-event-passes s event next n a b few N made = subst (PassesIf a b s event n) made (over-passes a b s event n (acted s event) refl (acted-leads a b s event n few N))
+event-passes s event next n a b few N made =
+    subst (PassesIf a b s event n) made (over-passes a b s event n (acted s event) refl
+    (acted-leads a b s event n few N))
 
 -- A tick of the node a, cut where its end with b ticks
 
 abbrev CutsIf : ℕ → ℕ → List Packet → Net → Played Midst → Type 0
-CutsIf a b on start (Makes s) = is_running s.world.stopped a ≡ true → is_running s.world.stopped b ≡ true → IsCut a b s.world.stopped on start s.wires
+CutsIf a b on start (Makes s) = is_running s.world.stopped a ≡ true → is_running s.world.stopped b ≡ true
+    → IsCut a b s.world.stopped on start s.wires
 CutsIf a b on start Skips = Unit {0}
 CutsIf a b on start (WouldStop processor) = Unit {0}
 
@@ -255,8 +310,10 @@ Ran b s Skips = Unit {0}
 Ran b s (WouldStop processor) = Unit {0}
 
 -- what goes on after the cut leads on from it
-cut-on : (a b : ℕ) (on : List Packet) (start middle : Net) (played : Played Midst) → Passes a b start [] middle → LeadsOn a b on (ticked_net a b middle) [] played → CutsIf a b on start played
-cut-on a b on start middle (Makes s) first leads = λ one other. record { middle = middle; first = first; rest = leads one other }
+cut-on : (a b : ℕ) (on : List Packet) (start middle : Net) (played : Played Midst) → Passes a b start [] middle
+    → LeadsOn a b on (ticked_net a b middle) [] played → CutsIf a b on start played
+cut-on a b on start middle (Makes s) first leads =
+    λ one other. record { middle = middle; first = first; rest = leads one other }
 cut-on a b on start middle Skips first leads = tt
 cut-on a b on start middle (WouldStop processor) first leads = tt
 
@@ -266,43 +323,53 @@ ran-before b node s None = λ other. other
 ran-before b node s (Some processor) = by (slice_get s.world.stopped processor) refl
   where
     stops : slice_get s.world.stopped processor ≡ Some false → (test : Bool)
-        → Ran b s (if test then WouldStop processor else Makes (marks_and_declares node processor (record s { world = stopped_world processor s.world })))
+        → Ran b s (if test then WouldStop processor else Makes
+        (marks_and_declares node processor (record s { world = stopped_world processor s.world })))
     stops at true = tt
     stops at false = λ other.
         let same = (marks-stay node processor (record s { world = stopped_world processor s.world })).stopped in
         stop-running s.world.stopped processor at b (subst (λ ones. is_running ones b ≡ true) same other)
 
-    by : (stopped : Option Bool) → slice_get s.world.stopped processor ≡ stopped → Ran b s (pulled node processor s stopped)
+    by : (stopped : Option Bool) → slice_get s.world.stopped processor ≡ stopped
+        → Ran b s (pulled node processor s stopped)
     by None at = λ other. other
     by (Some true) at = λ other. subst (λ ones. is_running ones b ≡ true) (marks-stay node processor s).stopped other
     by (Some false) at = stops at (has_stopped s.world.stopped)
 
-tick-cuts : (a b : ℕ) (on : List Packet) (start : Net) (s : Underway) → Passing a b on start [] s → CutsIf a b on start (tick_acted a s)
+tick-cuts : (a b : ℕ) (on : List Packet) (start : Net) (s : Underway) → Passing a b on start [] s
+    → CutsIf a b on start (tick_acted a s)
 tick-cuts a b on start s P = by (is_running s.world.stopped a) refl
   where
-    whole : is_running s.world.stopped a ≡ true → (played : Played Midst) → pulls_its a (record s { wires = ticked s.site.processors a s.wires }) ≡ played
+    whole : is_running s.world.stopped a ≡ true → (played : Played Midst)
+        → pulls_its a (record s { wires = ticked s.site.processors a s.wires }) ≡ played
         → Ran b (record s { wires = ticked s.site.processors a s.wires }) played → CutsIf a b on start played
     whole runs Skips is ran = tt
     whole runs (WouldStop processor) is ran = tt
     whole runs (Makes next) is ran = λ one other.
         let cut = ticked-cut runs (ran other) s.site.processors s.wires P in
         cut-on a b on start cut.middle (Makes next) cut.first (subst (LeadsOn a b on (ticked_net a b cut.middle) []) is
-        (line-leads a (record s { wires = ticked s.site.processors a s.wires }) (line_of a (record s { wires = ticked s.site.processors a s.wires }))
-        (λ processor line. (pulled-other a (ticked s.site.processors a s.wires).nodes processor line).0) runs cut.rest)) one other
+        (line-leads a (record s { wires = ticked s.site.processors a s.wires })
+        (line_of a (record s { wires = ticked s.site.processors a s.wires }))
+        (λ processor line. (pulled-other a (ticked s.site.processors a s.wires).nodes processor line).0) runs
+        cut.rest)) one other
 
     by : (test : Bool) → is_running s.world.stopped a ≡ test
-        → CutsIf a b on start (if test then pulls_its a (record s { wires = ticked s.site.processors a s.wires }) else Skips)
+        → CutsIf a b on start (if test then pulls_its a (record s { wires = ticked s.site.processors a s.wires }) else
+        Skips)
     by false rests = tt
     by true runs =
         whole runs (pulls_its a (record s { wires = ticked s.site.processors a s.wires })) refl
-        (ran-before b a (record s { wires = ticked s.site.processors a s.wires }) (line_of a (record s { wires = ticked s.site.processors a s.wires })))
+        (ran-before b a (record s { wires = ticked s.site.processors a s.wires })
+        (line_of a (record s { wires = ticked s.site.processors a s.wires })))
 
 abbrev TicksIf : ℕ → ℕ → Packeted → Net → Played Wires → Type 0
-TicksIf a b s n (Makes next) = is_running next.world.stopped a ≡ true → is_running next.world.stopped b ≡ true → IsTickPassed a b s next n
+TicksIf a b s n (Makes next) =
+    is_running next.world.stopped a ≡ true → is_running next.world.stopped b ≡ true → IsTickPassed a b s next n
 TicksIf a b s n Skips = Unit {0}
 TicksIf a b s n (WouldStop processor) = Unit {0}
 
-over-ticks : (a b : ℕ) (s : Packeted) (n : Net) (played : Played Midst) → tick_acted a (begun s) ≡ played → CutsIf a b (on_both s.wires) n played
+over-ticks : (a b : ℕ) (s : Packeted) (n : Net) (played : Played Midst) → tick_acted a (begun s) ≡ played
+    → CutsIf a b (on_both s.wires) n played
     → TicksIf a b s n (ended s.wires played)
 over-ticks a b s n Skips is cuts = tt
 over-ticks a b s n (WouldStop processor) is cuts = tt
@@ -315,10 +382,13 @@ over-ticks a b s n (Makes after) is cuts = λ one other.
       lost = rest-lost s.wires s.wires after.wires cut.rest (λ p among. among);
       net = rest-net s.wires s.wires after.wires cut.rest (λ p among. among);
       clear = λ clear. rest-clear s.wires s.wires after.wires cut.rest (λ p among. among)
-          (λ name. subst (λ out. length (on_bus name s.wires) + length (packets_over name out) ≤ 4096) (ap out_of is) (clear name)) (λ p among. inl among);
+          (λ name. subst (λ out. length (on_bus name s.wires) + length (packets_over name out) ≤ 4096) (ap out_of is)
+          (clear name)) (λ p among. inl among);
     }
 
-pub tick-passed : (s next : Packeted) (n : Net) (a b : ℕ) → length s.world.stopped ≤ 16 → IsNetOf s n → play s (Tick a) ≡ Makes next → is_running next.world.stopped a ≡ true
+pub tick-passed : (s next : Packeted) (n : Net) (a b : ℕ) → length s.world.stopped ≤ 16 → IsNetOf s n
+    → play s (Tick a) ≡ Makes next → is_running next.world.stopped a ≡ true
     → is_running next.world.stopped b ≡ true → IsTickPassed a b s next n
 tick-passed s next n a b few N made =
-    subst (TicksIf a b s n) made (over-ticks a b s n (tick_acted a (begun s)) refl (tick-cuts a b (on_both s.wires) n (begun s) (begins-passing s.wires few N)))
+    subst (TicksIf a b s n) made (over-ticks a b s n (tick_acted a (begun s)) refl
+    (tick-cuts a b (on_both s.wires) n (begun s) (begins-passing s.wires few N)))

@@ -1,5 +1,6 @@
 -- Only the last piece of a message hands anything over.
-use Rattle.std.proofs.Common.{◌≡◌, ◌⊎◌, inl, inr, ℕ, ℤ, Bool, true, false, if◌then◌else◌, List, Option, Some, None, refl, sym, subst, ◌∙◌}
+use Rattle.std.proofs.Common.{◌≡◌, ◌⊎◌, inl, inr, ℕ, ℤ, Bool, true, false, if◌then◌else◌, List, Option, Some, None}
+use Rattle.std.proofs.Common.{refl, sym, subst, ◌∙◌}
 use Rattle.schedule.specs.declared.event.Event.TheVariants.{Deliver, Lose, Repeat}
 use Rattle.packet_words.specs.declared.bus_name.BusName.{BusName}
 use Rattle.packet_words.specs.declared.packet.Packet.{Packet}
@@ -12,7 +13,8 @@ use Rattle.link_control.specs.Ends.{End, handed_by_packet, handed_by_kind}
 use Rattle.world_semantics.specs.World.{is_running}
 use Rattle.machine_states.specs.States.{Played, Makes, Skips, WouldStop}
 use Rattle.packet_wires.specs.Nodes.{end_at}
-use Rattle.packet_wires.specs.Play.{Packeted, begun, completed, handed_words, received, deliver_acted, lose_acted, repeat_acted, packet_at, acted, taken_off, ended, play}
+use Rattle.packet_wires.specs.Play.{Packeted, begun, completed, handed_words, received, deliver_acted, lose_acted}
+use Rattle.packet_wires.specs.Play.{repeat_acted, packet_at, acted, taken_off, ended, play}
 use Rattle.packet_wires.specs.Wires.{Wires, Midst, bus_named, arrived}
 use Rattle.packets_laws.specs.Pieces.{HandsOver}
 
@@ -26,7 +28,8 @@ pub record IsLast (packet : Packet) : Type 0 where
 last-piece : (packet : Packet) (e : End) (words : List ℤ) → handed_by_packet packet e ≡ Some words → IsLast packet
 last-piece packet e words is = by e.down is
   where
-    whole : (number : ℕ) (piece : Piece) → packet.kind ≡ kind.Piece number piece → (last : Bool) → piece.last ≡ last → pieces.completed piece e.receiving.part ≡ Some words → IsLast packet
+    whole : (number : ℕ) (piece : Piece) → packet.kind ≡ kind.Piece number piece → (last : Bool) → piece.last ≡ last
+        → pieces.completed piece e.receiving.part ≡ Some words → IsLast packet
     whole number piece same true last is = record { number = number; piece = piece; kind = same; last = last }
     whole number piece same false last is = absurd (let none : None ≡ Some words = sym (rw last refl) ∙ is in cc)
 
@@ -54,31 +57,45 @@ Stays s Or (Makes next) = (next.world ≡ s.world) ⊎ Or
 Stays s Or Skips = Unit {0}
 Stays s Or (WouldStop processor) = Unit {0}
 
-over-stays : (s : Packeted) (Or : Type 0) (wires : Wires) (played : Played Midst) → Stays s Or played → Stays s Or (ended wires played)
+over-stays : (s : Packeted) (Or : Type 0) (wires : Wires) (played : Played Midst) → Stays s Or played
+    → Stays s Or (ended wires played)
 over-stays s Or wires (Makes next) stays = stays
 over-stays s Or wires Skips stays = tt
 over-stays s Or wires (WouldStop processor) stays = tt
 
-deliver-stays : (s : Packeted) (name : BusName) (k : ℕ) (found : Option Packet) → packet_at s name k ≡ found → Stays s (HandsOver s name k) (deliver_acted name (begun s) found)
+deliver-stays : (s : Packeted) (name : BusName) (k : ℕ) (found : Option Packet) → packet_at s name k ≡ found
+    → Stays s (HandsOver s name k) (deliver_acted name (begun s) found)
 deliver-stays s name k None there = tt
 deliver-stays s name k (Some packet) there = by (is_running s.world.stopped packet.receiver) refl
   where
-    handing : (runs : is_running s.world.stopped packet.receiver ≡ true) → (found : Option (List ℤ)) → completed packet (end_at s.wires.nodes packet.receiver packet.sender) ≡ found
-        → Stays s (HandsOver s name k) (Makes (handed_words packet.receiver found (record (begun s) { wires = arrived name packet (begun s).wires })))
+    handing : (runs : is_running s.world.stopped packet.receiver ≡ true) → (found : Option (List ℤ))
+        → completed packet (end_at s.wires.nodes packet.receiver packet.sender) ≡ found
+        → Stays s (HandsOver s name k) (Makes (handed_words packet.receiver found
+        (record (begun s) { wires = arrived name packet (begun s).wires })))
     handing runs None whole = inl refl
     handing runs (Some words) whole =
         let is = completed-last packet (end_at s.wires.nodes packet.receiver packet.sender) words whole in
-        inr (record { packet = packet; number = is.number; piece = is.piece; there = there; kind = is.kind; last = is.last; runs = runs })
+        inr (record {
+          packet = packet;
+          number = is.number;
+          piece = is.piece;
+          there = there;
+          kind = is.kind;
+          last = is.last;
+          runs = runs;
+        })
 
     by : (test : Bool) → is_running s.world.stopped packet.receiver ≡ test
         → Stays s (HandsOver s name k) (Makes (if test then received name packet (begun s) else begun s))
     by true runs = handing runs (completed packet (end_at s.wires.nodes packet.receiver packet.sender)) refl
     by false rests = inl refl
 
-pub deliver-hands : (s next : Packeted) (y : Bool) (k : ℕ) → play s (Deliver y k) ≡ Makes next → (next.world ≡ s.world) ⊎ HandsOver s (bus_named y) k
+pub deliver-hands : (s next : Packeted) (y : Bool) (k : ℕ) → play s (Deliver y k) ≡ Makes next
+    → (next.world ≡ s.world) ⊎ HandsOver s (bus_named y) k
 deliver-hands s next y k e =
     subst (Stays s (HandsOver s (bus_named y) k)) e
-    (over-stays s (HandsOver s (bus_named y) k) (taken_off (Deliver y k) s.wires) (acted s (Deliver y k)) (deliver-stays s (bus_named y) k (packet_at s (bus_named y) k) refl))
+    (over-stays s (HandsOver s (bus_named y) k) (taken_off (Deliver y k) s.wires) (acted s (Deliver y k))
+    (deliver-stays s (bus_named y) k (packet_at s (bus_named y) k) refl))
 
 abbrev Keeps : Packeted → Played Wires → Type 0
 Keeps s (Makes next) = next.world ≡ s.world

@@ -1,5 +1,6 @@
 -- Every event does to the post what it makes of the state.
-use Rattle.std.proofs.Common.{◌≡◌, ◌≢◌, ◌≤◌, ℕ, Bool, true, false, if◌then◌else◌, ℤ, List, [], ◌∷◌, ◌++◌, Option, Some, None, slice_get, slice_set, refl, sym, ap, subst, ◌∙◌}
+use Rattle.std.proofs.Common.{◌≡◌, ◌≢◌, ◌≤◌, ℕ, Bool, true, false, if◌then◌else◌, ℤ, List, [], ◌∷◌, ◌++◌, Option, Some}
+use Rattle.std.proofs.Common.{None, slice_get, slice_set, refl, sym, ap, subst, ◌∙◌}
 use Rattle.gd_words.specs.Members.{IsAmong}
 use Rattle.gd_words.proofs.Among.{among-at, among-left, among-right}
 use Rattle.tal_tree.specs.declared.site.Site.{Site}
@@ -28,32 +29,42 @@ use Rattle.computed_changes.proofs.Outcomes.{idle-where}
 use Rattle.computed_changes.proofs.Stopped.{stop-may, stop-only, mark-may}
 use Rattle.letters.specs.Routes.{Letter, letters_of}
 use Rattle.letters.specs.Again.{sent_again}
-use Rattle.letters.specs.Posts.{Post, with_letters, post_after_down, without_those_between, HasPlayed, played_more, PlaysEvent, plays_run, plays_no_run, plays_enter, plays_no_enter, plays_nothing, plays_hand, plays_drop, plays_again, plays_mark, plays_loss, plays_repeat, plays_no_tick, plays_tick, plays_tick_stop, plays_fail, plays_no_fail, NotesLetters, no_mark, one_mark, IsTaken}
+use Rattle.letters.specs.Posts.{Post, with_letters, post_after_down, without_those_between, HasPlayed, played_more}
+use Rattle.letters.specs.Posts.{PlaysEvent, plays_run, plays_no_run, plays_enter, plays_no_enter, plays_nothing}
+use Rattle.letters.specs.Posts.{plays_hand, plays_drop, plays_again, plays_mark, plays_loss, plays_repeat}
+use Rattle.letters.specs.Posts.{plays_no_tick, plays_tick, plays_tick_stop, plays_fail, plays_no_fail, NotesLetters}
+use Rattle.letters.specs.Posts.{no_mark, one_mark, IsTaken}
 use Rattle.machine_states.specs.States.{Played, Makes, Skips, WouldStop}
 use Rattle.message_wires.specs.Play.{has_stopped}
 use Rattle.message_wires_laws.proofs.Stopping.{StopsNone, run-none, enter-none, handed-none, mark-none}
 use Rattle.message_layout.specs.Messages.{NodeMessage, Carrying, Reporting, Declaring}
 use Rattle.message_layout.specs.Reading.{understood}
 use Rattle.packet_wires.specs.Wires.{Wires, Midst, bus_named, goes_over, all_posted, arrived, learns, ticked, cut_off}
-use Rattle.packet_wires.specs.Play.{Packeted, Underway, begun, after_done, made_by, after_any, after_marked, marked_by, marks, declared, handed, handed_any, handed_words, received, deliver_acted, lose_acted, repeat_acted, fail_acted, marks_and_declares, pulled, pulls, line_of, pulls_its, tick_acted, packet_at, acted, taken_off, ended, play}
+use Rattle.packet_wires.specs.Play.{Packeted, Underway, begun, after_done, made_by, after_any, after_marked, marked_by}
+use Rattle.packet_wires.specs.Play.{marks, declared, handed, handed_any, handed_words, received, deliver_acted}
+use Rattle.packet_wires.specs.Play.{lose_acted, repeat_acted, fail_acted, marks_and_declares, pulled, pulls, line_of}
+use Rattle.packet_wires.specs.Play.{pulls_its, tick_acted, packet_at, acted, taken_off, ended, play}
 use Rattle.message_layout.specs.Layout.{Fits}
 use Rattle.packet_nets.specs.Owing.{message_of, Owes, Ties, on_both}
 use Rattle.packets_laws.specs.Carried.{IsCarried, IsCarriedAtRest}
 use Rattle.packet_nets.proofs.Arriving.{Arrives, hands_none, hands_other, hands_letter, hands_again}
 use Rattle.packet_nets.proofs.Buses.{among-without}
 use Rattle.packet_nets.proofs.Owing.{stop-owes}
-use Rattle.packet_nets.proofs.Sending.{all-posted-ties, cut-ties, more-ties, watched-ties, fewer-ties, rest-ties, Came, came}
+use Rattle.packet_nets.proofs.Sending.{all-posted-ties, cut-ties, more-ties, watched-ties, fewer-ties, rest-ties, Came}
+use Rattle.packet_nets.proofs.Sending.{came}
 use Rattle.packet_nets.proofs.Ticking.{ticked-ties, down-ties, pulled-other}
 use Rattle.packet_nets.proofs.Tied.{stop-tied, repeated-tied}
 use Rattle.packet_nets.proofs.Watches.{changed-watch, size-set}
 
--- some letters are owed, and some were sent, by which these events carry the state, while these packets are on the buses
+-- some letters are owed, and some were sent, by which these events carry the state, while these packets are on the
+-- buses
 abbrev pub Carries : List Event → List Packet → Underway → Type 0
 Carries events on s = (owed : List Letter) × (sent : List Letter) × IsCarried events on s owed sent
 
 -- after these events all that was ever sent fits the site
 abbrev pub FitAll : Site → List Event → Type 0
-FitAll site events = (post : Post) → HasPlayed site events post → (letter : Letter) → IsAmong letter post.sent → Fits site (Carrying letter.message)
+FitAll site events = (post : Post) → HasPlayed site events post → (letter : Letter) → IsAmong letter post.sent
+    → Fits site (Carrying letter.message)
 
 -- the state that an event makes, if it makes one, is carried in its turn
 abbrev pub GoesOn : List Event → List Packet → Underway → Played Midst → Type 0
@@ -62,22 +73,26 @@ GoesOn events on s Skips = Carries events on s
 GoesOn events on s (WouldStop processor) = Unit {0}
 
 -- a change that stops nobody, and then its letters
-posted-on : {on : List Packet} (s : Underway) (events : List Event) (world : World) (midst : Midst) (owed sent letters : List Letter) → FitAll s.site events → world.stopped ≡ s.world.stopped
-    → Ties s.site s.world.stopped on midst owed sent → HasPlayed s.site events (with_letters letters (record { world = world; owed = owed; sent = sent }))
+posted-on : {on : List Packet} (s : Underway) (events : List Event) (world : World) (midst : Midst)
+    (owed sent letters : List Letter) → FitAll s.site events → world.stopped ≡ s.world.stopped
+    → Ties s.site s.world.stopped on midst owed sent
+    → HasPlayed s.site events (with_letters letters (record { world = world; owed = owed; sent = sent }))
     → Carries events on (record s { world = world; wires = all_posted world.stopped letters midst })
 posted-on {on = on} s events world midst owed sent letters fit same T played = (
   owed ++ letters,
   (letters ++ sent),
   record {
     played = played;
-    ties = all-posted-ties letters midst (λ letter among. (fit _ played letter (among-left letter letters sent among), among-left letter letters sent among))
+    ties = all-posted-ties letters midst (λ letter among.
+        (fit _ played letter (among-left letter letters sent among), among-left letter letters sent among))
         (more-ties midst (letters ++ sent) (λ letter among. among-right letter letters sent among)
         (subst (λ stopped. Ties s.site stopped on midst owed sent) (sym same) T));
   },
 )
 
 -- a stop of a processor that runs
-stopped-ties : {on : List Packet} (site : Site) (stopped : List Bool) (midst : Midst) (owed sent : List Letter) (processor : ℕ) → slice_get stopped processor ≡ Some false
+stopped-ties : {on : List Packet} (site : Site) (stopped : List Bool) (midst : Midst) (owed sent : List Letter)
+    (processor : ℕ) → slice_get stopped processor ≡ Some false
     → Ties site stopped on midst owed sent → Ties site (slice_set stopped processor true) on midst owed sent
 stopped-ties site stopped midst owed sent processor runs T = record {
   net = stopped_net processor T.net;
@@ -87,31 +102,44 @@ stopped-ties site stopped midst owed sent processor runs T = record {
   places = size-set stopped processor true ∙ T.places;
 }
 
-repeated-ties : {site : Site} {stopped : List Bool} {on : List Packet} {owed sent : List Letter} (midst : Midst) (name : BusName) (packet : Packet) → IsAmong packet on
+repeated-ties : {site : Site} {stopped : List Bool} {on : List Packet} {owed sent : List Letter} (midst : Midst)
+    (name : BusName) (packet : Packet) → IsAmong packet on
     → Ties site stopped on midst owed sent → Ties site stopped on (goes_over name packet midst) owed sent
 repeated-ties midst name packet among T =
-    record { net = T.net; tied = repeated-tied name packet among T.tied; owes = T.owes; watches = T.watches; places = T.places }
+    record {
+      net = T.net;
+      tied = repeated-tied name packet among T.tied;
+      owes = T.owes;
+      watches = T.watches;
+      places = T.places;
+    }
 
 -- a stop leaves other nodes running
-pub still-running : (stopped : List Bool) (processor node : ℕ) → processor ≢ node → is_running stopped node ≡ true → is_running (slice_set stopped processor true) node ≡ true
+pub still-running : (stopped : List Bool) (processor node : ℕ) → processor ≢ node → is_running stopped node ≡ true
+    → is_running (slice_set stopped processor true) node ≡ true
 still-running stopped processor node n runs = ap (runs_by node) (set-other stopped processor node true n) ∙ runs
 
-pub now-stopped : (stopped : List Bool) (processor : ℕ) → slice_get stopped processor ≡ Some false → slice_get (slice_set stopped processor true) processor ≡ Some true
+pub now-stopped : (stopped : List Bool) (processor : ℕ) → slice_get stopped processor ≡ Some false
+    → slice_get (slice_set stopped processor true) processor ≡ Some true
 now-stopped stopped processor e = set-there stopped processor false true e
 
 -- a mark is made of a stopped processor alone
-pub mark-gone : (node processor : ℕ) (w : World) (done : Done) → down_done node processor w ≡ Some done → slice_get w.stopped processor ≡ Some true
+pub mark-gone : (node processor : ℕ) (w : World) (done : Done) → down_done node processor w ≡ Some done
+    → slice_get w.stopped processor ≡ Some true
 mark-gone node processor w done e = by (slice_get w.stopped processor) refl e
   where
-    by : (one : Option Bool) → slice_get w.stopped processor ≡ one → mark_where node processor w one ≡ Some done → slice_get w.stopped processor ≡ Some true
+    by : (one : Option Bool) → slice_get w.stopped processor ≡ one → mark_where node processor w one ≡ Some done
+        → slice_get w.stopped processor ≡ Some true
     by None at e = absurd cc
     by (Some false) at e = absurd cc
     by (Some true) at e = at
 
 -- a mark at a node that runs
-marked-on : {on : List Packet} (s : Underway) (events : List Event) (owed sent : List Letter) (node processor : ℕ) (done : Done) → FitAll s.site events → is_running s.world.stopped node ≡ true
+marked-on : {on : List Packet} (s : Underway) (events : List Event) (owed sent : List Letter) (node processor : ℕ)
+    (done : Done) → FitAll s.site events → is_running s.world.stopped node ≡ true
     → down_done node processor s.world ≡ Some done → Ties s.site s.world.stopped on s.wires owed sent
-    → HasPlayed s.site events (post_after_down s.site node processor done.sendings done.world (record { world = s.world; owed = owed; sent = sent }))
+    → HasPlayed s.site events (post_after_down s.site node processor done.sendings done.world
+    (record { world = s.world; owed = owed; sent = sent }))
     → Carries events on (after_marked node processor s done)
 marked-on {on = on} s events owed sent node processor done fit runs e T played =
     posted-on s events done.world (cut_off node processor s.wires) (without_those_between node processor owed) sent
@@ -119,9 +147,10 @@ marked-on {on = on} s events owed sent node processor done fit runs e T played =
     (subst (StopsNone s.world) e (mark-none s.site s.world node processor))
     (cut-ties s.wires node processor runs (mark-gone node processor s.world done e) T) played
 
--- A state that is carried after these events, and in the midst of one more. Its letters carry messages that were sent, and where one comes in that changes nothing no change is
--- possible
-module _ (events : List Event) (on : List Packet) (s : Underway) (owed sent : List Letter) (carried : IsCarried events on s owed sent)
+-- A state that is carried after these events, and in the midst of one more. Its letters carry messages that were sent,
+-- and where one comes in that changes nothing no change is possible
+module _ (events : List Event) (on : List Packet) (s : Underway) (owed sent : List Letter)
+    (carried : IsCarried events on s owed sent)
     (honest : (letter : Letter) → IsAmong letter sent → IsSent s.world letter.message)
     (only : (letter : Letter) → IsAmong letter sent → handed_done s.site letter.receiver letter.message s.world ≡ None
     → IsIdleFor s.site s.world (Handing letter.receiver letter.message))
@@ -133,32 +162,39 @@ module _ (events : List Event) (on : List Packet) (s : Underway) (owed sent : Li
   Same event = PlaysEvent s.site (Post_of owed) event (Post_of owed)
 
   -- the post stays the same, and the new wires are tied to it
-  calm : (event : Event) (midst : Midst) → Ties s.site s.world.stopped on midst owed sent → Same event → Carries (events ++ event ∷ []) on (record s { wires = midst })
+  calm : (event : Event) (midst : Midst) → Ties s.site s.world.stopped on midst owed sent → Same event
+      → Carries (events ++ event ∷ []) on (record s { wires = midst })
   calm event midst T plays = (owed, sent, record { played = played_more carried.played plays; ties = T })
 
   T : Ties s.site s.world.stopped on s.wires owed sent
   T = carried.ties
 
   changes : (event : Event) (done : Done) → StopsNone s.world (Some done)
-      → PlaysEvent s.site (Post_of owed) event (with_letters (letters_of s.site done.world done.sendings) (record { world = done.world; owed = owed; sent = sent }))
+      → PlaysEvent s.site (Post_of owed) event
+      (with_letters (letters_of s.site done.world done.sendings)
+      (record { world = done.world; owed = owed; sent = sent }))
       → Carries (events ++ event ∷ []) on (after_done s done)
   changes event done none plays =
-      posted-on s (events ++ event ∷ []) done.world s.wires owed sent (letters_of s.site done.world done.sendings) (fit event) none carried.ties (played_more carried.played plays)
+      posted-on s (events ++ event ∷ []) done.world s.wires owed sent (letters_of s.site done.world done.sendings)
+      (fit event) none carried.ties (played_more carried.played plays)
 
   run-on : (number : ℕ) → GoesOn (events ++ Run number ∷ []) on s (made_by s (run_done s.site number s.world))
   run-on number = by (run_done s.site number s.world) refl (run-none s.site s.world number)
     where
-      by : (done : Option Done) → run_done s.site number s.world ≡ done → StopsNone s.world done → GoesOn (events ++ Run number ∷ []) on s (made_by s done)
+      by : (done : Option Done) → run_done s.site number s.world ≡ done → StopsNone s.world done
+          → GoesOn (events ++ Run number ∷ []) on s (made_by s done)
       by None e none = calm (Run number) s.wires carried.ties (plays_no_run (run-idle s.site number s.world e))
       by (Some done) e none = changes (Run number) done none (plays_run (run-may s.site number s.world done e))
 
   enter-on : (number : ℕ) → GoesOn (events ++ Enter number ∷ []) on s (made_by s (enter_done s.site number s.world))
   enter-on number = by (enter_done s.site number s.world) refl (enter-none s.site s.world number)
     where
-      by : (done : Option Done) → enter_done s.site number s.world ≡ done → StopsNone s.world done → GoesOn (events ++ Enter number ∷ []) on s (made_by s done)
+      by : (done : Option Done) → enter_done s.site number s.world ≡ done → StopsNone s.world done
+          → GoesOn (events ++ Enter number ∷ []) on s (made_by s done)
       by None e none =
           calm (Enter number) s.wires carried.ties
-          (plays_no_enter (idle-where s.site s.world (Entering number) (enter_done s.site number s.world) (λ next sendings change. enter-only number s.world next sendings change) e))
+          (plays_no_enter (idle-where s.site s.world (Entering number) (enter_done s.site number s.world)
+          (λ next sendings change. enter-only number s.world next sendings change) e))
       by (Some done) e none = changes (Enter number) done none (plays_enter (enter-may s.site number s.world done e))
 
   lose-on : (y : Bool) (k : ℕ) (packet : Option Packet) → GoesOn (events ++ Lose y k ∷ []) on s (lose_acted s packet)
@@ -169,17 +205,22 @@ module _ (events : List Event) (on : List Packet) (s : Underway) (owed sent : Li
       → GoesOn (events ++ Repeat y k ∷ []) on s (repeat_acted (bus_named y) s packet)
   repeat-on y k None stands = calm (Repeat y k) s.wires carried.ties plays_repeat
   repeat-on y k (Some p) stands =
-      calm (Repeat y k) (goes_over (bus_named y) p s.wires) (repeated-ties s.wires (bus_named y) p (stands p refl) carried.ties) plays_repeat
+      calm (Repeat y k) (goes_over (bus_named y) p s.wires)
+      (repeated-ties s.wires (bus_named y) p (stands p refl) carried.ties) plays_repeat
 
-  fail-on : (processor : ℕ) → GoesOn (events ++ Fail processor ∷ []) on s (fail_acted processor s (stop_done processor s.world))
+  fail-on : (processor : ℕ) → GoesOn (events ++ Fail processor ∷ []) on s
+      (fail_acted processor s (stop_done processor s.world))
   fail-on processor = by (slice_get s.world.stopped processor) refl
     where
       idle : stop_done processor s.world ≡ None → IsIdleFor s.site s.world (Stopping processor)
       idle e =
-          idle-where s.site s.world (Stopping processor) (stop_done processor s.world) (λ next sendings change. stop-only processor s.world next sendings change) e
+          idle-where s.site s.world (Stopping processor) (stop_done processor s.world)
+          (λ next sendings change. stop-only processor s.world next sendings change) e
 
-      stops : slice_get s.world.stopped processor ≡ Some false → Change s.site s.world (Stopping processor) [] (stopped_world processor s.world) → (test : Bool)
-          → GoesOn (events ++ Fail processor ∷ []) on s (if test then WouldStop processor else Makes (record s { world = stopped_world processor s.world }))
+      stops : slice_get s.world.stopped processor ≡ Some false
+          → Change s.site s.world (Stopping processor) [] (stopped_world processor s.world) → (test : Bool)
+          → GoesOn (events ++ Fail processor ∷ []) on s
+          (if test then WouldStop processor else Makes (record s { world = stopped_world processor s.world }))
       stops e change true = tt
       stops e change false = (
         owed,
@@ -193,13 +234,16 @@ module _ (events : List Event) (on : List Packet) (s : Underway) (owed sent : Li
       by : (stopped : Option Bool) → slice_get s.world.stopped processor ≡ stopped
           → GoesOn (events ++ Fail processor ∷ []) on s (fail_acted processor s (stop_where processor s.world stopped))
       by (Some false) e =
-          stops e (stop-may s.site processor s.world (record { world = stopped_world processor s.world; sendings = [] }) (rw e refl)) (has_stopped s.world.stopped)
+          stops e (stop-may s.site processor s.world
+          (record { world = stopped_world processor s.world; sendings = [] }) (rw e refl))
+          (has_stopped s.world.stopped)
       by (Some true) e = calm (Fail processor) s.wires carried.ties (plays_no_fail (idle (rw e refl)))
       by None e = calm (Fail processor) s.wires carried.ties (plays_no_fail (idle (rw e refl)))
 
   -- A packet is delivered
 
-  module _ (y : Bool) (k : ℕ) (p : Packet) (stands : IsAmong p on) (runs : is_running s.world.stopped p.receiver ≡ true) where
+  module _ (y : Bool) (k : ℕ) (p : Packet) (stands : IsAmong p on)
+      (runs : is_running s.world.stopped p.receiver ≡ true) where
     abbrev Now : Event
     Now = Deliver y k
 
@@ -215,59 +259,81 @@ module _ (events : List Event) (on : List Packet) (s : Underway) (owed sent : Li
     abbrev Handed : Underway → Type 0
     Handed after = Carries (events ++ Deliver y k ∷ []) on after
 
-    take-on : (message : Message) (rest : List Letter) → IsTaken (letter message) owed rest → IsAmong (letter message) sent → Ties s.site s.world.stopped on next rest sent
-        → (done : Option Done) → handed_done s.site p.receiver message s.world ≡ done → StopsNone s.world done → Handed (after_any here done)
+    take-on : (message : Message) (rest : List Letter) → IsTaken (letter message) owed rest
+        → IsAmong (letter message) sent → Ties s.site s.world.stopped on next rest sent
+        → (done : Option Done) → handed_done s.site p.receiver message s.world ≡ done → StopsNone s.world done
+        → Handed (after_any here done)
     take-on message rest taken among T None e none = (
       rest,
       sent,
-      record { played = played_more carried.played (plays_drop (letter message) taken runs (only (letter message) among e)); ties = T },
+      record {
+        played = played_more carried.played
+            (plays_drop (letter message) taken runs (only (letter message) among e));
+        ties = T;
+      },
     )
     take-on message rest taken among T (Some done) e none =
-        posted-on s (events ++ Deliver y k ∷ []) done.world next rest sent (letters_of s.site done.world done.sendings) (fit (Deliver y k)) none T
-        (played_more carried.played (plays_hand (letter message) taken (handed-may s.site _ _ s.world done (honest (letter message) among) e)))
+        posted-on s (events ++ Deliver y k ∷ []) done.world next rest sent (letters_of s.site done.world done.sendings)
+        (fit (Deliver y k)) none T
+        (played_more carried.played (plays_hand (letter message) taken
+        (handed-may s.site _ _ s.world done (honest (letter message) among) e)))
 
     again-on : (message : Message) → IsAmong (letter message) sent → Ties s.site s.world.stopped on next owed sent
-        → (done : Option Done) → handed_done s.site p.receiver message s.world ≡ done → StopsNone s.world done → Handed (after_any here done)
+        → (done : Option Done) → handed_done s.site p.receiver message s.world ≡ done → StopsNone s.world done
+        → Handed (after_any here done)
     again-on message among T None e none = calm (Deliver y k) next T plays_nothing
     again-on message among T (Some done) e none =
-        posted-on s (events ++ Deliver y k ∷ []) done.world next owed sent (letters_of s.site done.world done.sendings) (fit (Deliver y k)) none T
-        (played_more carried.played (plays_again (letter message) among (handed-may s.site _ _ s.world done (honest (letter message) among) e)))
+        posted-on s (events ++ Deliver y k ∷ []) done.world next owed sent (letters_of s.site done.world done.sendings)
+        (fit (Deliver y k)) none T
+        (played_more carried.played (plays_again (letter message) among
+        (handed-may s.site _ _ s.world done (honest (letter message) among) e)))
 
     mark-on : (processor : ℕ) → Ties s.site s.world.stopped on next owed sent → Handed (marks p.receiver processor here)
     mark-on processor T = by (down_done p.receiver processor s.world) refl
       where
-        by : (done : Option Done) → down_done p.receiver processor s.world ≡ done → Handed (marked_by p.receiver processor here done)
+        by : (done : Option Done) → down_done p.receiver processor s.world ≡ done
+            → Handed (marked_by p.receiver processor here done)
         by None e = calm (Deliver y k) next T plays_nothing
         by (Some done) e =
             marked-on here (events ++ Deliver y k ∷ []) owed sent p.receiver processor done (fit (Deliver y k)) runs e T
-            (played_more carried.played (plays_mark p.receiver processor (mark-may s.site p.receiver processor s.world done e)))
+            (played_more carried.played (plays_mark p.receiver processor
+            (mark-may s.site p.receiver processor s.world done e)))
 
-    other-on : (told : NodeMessage) → message_of told ≡ None → Ties s.site s.world.stopped on next owed sent → Handed (handed p.receiver told here)
+    other-on : (told : NodeMessage) → message_of told ≡ None → Ties s.site s.world.stopped on next owed sent
+        → Handed (handed p.receiver told here)
     other-on (Carrying message) none T = absurd cc
     other-on (Reporting from set) none T =
         calm (Deliver y k) (learns p.receiver (changed_at from (watching.neighbour_after_report set)) next)
-        (watched-ties next p.receiver (changed_at from (watching.neighbour_after_report set)) (λ watch is. changed-watch from (watching.neighbour_after_report set) refl is) T) plays_nothing
+        (watched-ties next p.receiver (changed_at from (watching.neighbour_after_report set))
+        (λ watch is. changed-watch from (watching.neighbour_after_report set) refl is) T) plays_nothing
     other-on (Declaring processor) none T = mark-on processor T
 
-    read-on : (words : List ℤ) (told : NodeMessage) → understood s.site words ≡ Some told → Handed (handed p.receiver told here)
+    read-on : (words : List ℤ) (told : NodeMessage) → understood s.site words ≡ Some told
+        → Handed (handed p.receiver told here)
         → Handed (handed_any p.receiver (understood s.site words) here)
     read-on words told e is = subst (λ o. Handed (handed_any p.receiver o here)) (sym e) is
 
-    arrive-on : (h : Option (List ℤ)) → Came s.site s.world.stopped on next owed sent p.sender p.receiver h → Handed (handed_words p.receiver h here)
+    arrive-on : (h : Option (List ℤ)) → Came s.site s.world.stopped on next owed sent p.sender p.receiver h
+        → Handed (handed_words p.receiver h here)
     arrive-on h c = by h c.arrived
       where
-        ties : (owed : List Letter) → Owes s.site s.world.stopped owed sent c.net → Ties s.site s.world.stopped on next owed sent
+        ties : (owed : List Letter) → Owes s.site s.world.stopped owed sent c.net
+            → Ties s.site s.world.stopped on next owed sent
         ties owed o = record { net = c.net; tied = c.tied; owes = o; watches = c.watches; places = c.places }
 
-        by : (h : Option (List ℤ)) → Arrives s.site s.world.stopped owed sent c.net p.sender p.receiver h → Handed (handed_words p.receiver h here)
+        by : (h : Option (List ℤ)) → Arrives s.site s.world.stopped owed sent c.net p.sender p.receiver h
+            → Handed (handed_words p.receiver h here)
         by None (hands_none o) = calm (Deliver y k) next (ties owed o) plays_nothing
-        by (Some words) (hands_other told reads fits right none o) = read-on words told reads (other-on told none (ties owed o))
+        by (Some words) (hands_other told reads fits right none o) =
+            read-on words told reads (other-on told none (ties owed o))
         by (Some words) (hands_letter {rest = rest} message reads fits among taken o) =
             read-on words (Carrying message) reads
-            (take-on message rest taken among (ties rest o) (handed_done s.site p.receiver message s.world) refl (handed-none s.site s.world p.receiver message))
+            (take-on message rest taken among (ties rest o) (handed_done s.site p.receiver message s.world) refl
+            (handed-none s.site s.world p.receiver message))
         by (Some words) (hands_again message reads fits among o) =
             read-on words (Carrying message) reads
-            (again-on message among (ties owed o) (handed_done s.site p.receiver message s.world) refl (handed-none s.site s.world p.receiver message))
+            (again-on message among (ties owed o) (handed_done s.site p.receiver message s.world) refl
+            (handed-none s.site s.world p.receiver message))
 
     received-on : Handed (received (bus_named y) p s)
     received-on = arrive-on _ (came s.wires carried.ties (bus_named y) p (carried.ties.tied.flight p stands) runs)
@@ -277,7 +343,8 @@ module _ (events : List Event) (on : List Packet) (s : Underway) (owed sent : Li
   deliver-on y k None stands = calm (Deliver y k) s.wires carried.ties plays_nothing
   deliver-on y k (Some p) stands = by (is_running s.world.stopped p.receiver) refl
     where
-      by : (test : Bool) → is_running s.world.stopped p.receiver ≡ test → Carries (events ++ Deliver y k ∷ []) on (if test then received (bus_named y) p s else s)
+      by : (test : Bool) → is_running s.world.stopped p.receiver ≡ test
+          → Carries (events ++ Deliver y k ∷ []) on (if test then received (bus_named y) p s else s)
       by true runs = received-on y k p (stands p refl) runs
       by false rests = calm (Deliver y k) s.wires carried.ties plays_nothing
 
@@ -294,7 +361,8 @@ module _ (events : List Event) (on : List Packet) (s : Underway) (owed sent : Li
     tick_ties = ticked-ties node runs s.wires carried.ties
 
     -- after the mark, the declarations are sent
-    told-on : (processor : ℕ) (one : Underway) → one.site ≡ s.site → is_running one.world.stopped node ≡ true → slice_get one.world.stopped processor ≡ Some true → processor ≤ 15
+    told-on : (processor : ℕ) (one : Underway) → one.site ≡ s.site → is_running one.world.stopped node ≡ true
+        → slice_get one.world.stopped processor ≡ Some true → processor ≤ 15
         → Ticks one → Ticks (declared node processor one)
     told-on processor one same alive gone few (now, ever, c) = (
       now,
@@ -303,54 +371,84 @@ module _ (events : List Event) (on : List Packet) (s : Underway) (owed sent : Li
     )
 
     -- the node marks the processor in a world in which that has stopped
-    held-on : (w : World) (processor : ℕ) → is_running w.stopped node ≡ true → slice_get w.stopped processor ≡ Some true → processor ≤ 15
+    held-on : (w : World) (processor : ℕ) → is_running w.stopped node ≡ true
+        → slice_get w.stopped processor ≡ Some true → processor ≤ 15
         → Ties s.site w.stopped on (ticked s.site.processors node s.wires) owed sent
-        → ((post : Post) → NotesLetters s.site node (record { world = w; owed = owed; sent = sent }) post → PlaysEvent s.site (Post_of owed) (Tick node) post)
-        → Ticks (marks_and_declares node processor (record s { world = w; wires = ticked s.site.processors node s.wires }))
-    held-on w processor alive gone few T plays = by (down_done node processor w) refl (mark-none s.site w node processor)
+        → ((post : Post) → NotesLetters s.site node (record { world = w; owed = owed; sent = sent }) post
+        → PlaysEvent s.site (Post_of owed) (Tick node) post)
+        → Ticks (marks_and_declares node processor
+        (record s { world = w; wires = ticked s.site.processors node s.wires }))
+    held-on w processor alive gone few T plays =
+        by (down_done node processor w) refl (mark-none s.site w node processor)
       where
         one : Underway
         one = record s { world = w; wires = ticked s.site.processors node s.wires }
 
         by : (done : Option Done) → down_done node processor w ≡ done → StopsNone w done
-            → Ticks (declared node processor (marked_by node processor (record s { world = w; wires = ticked s.site.processors node s.wires }) done))
-        by None e none = told-on processor (record s { world = w; wires = ticked s.site.processors node s.wires }) refl alive gone few
+            → Ticks (declared node processor (marked_by node processor
+            (record s { world = w; wires = ticked s.site.processors node s.wires }) done))
+        by None e none = told-on processor (record s { world = w; wires = ticked s.site.processors node s.wires }) refl
+            alive gone few
             (owed, sent, record { played = played_more carried.played (plays _ no_mark); ties = T })
         by (Some done) e none =
-            told-on processor (after_marked node processor (record s { world = w; wires = ticked s.site.processors node s.wires }) done) refl
-            (subst (λ stopped. is_running stopped node ≡ true) (sym none) alive) (subst (λ stopped. slice_get stopped processor ≡ Some true) (sym none) gone) few
-            (marked-on (record s { world = w; wires = ticked s.site.processors node s.wires }) (events ++ Tick node ∷ []) owed sent node processor done (fit (Tick node)) alive e T
-            (played_more carried.played (plays _ (one_mark processor (mark-may s.site node processor w done e) no_mark))))
+            told-on processor (after_marked node processor
+            (record s { world = w; wires = ticked s.site.processors node s.wires }) done) refl
+            (subst (λ stopped. is_running stopped node ≡ true) (sym none) alive)
+            (subst (λ stopped. slice_get stopped processor ≡ Some true) (sym none) gone) few
+            (marked-on (record s { world = w; wires = ticked s.site.processors node s.wires })
+            (events ++ Tick node ∷ []) owed sent node processor done (fit (Tick node)) alive e T
+            (played_more carried.played (plays _ (one_mark processor (mark-may s.site node processor w done e)
+            no_mark))))
 
     line-on : (line : Option ℕ) → ((processor : ℕ) → line ≡ Some processor → (processor ≢ node) × (processor ≤ 15))
-        → GoesOn (events ++ Tick node ∷ []) on s (pulls node (record s { wires = ticked s.site.processors node s.wires }) line)
-    line-on None other = (owed, sent, record { played = played_more carried.played (plays_tick runs no_mark); ties = tick_ties })
+        → GoesOn (events ++ Tick node ∷ []) on s
+        (pulls node (record s { wires = ticked s.site.processors node s.wires }) line)
+    line-on None other =
+        (owed, sent, record { played = played_more carried.played (plays_tick runs no_mark); ties = tick_ties })
     line-on (Some processor) other = by (slice_get s.world.stopped processor) refl
       where
-        stops : slice_get s.world.stopped processor ≡ Some false → Change s.site s.world (Stopping processor) [] (stopped_world processor s.world) → (test : Bool)
+        stops : slice_get s.world.stopped processor ≡ Some false
+            → Change s.site s.world (Stopping processor) [] (stopped_world processor s.world) → (test : Bool)
             → GoesOn (events ++ Tick node ∷ []) on s (if test then WouldStop processor
-            else Makes (marks_and_declares node processor (record s { world = stopped_world processor s.world; wires = ticked s.site.processors node s.wires })))
+            else Makes (marks_and_declares node processor
+            (record s { world = stopped_world processor s.world; wires = ticked s.site.processors node s.wires })))
         stops e change true = tt
         stops e change false =
-            held-on (stopped_world processor s.world) processor (still-running s.world.stopped processor node (other processor refl).0 runs)
-            (now-stopped s.world.stopped processor e) (other processor refl).1 (stopped-ties s.site s.world.stopped _ owed sent processor e tick_ties)
+            held-on (stopped_world processor s.world) processor
+            (still-running s.world.stopped processor node (other processor refl).0 runs)
+            (now-stopped s.world.stopped processor e) (other processor refl).1
+            (stopped-ties s.site s.world.stopped _ owed sent processor e tick_ties)
             (λ post made. plays_tick_stop processor runs (other processor refl).0 change made)
 
         by : (stopped : Option Bool) → slice_get s.world.stopped processor ≡ stopped
-            → GoesOn (events ++ Tick node ∷ []) on s (pulled node processor (record s { wires = ticked s.site.processors node s.wires }) stopped)
-        by None e = (owed, sent, record { played = played_more carried.played (plays_tick runs no_mark); ties = tick_ties })
-        by (Some true) e = held-on s.world processor runs e (other processor refl).1 tick_ties (λ post made. plays_tick runs made)
+            → GoesOn (events ++ Tick node ∷ []) on s
+            (pulled node processor (record s { wires = ticked s.site.processors node s.wires }) stopped)
+        by None e = (
+          owed,
+          sent,
+          record {
+            played = played_more carried.played (plays_tick runs no_mark);
+            ties = tick_ties;
+          },
+        )
+        by (Some true) e =
+            held-on s.world processor runs e (other processor refl).1 tick_ties (λ post made. plays_tick runs made)
         by (Some false) e =
-            stops e (stop-may s.site processor s.world (record { world = stopped_world processor s.world; sendings = [] }) (rw e refl)) (has_stopped s.world.stopped)
+            stops e (stop-may s.site processor s.world
+            (record { world = stopped_world processor s.world; sendings = [] }) (rw e refl))
+            (has_stopped s.world.stopped)
 
-    ticked-on : GoesOn (events ++ Tick node ∷ []) on s (pulls_its node (record s { wires = ticked s.site.processors node s.wires }))
-    ticked-on = line-on (line_of node (record s { wires = ticked s.site.processors node s.wires })) (pulled-other node (ticked s.site.processors node s.wires).nodes)
+    ticked-on : GoesOn (events ++ Tick node ∷ []) on s
+        (pulls_its node (record s { wires = ticked s.site.processors node s.wires }))
+    ticked-on = line-on (line_of node (record s { wires = ticked s.site.processors node s.wires }))
+        (pulled-other node (ticked s.site.processors node s.wires).nodes)
 
   tick-on : (node : ℕ) → GoesOn (events ++ Tick node ∷ []) on s (tick_acted node s)
   tick-on node = by (is_running s.world.stopped node) refl
     where
       by : (test : Bool) → is_running s.world.stopped node ≡ test
-          → GoesOn (events ++ Tick node ∷ []) on s (if test then pulls_its node (record s { wires = ticked s.site.processors node s.wires }) else Skips)
+          → GoesOn (events ++ Tick node ∷ []) on s
+          (if test then pulls_its node (record s { wires = ticked s.site.processors node s.wires }) else Skips)
       by true runs = ticked-on node runs
       by false rests = calm (Tick node) s.wires carried.ties plays_no_tick
 
@@ -366,7 +464,8 @@ GoesOnAtRest events s Skips = CarriesAtRest events s
 GoesOnAtRest events s (WouldStop processor) = Unit {0}
 
 -- what is left on the buses when an event has taken its packet was there
-pub among-taken : (event : Event) (wires : Wires) (p : Packet) → IsAmong p (on_both (taken_off event wires)) → IsAmong p (on_both wires)
+pub among-taken : (event : Event) (wires : Wires) (p : Packet) → IsAmong p (on_both (taken_off event wires))
+    → IsAmong p (on_both wires)
 among-taken (Run number) wires p among = among
 among-taken (Enter number) wires p among = among
 among-taken (Deliver y k) wires p among = among-without (bus_named y) k wires p among
@@ -375,15 +474,23 @@ among-taken (Repeat y k) wires p among = among
 among-taken (Tick node) wires p among = among
 among-taken (Fail processor) wires p among = among
 
-over-on : (events : List Event) (s : Packeted) (event : Event) (played : Played Midst) → GoesOn events (on_both s.wires) (begun s) played
+over-on : (events : List Event) (s : Packeted) (event : Event) (played : Played Midst)
+    → GoesOn events (on_both s.wires) (begun s) played
     → GoesOnAtRest events s (ended (taken_off event s.wires) played)
 over-on events s event Skips on = on
 over-on events s event (WouldStop processor) on = tt
-over-on events s event (Makes next) (owed, sent, c) =
-    (owed, sent, record { played = c.played; ties = rest-ties (taken_off event s.wires) next.wires (fewer-ties (among-taken event s.wires) c.ties) })
+over-on events s event (Makes next) (owed, sent, c) = (
+  owed,
+  sent,
+  record {
+    played = c.played;
+    ties = rest-ties (taken_off event s.wires) next.wires (fewer-ties (among-taken event s.wires) c.ties);
+  },
+)
 
 -- a packet at a position of a bus is on the buses
-pub stands-there : (s : Packeted) (name : BusName) (k : ℕ) (p : Packet) → packet_at s name k ≡ Some p → IsAmong p (on_both s.wires)
+pub stands-there : (s : Packeted) (name : BusName) (k : ℕ) (p : Packet) → packet_at s name k ≡ Some p
+    → IsAmong p (on_both s.wires)
 stands-there s bus.X k p at = among-left p s.wires.x s.wires.y (among-at s.wires.x k p at)
 stands-there s bus.Y k p at = among-right p s.wires.x s.wires.y (among-at s.wires.y k p at)
 
@@ -391,16 +498,21 @@ pub plays-on : (events : List Event) (s : Packeted) (owed sent : List Letter) �
     → ((letter : Letter) → IsAmong letter sent → IsSent s.world letter.message)
     → ((letter : Letter) → IsAmong letter sent → handed_done s.site letter.receiver letter.message s.world ≡ None
     → IsIdleFor s.site s.world (Handing letter.receiver letter.message))
-    → ((event : Event) → FitAll s.site (events ++ event ∷ [])) → (event : Event) → GoesOnAtRest (events ++ event ∷ []) s (play s event)
-plays-on events s owed sent carried honest only fit event = over-on (events ++ event ∷ []) s event (acted s event) (by event)
+    → ((event : Event) → FitAll s.site (events ++ event ∷ [])) → (event : Event)
+    → GoesOnAtRest (events ++ event ∷ []) s (play s event)
+plays-on events s owed sent carried honest only fit event =
+    over-on (events ++ event ∷ []) s event (acted s event) (by event)
   where
     by : (event : Event) → GoesOn (events ++ event ∷ []) (on_both s.wires) (begun s) (acted s event)
     by (Run number) = run-on events (on_both s.wires) (begun s) owed sent carried honest only fit number
     by (Enter number) = enter-on events (on_both s.wires) (begun s) owed sent carried honest only fit number
     by (Deliver y k) =
-        deliver-on events (on_both s.wires) (begun s) owed sent carried honest only fit y k (packet_at s (bus_named y) k) (stands-there s (bus_named y) k)
-    by (Lose y k) = lose-on events (on_both s.wires) (begun s) owed sent carried honest only fit y k (packet_at s (bus_named y) k)
+        deliver-on events (on_both s.wires) (begun s) owed sent carried honest only fit y k
+        (packet_at s (bus_named y) k) (stands-there s (bus_named y) k)
+    by (Lose y k) =
+        lose-on events (on_both s.wires) (begun s) owed sent carried honest only fit y k (packet_at s (bus_named y) k)
     by (Repeat y k) =
-        repeat-on events (on_both s.wires) (begun s) owed sent carried honest only fit y k (packet_at s (bus_named y) k) (stands-there s (bus_named y) k)
+        repeat-on events (on_both s.wires) (begun s) owed sent carried honest only fit y k
+        (packet_at s (bus_named y) k) (stands-there s (bus_named y) k)
     by (Tick node) = tick-on events (on_both s.wires) (begun s) owed sent carried honest only fit node
     by (Fail processor) = fail-on events (on_both s.wires) (begun s) owed sent carried honest only fit processor

@@ -1,5 +1,6 @@
 -- Runs over packets are runs of the world with its letters.
-use Rattle.std.proofs.Common.{◌≡◌, ◌≤◌, ◌<◌, ℕ, ℤ, true, List, [], ◌∷◌, ◌++◌, length, Some, None, sym, subst, arith, length-append}
+use Rattle.std.proofs.Common.{◌≡◌, ◌≤◌, ◌<◌, ℕ, ℤ, true, List, [], ◌∷◌, ◌++◌, length, Some, None, sym, subst, arith}
+use Rattle.std.proofs.Common.{length-append}
 use Rattle.gd_words.specs.Members.{IsAmong}
 use Rattle.tal_tree.specs.declared.site.Site.{Site}
 use Rattle.schedule.specs.declared.event.Event.{Event}
@@ -34,7 +35,8 @@ use Rattle.packets_laws.proofs.Idle.{idle-post}
 use Rattle.packets_laws.proofs.Playing.{CarriesAtRest, GoesOnAtRest, FitAll, plays-on}
 use Rattle.packet_nets.proofs.Ticking.{begins}
 
-module _ (events : List Event) (few : length events < 4294967296) (s : Packeted) (owed sent : List Letter) (fit : IsFit s.site) (carried : IsCarriedAtRest events s owed sent) where
+module _ (events : List Event) (few : length events < 4294967296) (s : Packeted) (owed sent : List Letter)
+    (fit : IsFit s.site) (carried : IsCarriedAtRest events s owed sent) where
   abbrev post : Post
   post = record { world = s.world; owed = owed; sent = sent }
 
@@ -43,65 +45,84 @@ module _ (events : List Event) (few : length events < 4294967296) (s : Packeted)
   carried-sent letter among = (played-honest s.site fit events post few carried.played).letters letter among
 
   -- and if such a letter comes in and nothing is computed, the world may not change
-  pub carried-only : HasCopiesApart s.site → (letter : Letter) → IsAmong letter sent → handed_done s.site letter.receiver letter.message s.world ≡ None
+  pub carried-only : HasCopiesApart s.site → (letter : Letter) → IsAmong letter sent
+      → handed_done s.site letter.receiver letter.message s.world ≡ None
       → IsIdleFor s.site s.world (Handing letter.receiver letter.message)
   carried-only apart letter among e =
       let fitting = letter-fits s.site fit events post few carried.played letter among letter.receiver in
-      idle-where s.site s.world (Handing letter.receiver letter.message) (handed_done s.site letter.receiver letter.message s.world)
-      (λ next sendings change. run-only s.world next letter.receiver letter.message sendings (played-run carried.played) apart fitting change) e
+      idle-where s.site s.world (Handing letter.receiver letter.message)
+      (handed_done s.site letter.receiver letter.message s.world)
+      (λ next sendings change. run-only s.world next letter.receiver letter.message sendings
+      (played-run carried.played) apart fitting change) e
 
 -- copies that are laid out are apart
 laid-apart : (site : Site) → IsLaidOut site → HasCopiesApart site
 laid-apart site out number spec there = (out.places number spec there).2
 
 module _ (site : Site) (fit : IsFit site) (small : IsSmall site) (out : IsLaidOut site) where
-  goes-on : (events : List Event) (s : Packeted) (event : Event) → length (events ++ event ∷ []) < 4294967296 → s.site ≡ site → CarriesAtRest events s
+  goes-on : (events : List Event) (s : Packeted) (event : Event) → length (events ++ event ∷ []) < 4294967296
+      → s.site ≡ site → CarriesAtRest events s
       → GoesOnAtRest (events ++ event ∷ []) s (play s event)
   goes-on events s event few same (owed, sent, carried) =
       let fits = subst IsFit (sym same) fit in
       let less : length events < 4294967296 = omega (arith, few, length-append events (event ∷ [])) in
       plays-on events s owed sent carried (carried-sent events less s owed sent fits carried)
-      (carried-only events less s owed sent fits carried (subst HasCopiesApart (sym same) (laid-apart site out))) (λ other. all other) event
+      (carried-only events less s owed sent fits carried (subst HasCopiesApart (sym same) (laid-apart site out)))
+      (λ other. all other) event
     where
       all : (other : Event) → FitAll s.site (events ++ other ∷ [])
       all other = subst (λ one. FitAll one (events ++ other ∷ [])) (sym same)
-          (λ post played letter among. all-fit site fit small out (events ++ other ∷ []) post (omega (arith, few, length-append events (event ∷ []), length-append events (other ∷ []))) played letter among)
+          (λ post played letter among. all-fit site fit small out (events ++ other ∷ []) post
+          (omega (arith, few, length-append events (event ∷ []), length-append events (other ∷ []))) played letter
+          among)
 
-  pub played-carried : {events : List Event} {s : Packeted} → length events < 4294967296 → IsPlayed site events s → CarriesAtRest events s
+  pub played-carried : {events : List Event} {s : Packeted} → length events < 4294967296 → IsPlayed site events s
+      → CarriesAtRest events s
   played-carried few played_none = ([], [], record { played = posts.played_none; ties = begins site })
   played-carried few (played_more {events = events} {s = s} event before e) =
       let less : length events < 4294967296 = omega (arith, few, length-append events (event ∷ [])) in
-      subst (GoesOnAtRest (events ++ event ∷ []) s) e (goes-on events s event few (played-site before) (played-carried less before))
+      subst (GoesOnAtRest (events ++ event ∷ []) s) e
+      (goes-on events s event few (played-site before) (played-carried less before))
   played-carried few (skipped {events = events} {s = s} event before e) =
       let less : length events < 4294967296 = omega (arith, few, length-append events (event ∷ [])) in
-      subst (GoesOnAtRest (events ++ event ∷ []) s) e (goes-on events s event few (played-site before) (played-carried less before))
+      subst (GoesOnAtRest (events ++ event ∷ []) s) e
+      (goes-on events s event few (played-site before) (played-carried less before))
 
-  module _ (events : List Event) (s : Packeted) (few : length events < 4294967296) (played : IsPlayed site events s) where
+  module _ (events : List Event) (s : Packeted) (few : length events < 4294967296)
+      (played : IsPlayed site events s) where
     -- there is a post for the state, which is idle if the state is
-    pub played-post : (owed : List Letter) × (sent : List Letter) × posts.HasPlayed site events (record { world = s.world; owed = owed; sent = sent })
+    pub played-post : (owed : List Letter) × (sent : List Letter)
+        × posts.HasPlayed site events (record { world = s.world; owed = owed; sent = sent })
         × (is_idle s ≡ true → IsIdle site (record { world = s.world; owed = owed; sent = sent }))
     played-post =
         let all = played-carried few played in
         let same = played-site played in (
           all.0,
           all.1,
-          subst (λ one. posts.HasPlayed one events (record { world = s.world; owed = all.0; sent = all.1 })) same all.2.played,
+          subst (λ one. posts.HasPlayed one events (record { world = s.world; owed = all.0; sent = all.1 })) same
+              all.2.played,
           λ idle. subst (λ one. IsIdle one (record { world = s.world; owed = all.0; sent = all.1 })) same
-              (idle-post s all.0 all.1 (subst (λ (one : Site). one.processors ≤ 16) (sym same) out.few) all.2.ties idle),
+              (idle-post s all.0 all.1 (subst (λ (one : Site). one.processors ≤ 16) (sym same) out.few) all.2.ties
+              idle),
         )
 
     pub played-world : IsRun site events s.world
     played-world = played-run played-post.2
 
     -- a message that is whole where its packet comes was pushed by that packet's sender
-    pub played-comes : (owed : List Letter) × (sent : List Letter) × posts.HasPlayed site events (record { world = s.world; owed = owed; sent = sent })
-        × ((name : BusName) (k : ℕ) (p : Packet) (words : List ℤ) → packet_at s name k ≡ Some p → is_running s.world.stopped p.receiver ≡ true
-        → completed p (end_at s.wires.nodes p.receiver p.sender) ≡ Some words → WasPushed site s.world.stopped sent p.sender p.receiver words)
+    pub played-comes : (owed : List Letter) × (sent : List Letter)
+        × posts.HasPlayed site events (record { world = s.world; owed = owed; sent = sent })
+        × ((name : BusName) (k : ℕ) (p : Packet) (words : List ℤ) → packet_at s name k ≡ Some p
+        → is_running s.world.stopped p.receiver ≡ true
+        → completed p (end_at s.wires.nodes p.receiver p.sender) ≡ Some words
+        → WasPushed site s.world.stopped sent p.sender p.receiver words)
     played-comes =
         let all = played-carried few played in (
           all.0,
           all.1,
-          subst (λ one. posts.HasPlayed one events (record { world = s.world; owed = all.0; sent = all.1 })) (played-site played) all.2.played,
-          λ name k p words at runs is. subst (λ one. WasPushed one s.world.stopped all.1 p.sender p.receiver words) (played-site played)
+          subst (λ one. posts.HasPlayed one events (record { world = s.world; owed = all.0; sent = all.1 }))
+              (played-site played) all.2.played,
+          λ name k p words at runs is. subst (λ one. WasPushed one s.world.stopped all.1 p.sender p.receiver words)
+              (played-site played)
               (comes-right s all.0 all.1 all.2.ties name k p words at runs is),
         )

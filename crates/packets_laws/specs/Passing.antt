@@ -39,8 +39,9 @@ IsNetOf s n = IsNet s.world.stopped s.wires n
 abbrev pub as_on_buses : Packeted → Net → Net
 as_on_buses s n = record n { flight = on_both s.wires }
 
--- from the net of a state, what an event does goes on in the net, while a and b don't stop, and what it delivers comes. What is lost then, by a Lose or for want
--- of room, is a step of its own that leads to the net of the next state; and where nothing is, what goes on leads there
+-- from the net of a state, what an event does goes on in the net, while a and b don't stop, and what it delivers comes.
+-- What is lost then, by a Lose or for want of room, is a step of its own that leads to the net of the next state; and
+-- where nothing is, what goes on leads there
 pub record IsPassed (a b : ℕ) (s : Packeted) (event : Event) (next : Packeted) (n : Net) : Type 0 where
   pub came : List Packet
   pub middle : Net

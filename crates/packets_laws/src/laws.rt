@@ -25,40 +25,51 @@ ghost use Rattle.packet_nets.specs.Owing.{WasPushed};
 ghost use Rattle.packets_laws.specs.Passing.{IsNetOf, IsPassed, IsTickPassed};
 ghost use Rattle.packets_laws.specs.Pieces.{HandsOver};
 
-/// Whatever fewer than 4,294,967,296 events play over packets, they do to a post of the same world; so it is a run of the world.
-/// Where the state is idle, nothing is left to do for that post.
+/// Whatever fewer than 4,294,967,296 events play over packets, they do to a post of the same world; so it is a run of
+/// the world. Where the state is idle, nothing is left to do for that post.
 pub fn what_is_played_follows()
-    ensures letters { (site : Site) (events : List Event) (s : Packeted) → IsFit site → IsSmall site → IsLaidOut site → length events < 4294967296
-        → IsPlayed site events s → (owed : List Letter) × (sent : List Letter) × HasPlayed site events (record { world = s.world; owed = owed; sent = sent })
+    ensures letters { (site : Site) (events : List Event) (s : Packeted) → IsFit site → IsSmall site → IsLaidOut site
+        → length events < 4294967296
+        → IsPlayed site events s → (owed : List Letter) × (sent : List Letter)
+        × HasPlayed site events (record { world = s.world; owed = owed; sent = sent })
         × (is_idle s ≡ true → IsIdle site (record { world = s.world; owed = owed; sent = sent })) }
-    ensures run { (site : Site) (events : List Event) (s : Packeted) → IsFit site → IsSmall site → IsLaidOut site → length events < 4294967296
+    ensures run { (site : Site) (events : List Event) (s : Packeted) → IsFit site → IsSmall site → IsLaidOut site
+        → length events < 4294967296
         → IsPlayed site events s → IsRun site events s.world }
 {}
 
-/// The message that is whole as a packet comes was pushed by the node that the packet names, to the node where it comes: the site
-/// understands it; if it carries one of the world, that is of a letter that the post of the state has sent between the two; and a
-/// processor that it declares down has stopped.
+/// The message that is whole as a packet comes was pushed by the node that the packet names, to the node where it
+/// comes: the site understands it; if it carries one of the world, that is of a letter that the post of the state has
+/// sent between the two; and a processor that it declares down has stopped.
 pub fn what_comes_was_sent()
-    ensures { (site : Site) (events : List Event) (s : Packeted) → IsFit site → IsSmall site → IsLaidOut site → length events < 4294967296
-        → IsPlayed site events s → (owed : List Letter) × (sent : List Letter) × HasPlayed site events (record { world = s.world; owed = owed; sent = sent })
-        × ((name : BusName) (k : ℕ) (p : Packet) (words : List ℤ) → packet_at s name k ≡ Some p → is_running s.world.stopped p.receiver ≡ true
-        → completed p (end_at s.wires.nodes p.receiver p.sender) ≡ Some words → WasPushed site s.world.stopped sent p.sender p.receiver words) }
+    ensures { (site : Site) (events : List Event) (s : Packeted) → IsFit site → IsSmall site → IsLaidOut site
+        → length events < 4294967296
+        → IsPlayed site events s → (owed : List Letter) × (sent : List Letter)
+        × HasPlayed site events (record { world = s.world; owed = owed; sent = sent })
+        × ((name : BusName) (k : ℕ) (p : Packet) (words : List ℤ) → packet_at s name k ≡ Some p
+        → is_running s.world.stopped p.receiver ≡ true
+        → completed p (end_at s.wires.nodes p.receiver p.sender) ≡ Some words
+        → WasPushed site s.world.stopped sent p.sender p.receiver words) }
 {}
 
-/// A delivery leaves the world as it was, or the packet was the last piece of a message, and its receiver runs. What is lost or
-/// repeated leaves the world as it was.
+/// A delivery leaves the world as it was, or the packet was the last piece of a message, and its receiver runs. What is
+/// lost or repeated leaves the world as it was.
 pub fn only_a_last_piece_hands_over()
-    ensures deliver { (s next : Packeted) (y : Bool) (k : ℕ) → play s (Deliver y k) ≡ Makes next → (next.world ≡ s.world) ⊎ HandsOver s (bus_named y) k }
+    ensures deliver { (s next : Packeted) (y : Bool) (k : ℕ) → play s (Deliver y k) ≡ Makes next
+        → (next.world ≡ s.world) ⊎ HandsOver s (bus_named y) k }
     ensures lose { (s next : Packeted) (y : Bool) (k : ℕ) → play s (Lose y k) ≡ Makes next → next.world ≡ s.world }
     ensures repeat { (s next : Packeted) (y : Bool) (k : ℕ) → play s (Repeat y k) ≡ Makes next → next.world ≡ s.world }
 {}
 
 /// A node has marked only what has stopped, and all marks of a run name one processor.
 pub fn only_what_has_stopped_is_marked()
-    ensures stopped { (site : Site) (events : List Event) (s : Packeted) (mark : Down) → IsFit site → IsSmall site → IsLaidOut site → length events < 4294967296
+    ensures stopped { (site : Site) (events : List Event) (s : Packeted) (mark : Down) → IsFit site → IsSmall site
+        → IsLaidOut site → length events < 4294967296
         → IsPlayed site events s → IsAmong mark s.world.marks → slice_get s.world.stopped mark.down ≡ Some true }
-    ensures one { (site : Site) (events : List Event) (s : Packeted) (one : Down) (other : Down) → IsFit site → IsSmall site → IsLaidOut site
-        → length events < 4294967296 → IsPlayed site events s → IsAmong one s.world.marks → IsAmong other s.world.marks → one.down ≡ other.down }
+    ensures one { (site : Site) (events : List Event) (s : Packeted) (one : Down) (other : Down) → IsFit site
+        → IsSmall site → IsLaidOut site
+        → length events < 4294967296 → IsPlayed site events s → IsAmong one s.world.marks → IsAmong other s.world.marks
+        → one.down ≡ other.down }
 {}
 
 /// Whatever is played, no second processor stops.
@@ -66,14 +77,16 @@ pub fn a_second_processor_never_stops()
     ensures { (site : Site) (events : List Event) (s : Packeted) → IsPlayed site events s → OneStops s.world }
 {}
 
-/// What is played goes on in the net of channels: at the beginning the wires are those of a net, and each event leads from the net
-/// of its state to that of the next one, by steps of the net between any two nodes that still run after it. On the way of a tick
-/// each end of its node ticks with a node that runs.
+/// What is played goes on in the net of channels: at the beginning the wires are those of a net, and each event leads
+/// from the net of its state to that of the next one, by steps of the net between any two nodes that still run after
+/// it. On the way of a tick each end of its node ticks with a node that runs.
 pub fn what_is_played_goes_on_in_the_net()
     ensures begins { (site : Site) → (n : Net) × IsNetOf (packeted_at_boot site) n }
-    ensures event { (s : Packeted) (event : Event) (next : Packeted) (n : Net) (a b : ℕ) → length s.world.stopped ≤ 16 → IsNetOf s n
+    ensures event { (s : Packeted) (event : Event) (next : Packeted) (n : Net) (a b : ℕ) → length s.world.stopped ≤ 16
+        → IsNetOf s n
         → play s event ≡ Makes next → is_running next.world.stopped a ≡ true → is_running next.world.stopped b ≡ true
         → IsPassed a b s event next n }
-    ensures tick { (s next : Packeted) (n : Net) (a b : ℕ) → length s.world.stopped ≤ 16 → IsNetOf s n → play s (Tick a) ≡ Makes next
+    ensures tick { (s next : Packeted) (n : Net) (a b : ℕ) → length s.world.stopped ≤ 16 → IsNetOf s n
+        → play s (Tick a) ≡ Makes next
         → is_running next.world.stopped a ≡ true → is_running next.world.stopped b ≡ true → IsTickPassed a b s next n }
 {}

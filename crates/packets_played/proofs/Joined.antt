@@ -17,15 +17,20 @@ use Rattle.packets_laws.proofs.Going.{played-one}
 use Rattle.packets_laws.proofs.Runs.{played-post, played-world}
 use Rattle.packets_played.proofs.Small.{small-of}
 
-module _ (site : Site) (accepted : IsAcceptedSite site) (keeps : KeepsSiteLimits site) (out : IsLaidOut site) (events : List Event) (s : Packeted)
+module _ (site : Site) (accepted : IsAcceptedSite site) (keeps : KeepsSiteLimits site) (out : IsLaidOut site)
+    (events : List Event) (s : Packeted)
     (few : length events < 4294967295) (played : IsPlayed site events s) where
   pub runs : IsRun site events s.world
-  runs = played-world site (accepted-fit site accepted) (small-of site accepted keeps) out events s (omega (arith, few)) played
+  runs = played-world site (accepted-fit site accepted) (small-of site accepted keeps) out events s
+      (omega (arith, few)) played
 
-  pub ends : is_idle s ≡ true → (owed : List Letter) × (sent : List Letter) × IsIdleEnd site events (record { world = s.world; owed = owed; sent = sent })
+  pub ends : is_idle s ≡ true → (owed : List Letter) × (sent : List Letter)
+      × IsIdleEnd site events (record { world = s.world; owed = owed; sent = sent })
   ends idle =
-      let post = played-post site (accepted-fit site accepted) (small-of site accepted keeps) out events s (omega (arith, few)) played in (
+      let post = played-post site (accepted-fit site accepted) (small-of site accepted keeps) out events s
+      (omega (arith, few)) played in (
         post.0,
         post.1,
-        played-ends site events (record { world = s.world; owed = post.0; sent = post.1 }) accepted out few post.2 (played-one played) (post.3 idle),
+        played-ends site events (record { world = s.world; owed = post.0; sent = post.1 }) accepted out few post.2
+            (played-one played) (post.3 idle),
       )

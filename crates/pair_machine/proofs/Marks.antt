@@ -1,4 +1,5 @@
--- A mark, step by step: the world after it, what is owed no more, and what is posted. And the marks of a tick, one after another.
+-- A mark, step by step: the world after it, what is owed no more, and what is posted. And the marks of a tick, one
+-- after another.
 use Rattle.std.proofs.Common.{◌≡◌, ℕ, suc, ◌+◌, ◌-◌, ◌<◌, List, ◌++◌, ap, ap₂, sym, ◌∙◌, arith}
 use Rattle.world_semantics.specs.Messages.{Sending}
 use Rattle.world_semantics.specs.Running.{Done}
@@ -9,7 +10,8 @@ use Rattle.message_wires.specs.Wires.{paid_between}
 use Rattle.pair_machine.specs.Told.{sent_all}
 
 pub marked-steps : (s marked paid after : MachineState) (node processor : ℕ) (sendings : List Sending) (done : Done)
-    → marked ≡ record s { world = done.world } → sendings ≡ done.sendings ++ sent_again s.site s.world done.world node processor
+    → marked ≡ record s { world = done.world }
+    → sendings ≡ done.sendings ++ sent_again s.site s.world done.world node processor
     → paid ≡ record marked { wires = paid_between node processor marked.wires } → after ≡ sent_all sendings paid
     → after ≡ after_noted node processor s done
 marked-steps s marked paid after node processor sendings done marks tells pays posts =
@@ -21,7 +23,8 @@ left-more : (place count : ℕ) → place < count → count - place ≡ suc (cou
 left-more place count within = omega arith
 
 -- after the mark of one processor what is left to be marked leads to the same
-pub marks-step : (node place count : ℕ) (s after : MachineState) → place < count → after ≡ noted_by node place s (down_done node place s.world)
+pub marks-step : (node place count : ℕ) (s after : MachineState) → place < count
+    → after ≡ noted_by node place s (down_done node place s.world)
     → notes_from node (place + 1) (count - (place + 1)) after ≡ notes_from node place (count - place) s
 marks-step node place count s after within marks =
     ap (λ next. notes_from node (place + 1) (count - (place + 1)) next) marks

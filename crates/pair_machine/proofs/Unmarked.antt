@@ -1,5 +1,6 @@
 -- Where no processor has stopped, none is marked.
-use Rattle.std.proofs.Common.{◌≡◌, ℕ, zero, suc, ◌+◌, Bool, true, false, List, [], ◌∷◌, Option, Some, None, refl, ap, sym, ◌∙◌, slice_get}
+use Rattle.std.proofs.Common.{◌≡◌, ℕ, zero, suc, ◌+◌, Bool, true, false, List, [], ◌∷◌, Option, Some, None, refl, ap}
+use Rattle.std.proofs.Common.{sym, ◌∙◌, slice_get}
 use Rattle.std.specs.List.{list_any}
 use Rattle.computed_changes.specs.Stopped.{mark_where, down_done}
 use Rattle.message_wires.specs.Play.{MachineState, has_stopped, noted_by, notes_from}
@@ -13,8 +14,10 @@ none-there node processor w (true ∷ rest) place none = absurd (cc)
 none-there node processor w (false ∷ rest) zero none = refl
 none-there node processor w (false ∷ rest) (suc place) none = none-there node processor w rest place none
 
-pub none-marked : (node place more : ℕ) (s : MachineState) → has_stopped s.world.stopped ≡ false → notes_from node place more s ≡ s
+pub none-marked : (node place more : ℕ) (s : MachineState) → has_stopped s.world.stopped ≡ false
+    → notes_from node place more s ≡ s
 none-marked node place zero s none = refl
 none-marked node place (suc more) s none =
-    ap (λ done. notes_from node (place + 1) more (noted_by node place s done)) (none-there node place s.world s.world.stopped place none)
+    ap (λ done. notes_from node (place + 1) more (noted_by node place s done))
+    (none-there node place s.world s.world.stopped place none)
     ∙ none-marked node (place + 1) more s none

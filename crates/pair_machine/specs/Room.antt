@@ -1,4 +1,5 @@
--- What a part of an event needs, so that its letters are counted and each request on the bus names an opener. Our own rule.
+-- What a part of an event needs, so that its letters are counted and each request on the bus names an opener. Our own
+-- rule.
 use Rattle.std.specs.Prelude.{◌<◌, ℕ, ◌^◌, List, Option, Some, None}
 use Rattle.gd_words.specs.Members.{IsAmong}
 use Rattle.world_semantics.specs.Messages.{Sending}

@@ -13,7 +13,8 @@ pub record MachineStanding : Type 0 where
 abbrev pub piece : ℕ
 piece = 1
 
--- the kind of the packet at a position of a bus, where one stands there: each carries a whole message, which counts as a piece
+-- the kind of the packet at a position of a bus, where one stands there: each carries a whole message, which counts as
+-- a piece
 abbrev pub kind_at : MachineState → Bool → ℕ → Option ℕ
 kind_at s y k = option_map (λ packet. piece) (packet_at s y k)
 

@@ -1,4 +1,5 @@
--- What becomes of the machine where something is done: first of the world, and then of the wires, to which what it sends is posted. Our own rule.
+-- What becomes of the machine where something is done: first of the world, and then of the wires, to which what it
+-- sends is posted. Our own rule.
 use Rattle.std.specs.Prelude.{◌≡◌, List, Option, Some, None}
 use Rattle.world_semantics.specs.Messages.{Sending}
 use Rattle.world_semantics.specs.Running.{Done, world_after}

@@ -2,7 +2,8 @@ ghost use Rattle.std.specs.Prelude.{◌≡◌, IfOk, OnOk};
 ghost use Rattle.computed_changes.specs.Handed.{handed_done};
 ghost use Rattle.machine_states.specs.States.{Settles};
 ghost use Rattle.number_ranges.specs.HasRoom.{HasRoom};
-ghost use Rattle.message_wires.specs.Play.{after_any, comes_in, deliver_played, lose_played, packet_at, state_after_receiving, repeat_played};
+ghost use Rattle.message_wires.specs.Play.{after_any, comes_in, deliver_played, lose_played, packet_at};
+ghost use Rattle.message_wires.specs.Play.{state_after_receiving, repeat_played};
 ghost use Rattle.sendings.specs.Seen.{message_of};
 ghost use Rattle.node_copies.specs.Seen.{step_sendings};
 ghost use Rattle.world_copies.specs.Room.{NamesItsOpener};
@@ -24,7 +25,8 @@ impl MachineParts {
         requires openers { OpenersAreThere self.old }
         requires room { HasRoom self.old }
         requires letters { AreCountedAfter (deliver_played k self.old (packet_at self.old y k)) }
-        ensures { IfOk result (λ effect. Settles (deliver_played k self.old (packet_at self.old y k)) self.old effect self.new) }
+        ensures { IfOk result (λ effect. Settles (deliver_played k self.old (packet_at self.old y k)) self.old effect
+            self.new) }
     {
         if y {
             return Ok(Effect::Skipped);
@@ -68,7 +70,8 @@ impl MachineParts {
         requires room { HasRoom self.old }
         requires letters { AreCounted (after_any self.old
             (handed_done self.old.site node (message_of message) self.old.world)) }
-        ensures { OnOk result (self.new ≡ after_any self.old (handed_done self.old.site node (message_of message) self.old.world)) }
+        ensures { OnOk result (self.new ≡ after_any self.old
+            (handed_done self.old.site node (message_of message) self.old.world)) }
     {
         let step = self.hand_over(node, message)?;
         self.tell(step)?;
@@ -79,8 +82,10 @@ impl MachineParts {
     fn hand_over(&mut self, node: u8, message: Message) -> Result<StepOutcome, NoMemory>
         requires opener { NamesItsOpener self.old.site (message_of message) }
         requires room { HasRoom self.old }
-        ensures told { IfOk result (λ step. step_sendings step ≡ sent_in (handed_done self.old.site node (message_of message) self.old.world)) }
-        ensures state { OnOk result (self.new ≡ unsent self.old (handed_done self.old.site node (message_of message) self.old.world)) }
+        ensures told { IfOk result (λ step. step_sendings step
+            ≡ sent_in (handed_done self.old.site node (message_of message) self.old.world)) }
+        ensures state { OnOk result (self.new ≡ unsent self.old
+            (handed_done self.old.site node (message_of message) self.old.world)) }
     {
         let step = self.world.hand(node, message)?;
         Ok(step)
@@ -89,7 +94,8 @@ impl MachineParts {
     /// The packet at a position of a bus is lost.
     #[tactic(auto, using(crate::proofs::Packets::none_removed))]
     pub(crate) fn lose(&mut self, y: bool, k: u32) -> Result<Effect, NoMemory>
-        ensures { IfOk result (λ effect. Settles (lose_played k self.old (packet_at self.old y k)) self.old effect self.new) }
+        ensures { IfOk result (λ effect. Settles (lose_played k self.old (packet_at self.old y k)) self.old effect
+            self.new) }
     {
         if y {
             return Ok(Effect::Skipped);
@@ -105,7 +111,8 @@ impl MachineParts {
 
     /// The packet at a position of a bus comes once more.
     pub(crate) fn repeat(&mut self, y: bool, k: u32) -> Result<Effect, NoMemory>
-        ensures { IfOk result (λ effect. Settles (repeat_played self.old (packet_at self.old y k)) self.old effect self.new) }
+        ensures { IfOk result (λ effect. Settles (repeat_played self.old (packet_at self.old y k)) self.old effect
+            self.new) }
     {
         if y {
             return Ok(Effect::Skipped);

@@ -10,7 +10,8 @@ use machine_states::Effect;
 impl MachineParts {
     /// A processor stops, unless another one has stopped.
     pub(crate) fn fail(&mut self, processor: u8) -> Result<Effect, NoMemory>
-        ensures { IfOk result (λ effect. Settles (fail_played processor self.old (stop_done processor self.old.world)) self.old effect self.new) }
+        ensures { IfOk result (λ effect. Settles (fail_played processor self.old (stop_done processor self.old.world))
+            self.old effect self.new) }
     {
         if !self.world.can_stop(processor) {
             return Ok(Effect::Skipped);

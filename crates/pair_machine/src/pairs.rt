@@ -64,7 +64,8 @@ impl PairMachine {
         requires room { HasRoom self.old.state }
         requires letters { HasRoomForLetters self.old.state }
         requires openers { OpenersAreThere self.old.state }
-        ensures done { IfOk result (λ effect. Settles (play self.old.state event) self.old.state effect self.new.state) }
+        ensures done { IfOk result (λ effect. Settles (play self.old.state event) self.old.state effect
+            self.new.state) }
         ensures whole { IfOk result (λ effect. (self.old.is_broken ≡ false) × (self.new.is_broken ≡ false)) }
         ensures broken { OnErr result (self.new.is_broken ≡ true) }
     {

@@ -19,7 +19,8 @@ impl MachineParts {
     pub(crate) fn run(&mut self, number: u8) -> Result<Effect, NoMemory>
         requires room { HasRoom self.old }
         requires letters { AreCountedAfter (made_by self.old (run_done self.old.site number self.old.world)) }
-        ensures { IfOk result (λ effect. Settles (made_by self.old (run_done self.old.site number self.old.world)) self.old effect self.new) }
+        ensures { IfOk result (λ effect. Settles (made_by self.old (run_done self.old.site number self.old.world))
+            self.old effect self.new) }
     {
         let step = self.run_process(number)?;
         let effect = self.tell(step)?;
@@ -30,7 +31,8 @@ impl MachineParts {
     pub(crate) fn enter(&mut self, terminal: u8) -> Result<Effect, NoMemory>
         requires room { HasRoom self.old }
         requires letters { AreCountedAfter (made_by self.old (enter_done self.old.site terminal self.old.world)) }
-        ensures { IfOk result (λ effect. Settles (made_by self.old (enter_done self.old.site terminal self.old.world)) self.old effect self.new) }
+        ensures { IfOk result (λ effect. Settles (made_by self.old (enter_done self.old.site terminal self.old.world))
+            self.old effect self.new) }
     {
         let step = self.enter_next(terminal)?;
         let effect = self.tell(step)?;
@@ -40,7 +42,8 @@ impl MachineParts {
     /// A process makes its step, if it can. What that sends isn't posted yet.
     fn run_process(&mut self, number: u8) -> Result<StepOutcome, NoMemory>
         requires { HasRoom self.old }
-        ensures told { IfOk result (λ step. step_sendings step ≡ sent_in (run_done self.old.site number self.old.world)) }
+        ensures told { IfOk result (λ step. step_sendings step
+            ≡ sent_in (run_done self.old.site number self.old.world)) }
         ensures state { OnOk result (self.new ≡ unsent self.old (run_done self.old.site number self.old.world)) }
     {
         let step = self.world.run(number)?;
@@ -50,7 +53,8 @@ impl MachineParts {
     /// A terminal enters, if it can. What that sends isn't posted yet.
     fn enter_next(&mut self, terminal: u8) -> Result<StepOutcome, NoMemory>
         requires { HasRoom self.old }
-        ensures told { IfOk result (λ step. step_sendings step ≡ sent_in (enter_done self.old.site terminal self.old.world)) }
+        ensures told { IfOk result (λ step. step_sendings step
+            ≡ sent_in (enter_done self.old.site terminal self.old.world)) }
         ensures state { OnOk result (self.new ≡ unsent self.old (enter_done self.old.site terminal self.old.world)) }
     {
         let step = self.world.enter(terminal)?;

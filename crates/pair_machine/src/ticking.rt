@@ -14,7 +14,8 @@ use machine_states::Effect;
 use sendings::Sending;
 
 impl MachineParts {
-    /// The tick of a node: it marks what has stopped, and puts on the bus again what it sent that is owed and not there.
+    /// The tick of a node: it marks what has stopped, and puts on the bus again what it sent that is owed and not
+    /// there.
     pub(crate) fn tick(&mut self, node: u8) -> Result<Effect, NoMemory>
         requires room { HasRoom self.old }
         requires letters { AreCountedAfter (tick_played node self.old) }
@@ -30,7 +31,8 @@ impl MachineParts {
 
     /// Puts on the bus again what a node sent, that is owed and not there.
     fn put_again(&mut self, node: u8) -> Result<(), NoMemory>
-        ensures { OnOk result (self.new ≡ record self.old { wires = wires_again self.old.world.stopped node self.old.wires }) }
+        ensures { OnOk result (self.new ≡ record self.old
+            { wires = wires_again self.old.world.stopped node self.old.wires }) }
     {
         self.wires.put_again(self.world.stopped(), node)?;
         Ok(())
@@ -71,12 +73,14 @@ impl MachineParts {
         Ok(())
     }
 
-    /// A node marks a processor that has stopped: what was owed between both is so no more, and what the mark sends is posted.
+    /// A node marks a processor that has stopped: what was owed between both is so no more, and what the mark sends is
+    /// posted.
     fn mark_down(&mut self, node: u8, processor: u8) -> Result<(), NoMemory>
         requires watching { AllWatchersHaveRoom self.old.world.processes }
         requires letters { AreCounted (after_noted node processor self.old
             (world_at_down node processor self.old.world)) }
-        ensures { OnOk result (self.new ≡ after_noted node processor self.old (world_at_down node processor self.old.world)) }
+        ensures { OnOk result (self.new ≡ after_noted node processor self.old
+            (world_at_down node processor self.old.world)) }
     {
         let sendings = self.mark_world(node, processor)?;
         self.pay_between(node, processor);
@@ -96,7 +100,8 @@ impl MachineParts {
         requires { AllWatchersHaveRoom self.old.world.processes }
         ensures told { IfOk result (λ sendings. sendings ≡ (world_at_down node processor self.old.world).sendings
             ++ sent_again self.old.site self.old.world (world_at_down node processor self.old.world).world node processor) }
-        ensures state { OnOk result (self.new ≡ record self.old { world = (world_at_down node processor self.old.world).world }) }
+        ensures state { OnOk result (self.new ≡ record self.old
+            { world = (world_at_down node processor self.old.world).world }) }
     {
         let sendings = self.world.mark(node, processor)?;
         Ok(sendings)

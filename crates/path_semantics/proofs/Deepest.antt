@@ -1,5 +1,6 @@
 -- The greatest depth of what is called: of the parts of a body, and against the depths of the procedures before.
-use Rattle.std.proofs.Common.{◌≡◌, ℕ, zero, suc, ◌+◌, ◌<◌, ◌≤◌, arith, List, [], ◌∷◌, ◌++◌, map, length, get_or, take, drop, slice_get, flat_map, refl, ap, ap₂, sym, ◌∙◌}
+use Rattle.std.proofs.Common.{◌≡◌, ℕ, zero, suc, ◌+◌, ◌<◌, ◌≤◌, arith, List, [], ◌∷◌, ◌++◌, map, length, get_or, take}
+use Rattle.std.proofs.Common.{drop, slice_get, flat_map, refl, ap, ap₂, sym, ◌∙◌}
 use Rattle.std.specs.Prelude.{max}
 use Rattle.std.specs.Option.{unwrap_or}
 use Rattle.std.proofs.lemmas.Grind.{flat_map-append}
@@ -20,9 +21,11 @@ look before procedure = unwrap_or (slice_get before procedure) 0
 
 greatest-append : (xs ys : List ℕ) → greatest (xs ++ ys) ≡ max (greatest xs) (greatest ys)
 greatest-append [] ys = omega arith
-greatest-append (x ∷ xs) ys = let rest : greatest (xs ++ ys) ≡ max (greatest xs) (greatest ys) = greatest-append xs ys in omega arith
+greatest-append (x ∷ xs) ys =
+    let rest : greatest (xs ++ ys) ≡ max (greatest xs) (greatest ys) = greatest-append xs ys in omega arith
 
-called-append : (before : List ℕ) (xs ys : List Statement) → of_called before (xs ++ ys) ≡ of_called before xs ++ of_called before ys
+called-append : (before : List ℕ) (xs ys : List Statement)
+    → of_called before (xs ++ ys) ≡ of_called before xs ++ of_called before ys
 called-append before xs ys =
     ap (λ (parts : List Statement). map (look before) (flat_map own_calls parts)) (flat_map-append all_in xs ys)
     ∙ ap (map (look before)) (flat_map-append own_calls (all_of xs) (all_of ys))
@@ -30,13 +33,15 @@ called-append before xs ys =
 
 deepest-append : (before : List ℕ) (xs ys : List Statement)
     → greatest (of_called before (xs ++ ys)) ≡ max (greatest (of_called before xs)) (greatest (of_called before ys))
-deepest-append before xs ys = ap greatest (called-append before xs ys) ∙ greatest-append (of_called before xs) (of_called before ys)
+deepest-append before xs ys =
+    ap greatest (called-append before xs ys) ∙ greatest-append (of_called before xs) (of_called before ys)
 
 -- the greatest depth of what a statement calls, by one layer of it
 abbrev deepest_by : List ℕ → What-F What Statement → ℕ
 deepest_by before (What-F.AssignCall to procedure arguments) = look before procedure
 deepest_by before (What-F.Call procedure arguments) = look before procedure
-deepest_by before (What-F.If test first second) = max (greatest (of_called before first)) (greatest (of_called before second))
+deepest_by before (What-F.If test first second) =
+    max (greatest (of_called before first)) (greatest (of_called before second))
 deepest_by before (What-F.While test body) = greatest (of_called before body)
 deepest_by before (What-F.For variable from to body last) = greatest (of_called before body)
 deepest_by before _ = 0
@@ -44,11 +49,13 @@ deepest_by before _ = 0
 greatest-one : (n : ℕ) → max n 0 ≡ n
 greatest-one n = omega arith
 
-by_layer : (before : List ℕ) (what : What-F What Statement) → greatest (map (look before) (call_in what ++ flat_map own_calls (within_of what))) ≡ deepest_by before what
+by_layer : (before : List ℕ) (what : What-F What Statement)
+    → greatest (map (look before) (call_in what ++ flat_map own_calls (within_of what))) ≡ deepest_by before what
 by_layer before (What-F.Assign to value) = refl
 by_layer before (What-F.AssignCall to procedure arguments) = greatest-one (look before procedure)
 by_layer before (What-F.If test first second) =
-    ap (λ (called : List ℕ). greatest (map (look before) called)) (flat_map-append own_calls (all_of first) (all_of second))
+    ap (λ (called : List ℕ). greatest (map (look before) called))
+    (flat_map-append own_calls (all_of first) (all_of second))
     ∙ ap greatest (map-append (look before) (calls_of first) (calls_of second))
     ∙ greatest-append (of_called before first) (of_called before second)
 by_layer before (What-F.While test body) = refl
@@ -63,33 +70,49 @@ by_layer before What-F.CheckMonitor = refl
 by_layer before (What-F.Open file) = refl
 by_layer before What-F.Stop = refl
 
-statement-is : (before : List ℕ) (statement : Statement) → greatest (of_called before (statement ∷ [])) ≡ deepest_by before (out-What statement.what)
+statement-is : (before : List ℕ) (statement : Statement)
+    → greatest (of_called before (statement ∷ [])) ≡ deepest_by before (out-What statement.what)
 statement-is before statement =
-    ap (λ (parts : List Statement). greatest (map (look before) (own_calls statement ++ flat_map own_calls parts))) (append-nil (within statement.what) ∙ within-is statement.what)
+    ap (λ (parts : List Statement). greatest (map (look before) (own_calls statement ++ flat_map own_calls parts)))
+    (append-nil (within statement.what) ∙ within-is statement.what)
     ∙ by_layer before (out-What statement.what)
 
-layer-is : (before : List ℕ) (statement : Statement) (layer : What-F What Statement) → statement.what ≡ roll-What layer → greatest (of_called before (statement ∷ [])) ≡ deepest_by before layer
-layer-is before statement layer is = statement-is before statement ∙ ap (deepest_by before) (ap out-What is ∙ out-roll-What layer)
+layer-is : (before : List ℕ) (statement : Statement) (layer : What-F What Statement) → statement.what ≡ roll-What layer
+    → greatest (of_called before (statement ∷ [])) ≡ deepest_by before layer
+layer-is before statement layer is =
+    statement-is before statement ∙ ap (deepest_by before) (ap out-What is ∙ out-roll-What layer)
 
-pub deepest-if : (before : List ℕ) (statement : Statement) (test : Cond) (first second : List Statement) → statement.what ≡ If test first second
-    → greatest (of_called before (statement ∷ [])) ≡ max (greatest (of_called before first)) (greatest (of_called before second))
-deepest-if before statement test first second is = layer-is before statement (What-F.If test first second) (is ∙ sym (rolls-If test first second))
+pub deepest-if : (before : List ℕ) (statement : Statement) (test : Cond) (first second : List Statement)
+    → statement.what ≡ If test first second
+    → greatest (of_called before (statement ∷ []))
+    ≡ max (greatest (of_called before first)) (greatest (of_called before second))
+deepest-if before statement test first second is =
+    layer-is before statement (What-F.If test first second) (is ∙ sym (rolls-If test first second))
 
-pub deepest-while : (before : List ℕ) (statement : Statement) (test : Cond) (body : List Statement) → statement.what ≡ While test body
+pub deepest-while : (before : List ℕ) (statement : Statement) (test : Cond) (body : List Statement)
+    → statement.what ≡ While test body
     → greatest (of_called before (statement ∷ [])) ≡ greatest (of_called before body)
-deepest-while before statement test body is = layer-is before statement (What-F.While test body) (is ∙ sym (rolls-While test body))
+deepest-while before statement test body is =
+    layer-is before statement (What-F.While test body) (is ∙ sym (rolls-While test body))
 
-pub deepest-for : (before : List ℕ) (statement : Statement) (variable : Variable) (from to : Expr) (body : List Statement) (last : ℕ)
-    → statement.what ≡ For variable from to body last → greatest (of_called before (statement ∷ [])) ≡ greatest (of_called before body)
-deepest-for before statement variable from to body last is = layer-is before statement (What-F.For variable from to body last) (is ∙ sym (rolls-For variable from to body last))
+pub deepest-for : (before : List ℕ) (statement : Statement) (variable : Variable) (from to : Expr)
+    (body : List Statement) (last : ℕ)
+    → statement.what ≡ For variable from to body last
+    → greatest (of_called before (statement ∷ [])) ≡ greatest (of_called before body)
+deepest-for before statement variable from to body last is =
+    layer-is before statement (What-F.For variable from to body last) (is ∙ sym (rolls-For variable from to body last))
 
-pub one-more-statement : (before : List ℕ) (statements : List Statement) (k : ℕ) (statement : Statement) (found here : ℕ)
-    → statement ≡ get_or statements k statement → k < length statements → found ≡ greatest (of_called before (take k statements))
-    → here ≡ greatest (of_called before (statement ∷ [])) → max found here ≡ greatest (of_called before (take (k + 1) statements))
+pub one-more-statement : (before : List ℕ) (statements : List Statement) (k : ℕ) (statement : Statement)
+    (found here : ℕ)
+    → statement ≡ get_or statements k statement → k < length statements
+    → found ≡ greatest (of_called before (take k statements))
+    → here ≡ greatest (of_called before (statement ∷ []))
+    → max found here ≡ greatest (of_called before (take (k + 1) statements))
 one-more-statement before statements k statement found here is inside so_far here-is =
     ap₂ max so_far here-is
     ∙ sym (deepest-append before (take k statements) (statement ∷ []))
-    ∙ sym (ap (λ (xs : List Statement). greatest (of_called before xs)) (take_more statements k statement inside ∙ ap (λ (x : Statement). take k statements ++ x ∷ []) (sym is)))
+    ∙ sym (ap (λ (xs : List Statement). greatest (of_called before xs))
+    (take_more statements k statement inside ∙ ap (λ (x : Statement). take k statements ++ x ∷ []) (sym is)))
 
 -- what is looked up is one of the depths, or 0
 pub looked-up : (before : List ℕ) (procedure : ℕ) → unwrap_or (slice_get before procedure) 0 ≤ greatest before
@@ -108,17 +131,22 @@ pub called-at-most : (before : List ℕ) (body : List Statement) → greatest (o
 called-at-most before body = all-looked-up before (calls_of body)
 
 -- one more procedure is at most one deeper
-pub one-deeper : (before : List ℕ) (body : List Statement) (most : ℕ) → greatest before ≤ most → greatest (before ++ depth_from before body ∷ []) ≤ most + 1
+pub one-deeper : (before : List ℕ) (body : List Statement) (most : ℕ) → greatest before ≤ most
+    → greatest (before ++ depth_from before body ∷ []) ≤ most + 1
 one-deeper before body most so_far =
     let called : greatest (of_called before body) ≤ greatest before = called-at-most before body in
-    let more : greatest (before ++ depth_from before body ∷ []) ≡ max (greatest before) (max (greatest (of_called before body) + 1) 0) =
+    let more : greatest (before ++ depth_from before body ∷ [])
+    ≡ max (greatest before) (max (greatest (of_called before body) + 1) 0) =
     greatest-append before (depth_from before body ∷ []) in
     omega arith
 
-pub one-more-procedure : (before : List ℕ) (procedures : List Procedure) (k : ℕ) (procedure : Procedure) (whole : List ℕ)
-    → procedure ≡ get_or procedures k procedure → k < length procedures → in_order depth_from before (drop k procedures) ≡ whole
+pub one-more-procedure : (before : List ℕ) (procedures : List Procedure) (k : ℕ) (procedure : Procedure)
+    (whole : List ℕ)
+    → procedure ≡ get_or procedures k procedure → k < length procedures
+    → in_order depth_from before (drop k procedures) ≡ whole
     → in_order depth_from (before ++ depth_from before procedure.body ∷ []) (drop (k + 1) procedures) ≡ whole
 one-more-procedure before procedures k procedure whole is inside so_far =
-    let next : in_order depth_from before (drop k procedures) ≡ in_order depth_from before (get_or procedures k procedure ∷ drop (k + 1) procedures) =
+    let next : in_order depth_from before (drop k procedures)
+    ≡ in_order depth_from before (get_or procedures k procedure ∷ drop (k + 1) procedures) =
     at_drop_more (in_order depth_from before) procedures k procedure inside in
     ap (λ (p : Procedure). in_order depth_from before (p ∷ drop (k + 1) procedures)) is ∙ sym next ∙ so_far

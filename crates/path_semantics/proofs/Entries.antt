@@ -1,5 +1,6 @@
 -- What holds of each statement of a program holds of those that remain at each place.
-use Rattle.std.proofs.Common.{◌≡◌, inl, inr, List, [], ◌∷◌, ◌++◌, drop, Option, Some, None, slice_get, refl, ap, subst, sym, ◌∙◌, append-nil}
+use Rattle.std.proofs.Common.{◌≡◌, inl, inr, List, [], ◌∷◌, ◌++◌, drop, Option, Some, None, slice_get, refl, ap, subst}
+use Rattle.std.proofs.Common.{sym, ◌∙◌, append-nil}
 use Rattle.tal_tree.specs.declared.program.Program.{Program}
 use Rattle.tal_tree.specs.declared.program.Procedure.{Procedure}
 use Rattle.tal_tree.specs.declared.statement.Statement.{Statement}
@@ -28,15 +29,18 @@ abbrev pub HoldsAt : (Statement → Type 0) → Place → Type 0
 HoldsAt P [] = Unit {0}
 HoldsAt P (frame ∷ callers) = HoldsFor P frame × HoldsAt P callers
 
-for-runs : (P : Statement → Type 0) (statements : List Statement) (rest : List Entry) → HoldsIn P statements → HoldsFor P rest → HoldsFor P (runs_of statements ++ rest)
+for-runs : (P : Statement → Type 0) (statements : List Statement) (rest : List Entry) → HoldsIn P statements
+    → HoldsFor P rest → HoldsFor P (runs_of statements ++ rest)
 for-runs P [] rest holds later = later
 for-runs P (first ∷ statements) rest holds later = (
   (λ statement among. holds statement (among-left statement (all_in first) (all_of statements) among)),
-  for-runs P statements rest (λ statement among. holds statement (among-right statement (all_in first) (all_of statements) among)) later,
+  for-runs P statements rest (λ statement among.
+      holds statement (among-right statement (all_in first) (all_of statements) among)) later,
 )
 
 -- what holds of a statement's parts
-in-layer : (P : Statement → Type 0) (self : Statement) (what : What-F What Statement) → HoldsOf P (Run self) → out-What self.what ≡ what
+in-layer : (P : Statement → Type 0) (self : Statement) (what : What-F What Statement) → HoldsOf P (Run self)
+    → out-What self.what ≡ what
     → (statement : Statement) → IsAmong statement (within_of what) → P statement
 in-layer P self what holds is statement among =
     holds statement (inr (subst (IsAmong statement) (sym (within-is self.what ∙ ap within_of is)) among))
@@ -45,62 +49,98 @@ for-drop : (P : Statement → Type 0) (frame : List Entry) → HoldsFor P frame 
 for-drop P [] holds = tt
 for-drop P (entry ∷ rest) holds = holds.1
 
-pub either-way : {A : Type 0} (P : A → Type 0) (way one other : A) → IsAmong way (one ∷ other ∷ []) → P one → P other → P way
+pub either-way : {A : Type 0} (P : A → Type 0) (way one other : A) → IsAmong way (one ∷ other ∷ []) → P one → P other
+    → P way
 either-way P way one other (inl same) first second = subst P (sym same) first
 either-way P way one other (inr among) first second = among-one P way other among second
 
 body-holds : (P : Statement → Type 0) (program : Program)
-    → ((procedure : Procedure) (statement : Statement) → IsAmong procedure program.procedures → IsAmong statement (all_of procedure.body) → P statement)
-    → (procedure : Option Procedure) → ((one : Procedure) → procedure ≡ Some one → IsAmong one program.procedures) → HoldsFor P (body_in procedure)
+    → ((procedure : Procedure) (statement : Statement) → IsAmong procedure program.procedures
+    → IsAmong statement (all_of procedure.body) → P statement)
+    → (procedure : Option Procedure) → ((one : Procedure) → procedure ≡ Some one → IsAmong one program.procedures)
+    → HoldsFor P (body_in procedure)
 body-holds P program all None there = tt
 body-holds P program all (Some procedure) there =
-    subst (HoldsFor P) (append-nil (runs_of procedure.body)) (for-runs P procedure.body [] (λ statement among. all procedure statement (there procedure refl) among) tt)
+    subst (HoldsFor P) (append-nil (runs_of procedure.body))
+    (for-runs P procedure.body [] (λ statement among. all procedure statement (there procedure refl) among) tt)
 
 statement-way : (P : Statement → Type 0) (program : Program)
-    → ((procedure : Procedure) (statement : Statement) → IsAmong procedure program.procedures → IsAmong statement (all_of procedure.body) → P statement)
-    → (self : Statement) (rest : List Entry) (callers way : Place) (what : What-F What Statement) → out-What self.what ≡ what
-    → HoldsOf P (Run self) → HoldsFor P rest → HoldsAt P callers → IsAmong way (ways_of program self rest callers what) → HoldsAt P way
+    → ((procedure : Procedure) (statement : Statement) → IsAmong procedure program.procedures
+    → IsAmong statement (all_of procedure.body) → P statement)
+    → (self : Statement) (rest : List Entry) (callers way : Place) (what : What-F What Statement)
+    → out-What self.what ≡ what
+    → HoldsOf P (Run self) → HoldsFor P rest → HoldsAt P callers → IsAmong way (ways_of program self rest callers what)
+    → HoldsAt P way
 statement-way P program all self rest callers way (What-F.If test first second) is own later above among =
-    either-way (HoldsAt P) way ((runs_of first ++ rest) ∷ callers) ((runs_of second ++ rest) ∷ callers) among
-    (for-runs P first rest (λ statement there. in-layer P self (What-F.If test first second) own is statement (among-left statement (all_of first) (all_of second) there)) later, above)
-    (for-runs P second rest (λ statement there. in-layer P self (What-F.If test first second) own is statement (among-right statement (all_of first) (all_of second) there)) later, above)
+    either-way (HoldsAt P) way ((runs_of first ++ rest) ∷ callers) ((runs_of second ++ rest) ∷ callers) among (
+      for-runs P first rest (λ statement there.
+          in-layer P self (What-F.If test first second) own is statement
+          (among-left statement (all_of first) (all_of second) there)) later,
+      above,
+    ) (
+      for-runs P second rest (λ statement there.
+          in-layer P self (What-F.If test first second) own is statement
+          (among-right statement (all_of first) (all_of second) there)) later,
+      above,
+    )
 statement-way P program all self rest callers way (What-F.While test body) is own later above among =
     either-way (HoldsAt P) way ((runs_of body ++ Run self ∷ rest) ∷ callers) (rest ∷ callers) among
-    (for-runs P body (Run self ∷ rest) (in-layer P self (What-F.While test body) own is) (own, later), above) (later, above)
+    (for-runs P body (Run self ∷ rest) (in-layer P self (What-F.While test body) own is) (own, later), above)
+    (later, above)
 statement-way P program all self rest callers way (What-F.For variable from to body last) is own later above among =
     among-one (HoldsAt P) way ((Test self ∷ rest) ∷ callers) among ((own, later), above)
 statement-way P program all self rest callers way (What-F.AssignCall to procedure arguments) is own later above among =
-    among-one (HoldsAt P) way (body_of program procedure ∷ (Run self ∷ rest) ∷ callers) among
-    (body-holds P program all (slice_get program.procedures procedure) (among-at program.procedures procedure), ((own, later), above))
+    among-one (HoldsAt P) way (body_of program procedure ∷ (Run self ∷ rest) ∷ callers) among (
+      body-holds P program all (slice_get program.procedures procedure) (among-at program.procedures procedure),
+      ((own, later), above),
+    )
 statement-way P program all self rest callers way (What-F.Call procedure arguments) is own later above among =
-    among-one (HoldsAt P) way (body_of program procedure ∷ (Run self ∷ rest) ∷ callers) among
-    (body-holds P program all (slice_get program.procedures procedure) (among-at program.procedures procedure), ((own, later), above))
+    among-one (HoldsAt P) way (body_of program procedure ∷ (Run self ∷ rest) ∷ callers) among (
+      body-holds P program all (slice_get program.procedures procedure) (among-at program.procedures procedure),
+      ((own, later), above),
+    )
 statement-way P program all self rest callers way (What-F.Return value) is own later above among =
     among-one (HoldsAt P) way ([] ∷ callers) among (tt, above)
-statement-way P program all self rest callers way What-F.Stop is own later above among = among-one (HoldsAt P) way [] among tt
-statement-way P program all self rest callers way _ is own later above among = among-one (HoldsAt P) way (rest ∷ callers) among (later, above)
+statement-way P program all self rest callers way What-F.Stop is own later above among =
+    among-one (HoldsAt P) way [] among tt
+statement-way P program all self rest callers way _ is own later above among =
+    among-one (HoldsAt P) way (rest ∷ callers) among (later, above)
 
-round-way : (P : Statement → Type 0) (self : Statement) (rest : List Entry) (callers way : Place) (what : What-F What Statement) → out-What self.what ≡ what
-    → HoldsOf P (Run self) → HoldsFor P rest → HoldsAt P callers → IsAmong way (rounds_of self rest callers what) → HoldsAt P way
+round-way : (P : Statement → Type 0) (self : Statement) (rest : List Entry) (callers way : Place)
+    (what : What-F What Statement) → out-What self.what ≡ what
+    → HoldsOf P (Run self) → HoldsFor P rest → HoldsAt P callers → IsAmong way (rounds_of self rest callers what)
+    → HoldsAt P way
 round-way P self rest callers way (What-F.For variable from to body last) is own later above among =
-    either-way (HoldsAt P) way ((runs_of body ++ Last self ∷ Test self ∷ rest) ∷ callers) (rest ∷ callers) among
-    (for-runs P body (Last self ∷ Test self ∷ rest) (in-layer P self (What-F.For variable from to body last) own is) (own, (own, later)), above) (later, above)
-round-way P self rest callers way _ is own later above among = among-one (HoldsAt P) way (rest ∷ callers) among (later, above)
+    either-way (HoldsAt P) way ((runs_of body ++ Last self ∷ Test self ∷ rest) ∷ callers) (rest ∷ callers) among (
+      for-runs P body (Last self ∷ Test self ∷ rest) (in-layer P self (What-F.For variable from to body last) own is)
+          (own, (own, later)),
+      above,
+    ) (later, above)
+round-way P self rest callers way _ is own later above among =
+    among-one (HoldsAt P) way (rest ∷ callers) among (later, above)
 
 entry-way : (P : Statement → Type 0) (program : Program)
-    → ((procedure : Procedure) (statement : Statement) → IsAmong procedure program.procedures → IsAmong statement (all_of procedure.body) → P statement)
-    → (entry : Entry) (rest : List Entry) (callers way : Place) → HoldsAt P ((entry ∷ rest) ∷ callers) → IsAmong way (ways program entry rest callers) → HoldsAt P way
+    → ((procedure : Procedure) (statement : Statement) → IsAmong procedure program.procedures
+    → IsAmong statement (all_of procedure.body) → P statement)
+    → (entry : Entry) (rest : List Entry) (callers way : Place) → HoldsAt P ((entry ∷ rest) ∷ callers)
+    → IsAmong way (ways program entry rest callers) → HoldsAt P way
 entry-way P program all (Run self) rest callers way holds among =
     statement-way P program all self rest callers way (out-What self.what) refl holds.0.0 holds.0.1 holds.1 among
 entry-way P program all (Test self) rest callers way holds among =
     round-way P self rest callers way (out-What self.what) refl holds.0.0 holds.0.1 holds.1 among
-entry-way P program all (Last self) rest callers way holds among = among-one (HoldsAt P) way (rest ∷ callers) among (holds.0.1, holds.1)
+entry-way P program all (Last self) rest callers way holds among =
+    among-one (HoldsAt P) way (rest ∷ callers) among (holds.0.1, holds.1)
 
 pub entries-kept : (P : Statement → Type 0) (program : Program)
-    → ((procedure : Procedure) (statement : Statement) → IsAmong procedure program.procedures → IsAmong statement (all_of procedure.body) → P statement)
+    → ((procedure : Procedure) (statement : Statement) → IsAmong procedure program.procedures
+    → IsAmong statement (all_of procedure.body) → P statement)
     → IsKept program (HoldsAt P)
 entries-kept P program all = record {
-  first = (body-holds P program all (slice_get program.procedures program.main) (among-at program.procedures program.main), tt);
+  first = (
+    body-holds P program all (slice_get program.procedures program.main)
+        (among-at program.procedures program.main),
+    tt,
+  );
   way = entry-way P program all;
   leaving = λ caller callers holds. (for-drop P caller holds.1.0, holds.1.1);
   ended = tt;

@@ -9,7 +9,8 @@ use Rattle.path_semantics.specs.declared.dues.Dues.{Dues}
 use Rattle.path_semantics.specs.declared.reason.Reason.{Reason}
 use Rattle.path_semantics.specs.declared.reason.Reason.TheVariants.{Data, SyncBlock, Input, Depth}
 use Rattle.path_semantics.specs.Place.{Place, next_in}
-use Rattle.path_semantics.specs.Break.{Breaks, omits_item, omits_file, sends, may_break, is_enough, breaks_by, breaks_entry, breaks_at}
+use Rattle.path_semantics.specs.Break.{Breaks, omits_item, omits_file, sends, may_break, is_enough, breaks_by}
+use Rattle.path_semantics.specs.Break.{breaks_entry, breaks_at}
 use Rattle.path_semantics.specs.Dues.{asked_by}
 use Rattle.path_semantics.specs.Quiet.{IsQuietStatement, IsQuiet}
 use Rattle.path_semantics.proofs.Entries.{HoldsAt, entries-kept}
@@ -41,10 +42,13 @@ quiet-may (SyncBlock file) what quiet = quiet-file file what quiet
 quiet-may Input what quiet = quiet-sent what quiet
 quiet-may (Depth file) what quiet = quiet-asked file what quiet
 
-quiet-by : (program : Program) (reason : Reason) (dues : Dues) (what : What-F What Statement) → IsQuietStatement what → breaks_by program reason dues what ≡ false
-quiet-by program reason dues what quiet = ap (λ (b : Bool). b && is_enough program reason dues) (quiet-may reason what quiet)
+quiet-by : (program : Program) (reason : Reason) (dues : Dues) (what : What-F What Statement) → IsQuietStatement what
+    → breaks_by program reason dues what ≡ false
+quiet-by program reason dues what quiet =
+    ap (λ (b : Bool). b && is_enough program reason dues) (quiet-may reason what quiet)
 
-quiet-at : (program : Program) (reason : Reason) (dues : Dues) (place : Place) → HoldsAt Quiet place → breaks_entry program reason dues (next_in place) ≡ false
+quiet-at : (program : Program) (reason : Reason) (dues : Dues) (place : Place) → HoldsAt Quiet place
+    → breaks_entry program reason dues (next_in place) ≡ false
 quiet-at program reason dues [] quiet = refl
 quiet-at program reason dues ([] ∷ callers) quiet = refl
 quiet-at program reason dues ((Run statement ∷ rest) ∷ callers) quiet =
@@ -52,9 +56,12 @@ quiet-at program reason dues ((Run statement ∷ rest) ∷ callers) quiet =
 quiet-at program reason dues ((Test statement ∷ rest) ∷ callers) quiet = refl
 quiet-at program reason dues ((Last statement ∷ rest) ∷ callers) quiet = refl
 
-pub quiet-unbroken : (program : Program) → IsQuiet program → (path : List ℕ) (reason : Reason) → Breaks program path reason → ⊥
+pub quiet-unbroken : (program : Program) → IsQuiet program → (path : List ℕ) (reason : Reason)
+    → Breaks program path reason → ⊥
 quiet-unbroken program quiet path reason broken =
-    let all : HoldsAt Quiet broken.stand.place = kept-led program (HoldsAt Quiet) (entries-kept Quiet program quiet) broken.front broken.stand broken.leads in
-    let none : breaks_at program reason broken.stand ≡ false = quiet-at program reason broken.stand.dues broken.stand.place all in
+    let all : HoldsAt Quiet broken.stand.place =
+    kept-led program (HoldsAt Quiet) (entries-kept Quiet program quiet) broken.front broken.stand broken.leads in
+    let none : breaks_at program reason broken.stand ≡ false =
+    quiet-at program reason broken.stand.dues broken.stand.place all in
     let broke : breaks_at program reason broken.stand ≡ true = broken.breaks in
     absurd (cc)

@@ -1,5 +1,6 @@
 -- The list of the stands to which a path leads has exactly those to which a walk by it comes.
-use Rattle.std.proofs.Common.{◌≡◌, inl, inr, ◌↔◌, ℕ, ◌==◌, ◌&&◌, ◌||◌, not, true, false, Bool, List, [], ◌∷◌, ◌++◌, length, eq-eqb, Option, Some, None, refl, ap, subst, sym, ◌∙◌}
+use Rattle.std.proofs.Common.{◌≡◌, inl, inr, ◌↔◌, ℕ, ◌==◌, ◌&&◌, ◌||◌, not, true, false, Bool, List, [], ◌∷◌, ◌++◌}
+use Rattle.std.proofs.Common.{length, eq-eqb, Option, Some, None, refl, ap, subst, sym, ◌∙◌}
 use Rattle.std.proofs.lemmas.Bool.{eqb-true}
 use Rattle.std.proofs.Math.Dec.{eqb-suc-zero}
 use Rattle.std.specs.Prelude.{flat_map, if◌then◌else◌, IsTrue}
@@ -26,15 +27,19 @@ step-if : (program : Program) (number : ℕ) (here there : Stand) (b : Bool) →
 step-if program number here there true is among = record { next = number-is number (number_at here) is; leads = among }
 step-if program number here there false is among = absurd among
 
-step-is : (program : Program) (number : ℕ) (here there : Stand) → IsAmong there (stepped program number here) → Steps program here number there
+step-is : (program : Program) (number : ℕ) (here there : Stand) → IsAmong there (stepped program number here)
+    → Steps program here number there
 step-is program number here there among = step-if program number here there (is_next number here) refl among
 
-is-step : (program : Program) (number : ℕ) (here there : Stand) → Steps program here number there → IsAmong there (stepped program number here)
+is-step : (program : Program) (number : ℕ) (here there : Stand) → Steps program here number there
+    → IsAmong there (stepped program number here)
 is-step program number here there step =
-    subst (λ (b : Bool). IsAmong there (if b then successors program here else [])) (sym (is-number number (number_at here) step.next)) step.leads
+    subst (λ (b : Bool). IsAmong there (if b then successors program here else []))
+    (sym (is-number number (number_at here) step.next)) step.leads
 
 -- what is reached from stands is where a walk from one of them comes
-pub reached-walks : (program : Program) (path : List ℕ) (stands : List Stand) (there : Stand) → IsAmong there (reached_from program stands path)
+pub reached-walks : (program : Program) (path : List ℕ) (stands : List Stand) (there : Stand)
+    → IsAmong there (reached_from program stands path)
     → (here : Stand) × IsAmong here stands × Walks program here path there
 reached-walks program [] stands there among = (there, among, refl)
 reached-walks program (number ∷ path) stands there among =
@@ -42,7 +47,8 @@ reached-walks program (number ∷ path) stands there among =
     let found = among-giver (stepped program number) later.0 stands later.1 in
     (found.0, found.1, (later.0, step-is program number found.0 later.0 found.2, later.2))
 
-pub walks-reached : (program : Program) (path : List ℕ) (stands : List Stand) (here there : Stand) → IsAmong here stands → Walks program here path there
+pub walks-reached : (program : Program) (path : List ℕ) (stands : List Stand) (here there : Stand)
+    → IsAmong here stands → Walks program here path there
     → IsAmong there (reached_from program stands path)
 walks-reached program [] stands here there among same = subst (λ (s : Stand). IsAmong s stands) same among
 walks-reached program (number ∷ path) stands here there among walk =
@@ -53,13 +59,16 @@ first-only : {A : Type 0} (x y : A) → IsAmong x (y ∷ []) → x ≡ y
 first-only x y (inl same) = same
 first-only x y (inr among) = absurd among
 
-pub reached-leads : (program : Program) (path : List ℕ) (there : Stand) → IsAmong there (reached program path) → Leads program path there
+pub reached-leads : (program : Program) (path : List ℕ) (there : Stand) → IsAmong there (reached program path)
+    → Leads program path there
 reached-leads program path there among =
     let found = reached-walks program path (first_stand program ∷ []) there among in
     subst (λ (s : Stand). Walks program s path there) (first-only found.0 (first_stand program) found.1) found.2
 
-pub leads-reached : (program : Program) (path : List ℕ) (there : Stand) → Leads program path there → IsAmong there (reached program path)
-leads-reached program path there walk = walks-reached program path (first_stand program ∷ []) (first_stand program) there (inl refl) walk
+pub leads-reached : (program : Program) (path : List ℕ) (there : Stand) → Leads program path there
+    → IsAmong there (reached program path)
+leads-reached program path there walk =
+    walks-reached program path (first_stand program ∷ []) (first_stand program) there (inl refl) walk
 
 some-first : {A : Type 0} (xs : List A) → not (length xs == 0) ≡ true → (x : A) × IsAmong x xs
 some-first [] filled = absurd (cc)
@@ -69,9 +78,11 @@ first-some : {A : Type 0} (x : A) (xs : List A) → IsAmong x xs → not (length
 first-some x [] among = absurd among
 first-some x (y ∷ xs) among = ap not (eqb-suc-zero (length xs))
 
-pub path-if : (program : Program) (path : List ℕ) → IsTrue (not (length (reached program path) == 0)) ↔ IsPath program path
+pub path-if : (program : Program) (path : List ℕ)
+    → IsTrue (not (length (reached program path) == 0)) ↔ IsPath program path
 path-if program path = (
-  λ filled. let found = some-first (reached program path) filled in (found.0, reached-leads program path found.0 found.1),
+  λ filled. let found =
+      some-first (reached program path) filled in (found.0, reached-leads program path found.0 found.1),
   λ is. first-some is.0 (reached program path) (leads-reached program path is.0 is.1),
 )
 
@@ -116,7 +127,8 @@ true-both : (a b : Bool) → a ≡ true → b ≡ true → (a && b) ≡ true
 true-both a b first second = ap (λ c. c && b) first ∙ second
 
 pub breaks-if : (program : Program) (front : List ℕ) (last : ℕ) (reason : Reason)
-    → IsTrue (list_any (breaks_next program reason last) (reached program front)) ↔ Breaks program (front ++ last ∷ []) reason
+    → IsTrue (list_any (breaks_next program reason last) (reached program front))
+    ↔ Breaks program (front ++ last ∷ []) reason
 breaks-if program front last reason = (
   λ any.
       let found = any-one (breaks_next program reason last) (reached program front) any in
@@ -133,7 +145,8 @@ breaks-if program front last reason = (
   λ broken.
       let same = last-same front broken.front last broken.number broken.split in
       one-any (breaks_next program reason last) broken.stand (reached program front)
-      (leads-reached program front broken.stand (subst (λ (path : List ℕ). Leads program path broken.stand) (sym same.0) broken.leads))
+      (leads-reached program front broken.stand
+      (subst (λ (path : List ℕ). Leads program path broken.stand) (sym same.0) broken.leads))
       (true-both (is_next last broken.stand) (breaks_at program reason broken.stand)
       (is-number last (number_at broken.stand) (broken.next ∙ ap Some (sym same.1))) broken.breaks),
 )

@@ -18,11 +18,13 @@ of_called before body = map (λ procedure. unwrap_or (slice_get before procedure
 abbrev pub depth_from : List ℕ → List Statement → ℕ
 depth_from before body = greatest (of_called before body) + 1
 
--- the size of a procedure: the count of its statements' numbers, and for each call the size of the procedure that is called
+-- the size of a procedure: the count of its statements' numbers, and for each call the size of the procedure that is
+-- called
 abbrev pub size_from : List ℕ → List Statement → ℕ
 size_from before body = length (numbers_of body) + sum (of_called before body)
 
--- a number for each procedure in their order, from those of the procedures before it: a procedure calls only procedures before it
+-- a number for each procedure in their order, from those of the procedures before it: a procedure calls only procedures
+-- before it
 abbrev pub in_order : (List ℕ → List Statement → ℕ) → List ℕ → List Procedure → List ℕ
 in_order number before [] = before
 in_order number before (procedure ∷ rest) = in_order number (before ++ number before procedure.body ∷ []) rest

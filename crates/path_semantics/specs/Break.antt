@@ -1,6 +1,7 @@
--- What breaks the discipline: the last statement of a path, with the dues before it. Sync depth and the data of a checkpoint are GUARDIAN's; these exact
--- rules are our own.
-use Rattle.std.specs.Prelude.{◌≡◌, ℕ, ◌==◌, Bool, true, false, not, ◌&&◌, nat_le, IsTrue, List, [], ◌∷◌, ◌++◌, count_by, slice_get, Option, Some, None}
+-- What breaks the discipline: the last statement of a path, with the dues before it. Sync depth and the data of a
+-- checkpoint are GUARDIAN's; these exact rules are our own.
+use Rattle.std.specs.Prelude.{◌≡◌, ℕ, ◌==◌, Bool, true, false, not, ◌&&◌, nat_le, IsTrue, List, [], ◌∷◌, ◌++◌, count_by}
+use Rattle.std.specs.Prelude.{slice_get, Option, Some, None}
 use Rattle.gd_words.specs.Members.{is_among}
 use Rattle.tal_tree.specs.declared.program.FileUse.{FileUse}
 use Rattle.tal_tree.specs.declared.program.Program.{Program}
@@ -80,8 +81,8 @@ may_break (SyncBlock file) what = omits_file file what
 may_break Input what = sends what
 may_break (Depth file) what = is_among file (asked_by what)
 
--- whether enough is due for that: the global may have changed, the file was asked, a request was read, or as many WRITEREADs on the file are due as replies
--- are kept for it
+-- whether enough is due for that: the global may have changed, the file was asked, a request was read, or as many
+-- WRITEREADs on the file are due as replies are kept for it
 abbrev pub is_enough : Program → Reason → Dues → Bool
 is_enough program (Data item) dues = is_among item dues.globals
 is_enough program (SyncBlock file) dues = is_among file dues.asked

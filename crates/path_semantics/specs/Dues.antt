@@ -27,8 +27,8 @@ abbrev pub global_of : Variable → List ℕ
 global_of (variable.Local local) = []
 global_of (variable.Simple item) = item ∷ []
 
--- the globals that a statement may change in its own step: the target of an assignment, the variable of a FOR, and the buffer and the count of READUPDATE
--- and WRITEREAD
+-- the globals that a statement may change in its own step: the target of an assignment, the variable of a FOR, and the
+-- buffer and the count of READUPDATE and WRITEREAD
 abbrev pub changed_by : What-F What Statement → List ℕ
 changed_by (What-F.Assign to value) = global_of_spot to
 changed_by (What-F.For variable from to body last) = global_of variable
@@ -91,7 +91,8 @@ with_effects dues what = record {
 abbrev pub after_statement : Dues → What-F What Statement → Dues
 after_statement dues (What-F.Checkpoint items files) = no_dues
 after_statement dues (What-F.Assign to value) = with_effects dues (What-F.Assign to value)
-after_statement dues (What-F.AssignCall to procedure arguments) = with_effects dues (What-F.AssignCall to procedure arguments)
+after_statement dues (What-F.AssignCall to procedure arguments) =
+    with_effects dues (What-F.AssignCall to procedure arguments)
 after_statement dues (What-F.If test first second) = with_effects dues (What-F.If test first second)
 after_statement dues (What-F.While test body) = with_effects dues (What-F.While test body)
 after_statement dues (What-F.For variable from to body last) = with_effects dues (What-F.For variable from to body last)
@@ -99,7 +100,8 @@ after_statement dues (What-F.Call procedure arguments) = with_effects dues (What
 after_statement dues (What-F.Return value) = with_effects dues (What-F.Return value)
 after_statement dues (What-F.ReadUpdate buffer most got) = with_effects dues (What-F.ReadUpdate buffer most got)
 after_statement dues (What-F.Reply buffer count) = with_effects dues (What-F.Reply buffer count)
-after_statement dues (What-F.WriteRead file buffer send room got) = with_effects dues (What-F.WriteRead file buffer send room got)
+after_statement dues (What-F.WriteRead file buffer send room got) =
+    with_effects dues (What-F.WriteRead file buffer send room got)
 after_statement dues What-F.CheckMonitor = with_effects dues What-F.CheckMonitor
 after_statement dues (What-F.Open file) = with_effects dues (What-F.Open file)
 after_statement dues What-F.Stop = with_effects dues What-F.Stop
@@ -126,7 +128,8 @@ target_of What-F.CheckMonitor = []
 target_of (What-F.Open _) = []
 target_of What-F.Stop = []
 
--- the global that may change when a call returns: the target of `x := f(..)`, where the call is the next entry of its frame
+-- the global that may change when a call returns: the target of `x := f(..)`, where the call is the next entry of its
+-- frame
 abbrev pub changed_by_return : Option Entry → List ℕ
 changed_by_return (Some (Run statement)) = target_of (out-What statement.what)
 changed_by_return _ = []

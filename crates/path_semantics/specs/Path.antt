@@ -5,7 +5,8 @@ use Rattle.tal_tree.specs.declared.program.Program.{Program}
 use Rattle.process_semantics.specs.Rests.{entry_number}
 use Rattle.path_semantics.specs.Place.{Stand, next_entry, successors, first_stand}
 
--- the number of the next entry: its statement's, and for a FOR's test and last assignment one of their own; none where the program has ended
+-- the number of the next entry: its statement's, and for a FOR's test and last assignment one of their own; none where
+-- the program has ended
 abbrev pub number_at : Stand → Option ℕ
 number_at stand = option_map entry_number (next_entry stand)
 
@@ -17,7 +18,8 @@ pub record Steps (program : Program) (here : Stand) (number : ℕ) (there : Stan
 -- a walk by these numbers: one step after the other
 abbrev pub Walks : Program → Stand → List ℕ → Stand → Type 0
 Walks program here [] there = here ≡ there
-Walks program here (number ∷ path) there = (next : Stand) × Steps program here number next × Walks program next path there
+Walks program here (number ∷ path) there =
+    (next : Stand) × Steps program here number next × Walks program next path there
 
 -- a path leads to a stand: a walk by it from MAIN's start comes there
 abbrev pub Leads : Program → List ℕ → Stand → Type 0

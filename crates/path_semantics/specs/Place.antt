@@ -8,8 +8,8 @@ use Rattle.process_semantics.specs.State.{Entry, Run, Test, Last, Frame, runs_of
 use Rattle.path_semantics.specs.declared.dues.Dues.{Dues}
 use Rattle.path_semantics.specs.Dues.{no_dues, with_changed, after_entry, changed_by_return}
 
--- a place: what remains in each procedure that runs, the one that runs now first and MAIN last. A call in progress stays first in its frame. A program that
--- has ended has no frame
+-- a place: what remains in each procedure that runs, the one that runs now first and MAIN last. A call in progress
+-- stays first in its frame. A program that has ended has no frame
 abbrev pub Place : Type 0
 Place = List (List Entry)
 
@@ -38,13 +38,19 @@ next_in (frame ∷ callers) = first_of frame
 abbrev pub next_entry : Stand → Option Entry
 next_entry stand = next_in stand.place
 
--- where a statement leads, from a frame with so much after it: a test leads both ways, a call into its procedure, RETURN to the procedure's end, STOP to the end
+-- where a statement leads, from a frame with so much after it: a test leads both ways, a call into its procedure,
+-- RETURN to the procedure's end, STOP to the end
 abbrev pub ways_of : Program → Statement → List Entry → Place → What-F What Statement → List Place
-ways_of program statement rest callers (What-F.If test first second) = ((runs_of first ++ rest) ∷ callers) ∷ ((runs_of second ++ rest) ∷ callers) ∷ []
-ways_of program statement rest callers (What-F.While test body) = ((runs_of body ++ Run statement ∷ rest) ∷ callers) ∷ (rest ∷ callers) ∷ []
-ways_of program statement rest callers (What-F.For variable from to body last) = ((Test statement ∷ rest) ∷ callers) ∷ []
-ways_of program statement rest callers (What-F.AssignCall to procedure arguments) = (body_of program procedure ∷ (Run statement ∷ rest) ∷ callers) ∷ []
-ways_of program statement rest callers (What-F.Call procedure arguments) = (body_of program procedure ∷ (Run statement ∷ rest) ∷ callers) ∷ []
+ways_of program statement rest callers (What-F.If test first second) =
+    ((runs_of first ++ rest) ∷ callers) ∷ ((runs_of second ++ rest) ∷ callers) ∷ []
+ways_of program statement rest callers (What-F.While test body) =
+    ((runs_of body ++ Run statement ∷ rest) ∷ callers) ∷ (rest ∷ callers) ∷ []
+ways_of program statement rest callers (What-F.For variable from to body last) =
+    ((Test statement ∷ rest) ∷ callers) ∷ []
+ways_of program statement rest callers (What-F.AssignCall to procedure arguments) =
+    (body_of program procedure ∷ (Run statement ∷ rest) ∷ callers) ∷ []
+ways_of program statement rest callers (What-F.Call procedure arguments) =
+    (body_of program procedure ∷ (Run statement ∷ rest) ∷ callers) ∷ []
 ways_of program statement rest callers (What-F.Return value) = ([] ∷ callers) ∷ []
 ways_of program statement rest callers What-F.Stop = [] ∷ []
 ways_of program statement rest callers (What-F.Assign _ _) = (rest ∷ callers) ∷ []
@@ -78,15 +84,16 @@ ways program (Run statement) rest callers = ways_of program statement rest calle
 ways program (Test statement) rest callers = rounds_of statement rest callers (out-What statement.what)
 ways program (Last statement) rest callers = (rest ∷ callers) ∷ []
 
--- where nothing remains in the procedure that runs, its frame is removed, and with it the call in the frame below: then the call's target is due. Where nothing
--- remains in MAIN, the program has ended
+-- where nothing remains in the procedure that runs, its frame is removed, and with it the call in the frame below: then
+-- the call's target is due. Where nothing remains in MAIN, the program has ended
 abbrev pub stand_at : List Entry → Place → Dues → Stand
 stand_at (entry ∷ rest) callers dues = record { place = (entry ∷ rest) ∷ callers; dues = dues }
 stand_at [] [] dues = record { place = []; dues = dues }
-stand_at [] (caller ∷ callers) dues = stand_at (drop 1 caller) callers (with_changed (changed_by_return (first_of caller)) dues)
+stand_at [] (caller ∷ callers) dues =
+    stand_at (drop 1 caller) callers (with_changed (changed_by_return (first_of caller)) dues)
 
--- the calls whose procedures end where so much remains in the procedure that runs: none where something remains, and else the call in the frame below it, with
--- those that end where that call was the last thing there
+-- the calls whose procedures end where so much remains in the procedure that runs: none where something remains, and
+-- else the call in the frame below it, with those that end where that call was the last thing there
 abbrev pub calls_ended : List Entry → Place → List Entry
 calls_ended (entry ∷ rest) callers = []
 calls_ended [] [] = []
@@ -101,7 +108,8 @@ settled dues (frame ∷ callers) = stand_at frame callers dues
 abbrev pub stands_after : Program → Dues → Place → List Stand
 stands_after program dues [] = []
 stands_after program dues ([] ∷ callers) = []
-stands_after program dues ((entry ∷ rest) ∷ callers) = map (settled (after_entry dues entry)) (ways program entry rest callers)
+stands_after program dues ((entry ∷ rest) ∷ callers) =
+    map (settled (after_entry dues entry)) (ways program entry rest callers)
 
 -- where the program may stand after its next entry, and what is due there
 abbrev pub successors : Program → Stand → List Stand

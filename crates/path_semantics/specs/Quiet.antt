@@ -25,5 +25,6 @@ IsQuietStatement What-F.Stop = Unit {0}
 
 -- a program that has none of these four
 abbrev pub IsQuiet : Program → Type 0
-IsQuiet program = (procedure : Procedure) (statement : Statement) → IsAmong procedure program.procedures → IsAmong statement (all_of procedure.body)
+IsQuiet program = (procedure : Procedure) (statement : Statement) → IsAmong procedure program.procedures
+    → IsAmong statement (all_of procedure.body)
     → IsQuietStatement (out-What statement.what)

@@ -1,4 +1,5 @@
--- What places are made of: what remains in each procedure that runs is of its body, and the number that comes next there tells it.
+-- What places are made of: what remains in each procedure that runs is of its body, and the number that comes next
+-- there tells it.
 use Rattle.std.specs.Prelude.{◌≡◌, ◌≤◌, ℕ, List, [], ◌∷◌, map, slice_get, Option, Some, None}
 use Rattle.gd_words.specs.Members.{IsAmong, AreDistinct}
 use Rattle.tal_tree.specs.Statements.{numbers_of}
@@ -35,5 +36,7 @@ next_numbers place = map next_number place
 
 -- within each procedure each number stands once, and none is 0
 pub record HasDistinctNumbers (program : Program) : Type 0 where
-  pub distinct : (k : ℕ) (procedure : Procedure) → slice_get program.procedures k ≡ Some procedure → AreDistinct (numbers_of procedure.body)
-  pub positive : (k : ℕ) (procedure : Procedure) → slice_get program.procedures k ≡ Some procedure → (n : ℕ) → IsAmong n (numbers_of procedure.body) → 1 ≤ n
+  pub distinct : (k : ℕ) (procedure : Procedure) → slice_get program.procedures k ≡ Some procedure
+      → AreDistinct (numbers_of procedure.body)
+  pub positive : (k : ℕ) (procedure : Procedure) → slice_get program.procedures k ≡ Some procedure → (n : ℕ)
+      → IsAmong n (numbers_of procedure.body) → 1 ≤ n

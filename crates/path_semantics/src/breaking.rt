@@ -3,7 +3,8 @@ ghost use Rattle.std.specs.Option.{option_copied};
 ghost use Rattle.tal_tree.specs.declared.statement.What.{out-What};
 ghost use Rattle.gd_words.specs.Members.{is_among};
 ghost use Rattle.path_semantics.specs.Dues.{asked_by};
-ghost use Rattle.path_semantics.specs.Break.{asked_count, is_reached, omits_item, omits_file, sends, may_break, is_enough, breaks_by, breaks_at};
+ghost use Rattle.path_semantics.specs.Break.{asked_count, is_reached, omits_item, omits_file, sends, may_break};
+ghost use Rattle.path_semantics.specs.Break.{is_enough, breaks_by, breaks_at};
 
 use crate::dues::Dues;
 use crate::reason::Reason;

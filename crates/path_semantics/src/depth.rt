@@ -5,9 +5,9 @@ ghost use Rattle.path_semantics.specs.Bounds.{greatest, of_called, depth_of};
 use arrayvec::ArrayVec;
 use tal_tree::{Program, Statement, What};
 
-/// How many procedures the longest chain of calls from a program's main procedure goes through, that one counted: 1 where it
-/// calls nothing. A call of a procedure that doesn't stand before its caller counts as none. The rule is our own, for the bounds
-/// of the checkpoint discipline. A text has at most 64 procedures, so this takes no memory.
+/// How many procedures the longest chain of calls from a program's main procedure goes through, that one counted: 1
+/// where it calls nothing. A call of a procedure that doesn't stand before its caller counts as none. The rule is our
+/// own, for the bounds of the checkpoint discipline. A text has at most 64 procedures, so this takes no memory.
 pub fn call_depth(program: &Program) -> u32
     requires few { length program.now.procedures ≤ 64 }
     ensures depth { result ≡ depth_of program.now }

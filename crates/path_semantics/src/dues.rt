@@ -2,15 +2,16 @@ ghost use Rattle.std.specs.Prelude.{◌≡◌, ◌||◌, ◌∷◌, ◌++◌, If
 ghost use Rattle.std.specs.Option.{option_map};
 ghost use Rattle.tal_tree.specs.declared.statement.What.{out-What};
 ghost use Rattle.process_semantics.specs.SeenEntries.{entry_of};
-ghost use Rattle.path_semantics.specs.Dues.{no_dues, with_changed, global_of_spot, global_of, changed_by, asked_by, reads, after_statement, after_entry, target_of, changed_by_return};
+ghost use Rattle.path_semantics.specs.Dues.{no_dues, with_changed, global_of_spot, global_of, changed_by, asked_by};
+ghost use Rattle.path_semantics.specs.Dues.{reads, after_statement, after_entry, target_of, changed_by_return};
 
 use gd_words::{List, NoMemory};
 use process_semantics::Entry;
 use std::alloc::Global;
 use tal_tree::{Spot, Variable, What};
 
-/// What is due along a path since its last CHECKPOINT: the globals that may have changed, the file of each WRITEREAD that was
-/// made, and whether a request was read.
+/// What is due along a path since its last CHECKPOINT: the globals that may have changed, the file of each WRITEREAD
+/// that was made, and whether a request was read.
 #[derive(Drop)]
 pub struct Dues {
     pub globals: List<u16>,
@@ -62,7 +63,11 @@ impl Dues {
     }
 
     fn with_effects(self, what: &What) -> Result<Dues, NoMemory>
-        ensures { IfOk result (λ dues. dues ≡ record { globals = self.globals ++ changed_by (out-What what.now); asked = self.asked ++ asked_by (out-What what.now); read = self.read || reads (out-What what.now) }) }
+        ensures { IfOk result (λ dues. dues ≡ record {
+          globals = self.globals ++ changed_by (out-What what.now);
+          asked = self.asked ++ asked_by (out-What what.now);
+          read = self.read || reads (out-What what.now);
+        }) }
     {
         let mut dues = self.with_changed_by(what)?;
         if let What::WriteRead {

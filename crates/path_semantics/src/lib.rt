@@ -1,9 +1,9 @@
-//! The checkpoint discipline: what a path through a program is, what is due along it, when it breaks, and which programs are
-//! accepted. The definitions are in `specs/`.
+//! The checkpoint discipline: what a path through a program is, what is due along it, when it breaks, and which
+//! programs are accepted. The definitions are in `specs/`.
 //!
 //! Below stand `tal_tree` with the trees and `process_semantics`, whose entries remain at a place. The layer above uses
-//! `IsAccepted`, `Leads` and `Breaks` of `specs/`, `call_depth`, which counts how deep a program's calls go, what `breaking`
-//! tells of one statement, and the laws of this crate's public functions.
+//! `IsAccepted`, `Leads` and `Breaks` of `specs/`, `call_depth`, which counts how deep a program's calls go, what
+//! `breaking` tells of one statement, and the laws of this crate's public functions.
 #![tactic(auto)]
 
 pub mod breaking;

@@ -3,7 +3,8 @@ ghost use Rattle.std.specs.Option.{option_map};
 ghost use Rattle.tal_tree.specs.declared.statement.What.{out-What};
 ghost use Rattle.process_semantics.specs.State.{Run, Test, runs_of};
 ghost use Rattle.process_semantics.specs.SeenEntries.{entry_of};
-ghost use Rattle.path_semantics.specs.Place.{ways_of, rounds_of, ways, body_of, stand_at, settled, stands_after, successors, first_stand, next_entry};
+ghost use Rattle.path_semantics.specs.Place.{ways_of, rounds_of, ways, body_of, stand_at, settled, stands_after};
+ghost use Rattle.path_semantics.specs.Place.{successors, first_stand, next_entry};
 
 use crate::dues::Dues;
 use crate::frame::Frame;
@@ -81,7 +82,8 @@ impl<'a> Stand<'a> {
     }
 }
 
-/// A way on: the frame that runs, its callers, MAIN first, and the dues, while procedures may still stand at their ends.
+/// A way on: the frame that runs, its callers, MAIN first, and the dues, while procedures may still stand at their
+/// ends.
 #[derive(Drop)]
 struct Way<'a> {
     running: Frame<'a>,
@@ -106,7 +108,8 @@ impl<'a> Way<'a> {
     }
 
     fn stands_after(self, alloc: Global, program: &'a Program) -> Result<Vec<Stand<'a>>, NoMemory>
-        ensures { IfOk result (λ stands. stands.items ≡ stands_after program.now self.entry.dues (self.entry.running ∷ reverse self.entry.callers.items)) }
+        ensures { IfOk result (λ stands. stands.items
+            ≡ stands_after program.now self.entry.dues (self.entry.running ∷ reverse self.entry.callers.items)) }
     {
         let Way {
             mut running,
@@ -131,7 +134,9 @@ impl<'a> Way<'a> {
         program: &'a Program,
         entry: Entry<'a>,
     ) -> Result<Vec<Stand<'a>>, NoMemory>
-        ensures { IfOk result (λ stands. stands.items ≡ map (settled self.entry.dues) (ways program.now (entry_of entry.entry) self.entry.running (reverse self.entry.callers.items))) }
+        ensures { IfOk result (λ stands. stands.items
+            ≡ map (settled self.entry.dues) (ways program.now (entry_of entry.entry) self.entry.running
+            (reverse self.entry.callers.items))) }
     {
         match entry {
             Entry::Run(statement) => self.run(alloc, program, statement),
@@ -146,7 +151,9 @@ impl<'a> Way<'a> {
         program: &'a Program,
         statement: &'a Statement,
     ) -> Result<Vec<Stand<'a>>, NoMemory>
-        ensures { IfOk result (λ stands. stands.items ≡ map (settled self.entry.dues) (ways_of program.now statement.now self.entry.running (reverse self.entry.callers.items) (out-What statement.now.what))) }
+        ensures { IfOk result (λ stands. stands.items
+            ≡ map (settled self.entry.dues) (ways_of program.now statement.now self.entry.running
+            (reverse self.entry.callers.items) (out-What statement.now.what))) }
     {
         match &statement.what {
             What::If { test: _, yes, no } => self.either(alloc, yes.as_slice(), no.as_slice()),
@@ -177,7 +184,9 @@ impl<'a> Way<'a> {
     }
 
     fn test(mut self, alloc: Global, statement: &'a Statement) -> Result<Vec<Stand<'a>>, NoMemory>
-        ensures { IfOk result (λ stands. stands.items ≡ map (settled self.entry.dues) (rounds_of statement.now self.entry.running (reverse self.entry.callers.items) (out-What statement.now.what))) }
+        ensures { IfOk result (λ stands. stands.items
+            ≡ map (settled self.entry.dues) (rounds_of statement.now self.entry.running
+            (reverse self.entry.callers.items) (out-What statement.now.what))) }
     {
         match &statement.what {
             What::For {
@@ -203,7 +212,9 @@ impl<'a> Way<'a> {
         yes: &'a [Statement],
         no: &'a [Statement],
     ) -> Result<Vec<Stand<'a>>, NoMemory>
-        ensures { IfOk result (λ stands. stands.items ≡ stand_at (runs_of yes.now ++ self.entry.running) (reverse self.entry.callers.items) self.entry.dues ∷ stand_at (runs_of no.now ++ self.entry.running) (reverse self.entry.callers.items) self.entry.dues ∷ []) }
+        ensures { IfOk result (λ stands. stands.items
+            ≡ stand_at (runs_of yes.now ++ self.entry.running) (reverse self.entry.callers.items) self.entry.dues
+            ∷ stand_at (runs_of no.now ++ self.entry.running) (reverse self.entry.callers.items) self.entry.dues ∷ []) }
     {
         let mut other = self.copy(alloc)?;
         self.running.put_all(yes)?;
@@ -217,7 +228,9 @@ impl<'a> Way<'a> {
         statement: &'a Statement,
         body: &'a [Statement],
     ) -> Result<Vec<Stand<'a>>, NoMemory>
-        ensures { IfOk result (λ stands. stands.items ≡ stand_at (runs_of body.now ++ Run statement.now ∷ self.entry.running) (reverse self.entry.callers.items) self.entry.dues ∷ stand_at self.entry.running (reverse self.entry.callers.items) self.entry.dues ∷ []) }
+        ensures { IfOk result (λ stands. stands.items
+            ≡ stand_at (runs_of body.now ++ Run statement.now ∷ self.entry.running) (reverse self.entry.callers.items)
+            self.entry.dues ∷ stand_at self.entry.running (reverse self.entry.callers.items) self.entry.dues ∷ []) }
     {
         let on = self.copy(alloc)?;
         self.running.put(Entry::Run(statement))?;
@@ -232,7 +245,9 @@ impl<'a> Way<'a> {
         statement: &'a Statement,
         procedure: u16,
     ) -> Result<Vec<Stand<'a>>, NoMemory>
-        ensures { IfOk result (λ stands. stands.items ≡ stand_at (body_of program.now procedure) ((Run statement.now ∷ self.entry.running) ∷ reverse self.entry.callers.items) self.entry.dues ∷ []) }
+        ensures { IfOk result (λ stands. stands.items
+            ≡ stand_at (body_of program.now procedure)
+            ((Run statement.now ∷ self.entry.running) ∷ reverse self.entry.callers.items) self.entry.dues ∷ []) }
     {
         let Way {
             mut running,
@@ -251,7 +266,8 @@ impl<'a> Way<'a> {
     }
 
     fn give_back(self, alloc: Global) -> Result<Vec<Stand<'a>>, NoMemory>
-        ensures { IfOk result (λ stands. stands.items ≡ stand_at [] (reverse self.entry.callers.items) self.entry.dues ∷ []) }
+        ensures { IfOk result (λ stands. stands.items
+            ≡ stand_at [] (reverse self.entry.callers.items) self.entry.dues ∷ []) }
     {
         let Way {
             running: _,
@@ -282,7 +298,8 @@ impl<'a> Way<'a> {
     }
 
     fn one(self, alloc: Global) -> Result<Vec<Stand<'a>>, NoMemory>
-        ensures { IfOk result (λ stands. stands.items ≡ stand_at self.entry.running (reverse self.entry.callers.items) self.entry.dues ∷ []) }
+        ensures { IfOk result (λ stands. stands.items
+            ≡ stand_at self.entry.running (reverse self.entry.callers.items) self.entry.dues ∷ []) }
     {
         let mut stands = Vec::new(alloc);
         stands.push(self.stand()?)?;
@@ -290,7 +307,9 @@ impl<'a> Way<'a> {
     }
 
     fn or(self, alloc: Global, other: Way<'a>) -> Result<Vec<Stand<'a>>, NoMemory>
-        ensures { IfOk result (λ stands. stands.items ≡ stand_at self.entry.running (reverse self.entry.callers.items) self.entry.dues ∷ stand_at other.entry.running (reverse other.entry.callers.items) other.entry.dues ∷ []) }
+        ensures { IfOk result (λ stands. stands.items
+            ≡ stand_at self.entry.running (reverse self.entry.callers.items) self.entry.dues
+            ∷ stand_at other.entry.running (reverse other.entry.callers.items) other.entry.dues ∷ []) }
     {
         let mut stands = Vec::new(alloc);
         stands.push(self.stand()?)?;
@@ -299,7 +318,8 @@ impl<'a> Way<'a> {
     }
 
     fn stand(self) -> Result<Stand<'a>, NoMemory>
-        ensures { IfOk result (λ stand. stand ≡ stand_at self.entry.running (reverse self.entry.callers.items) self.entry.dues) }
+        ensures { IfOk result (λ stand. stand ≡ stand_at self.entry.running (reverse self.entry.callers.items)
+            self.entry.dues) }
     {
         let Way {
             running,

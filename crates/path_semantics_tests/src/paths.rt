@@ -20,7 +20,8 @@ const BANK: &[u8] =
     b"INT total, got, rcv, disk; INT buf[0:0]; INT out[0:2]; PROC bank MAIN; BEGIN CALL CHECKMONITOR;
 CALL OPEN(\"$RECEIVE\", rcv, 1); CALL OPEN(\"$DISC\", disk, 1); WHILE 1 DO BEGIN ";
 
-/// A program, a reason, and a path that breaks for it where no shorter one does; or none where none of up to 18 numbers does.
+/// A program, a reason, and a path that breaks for it where no shorter one does; or none where none of up to 18 numbers
+/// does.
 struct Sample {
     turn: &'static [u8],
     reason: Reason,
@@ -126,8 +127,8 @@ fn longer(alloc: Global, program: &Program, paths: &[Vec<u16>]) -> Result<Vec<Ve
     Ok(all)
 }
 
-/// A path that breaks for a reason, where no shorter one does, among those of at most 18 numbers. All paths of each length are
-/// tried, since the front of a path is a path.
+/// A path that breaks for a reason, where no shorter one does, among those of at most 18 numbers. All paths of each
+/// length are tried, since the front of a path is a path.
 fn least(alloc: Global, program: &Program, reason: Reason) -> Result<Option<Vec<u16>>, Fail> {
     let mut paths = Vec::new(alloc);
     paths.push(Vec::new(alloc))?;

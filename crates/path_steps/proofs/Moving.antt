@@ -1,5 +1,6 @@
 -- What each kind of step does to the place, and to the words of globals.
-use Rattle.std.proofs.Common.{◌≡◌, ◌≤◌, ℕ, ◌==◌, ℤ, pos, Bool, true, false, List, [], ◌∷◌, ◌++◌, drop, take, length, min, is_some, Option, Some, None, slice_get, refl, ap, subst, sym, ◌∙◌}
+use Rattle.std.proofs.Common.{◌≡◌, ◌≤◌, ℕ, ◌==◌, ℤ, pos, Bool, true, false, List, [], ◌∷◌, ◌++◌, drop, take, length}
+use Rattle.std.proofs.Common.{min, is_some, Option, Some, None, slice_get, refl, ap, subst, sym, ◌∙◌}
 use Rattle.std.proofs.lemmas.Bool.{or_parts}
 use Rattle.tal_tree.specs.declared.program.Program.{Program}
 use Rattle.tal_tree.specs.declared.program.Procedure.{Procedure}
@@ -9,16 +10,20 @@ use Rattle.tal_tree.specs.declared.statement.What.{What, What-F, out-What}
 use Rattle.tal_values.specs.declared.memory.Cell.{Cell}
 use Rattle.tal_values.specs.declared.memory.Cell.TheVariants as cell
 use Rattle.tal_values.specs.Value.{cell_of}
-use Rattle.process_semantics.specs.State.{Entry, Run, Test, Last, Frame, ProgramState, runs_of, first_of, words_of, memory_of}
-use Rattle.process_semantics.specs.Changes.{local_set, with_word, with_words, without_next, put_before, done, before, entering, left, ends, variable_cell}
-use Rattle.process_semantics.specs.Steps.{assigned, tested, entered_by, entered, given_in, given, given_to, returned, for_begun, counted_up, inner_entry, or_ends}
+use Rattle.process_semantics.specs.State.{Entry, Run, Test, Last, Frame, ProgramState, runs_of, first_of, words_of}
+use Rattle.process_semantics.specs.State.{memory_of}
+use Rattle.process_semantics.specs.Changes.{local_set, with_word, with_words, without_next, put_before, done, before}
+use Rattle.process_semantics.specs.Changes.{entering, left, ends, variable_cell}
+use Rattle.process_semantics.specs.Steps.{assigned, tested, entered_by, entered, given_in, given, given_to, returned}
+use Rattle.process_semantics.specs.Steps.{for_begun, counted_up, inner_entry, or_ends}
 use Rattle.process_semantics.specs.Calls.{received}
 use Rattle.path_semantics.specs.declared.dues.Dues.{Dues}
 use Rattle.path_semantics.specs.Dues.{with_changed, global_of, changed_by_return, target_of}
 use Rattle.path_semantics.specs.Place.{Place, Stand, place_of, body_in, body_of, settled, stand_at}
 use Rattle.gd_words.specs.Members.{is_among}
 use Rattle.path_semantics.specs.Break.{asked_count}
-use Rattle.path_steps.proofs.Growing.{HasGrown, grown-changed, grown-same, words-other, cell_global, word-stays, variable-global, spot-global}
+use Rattle.path_steps.proofs.Growing.{HasGrown, grown-changed, grown-same, words-other, cell_global, word-stays}
+use Rattle.path_steps.proofs.Growing.{variable-global, spot-global}
 
 -- Places
 
@@ -34,7 +39,8 @@ pub place-done : (frames : List Frame) → place_of (without_next frames) ≡ wi
 place-done [] = refl
 place-done (frame ∷ callers) = refl
 
-place-before : (entries : List Entry) (frames : List Frame) → place_of (put_before entries frames) ≡ with_first entries (place_of frames)
+place-before : (entries : List Entry) (frames : List Frame)
+    → place_of (put_before entries frames) ≡ with_first entries (place_of frames)
 place-before entries [] = refl
 place-before entries (frame ∷ callers) = refl
 
@@ -72,8 +78,10 @@ module _ (P : Stand → Type 0) (program : Program) (dues : Dues) (s : ProgramSt
   abbrev Done : Option ProgramState → Type 0
   Done next = GoesTo P dues s (or_ends s next)
 
-  moved-by : (after : ProgramState) (later : Dues) (place : Place) (changed : List ℕ) → place_of after.frames ≡ place → P (settled later place) → HasGrown dues later changed
-      → ((item : ℕ) → is_among item changed ≡ false → words_of after.globals item ≡ words_of s.globals item) → GoesBy P dues later s after
+  moved-by : (after : ProgramState) (later : Dues) (place : Place) (changed : List ℕ) → place_of after.frames ≡ place
+      → P (settled later place) → HasGrown dues later changed
+      → ((item : ℕ) → is_among item changed ≡ false → words_of after.globals item ≡ words_of s.globals item)
+      → GoesBy P dues later s after
   moved-by after later place changed is holds grown words = record {
     stands = subst (λ (p : Place). P (settled later p)) (sym is) holds;
     due = grown.due;
@@ -82,87 +90,123 @@ module _ (P : Stand → Type 0) (program : Program) (dues : Dues) (s : ProgramSt
     read = grown.read;
   }
 
-  moved : (after : ProgramState) (later : Dues) (place : Place) (changed : List ℕ) → place_of after.frames ≡ place → P (settled later place) → HasGrown dues later changed
-      → ((item : ℕ) → is_among item changed ≡ false → words_of after.globals item ≡ words_of s.globals item) → GoesTo P dues s after
-  moved after later place changed is holds grown words = λ alive. (later, moved-by after later place changed is holds grown words)
+  moved : (after : ProgramState) (later : Dues) (place : Place) (changed : List ℕ) → place_of after.frames ≡ place
+      → P (settled later place) → HasGrown dues later changed
+      → ((item : ℕ) → is_among item changed ≡ false → words_of after.globals item ≡ words_of s.globals item)
+      → GoesTo P dues s after
+  moved after later place changed is holds grown words =
+      λ alive. (later, moved-by after later place changed is holds grown words)
 
-  pub assigned-goes : (to : Option Cell) (value : Option ℤ) (here : Place) → place_of s.frames ≡ here → (later : Dues) (changed : List ℕ) → HasGrown dues later changed
-      → ((at : Cell) → to ≡ Some at → cell_global at ≡ changed) → P (settled later (without_first here)) → Done (assigned s to value)
+  pub assigned-goes : (to : Option Cell) (value : Option ℤ) (here : Place) → place_of s.frames ≡ here
+      → (later : Dues) (changed : List ℕ) → HasGrown dues later changed
+      → ((at : Cell) → to ≡ Some at → cell_global at ≡ changed) → P (settled later (without_first here))
+      → Done (assigned s to value)
   assigned-goes None None here place later changed grown cells holds = λ alive. absurd (never s alive)
   assigned-goes (Some to) None here place later changed grown cells holds = λ alive. absurd (never s alive)
   assigned-goes None (Some word) here place later changed grown cells holds = λ alive. absurd (never s alive)
   assigned-goes (Some to) (Some word) here place later changed grown cells holds =
-      moved (done (with_word to word s)) later (without_first here) changed (place-done (with_word to word s).frames ∙ ap without_first (place-word to word s ∙ place)) holds
-      grown (λ item e. word-stays to word s item (subst (λ (ns : List ℕ). is_among item ns ≡ false) (sym (cells to refl)) e))
+      moved (done (with_word to word s)) later (without_first here) changed
+      (place-done (with_word to word s).frames ∙ ap without_first (place-word to word s ∙ place)) holds
+      grown (λ item e. word-stays to word s item
+      (subst (λ (ns : List ℕ). is_among item ns ≡ false) (sym (cells to refl)) e))
 
-  pub tested-goes : (first second : List Entry) (holds : Option Bool) (entry : Entry) (rest : List Entry) (callers : Place) → place_of s.frames ≡ (entry ∷ rest) ∷ callers
-      → (later : Dues) (changed : List ℕ) → HasGrown dues later changed → P (settled later ((first ++ rest) ∷ callers)) → P (settled later ((second ++ rest) ∷ callers))
+  pub tested-goes : (first second : List Entry) (holds : Option Bool) (entry : Entry) (rest : List Entry)
+      (callers : Place) → place_of s.frames ≡ (entry ∷ rest) ∷ callers
+      → (later : Dues) (changed : List ℕ) → HasGrown dues later changed → P (settled later ((first ++ rest) ∷ callers))
+      → P (settled later ((second ++ rest) ∷ callers))
       → Done (tested s first second holds)
   tested-goes first second None entry rest callers place later changed grown one other = λ alive. absurd (never s alive)
   tested-goes first second (Some true) entry rest callers place later changed grown one other =
-      moved (before first (done s)) later ((first ++ rest) ∷ callers) changed (place-before first (done s).frames ∙ ap (with_first first) (place-done s.frames ∙ ap without_first place)) one
+      moved (before first (done s)) later ((first ++ rest) ∷ callers) changed
+      (place-before first (done s).frames ∙ ap (with_first first) (place-done s.frames ∙ ap without_first place))
+      one
       grown (λ item e. refl)
   tested-goes first second (Some false) entry rest callers place later changed grown one other =
-      moved (before second (done s)) later ((second ++ rest) ∷ callers) changed (place-before second (done s).frames ∙ ap (with_first second) (place-done s.frames ∙ ap without_first place)) other
+      moved (before second (done s)) later ((second ++ rest) ∷ callers) changed
+      (place-before second (done s).frames ∙ ap (with_first second) (place-done s.frames ∙ ap without_first place))
+      other
       grown (λ item e. refl)
 
-  entered_by-goes : (number : ℕ) (arguments : List ℤ) (procedure : Option Procedure) → slice_get program.procedures number ≡ procedure → (here : Place) → place_of s.frames ≡ here
-      → (later : Dues) (changed : List ℕ) → HasGrown dues later changed → P (settled later (body_of program number ∷ here)) → Done (entered_by s number arguments procedure)
+  entered_by-goes : (number : ℕ) (arguments : List ℤ) (procedure : Option Procedure)
+      → slice_get program.procedures number ≡ procedure → (here : Place) → place_of s.frames ≡ here
+      → (later : Dues) (changed : List ℕ) → HasGrown dues later changed
+      → P (settled later (body_of program number ∷ here)) → Done (entered_by s number arguments procedure)
   entered_by-goes number arguments None is here place later changed grown holds = λ alive. absurd (never s alive)
   entered_by-goes number arguments (Some procedure) is here place later changed grown holds =
       moved (entering number arguments procedure s) later (body_of program number ∷ here) changed
-      (ap (λ (p : Place). runs_of procedure.body ∷ p) place ∙ ap (λ (q : Option Procedure). body_in q ∷ here) (sym is)) holds grown (λ item e. refl)
+      (ap (λ (p : Place). runs_of procedure.body ∷ p) place ∙ ap (λ (q : Option Procedure). body_in q ∷ here) (sym is))
+      holds grown (λ item e. refl)
 
-  pub entered-goes : (number : ℕ) (arguments : Option (List ℤ)) (here : Place) → place_of s.frames ≡ here → (later : Dues) (changed : List ℕ) → HasGrown dues later changed
+  pub entered-goes : (number : ℕ) (arguments : Option (List ℤ)) (here : Place) → place_of s.frames ≡ here
+      → (later : Dues) (changed : List ℕ) → HasGrown dues later changed
       → P (settled later (body_of program number ∷ here)) → Done (entered program s number arguments)
   entered-goes number None here place later changed grown holds = λ alive. absurd (never s alive)
   entered-goes number (Some arguments) here place later changed grown holds =
       entered_by-goes number arguments (slice_get program.procedures number) refl here place later changed grown holds
 
-  pub begun-goes : (statement : Statement) (variable : Variable) (value : Option ℤ) (entry : Entry) (rest : List Entry) (callers : Place)
-      → place_of s.frames ≡ (entry ∷ rest) ∷ callers → (later : Dues) → HasGrown dues later (global_of variable) → P (settled later ((Test statement ∷ rest) ∷ callers))
+  pub begun-goes : (statement : Statement) (variable : Variable) (value : Option ℤ) (entry : Entry) (rest : List Entry)
+      (callers : Place)
+      → place_of s.frames ≡ (entry ∷ rest) ∷ callers → (later : Dues) → HasGrown dues later (global_of variable)
+      → P (settled later ((Test statement ∷ rest) ∷ callers))
       → Done (for_begun s statement variable value)
   begun-goes statement variable None entry rest callers place later grown holds = λ alive. absurd (never s alive)
   begun-goes statement variable (Some word) entry rest callers place later grown holds =
-      moved (before (Test statement ∷ []) (done (with_word (variable_cell variable) word s))) later ((Test statement ∷ rest) ∷ callers) (global_of variable)
+      moved (before (Test statement ∷ []) (done (with_word (variable_cell variable) word s))) later
+      ((Test statement ∷ rest) ∷ callers) (global_of variable)
       (place-before (Test statement ∷ []) (done (with_word (variable_cell variable) word s)).frames
-      ∙ ap (with_first (Test statement ∷ [])) (place-done (with_word (variable_cell variable) word s).frames ∙ ap without_first (place-word (variable_cell variable) word s ∙ place))) holds
-      grown (λ item e. word-stays (variable_cell variable) word s item (subst (λ (ns : List ℕ). is_among item ns ≡ false) (sym (variable-global variable)) e))
+      ∙ ap (with_first (Test statement ∷ []))
+      (place-done (with_word (variable_cell variable) word s).frames
+      ∙ ap without_first (place-word (variable_cell variable) word s ∙ place))) holds
+      grown (λ item e. word-stays (variable_cell variable) word s item
+      (subst (λ (ns : List ℕ). is_among item ns ≡ false) (sym (variable-global variable)) e))
 
-  pub counted-goes : (variable : Variable) (value : Option ℤ) (entry : Entry) (rest : List Entry) (callers : Place) → place_of s.frames ≡ (entry ∷ rest) ∷ callers → (later : Dues)
-      → HasGrown dues later (global_of variable) → P (settled later (rest ∷ callers)) → Done (counted_up s (variable_cell variable) value)
+  pub counted-goes : (variable : Variable) (value : Option ℤ) (entry : Entry) (rest : List Entry) (callers : Place)
+      → place_of s.frames ≡ (entry ∷ rest) ∷ callers → (later : Dues)
+      → HasGrown dues later (global_of variable) → P (settled later (rest ∷ callers))
+      → Done (counted_up s (variable_cell variable) value)
   counted-goes variable None entry rest callers place later grown holds = λ alive. absurd (never s alive)
   counted-goes variable (Some word) entry rest callers place later grown holds =
       moved (done (with_word (variable_cell variable) _ s)) later (rest ∷ callers) (global_of variable)
-      (place-done (with_word (variable_cell variable) _ s).frames ∙ ap without_first (place-word (variable_cell variable) _ s ∙ place)) holds
-      grown (λ item e. word-stays (variable_cell variable) _ s item (subst (λ (ns : List ℕ). is_among item ns ≡ false) (sym (variable-global variable)) e))
+      (place-done (with_word (variable_cell variable) _ s).frames
+      ∙ ap without_first (place-word (variable_cell variable) _ s ∙ place)) holds
+      grown (λ item e. word-stays (variable_cell variable) _ s item
+      (subst (λ (ns : List ℕ). is_among item ns ≡ false) (sym (variable-global variable)) e))
 
-  pub passed-goes : (entry : Entry) (rest : List Entry) (callers : Place) → place_of s.frames ≡ (entry ∷ rest) ∷ callers → (later : Dues) (changed : List ℕ)
+  pub passed-goes : (entry : Entry) (rest : List Entry) (callers : Place)
+      → place_of s.frames ≡ (entry ∷ rest) ∷ callers → (later : Dues) (changed : List ℕ)
       → HasGrown dues later changed → P (settled later (rest ∷ callers)) → Done (Some (done s))
   passed-goes entry rest callers place later changed grown holds =
-      moved (done s) later (rest ∷ callers) changed (place-done s.frames ∙ ap without_first place) holds grown (λ item e. refl)
+      moved (done s) later (rest ∷ callers) changed (place-done s.frames ∙ ap without_first place) holds grown
+      (λ item e. refl)
 
   -- words that come
-  pub received-goes : (buffer : ℕ) (got : Variable) (words : List ℤ) (room : Option ℕ) → is_some room ≡ true → (entry : Entry) (rest : List Entry) (callers : Place)
-      → place_of s.frames ≡ (entry ∷ rest) ∷ callers → (later : Dues) → HasGrown dues later (buffer ∷ global_of got) → P (settled later (rest ∷ callers))
+  pub received-goes : (buffer : ℕ) (got : Variable) (words : List ℤ) (room : Option ℕ) → is_some room ≡ true
+      → (entry : Entry) (rest : List Entry) (callers : Place)
+      → place_of s.frames ≡ (entry ∷ rest) ∷ callers → (later : Dues) → HasGrown dues later (buffer ∷ global_of got)
+      → P (settled later (rest ∷ callers))
       → GoesBy P dues later s (received s buffer got words room)
   received-goes buffer got words None there entry rest callers place later grown holds = absurd (cc)
   received-goes buffer got words (Some room) there entry rest callers place later grown holds =
       let filled : ProgramState = with_words buffer (take room words) s in
       let word : ℤ = pos (min room (length words)) in
       moved-by (done (with_word (variable_cell got) word filled)) later (rest ∷ callers) (buffer ∷ global_of got)
-      (place-done (with_word (variable_cell got) word filled).frames ∙ ap without_first (place-word (variable_cell got) word filled ∙ place)) holds
+      (place-done (with_word (variable_cell got) word filled).frames
+      ∙ ap without_first (place-word (variable_cell got) word filled ∙ place)) holds
       grown (λ item e. let t = or_parts (buffer == item) (is_among item (global_of got)) e in
-      word-stays (variable_cell got) word filled item (subst (λ (ns : List ℕ). is_among item ns ≡ false) (sym (variable-global got)) t.1)
+      word-stays (variable_cell got) word filled item
+      (subst (λ (ns : List ℕ). is_among item ns ≡ false) (sym (variable-global got)) t.1)
       ∙ words-other s.globals buffer item _ t.0)
 
-  pub done-goes : (entry : Entry) (rest : List Entry) (callers : Place) → place_of s.frames ≡ (entry ∷ rest) ∷ callers → (later : Dues) (changed : List ℕ)
+  pub done-goes : (entry : Entry) (rest : List Entry) (callers : Place) → place_of s.frames ≡ (entry ∷ rest) ∷ callers
+      → (later : Dues) (changed : List ℕ)
       → HasGrown dues later changed → P (settled later (rest ∷ callers)) → GoesBy P dues later s (done s)
   done-goes entry rest callers place later changed grown holds =
-      moved-by (done s) later (rest ∷ callers) changed (place-done s.frames ∙ ap without_first place) holds grown (λ item e. refl)
+      moved-by (done s) later (rest ∷ callers) changed (place-done s.frames ∙ ap without_first place) holds grown
+      (λ item e. refl)
 
   -- a caller that has its word back
-  given-goes : (word : ℤ) (rest : List Entry) (callers : Place) → place_of s.frames ≡ rest ∷ callers → (d : Dues) (changed : List ℕ) → HasGrown dues d changed
+  given-goes : (word : ℤ) (rest : List Entry) (callers : Place) → place_of s.frames ≡ rest ∷ callers
+      → (d : Dues) (changed : List ℕ) → HasGrown dues d changed
       → P (stand_at [] (rest ∷ callers) d) → Done (given program word s (first_of rest))
   given-goes word rest callers at d changed grown holds = by_first (first_of rest) refl
     where
@@ -176,9 +220,11 @@ module _ (P : Stand → Type 0) (program : Program) (dues : Dues) (s : ProgramSt
       grows = grown-changed dues d changed returned grown
 
       plain : GoesTo P dues s (done s)
-      plain = moved (done s) later (drop 1 rest ∷ callers) returned (place-done s.frames ∙ ap without_first at) holds grows (λ item e. refl)
+      plain = moved (done s) later (drop 1 rest ∷ callers) returned (place-done s.frames ∙ ap without_first at) holds
+          grows (λ item e. refl)
 
-      by_layer : (statement : Statement) (layer : What-F What Statement) → first_of rest ≡ Some (Run statement) → out-What statement.what ≡ layer → Done (given_in program word s layer)
+      by_layer : (statement : Statement) (layer : What-F What Statement) → first_of rest ≡ Some (Run statement)
+          → out-What statement.what ≡ layer → Done (given_in program word s layer)
       by_layer statement (What-F.AssignCall to procedure arguments) first is =
           assigned-goes (cell_of (memory_of program s) to) (Some word) (rest ∷ callers) at later returned grows
           (λ c e. spot-global (memory_of program s) to c e ∙ sym (ap changed_by_return first ∙ ap target_of is)) holds
@@ -193,21 +239,27 @@ module _ (P : Stand → Type 0) (program : Program) (dues : Dues) (s : ProgramSt
 -- a procedure that gives a word
 module _ (P : Stand → Type 0) (program : Program) (dues : Dues) (s : ProgramState) where
   from-left : (after : ProgramState) → GoesTo P dues (left s) after → GoesTo P dues s after
-  from-left after goes alive = let t = goes alive in (t.0, record { stands = t.1.stands; due = t.1.due; words = t.1.words; asked = t.1.asked; read = t.1.read })
+  from-left after goes alive = let t = goes alive in
+      (t.0, record { stands = t.1.stands; due = t.1.due; words = t.1.words; asked = t.1.asked; read = t.1.read })
 
-  pub returned-goes : (value : Option ℤ) (frame : List Entry) (callers : Place) → place_of s.frames ≡ frame ∷ callers → (d : Dues) (changed : List ℕ) → HasGrown dues d changed
+  pub returned-goes : (value : Option ℤ) (frame : List Entry) (callers : Place) → place_of s.frames ≡ frame ∷ callers
+      → (d : Dues) (changed : List ℕ) → HasGrown dues d changed
       → P (stand_at [] callers d) → GoesTo P dues s (or_ends s (returned program s value))
   returned-goes None frame callers at d changed grown holds = λ alive. absurd (never s alive)
   returned-goes (Some word) frame callers at d changed grown holds = by_below (drop 1 s.frames) refl
     where
-      by_below : (below : List Frame) → drop 1 s.frames ≡ below → GoesTo P dues s (or_ends s (given_to program word (left s) below))
+      by_below : (below : List Frame) → drop 1 s.frames ≡ below
+          → GoesTo P dues s (or_ends s (given_to program word (left s) below))
       by_below [] is = λ alive. absurd (never (left s) alive)
       by_below (caller ∷ below) is =
-          let same : callers ≡ caller.rest ∷ place_of below = ap (λ (p : Place). drop 1 p) (sym at) ∙ sym (place-left s.frames) ∙ ap place_of is in
+          let same : callers ≡ caller.rest ∷ place_of below =
+          ap (λ (p : Place). drop 1 p) (sym at) ∙ sym (place-left s.frames) ∙ ap place_of is in
           from-left (or_ends s (given program word (left s) (first_of caller.rest)))
-          (given-goes P program dues (left s) word caller.rest (place_of below) (ap place_of is) d changed grown (subst (λ (p : Place). P (stand_at [] p d)) same holds))
+          (given-goes P program dues (left s) word caller.rest (place_of below) (ap place_of is) d changed grown
+          (subst (λ (p : Place). P (stand_at [] p d)) same holds))
 
 -- the step of a procedure's end comes where the path stood already
 pub end-goes : (program : Program) (dues : Dues) (s : ProgramState) (callers : Place) → place_of s.frames ≡ [] ∷ callers
     → GoesTo (λ stand. stand ≡ settled dues ([] ∷ callers)) dues s (or_ends s (inner_entry program s None))
-end-goes program dues s callers at = returned-goes (λ stand. stand ≡ settled dues ([] ∷ callers)) program dues s (Some (pos 0)) [] callers at dues [] (grown-same dues) refl
+end-goes program dues s callers at = returned-goes (λ stand. stand ≡ settled dues ([] ∷ callers)) program dues s
+    (Some (pos 0)) [] callers at dues [] (grown-same dues) refl

@@ -1,4 +1,5 @@
--- What a step of a program is to the paths of the checkpoint discipline: where it leads, what is due there, and which words stay.
+-- What a step of a program is to the paths of the checkpoint discipline: where it leads, what is due there, and which
+-- words stay.
 use Rattle.std.specs.Prelude.{◌≡◌, ◌≤◌, ◌⊎◌, ℕ, Bool, true, false, is_some}
 use Rattle.gd_words.specs.Members.{IsAmong, is_among}
 use Rattle.tal_tree.specs.declared.program.Program.{Program}

@@ -1,5 +1,6 @@
 -- An act of a machine that agrees with a ledger is a deed that is allowed there, or what a terminal may do.
-use Rattle.std.proofs.Common.{◌≡◌, ◌<◌, ℕ, ◌+◌, ℤ, true, List, [], ◌∷◌, length, Option, Some, None, is_some, slice_get, refl, ap, sym, ◌∙◌, subst, arith}
+use Rattle.std.proofs.Common.{◌≡◌, ◌<◌, ℕ, ◌+◌, ℤ, true, List, [], ◌∷◌, length, Option, Some, None, is_some, slice_get}
+use Rattle.std.proofs.Common.{refl, ap, sym, ◌∙◌, subst, arith}
 use Rattle.std.proofs.lemmas.List.{length-set}
 use Rattle.std.proofs.lemmas.Option.{slice_get_within, slice_get-get_or}
 use Rattle.tal_tree.specs.declared.act.Act.TheVariants.{Step, Take}
@@ -15,12 +16,14 @@ use Rattle.process_semantics.specs.Process as process
 use Rattle.process_semantics.proofs.Points.{AtCall, at_reply, stands-at}
 use Rattle.whole_states.specs.Processes.{IsDiscAt, IsWholeProcess}
 use Rattle.whole_states.proofs.Discs.{disc-at}
-use Rattle.plain_semantics.specs.Machine.{Plain, PlainProcess, Made, made, slot_at, slot_of, step_made, step_at, got_made, take_made, take_at, take_slot}
+use Rattle.plain_semantics.specs.Machine.{Plain, PlainProcess, Made, made, slot_at, slot_of, step_made, step_at}
+use Rattle.plain_semantics.specs.Machine.{got_made, take_made, take_at, take_slot}
 use Rattle.plain_semantics.specs.Openers.{openers_of, opener_of}
 use Rattle.plain_semantics.specs.declared.slot.Opener.{Opener}
 use Rattle.plain_semantics.specs.declared.slot.Slot.{Slot}
 use Rattle.plain_semantics.specs.declared.slot.Slot.TheVariants.{Empty, Waiting, Taken, Answered}
-use Rattle.world_semantics.specs.Core.{Core, Deed, Went, Checkpointed, Took, Asked, Got, Answered as Replied, Acted, goes, marks, takes, asks, gets, answers, acts}
+use Rattle.world_semantics.specs.Core.{Core, Deed, Went, Checkpointed, Took, Asked, Got, Answered as Replied, Acted}
+use Rattle.world_semantics.specs.Core.{goes, marks, takes, asks, gets, answers, acts}
 use Rattle.world_semantics.specs.Own.{found_on}
 use Rattle.world_semantics.proofs.Lists.{some-same}
 use Rattle.process_histories.specs.Bounds.{AreBounded}
@@ -42,13 +45,16 @@ answered-slot : {a t n r : List (List ℤ)} {words : List ℤ} → IsSlot a t n 
 answered-slot (is_answered asked even last) = last
 
 empty-slot : {a t n r : List (List ℤ)} → IsSlot a t n r Empty → length a ≡ length r
-empty-slot (is_empty asked even last) = let x = ap (length {A = List ℤ}) asked in let y = ap (length {A = List ℤ}) last in omega (arith, x, y, even)
+empty-slot (is_empty asked even last) =
+    let x = ap (length {A = List ℤ}) asked in let y = ap (length {A = List ℤ}) last in omega (arith, x, y, even)
 
 -- the slot of an opener, as it is found in the machine
-found-slot : {site : Site} {plain : Plain} {ledger : Ledger} (one : Who) (opener : Opener) (slot : Slot) → Agrees site plain ledger → opener_of site one ≡ Some opener
+found-slot : {site : Site} {plain : Plain} {ledger : Ledger} (one : Who) (opener : Opener) (slot : Slot)
+    → Agrees site plain ledger → opener_of site one ≡ Some opener
     → slot_at plain opener ≡ Some slot → HasSlotOf ledger one opener slot
 found-slot {ledger = ledger} one opener slot agrees is found =
-    let old = agrees.slots one opener is in subst (λ s. HasSlotOf ledger one opener s) (some-same (sym old.1 ∙ found)) old.2
+    let old = agrees.slots one opener is in
+    subst (λ s. HasSlotOf ledger one opener s) (some-same (sym old.1 ∙ found)) old.2
 
 -- at Answer a request is in hand
 answer-hand : (s : process.ProcessState) → IsWholeProcess s → process.point s ≡ point.Answer → process.in_hand s ≡ true
@@ -64,7 +70,8 @@ answer-hand (process.Serves sectors s) is at = by s.request s.reply (disc-at poi
     by (Some request) (Some reply) fits = refl
 
 -- the opener of the request in hand is there
-hand-there : {site : Site} {number : ℕ} {spec : ProcessSpec} {deeds : List Deed} {core : Core} (place : ℕ) → HasDone site number spec deeds core
+hand-there : {site : Site} {number : ℕ} {spec : ProcessSpec} {deeds : List Deed} {core : Core} (place : ℕ)
+    → HasDone site number spec deeds core
     → core.receive.in_hand ≡ Some place → place < length core.receive.openers
 hand-there place nothing_done held = absurd (cc)
 hand-there place (one_more done (goes at)) held = hand-there place done held
@@ -85,14 +92,19 @@ pub record IsStep (site : Site) (ledger : Ledger) (number : ℕ) (spec : Process
   pub step : act_of number deed ≡ Step number
   pub can : CanDo site ledger number spec deed
 
-module _ (site : Site) (plain : Plain) (ledger : Ledger) (number : ℕ) (spec : ProcessSpec) (m : Made) (regular : AreRegular site) (agrees : Agrees site plain ledger)
+module _ (site : Site) (plain : Plain) (ledger : Ledger) (number : ℕ) (spec : ProcessSpec) (m : Made)
+    (regular : AreRegular site) (agrees : Agrees site plain ledger)
     (there : slice_get site.processes number ≡ Some spec) where
-  step-is : (one : PlainProcess) (core : Core) → AreBounded (ledger.deeds number) → HasDone site number spec (ledger.deeds number) core → one.state ≡ core.state
+  step-is : (one : PlainProcess) (core : Core) → AreBounded (ledger.deeds number)
+      → HasDone site number spec (ledger.deeds number) core → one.state ≡ core.state
       → step_at site number one plain (process.point one.state) ≡ Some m → IsStep site ledger number spec
-  step-is one core bounded done same makes = by (process.point core.state) refl (ap (step_at site number one plain) (ap process.point (sym same)) ∙ makes)
+  step-is one core bounded done same makes =
+      by (process.point core.state) refl (ap (step_at site number one plain) (ap process.point (sym same)) ∙ makes)
     where
-      got : process.point core.state ≡ point.Await → (opener : Option Opener) → opener_of site (who.File number (process.asked_file one.state)) ≡ opener → (slot : Option Slot)
-          → slot_of plain opener ≡ slot → got_made number one opener plain slot ≡ Some m → IsStep site ledger number spec
+      got : process.point core.state ≡ point.Await → (opener : Option Opener)
+          → opener_of site (who.File number (process.asked_file one.state)) ≡ opener → (slot : Option Slot)
+          → slot_of plain opener ≡ slot → got_made number one opener plain slot ≡ Some m
+          → IsStep site ledger number spec
       got at opener is None found makes = absurd (cc)
       got at opener is (Some Empty) found makes = absurd (cc)
       got at opener is (Some (Waiting words)) found makes = absurd (cc)
@@ -109,11 +121,17 @@ module _ (site : Site) (plain : Plain) (ledger : Ledger) (number : ℕ) (spec : 
               after = _;
               done = done;
               advances = gets at refl;
-              allowed = (opener, here, answered-slot (found-slot (who.File number (process.asked_file core.state)) opener (Answered words) agrees here found));
+              allowed = (
+                opener,
+                here,
+                answered-slot (found-slot (who.File number (process.asked_file core.state))
+                    opener (Answered words) agrees here found),
+              );
             };
           }
 
-      answered : process.point core.state ≡ point.Answer → (hand : Option ℕ) → core.receive.in_hand ≡ hand → IsStep site ledger number spec
+      answered : process.point core.state ≡ point.Answer → (hand : Option ℕ) → core.receive.in_hand ≡ hand
+          → IsStep site ledger number spec
       answered at None held =
           let whole = done-whole (regular number spec there) done bounded in
           let some = answer-hand core.state whole at in
@@ -123,23 +141,41 @@ module _ (site : Site) (plain : Plain) (ledger : Ledger) (number : ℕ) (spec : 
           let within = hand-there place done held in
           let long = openers-same done in
           let block = slice_get-get_or core.receive.openers place (record { taken = 0; kept = [] }) within in
-          let opener = slice_get-get_or (openers_of site number) place (record { who = who.Terminal 0; depth = 0 }) (omega (arith, within, long)) in
+          let opener = slice_get-get_or (openers_of site number) place (record { who = who.Terminal 0; depth = 0 })
+          (omega (arith, within, long)) in
           record {
             deed = Replied place (process.answer_of core.state);
             step = refl;
-            can = record { before = core; after = _; done = done; advances = answers _ _ at held opener block refl; allowed = tt };
+            can = record {
+              before = core;
+              after = _;
+              done = done;
+              advances = answers _ _ at held opener block refl;
+              allowed = tt;
+            };
           }
 
-      by : (p : Point) → process.point core.state ≡ p → step_at site number one plain p ≡ Some m → IsStep site ledger number spec
-      by point.Inner at makes = record { deed = Went; step = refl; can = record { before = core; after = _; done = done; advances = goes at; allowed = tt } }
-      by point.AtCheckpoint at makes = record { deed = Checkpointed; step = refl; can = record { before = core; after = _; done = done; advances = marks at; allowed = tt } }
+      by : (p : Point) → process.point core.state ≡ p → step_at site number one plain p ≡ Some m
+          → IsStep site ledger number spec
+      by point.Inner at makes = record {
+        deed = Went;
+        step = refl;
+        can = record { before = core; after = _; done = done; advances = goes at; allowed = tt };
+      }
+      by point.AtCheckpoint at makes = record {
+        deed = Checkpointed;
+        step = refl;
+        can =
+            record { before = core; after = _; done = done; advances = marks at; allowed = tt };
+      }
       by point.Ask at makes = record {
         deed = Asked (process.asked_file core.state) (process.asked_words core.state);
         step = refl;
         can = record { before = core; after = _; done = done; advances = asks at refl refl; allowed = tt };
       }
       by point.Device at makes = record {
-        deed = Acted (process.call_of core.state) (found_on (sectors_after spec.what (ledger.deeds number)) (process.call_of core.state));
+        deed = Acted (process.call_of core.state)
+            (found_on (sectors_after spec.what (ledger.deeds number)) (process.call_of core.state));
         step = refl;
         can = record { before = core; after = _; done = done; advances = acts at refl; allowed = refl };
       }
@@ -149,19 +185,25 @@ module _ (site : Site) (plain : Plain) (ledger : Ledger) (number : ℕ) (spec : 
       by point.Take at makes = absurd (cc)
       by point.Ended at makes = absurd (cc)
 
-  pub step-deed : AreBounded (ledger.deeds number) → made site plain (Step number) ≡ Some m → IsStep site ledger number spec
+  pub step-deed : AreBounded (ledger.deeds number) → made site plain (Step number) ≡ Some m
+      → IsStep site ledger number spec
   step-deed bounded makes =
       let its = agrees.processes number spec there in
       step-is its.0 its.2.core bounded its.2.done its.2.state (ap (step_made site number plain) (sym its.1) ∙ makes)
 
-module _ (site : Site) (plain : Plain) (ledger : Ledger) (number : ℕ) (spec : ProcessSpec) (m : Made) (agrees : Agrees site plain ledger)
+module _ (site : Site) (plain : Plain) (ledger : Ledger) (number : ℕ) (spec : ProcessSpec) (m : Made)
+    (agrees : Agrees site plain ledger)
     (there : slice_get site.processes number ≡ Some spec) where
-  take-is : (one : PlainProcess) (core : Core) (asker : Who) (place : ℕ) → slice_get plain.processes number ≡ Some one → HasDone site number spec (ledger.deeds number) core
+  take-is : (one : PlainProcess) (core : Core) (asker : Who) (place : ℕ) → slice_get plain.processes number ≡ Some one
+      → HasDone site number spec (ledger.deeds number) core
       → one.state ≡ core.state → opener_of site asker ≡ Some (record { server = number; place = place })
-      → take_at number place one plain (process.point one.state) ≡ Some m → (words : List ℤ) × CanDo site ledger number spec (Took place words)
-  take-is one core asker place at done same is makes = by (process.point core.state) refl (ap (take_at number place one plain) (ap process.point (sym same)) ∙ makes)
+      → take_at number place one plain (process.point one.state) ≡ Some m
+      → (words : List ℤ) × CanDo site ledger number spec (Took place words)
+  take-is one core asker place at done same is makes =
+      by (process.point core.state) refl (ap (take_at number place one plain) (ap process.point (sym same)) ∙ makes)
     where
-      slot : process.point core.state ≡ point.Take → (slot : Option Slot) → slice_get one.slots place ≡ slot → take_slot number place one plain slot ≡ Some m
+      slot : process.point core.state ≡ point.Take → (slot : Option Slot) → slice_get one.slots place ≡ slot
+          → take_slot number place one plain slot ≡ Some m
           → (words : List ℤ) × CanDo site ledger number spec (Took place words)
       slot stands None found makes = absurd (cc)
       slot stands (Some Empty) found makes = absurd (cc)
@@ -171,19 +213,27 @@ module _ (site : Site) (plain : Plain) (ledger : Ledger) (number : ℕ) (spec : 
           let spec-there = opener-is site asker (record { server = number; place = place }) is in
           let within = slice_get_within (openers_of site number) place spec-there.spec spec-there.placed in
           let long = openers-same done in
-          let block = slice_get-get_or core.receive.openers place (record { taken = 0; kept = [] }) (omega (arith, within, long)) in
-          let in_slot : slot_at plain (record { server = number; place = place }) ≡ Some (Waiting words) = rw at found in (
+          let block = slice_get-get_or core.receive.openers place (record { taken = 0; kept = [] })
+          (omega (arith, within, long)) in
+          let in_slot : slot_at plain (record { server = number; place = place }) ≡ Some (Waiting words) =
+          rw at found in (
             words,
             record {
               before = core;
               after = _;
               done = done;
               advances = takes _ stands block;
-              allowed = (asker, is, waiting-slot (found-slot asker (record { server = number; place = place }) (Waiting words) agrees is in_slot));
+              allowed = (
+                asker,
+                is,
+                waiting-slot (found-slot asker (record { server = number; place = place })
+                    (Waiting words) agrees is in_slot),
+              );
             },
           )
 
-      by : (p : Point) → process.point core.state ≡ p → take_at number place one plain p ≡ Some m → (words : List ℤ) × CanDo site ledger number spec (Took place words)
+      by : (p : Point) → process.point core.state ≡ p → take_at number place one plain p ≡ Some m
+          → (words : List ℤ) × CanDo site ledger number spec (Took place words)
       by point.Take stands makes = slot stands (slice_get one.slots place) refl makes
       by point.Inner stands makes = absurd (cc)
       by point.Ask stands makes = absurd (cc)
@@ -193,8 +243,10 @@ module _ (site : Site) (plain : Plain) (ledger : Ledger) (number : ℕ) (spec : 
       by point.Device stands makes = absurd (cc)
       by point.Ended stands makes = absurd (cc)
 
-  pub take-deed : (asker : Who) (place : ℕ) → opener_of site asker ≡ Some (record { server = number; place = place }) → made site plain (Take number place) ≡ Some m
+  pub take-deed : (asker : Who) (place : ℕ) → opener_of site asker ≡ Some (record { server = number; place = place })
+      → made site plain (Take number place) ≡ Some m
       → (words : List ℤ) × CanDo site ledger number spec (Took place words)
   take-deed asker place is makes =
       let its = agrees.processes number spec there in
-      take-is its.0 its.2.core asker place its.1 its.2.done its.2.state is (ap (take_made number place plain) (sym its.1) ∙ makes)
+      take-is its.0 its.2.core asker place its.1 its.2.done its.2.state is
+      (ap (take_made number place plain) (sym its.1) ∙ makes)

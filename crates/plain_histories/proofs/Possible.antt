@@ -11,7 +11,8 @@ use Rattle.plain_semantics.specs.Machine.{Plain, made_before, made_all, plain_st
 use Rattle.plain_semantics.proofs.Runs.{made_all-snoc}
 use Rattle.world_semantics.specs.Core.{Deed, Went, Checkpointed, Took, Asked, Got, Answered, Acted}
 use Rattle.plain_histories.specs.Agreeing.{AreRegular, Agrees}
-use Rattle.plain_histories.specs.Booking.{act_of, shown_of, AreBooked, none_booked, deed_booked, entry_booked, reply_booked}
+use Rattle.plain_histories.specs.Booking.{act_of, shown_of, AreBooked, none_booked, deed_booked, entry_booked}
+use Rattle.plain_histories.specs.Booking.{reply_booked}
 use Rattle.plain_histories.specs.Ledgers.{Ledger}
 use Rattle.plain_histories.proofs.Beginning.{beginning-agrees}
 use Rattle.plain_histories.proofs.Doing.{IsMade, deed-made}
@@ -23,14 +24,17 @@ pub record HasRun (site : Site) (acts : List Act) (shown : List Shown) (ledger :
   pub ran : made_all site (plain_start site) (reverse acts) ≡ Some (record { plain = plain; shown = reverse shown })
   pub agrees : Agrees site plain ledger
 
-one-more : {site : Site} {acts : List Act} {shown : List Shown} {ledger more : Ledger} (act : Act) (said : List Shown) → HasRun site acts shown ledger
-    → ((plain : Plain) → Agrees site plain ledger → IsMade site plain act (reverse said) more) → HasRun site (act ∷ acts) (said ++ shown) more
+one-more : {site : Site} {acts : List Act} {shown : List Shown} {ledger more : Ledger} (act : Act) (said : List Shown)
+    → HasRun site acts shown ledger
+    → ((plain : Plain) → Agrees site plain ledger → IsMade site plain act (reverse said) more)
+    → HasRun site (act ∷ acts) (said ++ shown) more
 one-more {site = site} {acts = acts} {shown = shown} act said run makes =
     let is = makes run.plain run.agrees in
     record {
       plain = is.next;
       ran = ap (made_all site (plain_start site)) (reverse-append (act ∷ []) acts)
-          ∙ made_all-snoc site (reverse acts) act (plain_start site) (record { plain = run.plain; shown = reverse shown }) run.ran
+          ∙ made_all-snoc site (reverse acts) act (plain_start site)
+          (record { plain = run.plain; shown = reverse shown }) run.ran
           ∙ ap (option_map (made_before (reverse shown))) is.makes
           ∙ ap (λ (all : List Shown). Some (record { plain = is.next; shown = all })) (sym (reverse-append said shown));
       agrees = is.agrees;
@@ -48,17 +52,28 @@ shown-one number (Acted call.Nothing found) = refl
 shown-one number (Acted (call.Read sector) found) = refl
 shown-one number (Acted (call.Write sector words write) found) = refl
 
-turned : {site : Site} {plain : Plain} {act : Act} {said same : List Shown} {ledger : Ledger} → said ≡ same → IsMade site plain act said ledger → IsMade site plain act same ledger
+turned : {site : Site} {plain : Plain} {act : Act} {said same : List Shown} {ledger : Ledger} → said ≡ same
+    → IsMade site plain act said ledger → IsMade site plain act same ledger
 turned {plain = plain} {act = act} e is =
-    record { next = is.next; makes = is.makes ∙ ap (λ (all : List Shown). Some (record { plain = is.next; shown = all })) e; agrees = is.agrees }
+    record {
+      next = is.next;
+      makes = is.makes
+          ∙ ap (λ (all : List Shown). Some (record { plain = is.next; shown = all })) e;
+      agrees = is.agrees;
+    }
 
-pub booked-ran : {site : Site} {acts : List Act} {shown : List Shown} {ledger : Ledger} → AreRegular site → AreBooked site acts shown ledger → HasRun site acts shown ledger
-booked-ran {site = site} regular none_booked = record { plain = plain_start site; ran = refl; agrees = beginning-agrees site }
-booked-ran {site = site} regular (deed_booked {ledger = ledger} number spec deed before after booked there done advances allowed) =
+pub booked-ran : {site : Site} {acts : List Act} {shown : List Shown} {ledger : Ledger} → AreRegular site
+    → AreBooked site acts shown ledger → HasRun site acts shown ledger
+booked-ran {site = site} regular none_booked =
+    record { plain = plain_start site; ran = refl; agrees = beginning-agrees site }
+booked-ran {site = site} regular (deed_booked {ledger = ledger} number spec deed before after booked there done
+    advances allowed) =
     one-more (act_of number deed) (shown_of number deed) (booked-ran regular booked)
-    (λ plain agrees. turned (shown-one number deed) (deed-made site plain ledger number spec deed before after regular agrees there done advances allowed))
+    (λ plain agrees. turned (shown-one number deed)
+    (deed-made site plain ledger number spec deed before after regular agrees there done advances allowed))
 booked-ran {site = site} regular (entry_booked {ledger = ledger} terminal opener words booked is even next) =
-    one-more (Enter terminal) [] (booked-ran regular booked) (λ plain agrees. entry-made site plain ledger terminal opener words agrees is even next)
+    one-more (Enter terminal) [] (booked-ran regular booked)
+    (λ plain agrees. entry-made site plain ledger terminal opener words agrees is even next)
 booked-ran {site = site} regular (reply_booked {ledger = ledger} terminal opener words booked is ready) =
     one-more (Print terminal) (Reply terminal (length (ledger.entered terminal)) words ∷ []) (booked-ran regular booked)
     (λ plain agrees. reply-made site plain ledger terminal opener words agrees is ready)

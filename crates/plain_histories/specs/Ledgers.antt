@@ -31,11 +31,13 @@ with_deeds number (deed ∷ deeds) ledger = with_deed number deed (with_deeds nu
 
 -- the ledger after a terminal entered words
 abbrev pub with_entered : ℕ → List ℤ → Ledger → Ledger
-with_entered terminal words ledger = record ledger { entered = changed_at terminal (words ∷ ledger.entered terminal) ledger.entered }
+with_entered terminal words ledger =
+    record ledger { entered = changed_at terminal (words ∷ ledger.entered terminal) ledger.entered }
 
 -- the ledger after a terminal printed words
 abbrev pub with_printed : ℕ → List ℤ → Ledger → Ledger
-with_printed terminal words ledger = record ledger { printed = changed_at terminal (words ∷ ledger.printed terminal) ledger.printed }
+with_printed terminal words ledger =
+    record ledger { printed = changed_at terminal (words ∷ ledger.printed terminal) ledger.printed }
 
 -- Between an opener and its server
 

@@ -10,16 +10,20 @@ ghost use Rattle.plain_histories.specs.Ledgers.{Ledger, empty_ledger};
 ghost use Rattle.plain_histories.specs.Served.{asked, replied, all_acts};
 ghost use Rattle.plain_histories.specs.Slots.{IsSlot, IsEntry};
 
-/// The acts of a disc that a terminal asks once are booked, with the write and the reply that they show. A second request can't be entered before the reply
-/// was printed, nor a request be taken that none entered.
+/// The acts of a disc that a terminal asks once are booked, with the write and the reply that they show. A second
+/// request can't be entered before the reply was printed, nor a request be taken that none entered.
 pub fn a_served_request_is_booked()
-    ensures served { AreBooked disc_site all_acts (Reply 0 1 (pos 0 ∷ []) ∷ Write 0 1 (sector_with (pos 5)) ∷ []) replied }
-    ensures not_twice { (shown : List Shown) (ledger : Ledger) → AreBooked disc_site (Enter 0 ∷ Enter 0 ∷ []) shown ledger → ⊥ }
-    ensures not_entered { (shown : List Shown) (ledger : Ledger) → AreBooked disc_site (Take 0 0 ∷ []) shown ledger → ⊥ }
+    ensures served { AreBooked disc_site all_acts (Reply 0 1 (pos 0 ∷ []) ∷ Write 0 1 (sector_with (pos 5)) ∷ [])
+        replied }
+    ensures not_twice { (shown : List Shown) (ledger : Ledger)
+        → AreBooked disc_site (Enter 0 ∷ Enter 0 ∷ []) shown ledger → ⊥ }
+    ensures not_entered { (shown : List Shown) (ledger : Ledger) → AreBooked disc_site (Take 0 0 ∷ []) shown ledger
+        → ⊥ }
     ensures short { AreShortRequests disc_site }
 {}
 
-/// The take of a request that waits is held, with steps inside after it; nothing is held without a take, or before a request waits.
+/// The take of a request that waits is held, with steps inside after it; nothing is held without a take, or before a
+/// request waits.
 pub fn a_take_is_held_while_its_request_waits()
     ensures held { AreHeld disc_site asked 0 (Take 0 0 ∷ []) (Took 0 (pos 2 ∷ pos 1 ∷ pos 5 ∷ []) ∷ []) }
     ensures no_take { (deeds : List Deed) → AreHeld disc_site asked 0 (Step 0 ∷ []) deeds → ⊥ }
@@ -27,7 +31,8 @@ pub fn a_take_is_held_while_its_request_waits()
     ensures taken { (deeds : List Deed) → AreHeld disc_site replied 0 (Take 0 0 ∷ []) deeds → ⊥ }
 {}
 
-/// A slot goes with its request from waiting to taken, answered and empty; numbers of entries count from 1 at the oldest.
+/// A slot goes with its request from waiting to taken, answered and empty; numbers of entries count from 1 at the
+/// oldest.
 pub fn a_slot_goes_with_its_request()
     ensures waits { (words : List ℤ) → IsSlot (words ∷ []) [] [] [] (Waiting words) }
     ensures taken { (words : List ℤ) → IsSlot (words ∷ []) (words ∷ []) [] [] Taken }

@@ -16,22 +16,28 @@ pub swept-more : (site : Site) (act : Plain → ℕ → Act) (k count : ℕ) (ra
 swept-more site act k count ran within = ap (λ left. swept site act k left ran) (left-more k count within)
 
 pub none_of-more : (site : Site) (plain : Plain) (act : Plain → ℕ → Act) (k count : ℕ) → k < count
-    → none_of site plain act k (count - k) ≡ is_none (made site plain (act plain k)) && none_of site plain act (k + 1) (count - (k + 1))
+    → none_of site plain act k (count - k) ≡ is_none (made site plain (act plain k))
+    && none_of site plain act (k + 1) (count - (k + 1))
 none_of-more site plain act k count within = ap (λ left. none_of site plain act k left) (left-more k count within)
 
 -- an act that isn't possible leaves it to the others
-pub none_of-after : (site : Site) (plain : Plain) (act : Plain → ℕ → Act) (k count : ℕ) → k < count → is_some (made site plain (act plain k)) ≡ false
+pub none_of-after : (site : Site) (plain : Plain) (act : Plain → ℕ → Act) (k count : ℕ) → k < count
+    → is_some (made site plain (act plain k)) ≡ false
     → none_of site plain act k (count - k) ≡ none_of site plain act (k + 1) (count - (k + 1))
 none_of-after site plain act k count within gone =
-    none_of-more site plain act k count within ∙ ap (λ possible. not possible && none_of site plain act (k + 1) (count - (k + 1))) gone
+    none_of-more site plain act k count within
+    ∙ ap (λ possible. not possible && none_of site plain act (k + 1) (count - (k + 1))) gone
 
 -- a possible act is one
-pub none_of-not : (site : Site) (plain : Plain) (act : Plain → ℕ → Act) (k count : ℕ) → k < count → is_some (made site plain (act plain k)) ≡ true
+pub none_of-not : (site : Site) (plain : Plain) (act : Plain → ℕ → Act) (k count : ℕ) → k < count
+    → is_some (made site plain (act plain k)) ≡ true
     → none_of site plain act k (count - k) ≡ false
 none_of-not site plain act k count within there =
-    none_of-more site plain act k count within ∙ ap (λ possible. not possible && none_of site plain act (k + 1) (count - (k + 1))) there
+    none_of-more site plain act k count within
+    ∙ ap (λ possible. not possible && none_of site plain act (k + 1) (count - (k + 1))) there
 
-pub rounds_on-more : (site : Site) (k count : ℕ) (ran : Ran) → k < count → rounds_on site (count - k) ran ≡ rounds_on site (count - (k + 1)) (round site ran)
+pub rounds_on-more : (site : Site) (k count : ℕ) (ran : Ran) → k < count
+    → rounds_on site (count - k) ran ≡ rounds_on site (count - (k + 1)) (round site ran)
 rounds_on-more site k count ran within = ap (λ left. rounds_on site left ran) (left-more k count within)
 
 pub repeated-more : (site : Site) (event : Event) (k times : ℕ) (ran : Ran) → k < times

@@ -21,14 +21,18 @@ pub took-first : (number place : ℕ) (one : PlainProcess) (plain : Plain) (slot
 took-first number place one plain [] = refl
 took-first number place one plain (Waiting words ∷ slots) = refl
 took-first number place one plain (Empty ∷ slots) =
-    ap (λ k. is_some (take_slot number place one plain (slice_get (Empty ∷ slots) k))) (waiting_from-suc 0 slots) ∙ took-first number place one plain slots
+    ap (λ k. is_some (take_slot number place one plain (slice_get (Empty ∷ slots) k))) (waiting_from-suc 0 slots)
+    ∙ took-first number place one plain slots
 took-first number place one plain (Taken ∷ slots) =
-    ap (λ k. is_some (take_slot number place one plain (slice_get (Taken ∷ slots) k))) (waiting_from-suc 0 slots) ∙ took-first number place one plain slots
+    ap (λ k. is_some (take_slot number place one plain (slice_get (Taken ∷ slots) k))) (waiting_from-suc 0 slots)
+    ∙ took-first number place one plain slots
 took-first number place one plain (Answered words ∷ slots) =
-    ap (λ k. is_some (take_slot number place one plain (slice_get (Answered words ∷ slots) k))) (waiting_from-suc 0 slots) ∙ took-first number place one plain slots
+    ap (λ k. is_some (take_slot number place one plain (slice_get (Answered words ∷ slots) k)))
+    (waiting_from-suc 0 slots) ∙ took-first number place one plain slots
 
 -- a process at Take can take exactly where a request waits
-pub can-take : (site : Site) (plain : Plain) (number : ℕ) (one : PlainProcess) → slice_get plain.processes number ≡ Some one
+pub can-take : (site : Site) (plain : Plain) (number : ℕ) (one : PlainProcess)
+    → slice_get plain.processes number ≡ Some one
     → process.point one.state ≡ point.Take → is_some (made site plain (next_move plain number)) ≡ has_waiting one.slots
 can-take site plain number one there stands =
     ap (λ act. is_some (made site plain act)) (ap (move_of number) there ∙ ap (move_at number one.slots) stands)

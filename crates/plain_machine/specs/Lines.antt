@@ -8,7 +8,8 @@ use Rattle.tal_tree.specs.declared.act.Act.TheVariants.{Enter}
 use Rattle.tal_tree.specs.declared.site.Site.{Site}
 use Rattle.plain_machine.specs.Rounds.{Ran, tried, next_move, rounds_on, run_start}
 
--- `run` is the Take or Step that a process may make next, and `enter` the Enter of a terminal; the machine has no other events
+-- `run` is the Take or Step that a process may make next, and `enter` the Enter of a terminal; the machine has no other
+-- events
 abbrev pub happened : Site → Event → Ran → Ran
 happened site (event.Run process) ran = tried site (next_move ran.plain process) ran
 happened site (event.Enter terminal) ran = tried site (Enter terminal) ran

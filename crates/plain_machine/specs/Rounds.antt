@@ -1,5 +1,6 @@
--- Rounds of the machine of single unfailing processes. A round is, in this order: Enter of each terminal, one Take or Step of each process, and Print of
--- each terminal, each where it is possible. A Take takes the waiting opener of the lowest place.
+-- Rounds of the machine of single unfailing processes. A round is, in this order: Enter of each terminal, one Take or
+-- Step of each process, and Print of each terminal, each where it is possible. A Take takes the waiting opener of the
+-- lowest place.
 use Rattle.std.specs.Prelude.{ℕ, zero, suc, ◌+◌, List, [], ◌∷◌, ◌++◌, length, slice_get, Option, Some, None}
 use Rattle.tal_tree.specs.declared.act.Act.{Act}
 use Rattle.tal_tree.specs.declared.act.Act.TheVariants.{Step, Take, Enter, Print}
@@ -63,7 +64,8 @@ print_of plain terminal = Print terminal
 -- the run after one more round
 abbrev pub round : Site → Ran → Ran
 round site ran =
-    swept site print_of 0 (length site.terminals) (swept site next_move 0 (length site.processes) (swept site enter_of 0 (length site.terminals) ran))
+    swept site print_of 0 (length site.terminals)
+    (swept site next_move 0 (length site.processes) (swept site enter_of 0 (length site.terminals) ran))
 
 -- a run so far, and so many rounds more
 abbrev pub rounds_on : Site → ℕ → Ran → Ran

@@ -21,7 +21,8 @@ is_answered _ = false
 -- none of the acts for so many numbers, from a number on, is possible
 abbrev pub none_of : Site → Plain → (Plain → ℕ → Act) → ℕ → ℕ → Bool
 none_of site plain act number zero = true
-none_of site plain act number (suc left) = is_none (made site plain (act plain number)) && none_of site plain act (number + 1) left
+none_of site plain act number (suc left) =
+    is_none (made site plain (act plain number)) && none_of site plain act (number + 1) left
 
 -- no terminal can enter or print, and no process can take or step
 abbrev pub is_still : Site → Plain → Bool

@@ -1,4 +1,5 @@
--- The numbers of the writes of discs, which have 32 bits, and how many acts lines make at most, each of which raises one by 1 at most.
+-- The numbers of the writes of discs, which have 32 bits, and how many acts lines make at most, each of which raises
+-- one by 1 at most.
 use Rattle.std.specs.Prelude.{ℕ, ◌+◌, ◌*◌, ◌<◌, max, List, [], ◌∷◌, length}
 use Rattle.checkpoint_image.specs.Behaving.{last_write_of}
 use Rattle.schedule.specs.declared.line.Line.{Line}

@@ -20,10 +20,10 @@ pub struct Played {
     pub idle: bool,
 }
 
-/// Plays the lines of a schedule on a machine of single unfailing processes of its own. `run` makes one Take or Step of its
-/// process, and `enter` one Enter of its terminal. A round is, in this order, Enter of each terminal, one Take or Step of
-/// each process, and Print of each terminal. Each is made where it is possible; a Take takes the waiting opener of the lowest
-/// place. The lines of other events make nothing. The lines ask for no more acts than numbers of 32 bits.
+/// Plays the lines of a schedule on a machine of single unfailing processes of its own. `run` makes one Take or Step of
+/// its process, and `enter` one Enter of its terminal. A round is, in this order, Enter of each terminal, one Take or
+/// Step of each process, and Print of each terminal. Each is made where it is possible; a Take takes the waiting opener
+/// of the lowest place. The lines of other events make nothing. The lines ask for no more acts than numbers of 32 bits.
 pub fn play_lines(alloc: Global, site: &Site, lines: &[Line]) -> Result<Played, NoMemory>
     requires playable { IsPlayable site.now }
     requires room { lines_acts site.now lines.now < 4294967296 }

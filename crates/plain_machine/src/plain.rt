@@ -43,10 +43,12 @@ impl<'a> Plain<'a> {
         Ok(Plain { wires, state })
     }
 
-    /// Makes an act, and answers what it shows. The numbers of the last writes of discs, which have 32 bits, have nexts.
+    /// Makes an act, and answers what it shows. The numbers of the last writes of discs, which have 32 bits, have
+    /// nexts.
     pub fn act(&mut self, act: Act) -> Result<Option<Shown>, ActFault>
         requires { HasRoomFor 1 self.old.state }
-        ensures made { IfOk result (λ shown. made self.old.site self.old.state act ≡ Some (record { plain = self.new.state; shown = listed shown })) }
+        ensures made { IfOk result (λ shown. made self.old.site self.old.state act
+            ≡ Some (record { plain = self.new.state; shown = listed shown })) }
         ensures not_possible { IsErr result → made self.old.site self.old.state act ≡ None }
         ensures unchanged { OnErr result (self.new ≡ self.old) }
         ensures site { self.new.site ≡ self.old.site }

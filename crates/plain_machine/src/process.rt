@@ -4,7 +4,9 @@ ghost use Rattle.checkpoint_image.specs.Behaving.{last_write_of};
 ghost use Rattle.plain_semantics.specs.Openers.{openers_of};
 ghost use Rattle.plain_semantics.specs.SiteLimits.{KeepsSiteLimits};
 ghost use Rattle.process_semantics.specs.State.{zeros};
-ghost use Rattle.process_semantics.specs.Process.{point, after_inner, after_took, asked_file, asked_words, after_asked, after_got, answer_of, after_answered, after_checkpoint, call_of, after_device};
+ghost use Rattle.process_semantics.specs.Process.{point, after_inner, after_took, asked_file, asked_words, after_asked};
+ghost use Rattle.process_semantics.specs.Process.{after_got, answer_of, after_answered, after_checkpoint, call_of};
+ghost use Rattle.process_semantics.specs.Process.{after_device};
 ghost use Rattle.plain_semantics.specs.Machine.{process_at_first, sectors_at_first, found_by, written_by};
 ghost use Rattle.processes.specs.Seen.{IsLoadableKind};
 ghost use Rattle.plain_machine.specs.Rounds.{waiting_from};
@@ -18,8 +20,8 @@ use std::alloc::Global;
 use std::marker::Model;
 use tal_tree::{Kind, OpenerSpec, ProcessSpec, Site};
 
-/// A process of the machine: its state, the place of the opener whose request is in hand, a slot for each of its openers,
-/// and the sectors of a disc.
+/// A process of the machine: its state, the place of the opener whose request is in hand, a slot for each of its
+/// openers, and the sectors of a disc.
 #[derive(Drop)]
 pub struct PlainProcess {
     process: Process,
@@ -87,7 +89,7 @@ impl PlainProcess {
     }
 
     pub(crate) fn marked(&mut self)
-        requires { point self.old.state ≡ Point.Mark }
+        requires { point self.old.state ≡ Point.AtCheckpoint }
         ensures { self.new ≡ record self.old { state = after_checkpoint self.old.state } }
     {
         self.process.marked();
@@ -137,7 +139,10 @@ impl PlainProcess {
         requires stands { point self.old.state ≡ Point.Device }
         requires room { HasNext (last_write_of self.old.state) }
         ensures call { result ≡ call_of self.old.state }
-        ensures state { self.new ≡ record self.old { state = after_device self.old.state (found_by self.old.sectors (call_of self.old.state)); sectors = written_by self.old.sectors (call_of self.old.state) } }
+        ensures state { self.new ≡ record self.old {
+          state = after_device self.old.state (found_by self.old.sectors (call_of self.old.state));
+          sectors = written_by self.old.sectors (call_of self.old.state);
+        } }
     {
         let call = self.process.device();
         let found = found_by(&self.sectors, &call);
@@ -149,7 +154,11 @@ impl PlainProcess {
     /// Takes the request with these words, which waits in the slot of this place.
     pub(crate) fn took(&mut self, place: usize, words: &Words)
         requires { point self.old.state ≡ Point.Take }
-        ensures { self.new ≡ record self.old { state = after_took self.old.state words.now; hand = Some place; slots = slice_set self.old.slots place Slot.Taken } }
+        ensures { self.new ≡ record self.old {
+          state = after_took self.old.state words.now;
+          hand = Some place;
+          slots = slice_set self.old.slots place Slot.Taken;
+        } }
     {
         self.process.took(words);
         self.hand = Some(place);

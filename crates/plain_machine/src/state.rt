@@ -3,7 +3,10 @@ ghost use Rattle.std.specs.Option.{option_copied};
 ghost use Rattle.process_semantics.specs.Process as process;
 ghost use Rattle.tal_tree.specs.declared.site.Who.TheVariants as who;
 ghost use Rattle.plain_semantics.specs.Openers.{opener_of};
-ghost use Rattle.plain_semantics.specs.Machine.{processes_at_first, plain_start, slot_of, with_slot, with_state, own_opener, answer_made, answered_by, device_made, shown_by_device, step_at, step_made, take_slot, take_at, take_made, enter_request, enter_made, entered_at, next_request, print_made, made};
+ghost use Rattle.plain_semantics.specs.Machine.{processes_at_first, plain_start, slot_of, with_slot, with_state};
+ghost use Rattle.plain_semantics.specs.Machine.{own_opener, answer_made, answered_by, device_made, shown_by_device};
+ghost use Rattle.plain_semantics.specs.Machine.{step_at, step_made, take_slot, take_at, take_made, enter_request};
+ghost use Rattle.plain_semantics.specs.Machine.{enter_made, entered_at, next_request, print_made, made};
 ghost use Rattle.plain_semantics.specs.SiteLimits.{KeepsSiteLimits};
 ghost use Rattle.plain_machine.specs.Outcomes.{Settles, shown_in};
 ghost use Rattle.plain_machine.specs.Standing.{AreLoadable, IsPlayable, IsAt};
@@ -28,7 +31,8 @@ pub(crate) struct Move {
     pub(crate) outcome: Outcome,
 }
 
-/// The state of a machine of single unfailing processes: its processes, and for each terminal how many requests it has entered.
+/// The state of a machine of single unfailing processes: its processes, and for each terminal how many requests it has
+/// entered.
 #[derive(Drop)]
 pub struct State {
     processes: Vec<PlainProcess>,
@@ -73,7 +77,8 @@ impl State {
 
     fn step(&mut self, wires: &Wires<'_>, process: u8) -> Outcome
         requires { HasRoomFor 1 self.old }
-        ensures { Settles (step_made wires.now process self.old (slice_get self.old.processes process)) self.old result self.new }
+        ensures { Settles (step_made wires.now process self.old (slice_get self.old.processes process)) self.old result
+            self.new }
     {
         match self.processes.as_slice().get(usize::from(process)) {
             None => Outcome::Impossible,
@@ -87,7 +92,8 @@ impl State {
     fn step_at(&mut self, wires: &Wires<'_>, process: u8, point: Point) -> Outcome
         requires stands { IsAt process point self.old }
         requires room { HasRoomFor 1 self.old }
-        ensures { IfSome (slice_get self.old.processes process) (λ one. Settles (step_at wires.now process one self.old point) self.old result self.new) }
+        ensures { IfSome (slice_get self.old.processes process)
+            (λ one. Settles (step_at wires.now process one self.old point) self.old result self.new) }
     {
         let number = usize::from(process);
         match point {
@@ -116,7 +122,8 @@ impl State {
 
     fn inner(&mut self, number: usize)
         requires { IsAt number Point.Inner self.old }
-        ensures { IfSome (slice_get self.old.processes number) (λ one. self.new ≡ with_state number one (process.after_inner one.state) self.old) }
+        ensures { IfSome (slice_get self.old.processes number)
+            (λ one. self.new ≡ with_state number one (process.after_inner one.state) self.old) }
     {
         if number < self.processes.len() {
             self.processes[number].inner();
@@ -124,8 +131,9 @@ impl State {
     }
 
     fn mark(&mut self, number: usize)
-        requires { IsAt number Point.Mark self.old }
-        ensures { IfSome (slice_get self.old.processes number) (λ one. self.new ≡ with_state number one (process.after_checkpoint one.state) self.old) }
+        requires { IsAt number Point.AtCheckpoint self.old }
+        ensures { IfSome (slice_get self.old.processes number)
+            (λ one. self.new ≡ with_state number one (process.after_checkpoint one.state) self.old) }
     {
         if number < self.processes.len() {
             self.processes[number].marked();
@@ -134,7 +142,10 @@ impl State {
 
     fn ask(&mut self, wires: &Wires<'_>, number: usize)
         requires { IsAt number Point.Ask self.old }
-        ensures { IfSome (slice_get self.old.processes number) (λ one. self.new ≡ with_slot (own_opener wires.now number one) (Slot.Waiting (process.asked_words one.state)) (with_state number one (process.after_asked one.state) self.old)) }
+        ensures { IfSome (slice_get self.old.processes number)
+            (λ one. self.new ≡ with_slot (own_opener wires.now number one)
+            (Slot.Waiting (process.asked_words one.state))
+            (with_state number one (process.after_asked one.state) self.old)) }
     {
         if number < self.processes.len() {
             let opener = wires.file(number, self.processes[number].asked_file());
@@ -145,7 +156,8 @@ impl State {
 
     fn get(&mut self, wires: &Wires<'_>, number: usize) -> Outcome
         requires { IsAt number Point.Await self.old }
-        ensures { IfSome (slice_get self.old.processes number) (λ one. Settles (step_at wires.now number one self.old Point.Await) self.old result self.new) }
+        ensures { IfSome (slice_get self.old.processes number)
+            (λ one. Settles (step_at wires.now number one self.old Point.Await) self.old result self.new) }
     {
         if number >= self.processes.len() {
             return Outcome::Impossible;
@@ -176,7 +188,9 @@ impl State {
     fn device(&mut self, server: u8) -> Outcome
         requires stands { IsAt server Point.Device self.old }
         requires room { HasRoomFor 1 self.old }
-        ensures { IfSome (slice_get self.old.processes server) (λ one. Settles (Some (device_made server one self.old (process.call_of one.state))) self.old result self.new) }
+        ensures { IfSome (slice_get self.old.processes server)
+            (λ one. Settles (Some (device_made server one self.old (process.call_of one.state))) self.old result
+            self.new) }
     {
         let number = usize::from(server);
         if number >= self.processes.len() {
@@ -187,7 +201,8 @@ impl State {
     }
 
     fn take(&mut self, number: usize, place: usize) -> Outcome
-        ensures { Settles (take_made number place self.old (slice_get self.old.processes number)) self.old result self.new }
+        ensures { Settles (take_made number place self.old (slice_get self.old.processes number)) self.old result
+            self.new }
     {
         match self.processes.as_slice().get(number) {
             None => Outcome::Impossible,
@@ -200,7 +215,9 @@ impl State {
 
     fn take_slot(&mut self, number: usize, place: usize) -> Outcome
         requires { IsAt number Point.Take self.old }
-        ensures { IfSome (slice_get self.old.processes number) (λ one. Settles (take_slot number place one self.old (slice_get one.slots place)) self.old result self.new) }
+        ensures { IfSome (slice_get self.old.processes number)
+            (λ one. Settles (take_slot number place one self.old (slice_get one.slots place)) self.old result
+            self.new) }
     {
         if number >= self.processes.len() {
             return Outcome::Impossible;
@@ -216,7 +233,8 @@ impl State {
     }
 
     fn enter(&mut self, wires: &Wires<'_>, number: usize) -> Outcome
-        ensures { Settles (enter_made wires.now number (opener_of wires.now (who.Terminal number)) self.old (slot_of self.old (opener_of wires.now (who.Terminal number)))) self.old result self.new }
+        ensures { Settles (enter_made wires.now number (opener_of wires.now (who.Terminal number)) self.old
+            (slot_of self.old (opener_of wires.now (who.Terminal number)))) self.old result self.new }
     {
         let opener = wires.terminal(number);
         match self.slot_of(opener) {
@@ -226,7 +244,8 @@ impl State {
     }
 
     fn enter_next(&mut self, wires: &Wires<'_>, number: usize, opener: Option<Opener>) -> Outcome
-        ensures { Settles (enter_request number opener self.old (next_request wires.now number (entered_at self.old number))) self.old result self.new }
+        ensures { Settles (enter_request number opener self.old
+            (next_request wires.now number (entered_at self.old number))) self.old result self.new }
     {
         let entered = self.entered_at(number);
         match wires.request(number, entered) {
@@ -243,7 +262,8 @@ impl State {
     }
 
     fn print(&mut self, wires: &Wires<'_>, terminal: u8) -> Outcome
-        ensures { Settles (print_made terminal (opener_of wires.now (who.Terminal terminal)) self.old (slot_of self.old (opener_of wires.now (who.Terminal terminal)))) self.old result self.new }
+        ensures { Settles (print_made terminal (opener_of wires.now (who.Terminal terminal)) self.old
+            (slot_of self.old (opener_of wires.now (who.Terminal terminal)))) self.old result self.new }
     {
         let opener = wires.terminal(usize::from(terminal));
         let number = self.entered_at(usize::from(terminal));
@@ -265,7 +285,8 @@ impl State {
     pub(crate) fn make_move(&mut self, wires: &Wires<'_>, process: u8) -> Move
         requires { HasRoomFor 1 self.old }
         ensures act { result.act ≡ next_move self.old process }
-        ensures outcome { Settles (made wires.now self.old (next_move self.old process)) self.old result.outcome self.new }
+        ensures outcome { Settles (made wires.now self.old (next_move self.old process)) self.old result.outcome
+            self.new }
     {
         match self.processes.as_slice().get(usize::from(process)) {
             None => {

@@ -34,7 +34,8 @@ impl<'a> Model for Wires<'a> {
 
     ghost view = { λ wires. wires.site.now };
 
-    ghost invariant = { λ wires. (wires.files ≡ file_rows wires.site.now 0 wires.site.now.processes) × (wires.terminals ≡ terminal_row wires.site.now 0 wires.site.now.terminals) × KeepsSiteLimits wires.site.now };
+    ghost invariant = { λ wires. (wires.files ≡ file_rows wires.site.now 0 wires.site.now.processes)
+        × (wires.terminals ≡ terminal_row wires.site.now 0 wires.site.now.terminals) × KeepsSiteLimits wires.site.now };
 }
 
 impl<'a> Wires<'a> {

@@ -5,4 +5,5 @@ use Rattle.std.proofs.lemmas.List.Elements.{All-cons, All-head, All-nil, All-tai
 
 pub all-push : {A : Type 0} (P : A → Type 0) (all : List A) (one : A) → All P all → P one → All P (all ++ one ∷ [])
 all-push P [] one all is = All-cons P one [] is (All-nil P)
-all-push P (first ∷ rest) one all is = All-cons P first (rest ++ one ∷ []) (All-head P first rest all) (all-push P rest one (All-tail P first rest all) is)
+all-push P (first ∷ rest) one all is =
+    All-cons P first (rest ++ one ∷ []) (All-head P first rest all) (all-push P rest one (All-tail P first rest all) is)

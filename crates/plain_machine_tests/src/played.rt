@@ -74,8 +74,8 @@ const LINES: [Line; 8] = [
     Line::Drain(1),
 ];
 
-/// What a shown act tells of the bank: 0 and the total that was written to sector 0, or the number of the request and the total that
-/// was replied.
+/// What a shown act tells of the bank: 0 and the total that was written to sector 0, or the number of the request and
+/// the total that was replied.
 fn shown_total(shown: &Shown) -> (u32, Option<i16>) {
     match shown {
         Shown::Write { words, .. } => (0, Some(words[0])),

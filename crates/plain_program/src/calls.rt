@@ -2,7 +2,9 @@ ghost use Rattle.std.specs.Prelude.{◌≡◌, ◌≤◌, [], length, IfOk, OnOk
 ghost use Rattle.tal_tree.specs.declared.statement.What.{out-What};
 ghost use Rattle.process_semantics.specs.State.{words_of, count_of};
 ghost use Rattle.process_semantics.specs.Points.{point_in, point_of};
-ghost use Rattle.process_semantics.specs.Calls.{received, took_in, got_in, first_words, file_in, asked_in, answer_in, after_took, asked_file, asked_words, after_asked, after_got, answer_of, after_answered, after_checkpoint};
+ghost use Rattle.process_semantics.specs.Calls.{received, took_in, got_in, first_words, file_in, asked_in, answer_in};
+ghost use Rattle.process_semantics.specs.Calls.{after_took, asked_file, asked_words, after_asked, after_got, answer_of};
+ghost use Rattle.process_semantics.specs.Calls.{after_answered, after_checkpoint};
 
 use crate::execution::Execution;
 use gd_words::{NoMemory, Words};
@@ -27,7 +29,8 @@ impl<'a> Execution<'a> {
     }
 
     fn point_in(&self, alloc: Global, statement: &Statement) -> Result<Point, NoMemory>
-        ensures { IfOk result (λ point. point ≡ point_in self.now.program self.now.state (out-What statement.now.what)) }
+        ensures { IfOk result (λ point. point ≡ point_in self.now.program self.now.state
+            (out-What statement.now.what)) }
     {
         match &statement.what {
             What::ReadUpdate {
@@ -69,7 +72,8 @@ impl<'a> Execution<'a> {
 
     /// The step at Take: READUPDATE gets the words of the request that is taken.
     pub fn took(&mut self, alloc: Global, words: &Words) -> Result<(), NoMemory>
-        ensures { OnOk result (self.new ≡ record self.old { state = after_took self.old.program self.old.state words.now }) }
+        ensures { OnOk result (self.new ≡ record self.old
+            { state = after_took self.old.program self.old.state words.now }) }
     {
         if let Some(Entry::Run(statement)) = self.next() {
             self.took_in(alloc, statement, words)?;
@@ -83,7 +87,8 @@ impl<'a> Execution<'a> {
         statement: &Statement,
         words: &Words,
     ) -> Result<(), NoMemory>
-        ensures { OnOk result (self.new ≡ record self.old { state = took_in self.old.program self.old.state words.now (out-What statement.now.what) }) }
+        ensures { OnOk result (self.new ≡ record self.old
+            { state = took_in self.old.program self.old.state words.now (out-What statement.now.what) }) }
     {
         if let What::ReadUpdate { buffer, most, got } = &statement.what {
             let room = self.count(alloc, *buffer, most)?;
@@ -119,7 +124,8 @@ impl<'a> Execution<'a> {
 
     fn asked_in(&self, alloc: Global, statement: &Statement) -> Result<Asked, NoMemory>
         ensures file { IfOk result (λ asked. asked.file ≡ file_in (out-What statement.now.what)) }
-        ensures words { IfOk result (λ asked. asked.words ≡ asked_in self.now.program self.now.state (out-What statement.now.what)) }
+        ensures words { IfOk result (λ asked. asked.words
+            ≡ asked_in self.now.program self.now.state (out-What statement.now.what)) }
     {
         match &statement.what {
             What::WriteRead {
@@ -139,7 +145,8 @@ impl<'a> Execution<'a> {
 
     /// The step at Await: WRITEREAD gets the words of the reply.
     pub fn got(&mut self, alloc: Global, words: &Words) -> Result<(), NoMemory>
-        ensures { OnOk result (self.new ≡ record self.old { state = after_got self.old.program self.old.state words.now }) }
+        ensures { OnOk result (self.new ≡ record self.old
+            { state = after_got self.old.program self.old.state words.now }) }
     {
         if let Some(Entry::Run(statement)) = self.next() {
             self.got_in(alloc, statement, words)?;
@@ -153,7 +160,8 @@ impl<'a> Execution<'a> {
         statement: &Statement,
         words: &Words,
     ) -> Result<(), NoMemory>
-        ensures { OnOk result (self.new ≡ record self.old { state = got_in self.old.program self.old.state words.now (out-What statement.now.what) }) }
+        ensures { OnOk result (self.new ≡ record self.old
+            { state = got_in self.old.program self.old.state words.now (out-What statement.now.what) }) }
     {
         if let What::WriteRead {
             file: _,
@@ -185,7 +193,8 @@ impl<'a> Execution<'a> {
     }
 
     fn answer_in(&self, alloc: Global, statement: &Statement) -> Result<Words, NoMemory>
-        ensures { IfOk result (λ words. words ≡ answer_in self.now.program self.now.state (out-What statement.now.what)) }
+        ensures { IfOk result (λ words. words ≡ answer_in self.now.program self.now.state
+            (out-What statement.now.what)) }
     {
         match &statement.what {
             What::Reply { buffer, count } => self.first_words(alloc, *buffer, count),
@@ -213,7 +222,8 @@ impl<'a> Execution<'a> {
 
     /// The words at the start of an array that a count names.
     fn first_words(&self, alloc: Global, buffer: u16, count: &Expr) -> Result<Words, NoMemory>
-        ensures { IfOk result (λ words. words ≡ first_words (words_of self.now.state.globals buffer) (count_of self.now.program self.now.state buffer count.now)) }
+        ensures { IfOk result (λ words. words ≡ first_words (words_of self.now.state.globals buffer)
+            (count_of self.now.program self.now.state buffer count.now)) }
     {
         let words = self.words(buffer);
         match value(alloc, self.memory(), count)? {

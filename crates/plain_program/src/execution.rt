@@ -1,8 +1,10 @@
 ghost use Rattle.std.specs.Prelude.{◌≡◌, ◌≤◌, ◌∷◌, ◌++◌, [], length, map, drop, slice_get, slice_set, IfOk, OnOk};
 ghost use Rattle.std.specs.Option.{option_map};
 ghost use Rattle.tal_values.specs.Seen.{seen};
-ghost use Rattle.process_semantics.specs.State.{start, first_frames, memory_of, next_of, words_of, frame_of, first_of, runs_of};
-ghost use Rattle.process_semantics.specs.Changes.{with_word, with_words, with_hand, with_waiting, before, entering, left, done, ends};
+ghost use Rattle.process_semantics.specs.State.{start, first_frames, memory_of, next_of, words_of, frame_of, first_of};
+ghost use Rattle.process_semantics.specs.State.{runs_of};
+ghost use Rattle.process_semantics.specs.Changes.{with_word, with_words, with_hand, with_waiting, before, entering};
+ghost use Rattle.process_semantics.specs.Changes.{left, done, ends};
 ghost use Rattle.process_semantics.specs.SeenEntries.{entry_of};
 ghost use Rattle.plain_program.specs.SeenFrames.{frames_of};
 
@@ -140,7 +142,8 @@ impl<'a> Execution<'a> {
 
     /// Puts an entry before the others.
     pub(crate) fn put(&mut self, entry: Entry<'a>) -> Result<(), NoMemory>
-        ensures { OnOk result (self.new ≡ record self.old { state = before (entry_of entry.entry ∷ []) self.old.state }) }
+        ensures { OnOk result (self.new ≡ record self.old
+            { state = before (entry_of entry.entry ∷ []) self.old.state }) }
     {
         if let Some(frames) = &mut self.frames {
             frames.running.put(entry)?;
@@ -166,7 +169,8 @@ impl<'a> Execution<'a> {
         arguments: List<i16>,
         procedure: &'a Procedure,
     ) -> Result<(), NoMemory>
-        ensures { OnOk result (self.new ≡ record self.old { state = entering number arguments procedure.now self.old.state }) }
+        ensures { OnOk result (self.new ≡ record self.old
+            { state = entering number arguments procedure.now self.old.state }) }
     {
         let entered = Frame::new(alloc, number, arguments, procedure)?;
         let frames = self.frames.take();
@@ -184,7 +188,8 @@ impl<'a> Execution<'a> {
 
     /// Whether a procedure runs, and its next entry.
     pub(crate) fn running_next(&self) -> Option<Option<Entry<'a>>>
-        ensures { option_map (option_map entry_of) result ≡ option_map (λ frame. first_of frame.rest) (slice_get self.now.state.frames 0) }
+        ensures { option_map (option_map entry_of) result
+            ≡ option_map (λ frame. first_of frame.rest) (slice_get self.now.state.frames 0) }
     {
         match &self.frames {
             None => None,
@@ -286,7 +291,8 @@ fn caller_of(frames: Option<Frames<'_>>) -> Option<Frames<'_>>
 }
 
 fn first_frames(alloc: Global, program: &Program) -> Result<Option<Frames<'_>>, NoMemory>
-    ensures { IfOk result (λ frames. frames_of frames ≡ first_frames program.now.main (slice_get program.now.procedures program.now.main)) }
+    ensures { IfOk result (λ frames. frames_of frames
+        ≡ first_frames program.now.main (slice_get program.now.procedures program.now.main)) }
 {
     let main = program.main;
     match program.procedures.get(usize::from(main)) {

@@ -20,7 +20,8 @@ impl<'a> Execution<'a> {
     }
 
     fn put_items(&self, items: &[u16], out: &mut List<i64>) -> Result<(), NoMemory>
-        ensures { OnOk result (out.new ≡ out.old ++ pos (length items.now) ∷ flat_map (item_words self.now.state) items.now) }
+        ensures { OnOk result (out.new ≡ out.old
+            ++ pos (length items.now) ∷ flat_map (item_words self.now.state) items.now) }
     {
         put_number(items.len(), out)?;
         for item in items {
@@ -57,7 +58,8 @@ fn put_frame(frame: &Frame<'_>, out: &mut List<i64>) -> Result<(), NoMemory>
 
 /// Puts the frames from MAIN up behind words.
 fn put_frames(frames: &Option<Frames<'_>>, out: &mut List<i64>) -> Result<(), NoMemory>
-    ensures { OnOk result (out.new ≡ out.old ++ pos (length (frames_of frames.now)) ∷ flat_map frame_words (reverse (frames_of frames.now))) }
+    ensures { OnOk result (out.new ≡ out.old
+        ++ pos (length (frames_of frames.now)) ∷ flat_map frame_words (reverse (frames_of frames.now))) }
 {
     match frames {
         None => put_number(0, out),

@@ -5,7 +5,9 @@ ghost use Rattle.tal_values.specs.Seen.{seen};
 ghost use Rattle.tal_values.specs.Value.{value_of, cell_of, truth_of};
 ghost use Rattle.process_semantics.specs.State.{Run, Test, Last, memory_of, runs_of};
 ghost use Rattle.process_semantics.specs.Changes.{variable_cell};
-ghost use Rattle.process_semantics.specs.Steps.{values_of, assigned, tested, entered, given, given_in, returned, result_of, for_begun, inner_in, goes_round, tested_in, counted_in, inner, or_ends};
+ghost use Rattle.process_semantics.specs.Steps.{values_of, assigned, tested, entered, given, given_in, returned};
+ghost use Rattle.process_semantics.specs.Steps.{result_of, for_begun, inner_in, goes_round, tested_in, counted_in};
+ghost use Rattle.process_semantics.specs.Steps.{inner, or_ends};
 ghost use Rattle.process_semantics.specs.SeenEntries.{entry_of};
 
 use crate::execution::Execution;
@@ -30,7 +32,10 @@ impl<'a> Execution<'a> {
     }
 
     fn run(&mut self, alloc: Global, statement: &'a Statement) -> Result<(), NoMemory>
-        ensures { OnOk result (self.new ≡ record self.old { state = or_ends self.old.state (inner_in self.old.program self.old.state statement.now (out-What statement.now.what)) }) }
+        ensures { OnOk result (self.new ≡ record self.old {
+          state = or_ends self.old.state (inner_in self.old.program self.old.state statement.now
+              (out-What statement.now.what));
+        }) }
     {
         match &statement.what {
             What::Assign { to, value } => self.assign(alloc, to, value)?,
@@ -78,7 +83,11 @@ impl<'a> Execution<'a> {
     }
 
     fn assign(&mut self, alloc: Global, to: &Spot, expr: &Expr) -> Result<(), NoMemory>
-        ensures { OnOk result (self.new ≡ record self.old { state = or_ends self.old.state (assigned self.old.state (cell_of (memory_of self.old.program self.old.state) to.now) (value_of (memory_of self.old.program self.old.state) expr.now)) }) }
+        ensures { OnOk result (self.new ≡ record self.old {
+          state = or_ends self.old.state (assigned self.old.state
+              (cell_of (memory_of self.old.program self.old.state) to.now)
+              (value_of (memory_of self.old.program self.old.state) expr.now));
+        }) }
     {
         let cell = cell(alloc, self.memory(), to)?;
         let word = value(alloc, self.memory(), expr)?;
@@ -102,7 +111,10 @@ impl<'a> Execution<'a> {
     }
 
     fn call(&mut self, alloc: Global, number: u16, arguments: &[Expr]) -> Result<(), NoMemory>
-        ensures { OnOk result (self.new ≡ record self.old { state = or_ends self.old.state (entered self.old.program self.old.state number (values_of (memory_of self.old.program self.old.state) arguments.now)) }) }
+        ensures { OnOk result (self.new ≡ record self.old {
+          state = or_ends self.old.state (entered self.old.program self.old.state number
+              (values_of (memory_of self.old.program self.old.state) arguments.now));
+        }) }
     {
         match values(alloc, self.memory(), arguments)? {
             None => self.end(),
@@ -121,7 +133,10 @@ impl<'a> Execution<'a> {
         yes: &'a [Statement],
         no: &'a [Statement],
     ) -> Result<(), NoMemory>
-        ensures { OnOk result (self.new ≡ record self.old { state = or_ends self.old.state (tested self.old.state (runs_of yes.now) (runs_of no.now) (truth_of (memory_of self.old.program self.old.state) test.now)) }) }
+        ensures { OnOk result (self.new ≡ record self.old {
+          state = or_ends self.old.state (tested self.old.state (runs_of yes.now) (runs_of no.now)
+              (truth_of (memory_of self.old.program self.old.state) test.now));
+        }) }
     {
         match truth(alloc, self.memory(), test)? {
             None => self.end(),
@@ -144,7 +159,10 @@ impl<'a> Execution<'a> {
         test: &Cond,
         body: &'a [Statement],
     ) -> Result<(), NoMemory>
-        ensures { OnOk result (self.new ≡ record self.old { state = or_ends self.old.state (tested self.old.state (runs_of body.now ++ Run statement.now ∷ []) [] (truth_of (memory_of self.old.program self.old.state) test.now)) }) }
+        ensures { OnOk result (self.new ≡ record self.old {
+          state = or_ends self.old.state (tested self.old.state (runs_of body.now ++ Run statement.now ∷ []) []
+              (truth_of (memory_of self.old.program self.old.state) test.now));
+        }) }
     {
         match truth(alloc, self.memory(), test)? {
             None => self.end(),
@@ -165,7 +183,10 @@ impl<'a> Execution<'a> {
         variable: Variable,
         from: &Expr,
     ) -> Result<(), NoMemory>
-        ensures { OnOk result (self.new ≡ record self.old { state = or_ends self.old.state (for_begun self.old.state statement.now variable (value_of (memory_of self.old.program self.old.state) from.now)) }) }
+        ensures { OnOk result (self.new ≡ record self.old {
+          state = or_ends self.old.state (for_begun self.old.state statement.now variable
+              (value_of (memory_of self.old.program self.old.state) from.now));
+        }) }
     {
         match value(alloc, self.memory(), from)? {
             None => self.end(),
@@ -179,7 +200,10 @@ impl<'a> Execution<'a> {
     }
 
     fn test(&mut self, alloc: Global, statement: &'a Statement) -> Result<(), NoMemory>
-        ensures { OnOk result (self.new ≡ record self.old { state = or_ends self.old.state (tested_in self.old.program self.old.state statement.now (out-What statement.now.what)) }) }
+        ensures { OnOk result (self.new ≡ record self.old {
+          state = or_ends self.old.state (tested_in self.old.program self.old.state statement.now
+              (out-What statement.now.what));
+        }) }
     {
         match &statement.what {
             What::For {
@@ -204,7 +228,10 @@ impl<'a> Execution<'a> {
         body: &'a [Statement],
         holds: Option<bool>,
     ) -> Result<(), NoMemory>
-        ensures { OnOk result (self.new ≡ record self.old { state = or_ends self.old.state (tested self.old.state (runs_of body.now ++ Last statement.now ∷ Test statement.now ∷ []) [] holds) }) }
+        ensures { OnOk result (self.new ≡ record self.old {
+          state = or_ends self.old.state (tested self.old.state
+              (runs_of body.now ++ Last statement.now ∷ Test statement.now ∷ []) [] holds);
+        }) }
     {
         match holds {
             None => self.end(),
@@ -220,7 +247,10 @@ impl<'a> Execution<'a> {
     }
 
     fn count_up(&mut self, statement: &Statement)
-        ensures { self.new ≡ record self.old { state = or_ends self.old.state (counted_in self.old.program self.old.state (out-What statement.now.what)) } }
+        ensures { self.new ≡ record self.old {
+          state =
+              or_ends self.old.state (counted_in self.old.program self.old.state (out-What statement.now.what));
+        } }
     {
         match &statement.what {
             What::For {
@@ -244,7 +274,10 @@ impl<'a> Execution<'a> {
     }
 
     fn return_value(&mut self, alloc: Global, expr: &Option<Expr>) -> Result<(), NoMemory>
-        ensures { OnOk result (self.new ≡ record self.old { state = or_ends self.old.state (returned self.old.program self.old.state (result_of (memory_of self.old.program self.old.state) expr.now)) }) }
+        ensures { OnOk result (self.new ≡ record self.old {
+          state = or_ends self.old.state (returned self.old.program self.old.state
+              (result_of (memory_of self.old.program self.old.state) expr.now));
+        }) }
     {
         let word = match expr {
             None => Some(0),
@@ -255,7 +288,8 @@ impl<'a> Execution<'a> {
     }
 
     fn give_back(&mut self, alloc: Global, word: Option<i16>) -> Result<(), NoMemory>
-        ensures { OnOk result (self.new ≡ record self.old { state = or_ends self.old.state (returned self.old.program self.old.state word) }) }
+        ensures { OnOk result (self.new ≡ record self.old
+            { state = or_ends self.old.state (returned self.old.program self.old.state word) }) }
     {
         match word {
             None => self.end(),
@@ -271,7 +305,10 @@ impl<'a> Execution<'a> {
     }
 
     fn give(&mut self, alloc: Global, word: i16, next: Option<Entry<'a>>) -> Result<(), NoMemory>
-        ensures { OnOk result (self.new ≡ record self.old { state = or_ends self.old.state (given self.old.program word self.old.state (option_map entry_of next.entry)) }) }
+        ensures { OnOk result (self.new ≡ record self.old {
+          state = or_ends self.old.state (given self.old.program word self.old.state
+              (option_map entry_of next.entry));
+        }) }
     {
         match next {
             Some(Entry::Run(statement)) => self.give_in(alloc, word, statement)?,
@@ -281,7 +318,10 @@ impl<'a> Execution<'a> {
     }
 
     fn give_in(&mut self, alloc: Global, word: i16, statement: &Statement) -> Result<(), NoMemory>
-        ensures { OnOk result (self.new ≡ record self.old { state = or_ends self.old.state (given_in self.old.program word self.old.state (out-What statement.now.what)) }) }
+        ensures { OnOk result (self.new ≡ record self.old {
+          state = or_ends self.old.state (given_in self.old.program word self.old.state
+              (out-What statement.now.what));
+        }) }
     {
         match &statement.what {
             What::AssignCall {

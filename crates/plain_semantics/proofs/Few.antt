@@ -1,5 +1,6 @@
 -- How many openers a process has at most.
-use Rattle.std.proofs.Common.{ℕ, ◌+◌, ◌*◌, ◌==◌, ◌≤◌, Bool, true, false, if◌then◌else◌, List, [], ◌∷◌, length, Option, Some, None, slice_get, arith}
+use Rattle.std.proofs.Common.{ℕ, ◌+◌, ◌*◌, ◌==◌, ◌≤◌, Bool, true, false, if◌then◌else◌, List, [], ◌∷◌, length, Option}
+use Rattle.std.proofs.Common.{Some, None, slice_get, arith}
 use Rattle.std.proofs.lemmas.List.{length-append}
 use Rattle.std.proofs.lemmas.List.Elements.{All-head, All-tail}
 use Rattle.std.specs.List.{All}
@@ -9,14 +10,16 @@ use Rattle.tal_tree.specs.declared.site.Site.{Site}
 use Rattle.tal_tree.specs.declared.site.OpenerSpec.{OpenerSpec}
 use Rattle.tal_tree.specs.declared.site.ProcessSpec.{ProcessSpec}
 use Rattle.tal_tree.specs.declared.site.TerminalSpec.{TerminalSpec}
-use Rattle.plain_semantics.specs.Openers.{opens, file_opener, files_of, files_from, processes_from, terminal_opener, terminals_from, openers_by, openers_of}
+use Rattle.plain_semantics.specs.Openers.{opens, file_opener, files_of, files_from, processes_from, terminal_opener}
+use Rattle.plain_semantics.specs.Openers.{terminals_from, openers_by, openers_of}
 use Rattle.plain_semantics.specs.SiteLimits.{KeepsSiteLimits}
 
 one-if : (b : Bool) (opener : OpenerSpec) → length (if b then opener ∷ [] else []) ≤ 1
 one-if true opener = omega arith
 one-if false opener = omega arith
 
-files-few : (name : List ℕ) (process number : ℕ) (files : List FileUse) → length (files_from name process number files) ≤ length files
+files-few : (name : List ℕ) (process number : ℕ) (files : List FileUse)
+    → length (files_from name process number files) ≤ length files
 files-few name process number [] = omega arith
 files-few name process number (file ∷ files) =
     omega (
@@ -26,7 +29,8 @@ files-few name process number (file ∷ files) =
       files-few name process (number + 1) files,
     )
 
-processes-few : (name : List ℕ) (number : ℕ) (specs : List ProcessSpec) → All (λ spec. length (files_of spec.what) ≤ 8) specs
+processes-few : (name : List ℕ) (number : ℕ) (specs : List ProcessSpec)
+    → All (λ spec. length (files_of spec.what) ≤ 8) specs
     → length (processes_from name number specs) ≤ 8 * length specs
 processes-few name number [] few = omega arith
 processes-few name number (spec ∷ specs) few =
@@ -35,10 +39,12 @@ processes-few name number (spec ∷ specs) few =
       length-append (files_from name number 0 (files_of spec.what)) (processes_from name (number + 1) specs),
       files-few name number 0 (files_of spec.what),
       All-head (λ (s : ProcessSpec). length (files_of s.what) ≤ 8) spec specs few,
-      processes-few name (number + 1) specs (All-tail (λ (s : ProcessSpec). length (files_of s.what) ≤ 8) spec specs few),
+      processes-few name (number + 1) specs (All-tail (λ (s : ProcessSpec). length (files_of s.what) ≤ 8) spec specs
+          few),
     )
 
-terminals-few : (process number : ℕ) (specs : List TerminalSpec) → length (terminals_from process number specs) ≤ length specs
+terminals-few : (process number : ℕ) (specs : List TerminalSpec)
+    → length (terminals_from process number specs) ≤ length specs
 terminals-few process number [] = omega arith
 terminals-few process number (spec ∷ specs) =
     omega (
@@ -48,7 +54,8 @@ terminals-few process number (spec ∷ specs) =
       terminals-few process (number + 1) specs,
     )
 
-openers-by-few : (site : Site) (process : ℕ) (named : Option ProcessSpec) → KeepsSiteLimits site → length (openers_by site process named) ≤ 144
+openers-by-few : (site : Site) (process : ℕ) (named : Option ProcessSpec) → KeepsSiteLimits site
+    → length (openers_by site process named) ≤ 144
 openers-by-few site process None keeps = omega arith
 openers-by-few site process (Some named) keeps =
     omega (

@@ -43,5 +43,6 @@ terminals_in _ = []
 
 -- two acts that concern different processes, and aren't of one terminal
 pub record AreApart (site : Site) (plain : Plain) (first second : Act) : Type 0 where
-  pub processes : (number : ℕ) → IsAmong number (concerned site plain first) → IsAmong number (concerned site plain second) → ⊥
+  pub processes : (number : ℕ) → IsAmong number (concerned site plain first)
+      → IsAmong number (concerned site plain second) → ⊥
   pub terminals : (terminal : ℕ) → IsAmong terminal (terminals_in first) → IsAmong terminal (terminals_in second) → ⊥

@@ -13,4 +13,5 @@ abbrev pub have_few_requests : List TerminalSpec → Bool
 have_few_requests specs = list_all (λ spec. nat_le (length spec.requests) 1000) specs
 
 abbrev pub is_small : Site → Bool
-is_small site = nat_le (length site.processes) 16 && nat_le (length site.terminals) 16 && have_few_files site.processes && have_few_requests site.terminals
+is_small site = nat_le (length site.processes) 16 && nat_le (length site.terminals) 16 && have_few_files site.processes
+    && have_few_requests site.terminals

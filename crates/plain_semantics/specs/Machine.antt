@@ -1,5 +1,7 @@
--- The machine of single unfailing processes: its state, which acts are possible in it, what they change and what they show.
-use Rattle.std.specs.Prelude.{ℕ, ◌+◌, ℤ, ◌≡◌, List, [], ◌∷◌, ◌++◌, map, replicate, slice_get, slice_set, Option, Some, None}
+-- The machine of single unfailing processes: its state, which acts are possible in it, what they change and what they
+-- show.
+use Rattle.std.specs.Prelude.{ℕ, ◌+◌, ℤ, ◌≡◌, List, [], ◌∷◌, ◌++◌, map, replicate, slice_get, slice_set, Option, Some}
+use Rattle.std.specs.Prelude.{None}
 use Rattle.std.specs.Option.{option_map, option_and_then, unwrap_or, IsSome}
 use Rattle.gd_words.specs.declared.device.DeviceCall.{DeviceCall}
 use Rattle.gd_words.specs.declared.device.DeviceCall.TheVariants as call
@@ -21,7 +23,8 @@ use Rattle.plain_semantics.specs.declared.slot.Slot.{Slot}
 use Rattle.plain_semantics.specs.declared.slot.Slot.TheVariants.{Empty, Waiting, Taken, Answered}
 use Rattle.plain_semantics.specs.Openers.{openers_of, opener_of}
 
--- a process: its state, the place of the opener whose request is in hand, a slot for each of its openers, and the sectors of a disc
+-- a process: its state, the place of the opener whose request is in hand, a slot for each of its openers, and the
+-- sectors of a disc
 pub record PlainProcess : Type 0 where
   pub state : process.ProcessState
   pub hand : Option ℕ
@@ -50,17 +53,20 @@ process_at_first site number spec = record {
 -- processes at their beginning, from a place in the deck on
 abbrev pub processes_at_first : Site → ℕ → List ProcessSpec → List PlainProcess
 processes_at_first site number [] = []
-processes_at_first site number (spec ∷ specs) = process_at_first site number spec ∷ processes_at_first site (number + 1) specs
+processes_at_first site number (spec ∷ specs) =
+    process_at_first site number spec ∷ processes_at_first site (number + 1) specs
 
 -- all states are at their beginning, all slots empty, all sectors zero
 abbrev pub plain_start : Site → Plain
-plain_start site = record { processes = processes_at_first site 0 site.processes; entered = map (λ terminal. 0) site.terminals }
+plain_start site =
+    record { processes = processes_at_first site 0 site.processes; entered = map (λ terminal. 0) site.terminals }
 
 -- Slots
 
 -- the slot of an opener
 abbrev pub slot_at : Plain → Opener → Option Slot
-slot_at plain opener = option_and_then (λ server. slice_get server.slots opener.place) (slice_get plain.processes opener.server)
+slot_at plain opener =
+    option_and_then (λ server. slice_get server.slots opener.place) (slice_get plain.processes opener.server)
 
 -- the slot of an opener, if there is an opener
 abbrev pub slot_of : Plain → Option Opener → Option Slot
@@ -73,7 +79,8 @@ with_process number changed plain = record plain { processes = slice_set plain.p
 -- the machine with a slot of this server changed
 abbrev pub slot_put : Opener → Slot → Plain → Option PlainProcess → Plain
 slot_put opener slot plain None = plain
-slot_put opener slot plain (Some server) = with_process opener.server (record server { slots = slice_set server.slots opener.place slot }) plain
+slot_put opener slot plain (Some server) =
+    with_process opener.server (record server { slots = slice_set server.slots opener.place slot }) plain
 
 -- the machine with a slot changed
 abbrev pub with_slot : Option Opener → Slot → Plain → Plain
@@ -134,7 +141,10 @@ shown_by_device number _ = []
 abbrev pub device_made : ℕ → PlainProcess → Plain → DeviceCall → Made
 device_made number one plain asked = record {
   plain = with_process number
-      (record one { state = process.after_device one.state (found_by one.sectors asked); sectors = written_by one.sectors asked }) plain;
+      (record one {
+        state = process.after_device one.state (found_by one.sectors asked);
+        sectors = written_by one.sectors asked;
+      }) plain;
   shown = shown_by_device number asked;
 }
 
@@ -144,9 +154,11 @@ step_at site number one plain point.Inner = Some (quiet (with_state number one (
 step_at site number one plain point.Ask =
     Some (quiet (with_slot (own_opener site number one) (Waiting (process.asked_words one.state))
     (with_state number one (process.after_asked one.state) plain)))
-step_at site number one plain point.Await = got_made number one (own_opener site number one) plain (slot_of plain (own_opener site number one))
+step_at site number one plain point.Await =
+    got_made number one (own_opener site number one) plain (slot_of plain (own_opener site number one))
 step_at site number one plain point.Answer = Some (quiet (answer_made number one plain))
-step_at site number one plain point.AtCheckpoint = Some (quiet (with_state number one (process.after_checkpoint one.state) plain))
+step_at site number one plain point.AtCheckpoint =
+    Some (quiet (with_state number one (process.after_checkpoint one.state) plain))
 step_at site number one plain point.Device = Some (device_made number one plain (process.call_of one.state))
 step_at site number one plain point.Take = None
 step_at site number one plain point.Ended = None
@@ -160,7 +172,11 @@ step_made site number plain (Some one) = step_at site number one plain (process.
 abbrev pub take_slot : ℕ → ℕ → PlainProcess → Plain → Option Slot → Option Made
 take_slot number place one plain (Some (Waiting words)) =
     Some (quiet (with_process number
-    (record one { state = process.after_took one.state words; hand = Some place; slots = slice_set one.slots place Taken }) plain))
+    (record one {
+      state = process.after_took one.state words;
+      hand = Some place;
+      slots = slice_set one.slots place Taken;
+    }) plain))
 take_slot number place one plain _ = None
 
 -- Take of a process at this point
@@ -179,31 +195,39 @@ entered_at plain terminal = unwrap_or (slice_get plain.entered terminal) 0
 
 -- the request of a terminal after so many
 abbrev pub next_request : Site → ℕ → ℕ → Option (List ℤ)
-next_request site terminal entered = option_and_then (λ spec. slice_get spec.requests entered) (slice_get site.terminals terminal)
+next_request site terminal entered =
+    option_and_then (λ spec. slice_get spec.requests entered) (slice_get site.terminals terminal)
 
 -- Enter of this request
 abbrev pub enter_request : ℕ → Option Opener → Plain → Option (List ℤ) → Option Made
 enter_request terminal opener plain None = None
 enter_request terminal opener plain (Some words) =
-    Some (quiet (with_slot opener (Waiting words) (record plain { entered = slice_set plain.entered terminal (entered_at plain terminal + 1) })))
+    Some (quiet (with_slot opener (Waiting words)
+    (record plain { entered = slice_set plain.entered terminal (entered_at plain terminal + 1) })))
 
 -- Enter(t): the terminal's next request waits in its slot, which is empty
 abbrev pub enter_made : Site → ℕ → Option Opener → Plain → Option Slot → Option Made
-enter_made site terminal opener plain (Some Empty) = enter_request terminal opener plain (next_request site terminal (entered_at plain terminal))
+enter_made site terminal opener plain (Some Empty) =
+    enter_request terminal opener plain (next_request site terminal (entered_at plain terminal))
 enter_made site terminal opener plain _ = None
 
 -- Print(t): the reply in the terminal's slot is shown with the number of its request
 abbrev pub print_made : ℕ → Option Opener → Plain → Option Slot → Option Made
 print_made terminal opener plain (Some (Answered words)) =
-    Some (record { plain = with_slot opener Empty plain; shown = Reply terminal (entered_at plain terminal) words ∷ [] })
+    Some (record {
+      plain = with_slot opener Empty plain;
+      shown = Reply terminal (entered_at plain terminal) words ∷ [];
+    })
 print_made terminal opener plain _ = None
 
 -- an act in a state of the machine; none where it isn't possible
 abbrev pub made : Site → Plain → Act → Option Made
 made site plain (Step number) = step_made site number plain (slice_get plain.processes number)
 made site plain (Take number place) = take_made number place plain (slice_get plain.processes number)
-made site plain (Enter terminal) = enter_made site terminal (opener_of site (who.Terminal terminal)) plain (slot_of plain (opener_of site (who.Terminal terminal)))
-made site plain (Print terminal) = print_made terminal (opener_of site (who.Terminal terminal)) plain (slot_of plain (opener_of site (who.Terminal terminal)))
+made site plain (Enter terminal) = enter_made site terminal (opener_of site (who.Terminal terminal)) plain
+    (slot_of plain (opener_of site (who.Terminal terminal)))
+made site plain (Print terminal) = print_made terminal (opener_of site (who.Terminal terminal)) plain
+    (slot_of plain (opener_of site (who.Terminal terminal)))
 
 -- Lists of acts
 
@@ -214,7 +238,8 @@ made_before shown m = record m { shown = shown ++ m.shown }
 -- acts one after the other: the machine after them and all that they show; none where one isn't possible
 abbrev pub made_all : Site → Plain → List Act → Option Made
 made_all site plain [] = Some (quiet plain)
-made_all site plain (act ∷ acts) = option_and_then (λ first. option_map (made_before first.shown) (made_all site first.plain acts)) (made site plain act)
+made_all site plain (act ∷ acts) = option_and_then
+    (λ first. option_map (made_before first.shown) (made_all site first.plain acts)) (made site plain act)
 
 -- acts that go on after others, which came to m
 abbrev pub made_after : Site → List Act → Made → Option Made

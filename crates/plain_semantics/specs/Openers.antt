@@ -1,6 +1,7 @@
--- The openers of processes. Those of one process are, in this order: each file of a program that opens its name, the processes in deck order and their
--- files in the order of the OPENs; then each terminal that names it.
-use Rattle.std.specs.Prelude.{ℕ, ◌+◌, ◌==◌, ◌&&◌, Bool, false, if◌then◌else◌, List, [], ◌∷◌, ◌++◌, slice_get, Option, Some, None}
+-- The openers of processes. Those of one process are, in this order: each file of a program that opens its name, the
+-- processes in deck order and their files in the order of the OPENs; then each terminal that names it.
+use Rattle.std.specs.Prelude.{ℕ, ◌+◌, ◌==◌, ◌&&◌, Bool, false, if◌then◌else◌, List, [], ◌∷◌, ◌++◌, slice_get, Option}
+use Rattle.std.specs.Prelude.{Some, None}
 use Rattle.std.specs.Option.{option_map}
 use Rattle.std.specs.Str.{bytes_eq}
 use Rattle.tal_tree.specs.declared.program.FileUse.{FileUse}
@@ -33,7 +34,8 @@ file_opener name process number file =
 -- the openers among the files of a process, from a number of a file on
 abbrev pub files_from : List ℕ → ℕ → ℕ → List FileUse → List OpenerSpec
 files_from name process number [] = []
-files_from name process number (file ∷ files) = file_opener name process number file ++ files_from name process (number + 1) files
+files_from name process number (file ∷ files) =
+    file_opener name process number file ++ files_from name process (number + 1) files
 
 -- the files of a process: a disc has none
 abbrev pub files_of : Kind → List FileUse
@@ -48,17 +50,20 @@ processes_from name number (process ∷ processes) =
 
 -- a terminal as an opener of a process, if it is one
 abbrev pub terminal_opener : ℕ → ℕ → TerminalSpec → List OpenerSpec
-terminal_opener process number terminal = if terminal.target == process then record { who = who.Terminal number; depth = 1 } ∷ [] else []
+terminal_opener process number terminal =
+    if terminal.target == process then record { who = who.Terminal number; depth = 1 } ∷ [] else []
 
 -- the openers among terminals, from a place in the deck on
 abbrev pub terminals_from : ℕ → ℕ → List TerminalSpec → List OpenerSpec
 terminals_from process number [] = []
-terminals_from process number (terminal ∷ terminals) = terminal_opener process number terminal ++ terminals_from process (number + 1) terminals
+terminals_from process number (terminal ∷ terminals) =
+    terminal_opener process number terminal ++ terminals_from process (number + 1) terminals
 
 -- the openers of the process of this name
 abbrev pub openers_by : Site → ℕ → Option ProcessSpec → List OpenerSpec
 openers_by site process None = []
-openers_by site process (Some named) = processes_from named.name 0 site.processes ++ terminals_from process 0 site.terminals
+openers_by site process (Some named) =
+    processes_from named.name 0 site.processes ++ terminals_from process 0 site.terminals
 
 -- the openers of a process
 abbrev pub openers_of : Site → ℕ → List OpenerSpec
@@ -73,12 +78,14 @@ same_who _ _ = false
 -- the place of an opener among openers, the first from a number on
 abbrev pub place_from : Who → ℕ → List OpenerSpec → Option ℕ
 place_from one number [] = None
-place_from one number (opener ∷ openers) = if same_who one opener.who then Some number else place_from one (number + 1) openers
+place_from one number (opener ∷ openers) =
+    if same_who one opener.who then Some number else place_from one (number + 1) openers
 
 -- the place in the deck of the first process of a name, from a number on
 abbrev pub named_from : List ℕ → ℕ → List ProcessSpec → Option ℕ
 named_from name number [] = None
-named_from name number (process ∷ processes) = if same_name name process.name then Some number else named_from name (number + 1) processes
+named_from name number (process ∷ processes) =
+    if same_name name process.name then Some number else named_from name (number + 1) processes
 
 -- the process to which a file is opened
 abbrev pub server_of : Site → Target → Option ℕ

@@ -4,7 +4,8 @@ use Rattle.std.specs.List.{All}
 use Rattle.tal_tree.specs.declared.site.Site.{Site}
 use Rattle.plain_semantics.specs.Openers.{files_of}
 
--- at most 16 processes and 16 terminals, programs with at most 8 files each, and terminals with at most 1,000 requests each
+-- at most 16 processes and 16 terminals, programs with at most 8 files each, and terminals with at most 1,000 requests
+-- each
 pub record KeepsSiteLimits (site : Site) : Type 0 where
   pub processes : length site.processes ≤ 16
   pub terminals : length site.terminals ≤ 16

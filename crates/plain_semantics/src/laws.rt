@@ -8,7 +8,8 @@ ghost use Rattle.plain_semantics.specs.Concerns.{AreApart};
 
 /// Acts that follow others begin with the machine that those leave, and show what they show after it.
 pub fn acts_follow_acts()
-    ensures { (site : Site) (plain : Plain) (first second : List Act) → made_all site plain (first ++ second) ≡ option_and_then (made_after site second) (made_all site plain first) }
+    ensures { (site : Site) (plain : Plain) (first second : List Act)
+        → made_all site plain (first ++ second) ≡ option_and_then (made_after site second) (made_all site plain first) }
 {}
 
 /// The front of a possible list of acts is possible.
@@ -18,10 +19,12 @@ pub fn front_is_possible()
 
 /// What a list of acts shows begins with what its front shows.
 pub fn shown_begins_with_front()
-    ensures { (site : Site) (first second : List Act) → IsPossible site (first ++ second) → (rest : List Shown) × (shown_by site (first ++ second) ≡ shown_by site first ++ rest) }
+    ensures { (site : Site) (first second : List Act) → IsPossible site (first ++ second)
+        → (rest : List Shown) × (shown_by site (first ++ second) ≡ shown_by site first ++ rest) }
 {}
 
 /// An act that isn't possible stays so after an act that concerns other processes alone.
 pub fn impossible_stays()
-    ensures { (site : Site) (plain : Plain) (first second : Act) (m : Made) → made site plain first ≡ None → made site plain second ≡ Some m → AreApart site plain first second → made site m.plain first ≡ None }
+    ensures { (site : Site) (plain : Plain) (first second : Act) (m : Made) → made site plain first ≡ None
+        → made site plain second ≡ Some m → AreApart site plain first second → made site m.plain first ≡ None }
 {}

@@ -1,8 +1,9 @@
-//! The machine of single unfailing processes: what a pair of processes is meant to be. One process a name and one slot an
-//! opener; there are no numbers of requests, copies, checkpoints, processors or messages in flight.
+//! The machine of single unfailing processes: what a pair of processes is meant to be. One process a name and one slot
+//! an opener; there are no numbers of requests, copies, checkpoints, processors or messages in flight.
 //!
-//! Below stand `tal_tree` with acts and sites and `process_semantics` with the states and steps of processes. The layer above
-//! uses `made`, `IsPossible`, `shown_by` and `IsNoneLeft` of `specs/`, and the laws of this crate's public functions.
+//! Below stand `tal_tree` with acts and sites and `process_semantics` with the states and steps of processes. The layer
+//! above uses `made`, `IsPossible`, `shown_by` and `IsNoneLeft` of `specs/`, and the laws of this crate's public
+//! functions.
 #![tactic(auto)]
 
 pub mod laws;

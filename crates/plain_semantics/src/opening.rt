@@ -1,7 +1,9 @@
 ghost use Rattle.std.specs.Prelude.{◌≡◌, ◌≤◌, ◌++◌, length, IfOk, OnOk};
 ghost use Rattle.std.specs.List.{All};
 ghost use Rattle.plain_semantics.specs.SiteLimits.{KeepsSiteLimits};
-ghost use Rattle.plain_semantics.specs.Openers.{same_name, opens, file_opener, files_from, files_of, processes_from, terminals_from, openers_of, same_who, place_from, named_from, server_of, server_by, opener_at, opener_of};
+ghost use Rattle.plain_semantics.specs.Openers.{same_name, opens, file_opener, files_from, files_of, processes_from};
+ghost use Rattle.plain_semantics.specs.Openers.{terminals_from, openers_of, same_who, place_from, named_from};
+ghost use Rattle.plain_semantics.specs.Openers.{server_of, server_by, opener_at, opener_of};
 
 use crate::slot::Opener;
 use gd_words::{List, Name, NoMemory};

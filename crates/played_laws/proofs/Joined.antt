@@ -22,14 +22,16 @@ use Rattle.message_wires_laws.proofs.Runs.{played-letters, played-world}
 pub apart : (site : Site) → IsLaidOut site → HasCopiesApart site
 apart site out number spec there = (out.places number spec there).2
 
-module _ (site : Site) (accepted : IsAcceptedSite site) (out : IsLaidOut site) (events : List Event) (s : MachineState) (few : length events < 4294967295)
+module _ (site : Site) (accepted : IsAcceptedSite site) (out : IsLaidOut site) (events : List Event) (s : MachineState)
+    (few : length events < 4294967295)
     (played : IsPlayed site events s) where
   pub runs : IsRun site events s.world
   runs = played-world site (accepted-fit site accepted) (apart site out) events s (omega (arith, few)) played
 
   pub ends : is_idle s ≡ true → (sent : List Letter) × IsIdleEnd site events (post_of s sent)
   ends idle =
-      let letters = played-letters site (accepted-fit site accepted) (apart site out) events s (omega (arith, few)) played in
+      let letters =
+      played-letters site (accepted-fit site accepted) (apart site out) events s (omega (arith, few)) played in
       let left = (idle-both s letters.0).0 idle in (
         letters.0,
         played-ends site events (post_of s letters.0) accepted out few letters.1 (played-one played)

@@ -25,10 +25,12 @@ pub leaving-idle : is_idle leaving_end ≡ true
 unfolding out-What shown-the_row-Statement-0 shown out int_wrap
 leaving-idle = refl
 
-pub leaving-holds : option_map (λ pair. pair.first.held) (slice_get leaving_end.world.processes 0) ≡ Some (Step 0 ∷ Take 0 0 ∷ [])
+pub leaving-holds : option_map (λ pair. pair.first.held) (slice_get leaving_end.world.processes 0)
+    ≡ Some (Step 0 ∷ Take 0 0 ∷ [])
 unfolding out-What shown-the_row-Statement-0 shown out int_wrap
 leaving-holds = refl
 
-pub leaving-ends : option_map (λ pair. point pair.first.core.state) (slice_get leaving_end.world.processes 0) ≡ Some Ended
+pub leaving-ends : option_map (λ pair. point pair.first.core.state) (slice_get leaving_end.world.processes 0)
+    ≡ Some Ended
 unfolding out-What shown-the_row-Statement-0 shown out int_wrap
 leaving-ends = refl

@@ -19,7 +19,8 @@ abbrev pub are_played : MachineState → List Event → Bool
 are_played s [] = true
 are_played s (event ∷ events) = is_played (play s event) && are_played (state_after (play s event) s) events
 
-one-more : {site : Site} {before : List Event} {s : MachineState} (event : Event) → IsPlayed site before s → (made : Played Wires) → play s event ≡ made → is_played made ≡ true
+one-more : {site : Site} {before : List Event} {s : MachineState} (event : Event) → IsPlayed site before s
+    → (made : Played Wires) → play s event ≡ made → is_played made ≡ true
     → IsPlayed site (before ++ event ∷ []) (state_after made s)
 one-more event played (Makes next) e ok = played_more event played e
 one-more event played Skips e ok = skipped event played e
@@ -29,10 +30,13 @@ and-true : (one other : Bool) → (one && other) ≡ true → (one ≡ true) × 
 and-true true other e = (refl, e)
 and-true false other e = absurd (cc)
 
-pub played-on : {site : Site} {before : List Event} (s : MachineState) (events : List Event) → IsPlayed site before s → are_played s events ≡ true
+pub played-on : {site : Site} {before : List Event} (s : MachineState) (events : List Event) → IsPlayed site before s
+    → are_played s events ≡ true
     → IsPlayed site (before ++ events) (end_of s events)
-played-on {site = site} {before = before} s [] played ok = subst (λ (all : List Event). IsPlayed site all s) (sym (append-nil before)) played
+played-on {site = site} {before = before} s [] played ok =
+    subst (λ (all : List Event). IsPlayed site all s) (sym (append-nil before)) played
 played-on {site = site} {before = before} s (event ∷ events) played ok =
     let both = and-true (is_played (play s event)) (are_played (state_after (play s event) s) events) ok in
-    subst (λ (all : List Event). IsPlayed site all (end_of (state_after (play s event) s) events)) (append_assoc before (event ∷ []) events)
+    subst (λ (all : List Event). IsPlayed site all (end_of (state_after (play s event) s) events))
+    (append_assoc before (event ∷ []) events)
     (played-on (state_after (play s event) s) events (one-more event played (play s event) refl both.0) both.1)

@@ -1,5 +1,6 @@
 -- The takeover of the adder is played to its idle end.
-use Rattle.std.proofs.Common.{◌≡◌, ◌<◌, ◌≤◌, ◌≢◌, ℕ, zero, suc, pos, true, List, [], ◌∷◌, length, Some, slice_get, reverse, refl, arith, ap, subst, sym}
+use Rattle.std.proofs.Common.{◌≡◌, ◌<◌, ◌≤◌, ◌≢◌, ℕ, zero, suc, pos, true, List, [], ◌∷◌, length, Some, slice_get}
+use Rattle.std.proofs.Common.{reverse, refl, arith, ap, subst, sym}
 use Rattle.std.specs.Int.{int_wrap}
 use denote.Hole.Carrier.{shown, out}
 use Rattle.tal_tree.specs.declared.statement.What.{out-What}
@@ -20,7 +21,8 @@ adder-out = record { few = omega arith; places = places }
     places : (number : ℕ) (spec : ProcessSpec) → slice_get (adder_for (pos 5 ∷ [])).processes number ≡ Some spec
         → (spec.primary < 2) × (spec.backup < 2) × (spec.primary ≢ spec.backup)
     places zero spec there =
-        subst (λ (one : ProcessSpec). (one.primary < 2) × (one.backup < 2) × (one.primary ≢ one.backup)) (some-same there)
+        subst (λ (one : ProcessSpec). (one.primary < 2) × (one.backup < 2) × (one.primary ≢ one.backup))
+        (some-same there)
         (omega arith, omega arith, λ same. absurd (cc))
     places (suc number) spec there = absurd (cc)
 

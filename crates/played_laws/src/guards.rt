@@ -14,8 +14,8 @@ ghost use Rattle.message_wires.specs.Runs.{IsPlayed};
 ghost use Rattle.played_laws.specs.Leaving.{leaving_end, leaving_events, leaving_site};
 ghost use Rattle.played_laws.specs.Takeover.{adder_end, takeover_to_the_end};
 
-/// The takeover of the adder over whole messages, to its idle end: the site meets the premises, the events are played, nothing is left, and what the acts of one
-/// adder show that never fails is the one reply that was printed.
+/// The takeover of the adder over whole messages, to its idle end: the site meets the premises, the events are played,
+/// nothing is left, and what the acts of one adder show that never fails is the one reply that was printed.
 pub fn a_takeover_to_its_idle_end_is_an_instance()
     ensures accepted { IsAcceptedSite (adder_for (pos 5 ∷ [])) }
     ensures laid_out { IsLaidOut (adder_for (pos 5 ∷ [])) }
@@ -25,10 +25,13 @@ pub fn a_takeover_to_its_idle_end_is_an_instance()
     ensures shown { shown_by (adder_for (pos 5 ∷ [])) (closed adder_end.world) ≡ reply 0 (pos 5) ∷ [] }
 {}
 
-/// A server takes a request and stops with no CHECKPOINT: at the idle end its copy has ended, and holds the take and the step after it.
+/// A server takes a request and stops with no CHECKPOINT: at the idle end its copy has ended, and holds the take and
+/// the step after it.
 pub fn a_copy_that_ended_may_hold_acts()
     ensures played { IsPlayed leaving_site leaving_events leaving_end }
     ensures idle { is_idle leaving_end ≡ true }
-    ensures holds { option_map (λ pair. pair.first.held) (slice_get leaving_end.world.processes 0) ≡ Some (Step 0 ∷ Take 0 0 ∷ []) }
-    ensures ended { option_map (λ pair. point pair.first.core.state) (slice_get leaving_end.world.processes 0) ≡ Some Ended }
+    ensures holds { option_map (λ pair. pair.first.held) (slice_get leaving_end.world.processes 0)
+        ≡ Some (Step 0 ∷ Take 0 0 ∷ []) }
+    ensures ended { option_map (λ pair. point pair.first.core.state) (slice_get leaving_end.world.processes 0)
+        ≡ Some Ended }
 {}

@@ -31,7 +31,8 @@ ticks-one : (sizes : Sizes) (node : ℕ) → sizes.processors ≤ 16 → IsOfOne
 ticks-one sizes node few = by (nat_lt node sizes.processors) refl
   where
     by : (b : Bool) → nat_lt node sizes.processors ≡ b
-        → IsOfOneRound (if b then turn (event.Tick node) (place.Ticks (node + 1)) else turn (event.Tick 16) place.Before)
+        → IsOfOneRound (if b then turn (event.Tick node) (place.Ticks (node + 1)) else turn (event.Tick 16)
+        place.Before)
     by true is = not-last node (let low = ltb-true node sizes.processors is in omega (arith, low, few))
     by false is = one
 
@@ -47,7 +48,8 @@ runs-one sizes x y process few = either (nat_lt process sizes.processes) _ _ one
 enters-one : (sizes : Sizes) (x y terminal : ℕ) → sizes.processors ≤ 16 → IsOfOneRound (enters sizes x y terminal)
 enters-one sizes x y terminal few = either (nat_lt terminal sizes.terminals) _ _ one (runs-one sizes x y 0 few)
 
-pub turn-one : (sizes : Sizes) (x y : ℕ) (place : Place) → sizes.processors ≤ 16 → IsOfOneRound (next_turn sizes x y place)
+pub turn-one : (sizes : Sizes) (x y : ℕ) (place : Place) → sizes.processors ≤ 16
+    → IsOfOneRound (next_turn sizes x y place)
 turn-one sizes x y place.Before few = enters-one sizes x y 0 few
 turn-one sizes x y (place.Enters terminal) few = enters-one sizes x y terminal few
 turn-one sizes x y (place.Runs process) few = runs-one sizes x y process few

@@ -14,11 +14,13 @@ runs_from-more : (sizes : Sizes) (x y process draws : ℕ) → process < sizes.p
     ≡ (if nat_lt 0 (word draws % 4)
     then turn (event.Run process) (place.Runs (process + 1) (word draws % 4 - 1)) (drawn draws)
     else runs_from sizes x y (process + 1) (drawn draws))
-runs_from-more sizes x y process draws within = ap (λ more. drawn_runs sizes x y more process draws) (left-more process sizes.processes within)
+runs_from-more sizes x y process draws within =
+    ap (λ more. drawn_runs sizes x y more process draws) (left-more process sizes.processes within)
 
 -- the process runs, where some runs of it were drawn
 pub runs_from-some : (sizes : Sizes) (x y process draws : ℕ) → process < sizes.processes → 0 < word draws % 4
-    → runs_from sizes x y process draws ≡ turn (event.Run process) (place.Runs (process + 1) (word draws % 4 - 1)) (drawn draws)
+    → runs_from sizes x y process draws ≡ turn (event.Run process) (place.Runs (process + 1) (word draws % 4 - 1))
+    (drawn draws)
 runs_from-some sizes x y process draws within some =
     runs_from-more sizes x y process draws within
     ∙ ap

@@ -1,5 +1,6 @@
 -- Which event comes next on a line of a schedule. The lines are our own.
-use Rattle.std.specs.Prelude.{ℕ, ◌-◌, ◌==◌, ◌&&◌, ◌||◌, nat_lt, nat_le, Bool, true, false, Option, Some, None, if◌then◌else◌}
+use Rattle.std.specs.Prelude.{ℕ, ◌-◌, ◌==◌, ◌&&◌, ◌||◌, nat_lt, nat_le, Bool, true, false, Option, Some, None}
+use Rattle.std.specs.Prelude.{if◌then◌else◌}
 use Rattle.std.specs.Option.{option_map}
 use Rattle.schedule.specs.declared.event.Event.{Event}
 use Rattle.schedule.specs.declared.event.Event.TheVariants as event
@@ -44,7 +45,8 @@ is_before_mixed _ = false
 abbrev pub moved_mixed : ℕ → MixedTurn → Move
 moved_mixed left turn = record { event = turn.event; standing = standing.Mixed left turn.place turn.draws }
 
--- the next event where nothing ends the line early and no packet is an alive one, with so many packets on buses X and Y; none where nothing is left of the line
+-- the next event where nothing ends the line early and no packet is an alive one, with so many packets on buses X and
+-- Y; none where nothing is left of the line
 abbrev pub proposed : Sizes → ℕ → ℕ → LinePlace → Option Move
 proposed sizes x y standing.Ended = None
 proposed sizes x y (standing.Event event left) =
@@ -85,7 +87,8 @@ is_over standing counts = has_reached standing counts || (asks_idle standing && 
 
 -- an alive packet of a muted node is lost in place of being delivered
 abbrev pub muted : ℕ → Counts → Event → Event
-muted node counts (event.Deliver y k) = if counts.alive && (counts.sender == node) then event.Lose y k else event.Deliver y k
+muted node counts (event.Deliver y k) =
+    if counts.alive && (counts.sender == node) then event.Lose y k else event.Deliver y k
 muted node counts event = event
 
 -- an alive packet in a mixed round is delivered in place of being lost

@@ -1,5 +1,5 @@
--- The events of one mixed round, part by part. How often a process runs, and which packet comes next and what becomes of it, is drawn from the line's own
--- generator. The order and the draws are our own rule.
+-- The events of one mixed round, part by part. How often a process runs, and which packet comes next and what becomes
+-- of it, is drawn from the line's own generator. The order and the draws are our own rule.
 use Rattle.std.specs.Prelude.{ℕ, zero, suc, ◌+◌, ◌-◌, ◌/◌, ◌%◌, ◌==◌, nat_lt, Bool, true, false, if◌then◌else◌}
 use Rattle.rand_pcg.specs.Lcg.{Lcg, started, increment_of}
 use Rattle.rand_pcg.specs.Pcg.{multiplier_64, pcg32}
@@ -30,7 +30,8 @@ turn event place draws = record { event = event; place = place; draws = draws }
 -- the tick of each node: of the processors, rising, and then of node 16, with which the round is over
 abbrev pub ticks : Sizes → ℕ → ℕ → MixedTurn
 ticks sizes node draws =
-    if nat_lt node sizes.processors then turn (event.Tick node) (place.Ticks (node + 1)) draws else turn (event.Tick 16) place.Before draws
+    if nat_lt node sizes.processors then turn (event.Tick node) (place.Ticks (node + 1)) draws else turn
+    (event.Tick 16) place.Before draws
 
 -- what becomes of the packet at a position: it is repeated and then delivered, lost, or delivered
 abbrev pub handled : Bool → ℕ → ℕ → ℕ → ℕ → MixedTurn
@@ -51,7 +52,8 @@ delivers_y sizes left draws = if nat_lt 0 left then drawn_packet true left draws
 abbrev pub delivers_x : Sizes → ℕ → ℕ → ℕ → MixedTurn
 delivers_x sizes y left draws = if nat_lt 0 left then drawn_packet false left draws else delivers_y sizes y draws
 
--- of so many processes from this one on, each runs a drawn number of times, up to three; `x` and `y` packets are on the buses
+-- of so many processes from this one on, each runs a drawn number of times, up to three; `x` and `y` packets are on the
+-- buses
 abbrev pub drawn_runs : Sizes → ℕ → ℕ → ℕ → ℕ → ℕ → MixedTurn
 drawn_runs sizes x y zero process draws = delivers_x sizes y x draws
 drawn_runs sizes x y (suc more) process draws =
@@ -66,12 +68,14 @@ runs_from sizes x y process draws = drawn_runs sizes x y (sizes.processes - proc
 -- the process before `next` runs so many more times
 abbrev pub runs : Sizes → ℕ → ℕ → ℕ → ℕ → ℕ → MixedTurn
 runs sizes x y next left draws =
-    if nat_lt 0 left then turn (event.Run (next - 1)) (place.Runs next (left - 1)) draws else runs_from sizes x y next draws
+    if nat_lt 0 left then turn (event.Run (next - 1)) (place.Runs next (left - 1)) draws else runs_from sizes x y next
+    draws
 
 -- each terminal enters once, in deck order
 abbrev pub enters : Sizes → ℕ → ℕ → ℕ → ℕ → MixedTurn
 enters sizes x y terminal draws =
-    if nat_lt terminal sizes.terminals then turn (event.Enter terminal) (place.Enters (terminal + 1)) draws else runs_from sizes x y 0 draws
+    if nat_lt terminal sizes.terminals then turn (event.Enter terminal) (place.Enters (terminal + 1)) draws else
+    runs_from sizes x y 0 draws
 
 -- the next event of a mixed round that stands at a place, with so many packets on buses X and Y
 abbrev pub next_mixed : Sizes → ℕ → ℕ → MixedPlace → ℕ → MixedTurn

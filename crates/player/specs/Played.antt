@@ -16,7 +16,8 @@ told (Some move) = move.event ∷ []
 -- the events that a line gives as it is asked once with each of these counts
 abbrev pub events_from : Sizes → LinePlace → List Counts → List Event
 events_from sizes standing [] = []
-events_from sizes standing (counts ∷ more) = told (next_event sizes standing counts) ++ events_from sizes (stands_after (next_event sizes standing counts)) more
+events_from sizes standing (counts ∷ more) =
+    told (next_event sizes standing counts) ++ events_from sizes (stands_after (next_event sizes standing counts)) more
 
 abbrev pub events_of : Sizes → Line → List Counts → List Event
 events_of sizes line counts = events_from sizes (begun line) counts
@@ -45,11 +46,13 @@ ticks = event.Tick 0 ∷ event.Tick 1 ∷ event.Tick 16 ∷ []
 
 -- a round of one process with two packets on bus X and one on bus Y
 abbrev pub round : List Event
-round = event.Enter 0 ∷ event.Enter 1 ∷ event.Run 0 ∷ event.Deliver false 0 ∷ event.Deliver false 0 ∷ event.Deliver true 0 ∷ ticks
+round = event.Enter 0 ∷ event.Enter 1 ∷ event.Run 0 ∷ event.Deliver false 0 ∷ event.Deliver false 0
+    ∷ event.Deliver true 0 ∷ ticks
 
 -- the same where every packet is lost
 abbrev pub lost_round : List Event
-lost_round = event.Enter 0 ∷ event.Enter 1 ∷ event.Run 0 ∷ event.Lose false 0 ∷ event.Lose false 0 ∷ event.Lose true 0 ∷ ticks
+lost_round =
+    event.Enter 0 ∷ event.Enter 1 ∷ event.Run 0 ∷ event.Lose false 0 ∷ event.Lose false 0 ∷ event.Lose true 0 ∷ ticks
 
 -- what a mixed round begins with that is drawn from 42, up to its first packet
 abbrev pub mixed_from_42 : List Event

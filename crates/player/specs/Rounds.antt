@@ -1,5 +1,6 @@
--- The events of one round, part by part: the terminals enter, the processes run, the buses deliver, the nodes tick. A part with nothing in it is passed
--- over, with the packets that there are when its turn comes. The order is our own rule.
+-- The events of one round, part by part: the terminals enter, the processes run, the buses deliver, the nodes tick. A
+-- part with nothing in it is passed over, with the packets that there are when its turn comes. The order is our own
+-- rule.
 use Rattle.std.specs.Prelude.{ℕ, ◌+◌, ◌-◌, nat_lt, true, false, if◌then◌else◌}
 use Rattle.schedule.specs.declared.event.Event.{Event}
 use Rattle.schedule.specs.declared.event.Event.TheVariants as event
@@ -13,7 +14,8 @@ turn event place = record { event = event; place = place }
 
 -- the tick of each node: of the processors, rising, and then of node 16, with which the round is over
 abbrev pub ticks : Sizes → ℕ → Turn
-ticks sizes node = if nat_lt node sizes.processors then turn (event.Tick node) (place.Ticks (node + 1)) else turn (event.Tick 16) place.Before
+ticks sizes node = if nat_lt node sizes.processors then turn (event.Tick node) (place.Ticks (node + 1)) else turn
+    (event.Tick 16) place.Before
 
 -- bus Y delivers its first packet as often as there were packets when its part began
 abbrev pub delivers_y : Sizes → ℕ → Turn
@@ -33,7 +35,8 @@ runs sizes x y process =
 -- each terminal enters once, in deck order
 abbrev pub enters : Sizes → ℕ → ℕ → ℕ → Turn
 enters sizes x y terminal =
-    if nat_lt terminal sizes.terminals then turn (event.Enter terminal) (place.Enters (terminal + 1)) else runs sizes x y 0
+    if nat_lt terminal sizes.terminals then turn (event.Enter terminal) (place.Enters (terminal + 1)) else runs sizes x
+    y 0
 
 -- the next event of a round that stands at a place, with so many packets on buses X and Y
 abbrev pub next_turn : Sizes → ℕ → ℕ → Place → Turn

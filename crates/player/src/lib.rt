@@ -1,7 +1,7 @@
 //! Which event comes next on a line of a schedule.
 //!
-//! Below stands `schedule` with events, lines and counts. The layer above uses that `Player::next` gives exactly the events of the
-//! definition (`next_event`), and where it need not know whether the machine is idle.
+//! Below stands `schedule` with events, lines and counts. The layer above uses that `Player::next` gives exactly the
+//! events of the definition (`next_event`), and where it need not know whether the machine is idle.
 #![tactic(auto)]
 
 pub mod guards;
@@ -14,5 +14,5 @@ pub mod standing;
 pub mod stop;
 
 pub use player::Player;
-pub use standing::{MixedPlace, Place, Rule, Sizes, LinePlace};
+pub use standing::{LinePlace, MixedPlace, Place, Rule, Sizes};
 pub use stop::ProcessorStop;

@@ -1,5 +1,6 @@
 ghost use Rattle.std.specs.Prelude.{◌≡◌, ◌<◌};
-ghost use Rattle.player.specs.Mixes.{first_draws, word, drawn, ticks, handled, drawn_packet, delivers_y, delivers_x, runs_from, runs, enters, next_mixed};
+ghost use Rattle.player.specs.Mixes.{first_draws, word, drawn, ticks, handled, drawn_packet, delivers_y, delivers_x};
+ghost use Rattle.player.specs.Mixes.{runs_from, runs, enters, next_mixed};
 
 use crate::standing::{MixedPlace, MixedTurn, Sizes};
 use rand_core::utils::NextWord;

@@ -2,12 +2,13 @@ ghost use Rattle.std.specs.Prelude.{◌≡◌, ◌-◌, nat_lt, Bool, false, Som
 ghost use Rattle.schedule.specs.declared.event.Counts.{Counts as AnyCounts};
 ghost use Rattle.player.specs.declared.standing.LinePlace.TheVariants as standing;
 ghost use Rattle.player.specs.declared.standing.Place.TheVariants as place;
-ghost use Rattle.player.specs.Lines.{begun, is_before, is_before_mixed, proposed, has_reached, asks_idle, decided, next_event, stands_after, event_of, packet_of, on_bus, aimed};
+ghost use Rattle.player.specs.Lines.{begun, is_before, is_before_mixed, proposed, has_reached, asks_idle, decided};
+ghost use Rattle.player.specs.Lines.{next_event, stands_after, event_of, packet_of, on_bus, aimed};
 
 use crate::mixed::{first_draws, next_mixed};
 use crate::round::next_turn;
 use crate::rule::{muted, spared};
-use crate::standing::{MixedPlace, Move, Place, Rule, Sizes, LinePlace};
+use crate::standing::{LinePlace, MixedPlace, Move, Place, Rule, Sizes};
 use schedule::{Counts, Event, Line};
 
 /// Gives the events of a line one by one.
@@ -20,7 +21,11 @@ pub struct Player {
 impl Player {
     /// A player for so many processors, processes and terminals, with no line.
     pub fn new(processors: u8, processes: u8, terminals: u8) -> Player
-        ensures sizes { result.sizes ≡ record { processors = processors; processes = processes; terminals = terminals } }
+        ensures sizes { result.sizes ≡ record {
+          processors = processors;
+          processes = processes;
+          terminals = terminals;
+        } }
         ensures standing { result.standing ≡ standing.Ended }
     {
         Player {
@@ -40,8 +45,8 @@ impl Player {
         self.standing = begun(line);
     }
 
-    /// The packet that the next event concerns where the buses hold `x` and `y` packets and the line goes on: whether it is on bus
-    /// Y, and its position.
+    /// The packet that the next event concerns where the buses hold `x` and `y` packets and the line goes on: whether
+    /// it is on bus Y, and its position.
     pub fn aim(&self, x: u32, y: u32) -> Option<(bool, u32)>
         ensures { result ≡ aimed self.now.sizes x y self.now.standing }
     {
@@ -52,7 +57,8 @@ impl Player {
     /// The next event of the line. After none the line has ended.
     pub fn next(&mut self, counts: &Counts) -> Option<Event>
         ensures event { result ≡ event_of (next_event self.old.sizes self.old.standing counts.now) }
-        ensures standing { self.new ≡ record self.old { standing = stands_after (next_event self.old.sizes self.old.standing counts.now) } }
+        ensures standing { self.new ≡ record self.old
+            { standing = stands_after (next_event self.old.sizes self.old.standing counts.now) } }
     {
         let Some(next) = next_event(self.sizes, self.standing, counts) else {
             self.standing = LinePlace::Ended;
@@ -65,7 +71,9 @@ impl Player {
     /// Whether the next event may depend on whether the machine is idle.
     pub fn asks_idle(&self) -> bool
         ensures asks { result ≡ asks_idle self.now.standing }
-        ensures same { result ≡ false → (counts : AnyCounts) (idle : Bool) → next_event self.now.sizes self.now.standing (record counts { idle = idle }) ≡ next_event self.now.sizes self.now.standing counts }
+        ensures same { result ≡ false → (counts : AnyCounts) (idle : Bool)
+            → next_event self.now.sizes self.now.standing (record counts { idle = idle })
+            ≡ next_event self.now.sizes self.now.standing counts }
     {
         asks_idle(self.standing)
     }
@@ -169,7 +177,8 @@ fn proposed(sizes: Sizes, x: u32, y: u32, standing: LinePlace) -> Option<Move>
 }
 
 fn event_again(event: Event, left: u32) -> Option<Move>
-    ensures { result ≡ (if nat_lt 0 left then Some (record { event = event; standing = standing.Event event (left - 1) }) else None) }
+    ensures { result ≡ (if nat_lt 0 left then Some
+        (record { event = event; standing = standing.Event event (left - 1) }) else None) }
 {
     if 0 < left {
         Some(Move {

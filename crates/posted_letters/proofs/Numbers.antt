@@ -1,5 +1,7 @@
--- Where a letter stands that is owed no more: the list without a number is the list without the item at the first place of that number.
-use Rattle.std.proofs.Common.{◌≡◌, ℕ, ◌+◌, List, [], ◌∷◌, refl, arith, Bool, true, false, not, cond, if◌then◌else◌, Some, None}
+-- Where a letter stands that is owed no more: the list without a number is the list without the item at the first place
+-- of that number.
+use Rattle.std.proofs.Common.{◌≡◌, ℕ, ◌+◌, List, [], ◌∷◌, refl, arith, Bool, true, false, not, cond, if◌then◌else◌}
+use Rattle.std.proofs.Common.{Some, None}
 use Rattle.std.proofs.lemmas.Grind.{common_steps}
 use Rattle.std.specs.List.{position, position_or_len, remove}
 use Rattle.message_wires.specs.Wires.{Sent, is_of, without_number}
@@ -10,7 +12,8 @@ after_one : (one : Sent) (rest less : List Sent) (place : ℕ) (b : Bool) → le
 after_one one rest less place true same = refl
 after_one one rest less place false same = grind (arith, common_steps, same)
 
-pub without_first : (number : ℕ) (all : List Sent) → without_number number all ≡ remove all (position_or_len (is_of number) all)
+pub without_first : (number : ℕ) (all : List Sent)
+    → without_number number all ≡ remove all (position_or_len (is_of number) all)
 without_first number [] = refl
 without_first number (one ∷ rest) = after_one one rest _ _ (is_of number one) (without_first number rest)
 

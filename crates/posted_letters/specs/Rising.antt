@@ -1,4 +1,5 @@
--- The numbers of the letters that are owed rise along them. Our own rule: a sending has a higher number than those before it.
+-- The numbers of the letters that are owed rise along them. Our own rule: a sending has a higher number than those
+-- before it.
 use Rattle.std.specs.Prelude.{ℕ, ◌+◌, ◌≤◌, List, [], ◌∷◌}
 use Rattle.message_wires.specs.Wires.{Sent}
 

@@ -79,7 +79,8 @@ impl Bus {
 
     /// Puts a letter that is owed at the end once more, if it is due.
     fn put_due(&mut self, stopped: &[bool], node: u8, one: &Sent) -> Result<(), NoMemory>
-        ensures { OnOk result (self.new ≡ (if is_due stopped.now node self.old one.now then put_on one.now self.old else self.old)) }
+        ensures { OnOk result (self.new ≡ (if is_due stopped.now node self.old one.now then put_on one.now self.old
+            else self.old)) }
     {
         if one.sender() == node && is_running(stopped, one.receiver()) && !self.has(one.number()) {
             let packet = one.copy()?;
@@ -123,7 +124,8 @@ impl Bus {
         there: bool,
     ) -> Result<(), NoMemory>
         requires { there ≡ is_on self.old one.now.number }
-        ensures { OnOk result (self.new ≡ (if is_due stopped.now node self.old one.now then put_on one.now self.old else self.old)) }
+        ensures { OnOk result (self.new ≡ (if is_due stopped.now node self.old one.now then put_on one.now self.old
+            else self.old)) }
     {
         if one.sender() == node && is_running(stopped, one.receiver()) && !there {
             let packet = one.copy()?;

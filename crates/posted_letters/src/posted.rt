@@ -1,7 +1,8 @@
 ghost use Rattle.std.specs.Prelude.{◌≡◌, length, slice_get, IfOk, OnOk};
 ghost use Rattle.std.specs.Option.{option_map};
 ghost use Rattle.message_wires.specs.Idle.{none_owed};
-ghost use Rattle.message_wires.specs.Wires.{paid, paid_between, wires_after_post, wires_again, wires_at_boot, without_packet};
+ghost use Rattle.message_wires.specs.Wires.{paid, paid_between, wires_after_post, wires_again, wires_at_boot};
+ghost use Rattle.message_wires.specs.Wires.{without_packet};
 ghost use Rattle.gd_words.specs.Ranges.{HasNextLong};
 ghost use Rattle.posted_letters.specs.Repeats.{IsRepeated};
 
@@ -112,7 +113,8 @@ impl PostedLetters {
         self.owed.retain(|sent| !sent.is_between(one, other));
     }
 
-    /// A tick of a node: what it sent is put on the bus again, where it is owed, its receiver runs and no packet of it is there.
+    /// A tick of a node: what it sent is put on the bus again, where it is owed, its receiver runs and no packet of it
+    /// is there.
     pub fn put_again(&mut self, stopped: &[bool], node: u8) -> Result<(), NoMemory>
         ensures { OnOk result (self.new ≡ wires_again stopped.now node self.old) }
     {

@@ -87,7 +87,8 @@ impl Sent {
 
     /// Whether both its nodes run.
     pub(crate) fn is_open(&self, stopped: &[bool]) -> bool
-        ensures { result ≡ (is_running stopped.now self.now.letter.sender && is_running stopped.now self.now.letter.receiver) }
+        ensures { result ≡ (is_running stopped.now self.now.letter.sender
+            && is_running stopped.now self.now.letter.receiver) }
     {
         is_running(stopped, self.letter.sender()) && is_running(stopped, self.letter.receiver())
     }

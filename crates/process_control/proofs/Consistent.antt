@@ -1,5 +1,6 @@
 -- What a copy does keeps it consistent.
-use Rattle.std.proofs.Common.{◌≡◌, ℕ, ℤ, Bool, false, List, [], ◌∷◌, length, Some, None, is_some, slice_set, refl, sym, subst, ap, ◌∙◌}
+use Rattle.std.proofs.Common.{◌≡◌, ℕ, ℤ, Bool, false, List, [], ◌∷◌, length, Some, None, is_some, slice_set, refl, sym}
+use Rattle.std.proofs.Common.{subst, ap, ◌∙◌}
 use Rattle.std.proofs.lemmas.List.{length-set}
 use Rattle.process_semantics.specs.declared.point.Point.TheVariants as point
 use Rattle.process_semantics.specs.Image.{restored}
@@ -12,14 +13,18 @@ use Rattle.checkpoint_image.specs.declared.message.FileNumber.{FileNumber}
 use Rattle.sync_ids.specs.Tables.{Remembered, IsSound, nothing_taken}
 use Rattle.world_semantics.specs.Core.{with_files}
 use Rattle.process_control.specs.Consistent.{IsConsistent, IsInOrder}
-use Rattle.process_control.proofs.Ordered.{whole-order, inner-order, took-order, asked-order, got-order, answered-order, marked-order, device-order, restored-order, restored-hand, restored-files}
+use Rattle.process_control.proofs.Ordered.{whole-order, inner-order, took-order, asked-order, got-order, answered-order}
+use Rattle.process_control.proofs.Ordered.{marked-order, device-order, restored-order, restored-hand, restored-files}
 
 files-length : (files : List FileNumber) (next : List ℕ) → length (with_files files next) ≡ length next
 files-length [] next = refl
-files-length (named ∷ files) next = files-length files (slice_set next named.file named.next) ∙ length-set next named.file named.next
+files-length (named ∷ files) next =
+    files-length files (slice_set next named.file named.next) ∙ length-set next named.file named.next
 
-pub starting : (state : ProcessState) (next : List ℕ) (remembered : Remembered) (depths : List ℕ) → IsWholeProcess state → process.in_hand state ≡ false
-    → length next ≡ files_of state → remembered ≡ nothing_taken depths → IsSound remembered → IsConsistent state next remembered
+pub starting : (state : ProcessState) (next : List ℕ) (remembered : Remembered) (depths : List ℕ)
+    → IsWholeProcess state → process.in_hand state ≡ false
+    → length next ≡ files_of state → remembered ≡ nothing_taken depths → IsSound remembered
+    → IsConsistent state next remembered
 starting state next remembered depths whole free files nothing sound = record {
   order = whole-order state whole;
   hand = free ∙ ap (λ (r : Remembered). is_some r.table.in_hand) (sym nothing);
@@ -72,9 +77,11 @@ device-hand : (s : ProcessState) (words : List ℤ) → process.in_hand (process
 device-hand (Runs program s) words = refl
 device-hand (Serves sectors s) words = refl
 
-module _ (state new : ProcessState) (next : List ℕ) (remembered : Remembered) (is : IsConsistent state next remembered) where
+module _ (state new : ProcessState) (next : List ℕ) (remembered : Remembered)
+    (is : IsConsistent state next remembered) where
   -- a step to a state in order, with as much in hand and as many files
-  stepping : (to : ProcessState) → IsInOrder to → process.in_hand to ≡ process.in_hand state → files_of to ≡ files_of state → new ≡ to
+  stepping : (to : ProcessState) → IsInOrder to → process.in_hand to ≡ process.in_hand state
+      → files_of to ≡ files_of state → new ≡ to
       → IsConsistent new next remembered
   stepping to order hand files same = subst (λ (s : ProcessState). IsConsistent s next remembered) (sym same) (record {
     order = order;
@@ -86,22 +93,31 @@ module _ (state new : ProcessState) (next : List ℕ) (remembered : Remembered) 
   pub going : new ≡ process.after_inner state → IsConsistent new next remembered
   going = stepping (process.after_inner state) (inner-order state is.order) (inner-hand state) (inner-files state)
 
-  pub getting : (words : List ℤ) → process.point state ≡ point.Await → new ≡ process.after_got state words → IsConsistent new next remembered
-  getting words at = stepping (process.after_got state words) (got-order state words at is.order) (got-hand state words) (got-files state words)
+  pub getting : (words : List ℤ) → process.point state ≡ point.Await → new ≡ process.after_got state words
+      → IsConsistent new next remembered
+  getting words at = stepping (process.after_got state words) (got-order state words at is.order)
+      (got-hand state words) (got-files state words)
 
-  pub passing : process.point state ≡ point.AtCheckpoint → new ≡ process.after_checkpoint state → IsConsistent new next remembered
-  passing at = stepping (process.after_checkpoint state) (marked-order state at is.order) (marked-hand state) (marked-files state)
+  pub passing : process.point state ≡ point.AtCheckpoint → new ≡ process.after_checkpoint state
+      → IsConsistent new next remembered
+  passing at = stepping (process.after_checkpoint state) (marked-order state at is.order) (marked-hand state)
+      (marked-files state)
 
-  pub acting : (found : List ℤ) → process.point state ≡ point.Device → new ≡ process.after_device state found → IsConsistent new next remembered
-  acting found at = stepping (process.after_device state found) (device-order state found at is.order) (device-hand state found) (device-files state found)
+  pub acting : (found : List ℤ) → process.point state ≡ point.Device → new ≡ process.after_device state found
+      → IsConsistent new next remembered
+  acting found at = stepping (process.after_device state found) (device-order state found at is.order)
+      (device-hand state found) (device-files state found)
 
-  pub asking : (others : List ℕ) → process.point state ≡ point.Ask → new ≡ process.after_asked state → length others ≡ length next
+  pub asking : (others : List ℕ) → process.point state ≡ point.Ask → new ≡ process.after_asked state
+      → length others ≡ length next
       → IsConsistent new others remembered
   asking others at same lengths =
-      let asked = stepping (process.after_asked state) (asked-order state at is.order) (asked-hand state) (asked-files state) same in
+      let asked = stepping (process.after_asked state) (asked-order state at is.order) (asked-hand state)
+      (asked-files state) same in
       record { order = asked.order; hand = asked.hand; files = lengths ∙ asked.files; table = asked.table }
 
-  pub taking : (words : List ℤ) (after : Remembered) (place : ℕ) → process.point state ≡ point.Take → new ≡ process.after_took state words
+  pub taking : (words : List ℤ) (after : Remembered) (place : ℕ) → process.point state ≡ point.Take
+      → new ≡ process.after_took state words
       → after.table.in_hand ≡ Some place → IsSound after → IsConsistent new next after
   taking words after place at same held sound = record {
     order = subst IsInOrder (sym same) (took-order state words at is.order);
@@ -110,7 +126,8 @@ module _ (state new : ProcessState) (next : List ℕ) (remembered : Remembered) 
     table = sound;
   }
 
-  pub answering : (after : Remembered) → process.point state ≡ point.Answer → new ≡ process.after_answered state → after.table.in_hand ≡ None → IsSound after
+  pub answering : (after : Remembered) → process.point state ≡ point.Answer → new ≡ process.after_answered state
+      → after.table.in_hand ≡ None → IsSound after
       → IsConsistent new next after
   answering after at same held sound = record {
     order = subst IsInOrder (sym same) (answered-order state at is.order);
@@ -119,8 +136,10 @@ module _ (state new : ProcessState) (next : List ℕ) (remembered : Remembered) 
     table = sound;
   }
 
-  pub applying : (hand : Bool) (words : List ℤ) (files : List FileNumber) (others : List ℕ) (after : Remembered) → restored state hand words ≡ Some new
-      → hand ≡ is_some after.table.in_hand → others ≡ with_files files next → IsSound after → IsConsistent new others after
+  pub applying : (hand : Bool) (words : List ℤ) (files : List FileNumber) (others : List ℕ) (after : Remembered)
+      → restored state hand words ≡ Some new
+      → hand ≡ is_some after.table.in_hand → others ≡ with_files files next → IsSound after
+      → IsConsistent new others after
   applying hand words files others after there held put sound = record {
     order = restored-order state new hand words is.order there;
     hand = restored-hand state new hand words there ∙ held;

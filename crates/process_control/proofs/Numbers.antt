@@ -1,5 +1,6 @@
 -- Which number of a request stands next to a receive table.
-use Rattle.std.proofs.Common.{◌≡◌, ◌<◌, ◌+◌, ◌==◌, ℕ, ℤ, Bool, true, false, if◌then◌else◌, List, Option, Some, None, length, refl, ap, sym, ◌∙◌, slice_get}
+use Rattle.std.proofs.Common.{◌≡◌, ◌<◌, ◌+◌, ◌==◌, ℕ, ℤ, Bool, true, false, if◌then◌else◌, List, Option, Some, None}
+use Rattle.std.proofs.Common.{length, refl, ap, sym, ◌∙◌, slice_get}
 use Rattle.std.proofs.lemmas.Bool.{eqb-true}
 use Rattle.std.proofs.lemmas.Option.{slice_get_within}
 use Rattle.checkpoint_image.specs.Receive.{holds, kept_or_old, standing_at, standing_by}
@@ -21,10 +22,12 @@ pub next-there : (table : ReceiveBlock) (opener number : ℕ) → standing_at ta
     → (opener < length table.openers) × (number ≡ last_taken table opener + 1)
 next-there table opener number next = by (slice_get table.openers opener) refl next
   where
-    by : (found : Option OpenerBlock) → slice_get table.openers opener ≡ found → standing_by (holds table opener) found number ≡ Next
+    by : (found : Option OpenerBlock) → slice_get table.openers opener ≡ found
+        → standing_by (holds table opener) found number ≡ Next
         → (opener < length table.openers) × (number ≡ taken_in (slice_get table.openers opener) + 1)
     by None is e = absurd (cc)
     by (Some block) is e = (
       slice_get_within table.openers opener block is,
-      eqb-true number (block.taken + 1) (by-tests (number == block.taken + 1) _ _ _ e) ∙ ap (λ (o : Option OpenerBlock). taken_in o + 1) (sym is),
+      eqb-true number (block.taken + 1) (by-tests (number == block.taken + 1) _ _ _ e)
+          ∙ ap (λ (o : Option OpenerBlock). taken_in o + 1) (sym is),
     )

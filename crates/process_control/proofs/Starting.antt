@@ -23,14 +23,17 @@ ones : {A : Type 0} (items : List A) → replicate {A = ℕ} (length items) 1 �
 ones [] = refl
 ones (item ∷ items) = ap (λ (rest : List ℕ). 1 ∷ rest) (ones items)
 
-blocks : (openers : List OpenerSpec) → map (λ depth. untaken) (map (λ (opener : OpenerSpec). opener.depth) openers) ≡ map (λ opener. untaken) openers
+blocks : (openers : List OpenerSpec) → map (λ depth. untaken) (map (λ (opener : OpenerSpec). opener.depth) openers)
+    ≡ map (λ opener. untaken) openers
 blocks [] = refl
 blocks (opener ∷ openers) = ap (λ (rest : List OpenerBlock). untaken ∷ rest) (blocks openers)
 
 abbrev core_of : ProcessState → List ℕ → List OpenerBlock → Core
-core_of state next openers = record { state = state; next = next; receive = record { openers = openers; in_hand = None } }
+core_of state next openers =
+    record { state = state; next = next; receive = record { openers = openers; in_hand = None } }
 
 pub starts : {A : Type 0} (state : ProcessState) (files : List A) (openers : List OpenerSpec)
-    → core_of state (replicate {A = ℕ} (length files) 1) (map (λ depth. untaken) (map (λ (opener : OpenerSpec). opener.depth) openers))
+    → core_of state (replicate {A = ℕ} (length files) 1)
+    (map (λ depth. untaken) (map (λ (opener : OpenerSpec). opener.depth) openers))
     ≡ core_of state (map (λ file. 1) files) (map (λ opener. untaken) openers)
 starts state files openers = ap₂ (core_of state) (ones files) (blocks openers)

@@ -1,5 +1,6 @@
 -- What a receive table is after a request is taken or answered, or a whole table is put.
-use Rattle.std.proofs.Common.{◌≡◌, ◌<◌, ℕ, zero, suc, arith, ℤ, Bool, true, if◌then◌else◌, List, Option, Some, [], ◌∷◌, ◌++◌, length, slice_get, slice_set, refl, ap, ap₂, sym, ◌∙◌}
+use Rattle.std.proofs.Common.{◌≡◌, ◌<◌, ℕ, zero, suc, arith, ℤ, Bool, true, if◌then◌else◌, List, Option, Some, [], ◌∷◌}
+use Rattle.std.proofs.Common.{◌++◌, length, slice_get, slice_set, refl, ap, ap₂, sym, ◌∙◌}
 use Rattle.process_semantics.specs.Process as process
 use Rattle.process_semantics.specs.Process.{ProcessState}
 use Rattle.checkpoint_image.specs.Receive.{after_answering, last_ones}
@@ -16,40 +17,53 @@ found (x ∷ xs) zero below = (x, refl)
 found (x ∷ xs) (suc k) below = found xs k (omega (arith, below))
 
 -- as many openers as depths
-pub as-many : (remembered : Remembered) → IsSound remembered → length remembered.table.openers ≡ length remembered.depths
+pub as-many : (remembered : Remembered) → IsSound remembered
+    → length remembered.table.openers ≡ length remembered.depths
 as-many remembered sound =
     lengths remembered.table.openers remembered.depths
-    (and-left (are_of_depths remembered.table.openers remembered.depths) (can_hold remembered.table.openers remembered.table.in_hand) sound.table)
+    (and-left (are_of_depths remembered.table.openers remembered.depths)
+    (can_hold remembered.table.openers remembered.table.in_hand) sound.table)
 
-set-taken : (blocks : List OpenerBlock) (place : ℕ) (block new : OpenerBlock) → slice_get blocks place ≡ Some block → new.taken ≡ block.taken
+set-taken : (blocks : List OpenerBlock) (place : ℕ) (block new : OpenerBlock) → slice_get blocks place ≡ Some block
+    → new.taken ≡ block.taken
     → taken_in (slice_get (slice_set blocks place new) place) ≡ taken_in (slice_get blocks place)
 set-taken [] place block new at same = refl
 set-taken (b ∷ blocks) zero block new at same = same ∙ ap taken_in (sym at)
 set-taken (b ∷ blocks) (suc place) block new at same = set-taken blocks place block new at same
 
 -- what was answered, and the core after it
-module _ (core : Core) (depths : List ℕ) (place : ℕ) (words : List ℤ) (new : ProcessState) (after : ReceiveBlock) (held : core.receive.in_hand ≡ Some place)
-    (block : OpenerBlock) (depth : ℕ) (at : slice_get core.receive.openers place ≡ Some block) (of : slice_get depths place ≡ Some depth)
+module _ (core : Core) (depths : List ℕ) (place : ℕ) (words : List ℤ) (new : ProcessState) (after : ReceiveBlock)
+    (held : core.receive.in_hand ≡ Some place)
+    (block : OpenerBlock) (depth : ℕ) (at : slice_get core.receive.openers place ≡ Some block)
+    (of : slice_get depths place ≡ Some depth)
     (told : words ≡ process.answer_of core.state) (is : new ≡ process.after_answered core.state)
-    (kept : (block : OpenerBlock) (depth : ℕ) → slice_get core.receive.openers place ≡ Some block → slice_get depths place ≡ Some depth
+    (kept : (block : OpenerBlock) (depth : ℕ) → slice_get core.receive.openers place ≡ Some block
+    → slice_get depths place ≡ Some depth
     → after ≡ after_answering depth place block words core.receive) where
-  pub answers : (number : ℕ) → number ≡ last_taken after place → answering_of core ≡ Some (record { opener = place; number = number; words = words })
+  pub answers : (number : ℕ) → number ≡ last_taken after place
+      → answering_of core ≡ Some (record { opener = place; number = number; words = words })
   answers number last =
       ap (answering_at core) held
-      ∙ ap₂ (λ (n : ℕ) (ws : List ℤ). Some (record { opener = place; number = n; words = ws })) (sym (last ∙ same)) (sym told)
+      ∙ ap₂ (λ (n : ℕ) (ws : List ℤ). Some (record { opener = place; number = n; words = ws })) (sym (last ∙ same))
+      (sym told)
     where
       same : last_taken after place ≡ last_taken core.receive place
       same =
           ap (λ (t : ReceiveBlock). last_taken t place) (kept block depth at of)
-          ∙ set-taken core.receive.openers place block (record block { kept = last_ones depth (block.kept ++ words ∷ []) }) at refl
+          ∙ set-taken core.receive.openers place block
+          (record block { kept = last_ones depth (block.kept ++ words ∷ []) }) at refl
 
   pub answered-core : core_answering depths core ≡ Some (record { state = new; next = core.next; receive = after })
   answered-core =
       ap (core_answering_at depths core) held
       ∙ ap₂ (λ (d : Option ℕ) (b : Option OpenerBlock). core_answered core place d b) of at
-      ∙ ap₂ (λ (s : ProcessState) (r : ReceiveBlock). Some (record { state = s; next = core.next; receive = r })) (sym is)
-      (ap (λ (ws : List ℤ). after_answering depth place block ws core.receive) (sym told) ∙ sym (kept block depth at of))
+      ∙ ap₂ (λ (s : ProcessState) (r : ReceiveBlock). Some (record { state = s; next = core.next; receive = r }))
+      (sym is)
+      (ap (λ (ws : List ℤ). after_answering depth place block ws core.receive) (sym told)
+      ∙ sym (kept block depth at of))
 
 -- a table that fits is put
-pub put-table : (fit told : Bool) (block before after : ReceiveBlock) → told ≡ fit → fit ≡ true → after ≡ (if told then block else before) → after ≡ block
-put-table fit told block before after same yes_fit is = is ∙ ap (λ (b : Bool). if b then block else before) (same ∙ yes_fit)
+pub put-table : (fit told : Bool) (block before after : ReceiveBlock) → told ≡ fit → fit ≡ true
+    → after ≡ (if told then block else before) → after ≡ block
+put-table fit told block before after same yes_fit is =
+    is ∙ ap (λ (b : Bool). if b then block else before) (same ∙ yes_fit)

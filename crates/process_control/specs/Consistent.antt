@@ -20,7 +20,8 @@ abbrev pub IsInOrder : ProcessState → Type 0
 IsInOrder (Runs program s) = IsWholeProcess (Runs program s)
 IsInOrder (Serves sectors s) = HoldsAt s.label s.request
 
--- the state is in order, it has a request in hand exactly where the receive table has, there is a next number for each of its files, and the table is sound
+-- the state is in order, it has a request in hand exactly where the receive table has, there is a next number for each
+-- of its files, and the table is sound
 pub record IsConsistent (state : ProcessState) (next : List ℕ) (remembered : Remembered) : Type 0 where
   pub order : IsInOrder state
   pub hand : in_hand state ≡ is_some remembered.table.in_hand

@@ -1,5 +1,6 @@
--- One copy of a process by itself: all that a copy in the world of copies has but its processor, the requests that wait, its position and its held acts.
--- Checkpoints and takeover are Bartlett's ("A NonStop Kernel"); that era and number choose a checkpoint is our own rule.
+-- One copy of a process by itself: all that a copy in the world of copies has but its processor, the requests that
+-- wait, its position and its held acts. Checkpoints and takeover are Bartlett's ("A NonStop Kernel"); that era and
+-- number choose a checkpoint is our own rule.
 use Rattle.std.specs.Option.{option_map}
 use Rattle.std.specs.Prelude.{ℕ, ◌+◌, Bool, true, false, List, Option}
 use Rattle.tal_tree.specs.declared.site.OpenerSpec.{OpenerSpec}
@@ -12,8 +13,9 @@ use Rattle.world_semantics.specs.Passes.{next_checkpoint}
 use Rattle.process_control.specs.Cores.{CoreAndDepths, core_at_start}
 use Rattle.computed_changes.specs.Checkpoints.{core_as}
 
--- a copy: its role, its era, the number of the last checkpoint sent or applied in that era, whether it has sent the checkpoint at which it stands,
--- whether that was acknowledged, its core, and how many replies are kept at most of each opener of its process
+-- a copy: its role, its era, the number of the last checkpoint sent or applied in that era, whether it has sent the
+-- checkpoint at which it stands, whether that was acknowledged, its core, and how many replies are kept at most of each
+-- opener of its process
 pub record CopyState : Type 0 where
   pub role : Role
   pub era : ℕ

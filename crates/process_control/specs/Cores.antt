@@ -1,4 +1,5 @@
--- What the steps of a copy do to its core, with the depths of its openers. What each step makes of a core stands with the world of copies.
+-- What the steps of a copy do to its core, with the depths of its openers. What each step makes of a core stands with
+-- the world of copies.
 use Rattle.std.specs.Option.{option_map}
 use Rattle.std.specs.Prelude.{ℕ, List, map, replicate, slice_get, Option, Some, None}
 use Rattle.gd_words.specs.declared.message.Request.{Request}
@@ -15,17 +16,23 @@ pub record CoreAndDepths : Type 0 where
   pub core : Core
   pub depths : List ℕ
 
--- at the start of a process in this state, with so many files and these openers: all next numbers are 1, and nothing is taken, kept or in hand
+-- at the start of a process in this state, with so many files and these openers: all next numbers are 1, and nothing is
+-- taken, kept or in hand
 abbrev pub core_at_start : process.ProcessState → ℕ → List OpenerSpec → CoreAndDepths
 core_at_start state files openers = record {
-  core = record { state = state; next = replicate files 1; receive = (nothing_taken (map (λ opener. opener.depth) openers)).table };
+  core = record {
+    state = state;
+    next = replicate files 1;
+    receive = (nothing_taken (map (λ opener. opener.depth) openers)).table;
+  };
   depths = map (λ opener. opener.depth) openers;
 }
 
 -- the core after a request was taken; none where its opener isn't there
 abbrev pub core_taking : Request → Core → Option Core
 core_taking request core =
-    option_map (λ block. core_taken request.opener request.words block core) (slice_get core.receive.openers request.opener)
+    option_map (λ block. core_taken request.opener request.words block core)
+    (slice_get core.receive.openers request.opener)
 
 -- A request that is asked
 
@@ -47,18 +54,22 @@ answering_at core None = None
 answering_at core (Some place) =
     Some (record { opener = place; number = last_taken core.receive place; words = process.answer_of core.state })
 
--- what is answered: the opener whose request is in hand, the number last taken from it, and the words; none where nothing is in hand
+-- what is answered: the opener whose request is in hand, the number last taken from it, and the words; none where
+-- nothing is in hand
 abbrev pub answering_of : Core → Option Answering
 answering_of core = answering_at core core.receive.in_hand
 
 abbrev pub core_answered : Core → ℕ → Option ℕ → Option OpenerBlock → Option Core
-core_answered core place (Some depth) (Some block) = Some (core_replied depth place block (process.answer_of core.state) core)
+core_answered core place (Some depth) (Some block) =
+    Some (core_replied depth place block (process.answer_of core.state) core)
 core_answered core place _ _ = None
 
 abbrev pub core_answering_at : List ℕ → Core → Option ℕ → Option Core
 core_answering_at depths core None = None
-core_answering_at depths core (Some place) = core_answered core place (slice_get depths place) (slice_get core.receive.openers place)
+core_answering_at depths core (Some place) =
+    core_answered core place (slice_get depths place) (slice_get core.receive.openers place)
 
--- the core after it answered the request in hand, with openers of these depths; none where nothing is in hand, or the opener isn't there
+-- the core after it answered the request in hand, with openers of these depths; none where nothing is in hand, or the
+-- opener isn't there
 abbrev pub core_answering : List ℕ → Core → Option Core
 core_answering depths core = core_answering_at depths core core.receive.in_hand

@@ -5,7 +5,8 @@ ghost use Rattle.process_semantics.specs.declared.point.Point.TheVariants.{AtChe
 ghost use Rattle.process_semantics.specs.Process.{point};
 ghost use Rattle.world_semantics.specs.declared.role.Role.TheVariants.{Watching, Gone};
 ghost use Rattle.computed_changes.specs.Checkpoints.{core_where, is_next_for, is_of_last};
-ghost use Rattle.process_control.specs.Copies.{copy_applied, copy_applying, copy_checkpoint, copy_passing, copy_sending, copy_taking_over};
+ghost use Rattle.process_control.specs.Copies.{copy_applied, copy_applying, copy_checkpoint, copy_passing};
+ghost use Rattle.process_control.specs.Copies.{copy_sending, copy_taking_over};
 
 use crate::control::CopyControl;
 use checkpoint_image::{Behaviour, ImageMessage, TakenMessage};
@@ -14,7 +15,8 @@ use std::alloc::Global;
 use world_semantics::Role;
 
 impl<B: Behaviour> CopyControl<B> {
-    /// The checkpoint at which it stands, for the other copy of its process. Its number has 32 bits. An error changes nothing.
+    /// The checkpoint at which it stands, for the other copy of its process. Its number has 32 bits. An error changes
+    /// nothing.
     pub fn checkpoint_out(&mut self, alloc: Global, process: u8) -> Result<ImageMessage, NoMemory>
         requires point { point self.old.core.state ≡ AtCheckpoint }
         requires number { HasNext self.old.number }
@@ -57,7 +59,8 @@ impl<B: Behaviour> CopyControl<B> {
     fn apply_where(&mut self, message: &ImageMessage, is_next: bool) -> bool
         ensures told { result ≡ is_some (core_where self.old.depths self.old.core message.now is_next) }
         ensures copy { self.new
-            ≡ unwrap_or (option_map (copy_applied message.now self.old) (core_where self.old.depths self.old.core message.now is_next)) self.old }
+            ≡ unwrap_or (option_map (copy_applied message.now self.old)
+            (core_where self.old.depths self.old.core message.now is_next)) self.old }
     {
         if !is_next {
             return false;
@@ -93,8 +96,8 @@ impl<B: Behaviour> CopyControl<B> {
         self.acknowledged = false;
     }
 
-    /// Takes over from the other copy, whose processor is marked: it acts from the last checkpoint on that it has applied. The number of
-    /// the next era has 32 bits.
+    /// Takes over from the other copy, whose processor is marked: it acts from the last checkpoint on that it has
+    /// applied. The number of the next era has 32 bits.
     pub fn take_over(&mut self)
         requires watching { self.old.role ≡ Watching }
         requires era { HasNext self.old.era }

@@ -20,7 +20,8 @@ pub fn next_on(asker: &Asker, file: u8) -> u32
 
 /// The next numbers of these files.
 pub fn numbers_of(alloc: Global, asker: &Asker, files: &[u8]) -> Result<List<FileNumber>, NoMemory>
-    ensures { IfOk result (λ numbers. numbers ≡ map (λ file. record { file = file; next = unwrap_or (slice_get asker.now file) 1 }) files.now) }
+    ensures { IfOk result (λ numbers. numbers
+        ≡ map (λ file. record { file = file; next = unwrap_or (slice_get asker.now file) 1 }) files.now) }
 {
     let mut numbers = List::from_vec(Vec::with_capacity(alloc, files.len())?);
     for file in files {

@@ -1,7 +1,8 @@
 ghost use Rattle.std.specs.Prelude.{◌≡◌, ◌<◌, ◌≤◌, ◌+◌, ◌^◌, All, false, is_some, length, Some, IfOk};
 ghost use Rattle.std.specs.Option.{unwrap_or};
 ghost use Rattle.gd_words.specs.Ranges.{HasNext};
-ghost use Rattle.process_semantics.specs.declared.point.Point.TheVariants.{Inner, Take, Ask, Await, Answer, AtCheckpoint, Device};
+ghost use Rattle.process_semantics.specs.declared.point.Point.TheVariants.{Inner, Take, Ask, Await, Answer};
+ghost use Rattle.process_semantics.specs.declared.point.Point.TheVariants.{AtCheckpoint, Device};
 ghost use Rattle.process_semantics.specs.Process.{asked_file, call_of, in_hand, point};
 ghost use Rattle.whole_states.specs.Listing.{files_of};
 ghost use Rattle.whole_states.specs.Processes.{IsWholeProcess};
@@ -10,7 +11,8 @@ ghost use Rattle.checkpoint_image.specs.Receive.{standing};
 ghost use Rattle.checkpoint_image.specs.declared.receive.RequestStanding.TheVariants.{Next};
 ghost use Rattle.sync_ids.specs.Tables.{IsDepth};
 ghost use Rattle.world_semantics.specs.Core.{after_passing, carried, core_acting, core_getting, core_going, next_on};
-ghost use Rattle.process_control.specs.Cores.{core_at_start, core_taking, asking_of, core_asking, answering_of, core_answering};
+ghost use Rattle.process_control.specs.Cores.{core_at_start, core_taking, asking_of, core_asking, answering_of};
+ghost use Rattle.process_control.specs.Cores.{core_answering};
 ghost use Rattle.computed_changes.specs.Fitting.{put_fitting};
 
 use crate::files::{are_files, next_on, numbers_of, put_files};

@@ -18,5 +18,7 @@ pub fn a_process_at_its_beginning_can_start()
 
 /// A copy of a process of a site starts with the core that it has at the beginning of the world of copies.
 pub fn a_copy_starts_as_in_the_world()
-    ensures { (site : Site) (number : ℕ) (spec : ProcessSpec) → (core_at_start (start_of spec.what) (length (openers.files_of spec.what)) (openers.openers_of site number)).core ≡ core_at_boot site number spec }
+    ensures { (site : Site) (number : ℕ) (spec : ProcessSpec)
+        → (core_at_start (start_of spec.what) (length (openers.files_of spec.what))
+        (openers.openers_of site number)).core ≡ core_at_boot site number spec }
 {}

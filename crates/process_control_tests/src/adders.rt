@@ -1,4 +1,6 @@
-use crate::scripts::ScriptStep::{Answer, Ask, Checkpoint, Come, Learn, Pass, Repeat, Take, TakeOver};
+use crate::scripts::ScriptStep::{
+    Answer, Ask, Checkpoint, Come, Learn, Pass, Repeat, Take, TakeOver,
+};
 use crate::scripts::Turn::{First, Second};
 use crate::scripts::{Copies, Turn, play};
 use crate::starting::{start_both, terminal};
@@ -28,8 +30,8 @@ const THIRD_WORDS: &[i16] = &[
     1, 12, 0,
 ];
 
-/// Two checkpoints are carried, the first copy goes on to its second question and stops, and the second copy goes on from the last
-/// checkpoint: it tells the reply that the first copy gave, and asks again under the same number.
+/// Two checkpoints are carried, the first copy goes on to its second question and stops, and the second copy goes on
+/// from the last checkpoint: it tells the reply that the first copy gave, and asks again under the same number.
 const TAKEOVER: &[Turn<'static>] = &[
     First(Take(0, 1, 5)),
     First(Checkpoint(FIRST_WORDS)),

@@ -15,7 +15,8 @@ is-told : {A B : Type 0} (f : A → B) (o : Option A) → is_some (option_map f 
 is-told f None = refl
 is-told f (Some x) = refl
 
-pub by-point : (site : Site) (number : ℕ) (k : Which) (pair : Pair) (marks : List Down) (records : Records) (stands : Point) → stands ≢ point.AtCheckpoint
+pub by-point : (site : Site) (number : ℕ) (k : Which) (pair : Pair) (marks : List Down) (records : Records)
+    (stands : Point) → stands ≢ point.AtCheckpoint
     → is_some (step_at site number k pair marks records stands) ≡ is_some (own_of site number k pair records stands)
 by-point site number k pair marks records stands other =
     ap (λ (o : Option Stepped). is_some o) (at-other site number k pair marks records stands other)

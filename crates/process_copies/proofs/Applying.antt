@@ -29,35 +29,46 @@ abbrev kept_after : Which → Records → Placed → Records
 kept_after k before mid = record before { kept = (other_covering k mid before.kept).kept }
 
 settles-put : (k : Which) (old : Placed) (message : ImageMessage) (before : Records) (core : Core) (step : StepOutcome)
-    → step_sendings step ≡ Some (sent_at (copy_of k (put k message core old).pair).processor (Taking (taken_of message) ∷ []))
-    → Settles (Some (applied_step old.number k old.pair before message core)) old before step (covered_after k message before (put k message core old))
+    → step_sendings step ≡ Some (sent_at (copy_of k (put k message core old).pair).processor
+    (Taking (taken_of message) ∷ []))
+    → Settles (Some (applied_step old.number k old.pair before message core)) old before step
+    (covered_after k message before (put k message core old))
     (kept_after k before (put k message core old))
 settles-put First old message before core step told = (told, refl, refl)
 settles-put Second old message before core step told = (told, refl, refl)
 
-settles-mid : (old mid : Placed) (k : Which) (message : ImageMessage) (before : Records) (step : StepOutcome) (core : Option Core)
+settles-mid : (old mid : Placed) (k : Which) (message : ImageMessage) (before : Records) (step : StepOutcome)
+    (core : Option Core)
     → core_by k old message ≡ core → is_some core ≡ true
     → mid ≡ placed_with k (copy_applying (copy_of k old.pair) message core) old
     → step_sendings step ≡ Some (sent_at (copy_of k mid.pair).processor (Taking (taken_of message) ∷ []))
-    → Settles (checkpoint_step old.site old.number k old.pair before message (copy_of k old.pair).role) old before step (covered_after k message before mid)
+    → Settles (checkpoint_step old.site old.number k old.pair before message (copy_of k old.pair).role) old before step
+    (covered_after k message before mid)
     (kept_after k before mid)
 settles-mid old mid k message before step None core some put told = absurd (cc)
 settles-mid old mid k message before step (Some one) core some put told =
-    subst (λ (made : Option Stepped). Settles made old before step (covered_after k message before mid) (kept_after k before mid))
+    subst (λ (made : Option Stepped). Settles made old before step (covered_after k message before mid)
+    (kept_after k before mid))
     (sym (ap (λ (o : Option Core). option_map (applied_step old.number k old.pair before message) o) core))
-    (subst (λ (mid : Placed). step_sendings step ≡ Some (sent_at (copy_of k mid.pair).processor (Taking (taken_of message) ∷ []))
-    → Settles (Some (applied_step old.number k old.pair before message one)) old before step (covered_after k message before mid) (kept_after k before mid))
+    (subst (λ (mid : Placed). step_sendings step
+    ≡ Some (sent_at (copy_of k mid.pair).processor (Taking (taken_of message) ∷ []))
+    → Settles (Some (applied_step old.number k old.pair before message one)) old before step
+    (covered_after k message before mid) (kept_after k before mid))
     (sym put) (settles-put k old message before one step) told)
 
 -- the checkpoint was applied by one copy, and the other one was covered
-pub settles-applied : (old mid new : Placed) (k : Which) (message : ImageMessage) (before after : Records) (step : StepOutcome)
-    → is_some (core_by k old message) ≡ true → mid ≡ placed_with k (copy_applying (copy_of k old.pair) message (core_by k old message)) old
+pub settles-applied : (old mid new : Placed) (k : Which) (message : ImageMessage) (before after : Records)
+    (step : StepOutcome)
+    → is_some (core_by k old message) ≡ true
+    → mid ≡ placed_with k (copy_applying (copy_of k old.pair) message (core_by k old message)) old
     → step_sendings step ≡ Some (sent_at (copy_of k mid.pair).processor (Taking (taken_of message) ∷ []))
     → new ≡ covered_after k message before mid → after ≡ kept_after k before mid
-    → Settles (checkpoint_step old.site old.number k old.pair before message (copy_of k old.pair).role) old before step new after
+    → Settles (checkpoint_step old.site old.number k old.pair before message (copy_of k old.pair).role) old before step
+    new after
 settles-applied old mid new k message before after step some put told process records =
     subst (λ (n : Placed).
-    Settles (checkpoint_step old.site old.number k old.pair before message (copy_of k old.pair).role) old before step n after)
+    Settles (checkpoint_step old.site old.number k old.pair before message (copy_of k old.pair).role) old before step n
+    after)
     (sym process)
     (subst (λ (a : Records).
     Settles (checkpoint_step old.site old.number k old.pair before message (copy_of k old.pair).role) old before step

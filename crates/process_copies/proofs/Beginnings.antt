@@ -24,30 +24,46 @@ Started spec openers role processor = record {
   depths = map (λ (opener : OpenerSpec). opener.depth) openers;
 }
 
-copy-starts : (site : Site) (number : ℕ) (spec : ProcessSpec) (openers : List OpenerSpec) (role : Role) (processor : ℕ) (one : CopyAndDepths)
-    → openers ≡ openers_of site number → one ≡ Started spec openers role processor → one.copy ≡ copy_at_boot role processor (core_at_boot site number spec)
+copy-starts : (site : Site) (number : ℕ) (spec : ProcessSpec) (openers : List OpenerSpec) (role : Role) (processor : ℕ)
+    (one : CopyAndDepths)
+    → openers ≡ openers_of site number → one ≡ Started spec openers role processor
+    → one.copy ≡ copy_at_boot role processor (core_at_boot site number spec)
 copy-starts site number spec openers role processor one all is =
     ap (λ (x : CopyAndDepths). x.copy) is
-    ∙ ap (λ (o : List OpenerSpec). copy_at_boot role processor (core_at_start (start_of spec.what) (length (files_of spec.what)) o).core) all
+    ∙ ap (λ (o : List OpenerSpec). copy_at_boot role processor
+    (core_at_start (start_of spec.what) (length (files_of spec.what)) o).core) all
     ∙ ap (copy_at_boot role processor) (starts (start_of spec.what) (files_of spec.what) (openers_of site number))
 
 abbrev Put : Site → ℕ → Copy → Copy → List ImageMessage → List TakenMessage → List Stored → Placed
 Put site number first second checkpoints takens sectors = record {
   site = site;
   number = number;
-  pair = record { first = first; second = second; base = 0; checkpoints = checkpoints; takens = takens; sectors = sectors };
+  pair = record {
+    first = first;
+    second = second;
+    base = 0;
+    checkpoints = checkpoints;
+    takens = takens;
+    sectors = sectors;
+  };
 }
 
-pub process-starts : (site own : Site) (number : ℕ) (spec : ProcessSpec) (openers : List OpenerSpec) (first second : CopyAndDepths)
+pub process-starts : (site own : Site) (number : ℕ) (spec : ProcessSpec) (openers : List OpenerSpec)
+    (first second : CopyAndDepths)
     (checkpoints : List ImageMessage) (takens : List TakenMessage) (sectors : List Stored)
-    → own ≡ site → openers ≡ openers_of site number → first ≡ Started spec openers Acting spec.primary → second ≡ Started spec openers Watching spec.backup
+    → own ≡ site → openers ≡ openers_of site number → first ≡ Started spec openers Acting spec.primary
+    → second ≡ Started spec openers Watching spec.backup
     → checkpoints ≡ [] → takens ≡ [] → sectors ≡ device_at_boot spec.what
-    → Put own number first.copy second.copy checkpoints takens sectors ≡ record { site = site; number = number; pair = pair_at_boot site number spec }
-process-starts site own number spec openers first second checkpoints takens sectors here all one other unsent untaken device =
+    → Put own number first.copy second.copy checkpoints takens sectors
+    ≡ record { site = site; number = number; pair = pair_at_boot site number spec }
+process-starts site own number spec openers first second checkpoints takens sectors here all one other unsent untaken
+    device =
     ap (λ (s : Site). Put s number first.copy second.copy checkpoints takens sectors) here
-    ∙ ap₂ (λ (a b : Copy). Put site number a b checkpoints takens sectors) (copy-starts site number spec openers Acting spec.primary first all one)
+    ∙ ap₂ (λ (a b : Copy). Put site number a b checkpoints takens sectors)
+    (copy-starts site number spec openers Acting spec.primary first all one)
     (copy-starts site number spec openers Watching spec.backup second all other)
-    ∙ ap₂ (λ (sent : List ImageMessage) (taken : List TakenMessage). Put site number (copy_at_boot Acting spec.primary (core_at_boot site number spec))
+    ∙ ap₂ (λ (sent : List ImageMessage) (taken : List TakenMessage). Put site number
+    (copy_at_boot Acting spec.primary (core_at_boot site number spec))
     (copy_at_boot Watching spec.backup (core_at_boot site number spec)) sent taken sectors) unsent untaken
     ∙ ap (λ (d : List Stored). Put site number (copy_at_boot Acting spec.primary (core_at_boot site number spec))
     (copy_at_boot Watching spec.backup (core_at_boot site number spec)) [] [] d) device

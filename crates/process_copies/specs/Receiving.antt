@@ -49,8 +49,12 @@ other_covering k old kept = share_after_cover old.number kept (share_of (copy_of
 -- the process after one of its copies applied a checkpoint, as far as the other copy and the process are concerned
 abbrev pub pair_covering : ℕ → Which → ImageMessage → List Act → Pair → Pair
 pair_covering number k message kept pair =
-    with_copy (other_of k) (with_share (share_after_cover number kept (share_of (copy_of (other_of k) pair))).share (copy_of (other_of k) pair))
-    (record pair { base = covered_count number kept (share_of (copy_of (other_of k) pair)); takens = taken_of message ∷ pair.takens })
+    with_copy (other_of k) (with_share (share_after_cover number kept (share_of (copy_of (other_of k) pair))).share
+    (copy_of (other_of k) pair))
+    (record pair {
+      base = covered_count number kept (share_of (copy_of (other_of k) pair));
+      takens = taken_of message ∷ pair.takens;
+    })
 
 -- Again
 

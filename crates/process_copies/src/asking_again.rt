@@ -46,7 +46,8 @@ impl ProcessCopies {
     /// A copy's receive table, with the replies that it keeps.
     pub fn kept_table(&self, alloc: Global, which: Which) -> Result<ReceiveBlock, NoMemory>
         ensures table { IfOk result (λ block. block ≡ (copy_of which self.now.pair).core.receive) }
-        ensures sound { IfOk result (λ block. IsSound (record { table = block; depths = depths_of self.now.site self.now.number })) }
+        ensures sound { IfOk result (λ block. IsSound
+            (record { table = block; depths = depths_of self.now.site self.now.number })) }
     {
         match which {
             Which::First => self.first.kept_table(alloc),
@@ -64,7 +65,8 @@ impl ProcessCopies {
 
     /// The request that the process of a copy asked last.
     fn asked_last(&self, which: Which) -> Option<Request>
-        ensures { option_to_list result ≡ awaited_at self.now.site self.now.number (copy_of which self.now.pair).core Await }
+        ensures { option_to_list result ≡ awaited_at self.now.site self.now.number (copy_of which self.now.pair).core
+            Await }
     {
         let file = self.asked_file(which);
         let asking = Asking {

@@ -16,8 +16,8 @@ use std::snapshot::Snapshot;
 use tal_tree::{OpenerSpec, Site};
 use world_semantics::{Role, Which};
 
-/// A process in its place in a site: its two copies in their processors, the checkpoints that they ever sent and which of them were
-/// taken, how many kept acts the last one covers, and its device, if it is a disc.
+/// A process in its place in a site: its two copies in their processors, the checkpoints that they ever sent and which
+/// of them were taken, how many kept acts the last one covers, and its device, if it is a disc.
 #[derive(Drop)]
 pub struct ProcessCopies {
     pub(crate) site: Snapshot<Site>,

@@ -18,7 +18,8 @@ ghost use Rattle.computed_changes.specs.Requests.{after_early_request, after_req
 ghost use Rattle.node_copies.specs.Receiving.{copy_applying};
 ghost use Rattle.world_semantics.specs.Records as happened;
 ghost use Rattle.node_copies.specs.Seen.{step_sendings};
-ghost use Rattle.process_copies.specs.Receiving.{Settles, core_by, is_awaiting, other_covering, pair_covering, placed_with};
+ghost use Rattle.process_copies.specs.Receiving.{Settles, core_by, is_awaiting, other_covering, pair_covering};
+ghost use Rattle.process_copies.specs.Receiving.{placed_with};
 ghost use Rattle.process_copies.specs.Seen.{placed_after, records_after, sent_by};
 
 use crate::copies::ProcessCopies;
@@ -43,9 +44,11 @@ impl ProcessCopies {
         ensures told { IfOk result (λ step. step_sendings step
             ≡ sent_by (step_on self.old.site self.old.number node self.old.pair records.old (message_of message))) }
         ensures process { OnOk result (self.new
-            ≡ placed_after self.old (step_on self.old.site self.old.number node self.old.pair records.old (message_of message))) }
+            ≡ placed_after self.old (step_on self.old.site self.old.number node self.old.pair records.old
+            (message_of message))) }
         ensures records { OnOk result (records.new
-            ≡ records_after records.old (step_on self.old.site self.old.number node self.old.pair records.old (message_of message))) }
+            ≡ records_after records.old (step_on self.old.site self.old.number node self.old.pair records.old
+            (message_of message))) }
         ensures site { self.new.site ≡ self.old.site }
         ensures number { self.new.number ≡ self.old.number }
     {
@@ -144,7 +147,8 @@ impl ProcessCopies {
     ) -> Result<StepOutcome, NoMemory>
         requires { CopyHasRoom (copy_of which self.old.pair) }
         ensures step { IfOk result (λ step. Settles
-            (reply_step self.old.site self.old.number which self.old.pair records.old reply.now (copy_of which self.old.pair).role)
+            (reply_step self.old.site self.old.number which self.old.pair records.old reply.now
+            (copy_of which self.old.pair).role)
             self.old records.old step self.new records.new) }
         ensures site { self.new.site ≡ self.old.site }
         ensures number { self.new.number ≡ self.old.number }
@@ -211,7 +215,8 @@ impl ProcessCopies {
         requires room { CopyHasRoom (copy_of which self.old.pair) }
         ensures process { OnOk result (self.new
             ≡ record self.old { pair = (got_step self.old.number which self.old.pair records.old reply.now).pair }) }
-        ensures records { OnOk result (records.new ≡ (got_step self.old.number which self.old.pair records.old reply.now).records) }
+        ensures records { OnOk result (records.new
+            ≡ (got_step self.old.number which self.old.pair records.old reply.now).records) }
         ensures site { self.new.site ≡ self.old.site }
         ensures number { self.new.number ≡ self.old.number }
     {
@@ -230,7 +235,8 @@ impl ProcessCopies {
         records: &mut Records,
     ) -> Result<StepOutcome, NoMemory>
         ensures step { IfOk result (λ step. Settles
-            (checkpoint_step self.old.site self.old.number which self.old.pair records.old message.now (copy_of which self.old.pair).role)
+            (checkpoint_step self.old.site self.old.number which self.old.pair records.old message.now
+            (copy_of which self.old.pair).role)
             self.old records.old step self.new records.new) }
         ensures site { self.new.site ≡ self.old.site }
         ensures number { self.new.number ≡ self.old.number }
@@ -246,7 +252,8 @@ impl ProcessCopies {
     fn apply(&mut self, which: Which, message: &ImageMessage) -> bool
         ensures told { result ≡ is_some (core_by which self.old message.now) }
         ensures process { self.new
-            ≡ placed_with which (copy_applying (copy_of which self.old.pair) message.now (core_by which self.old message.now)) self.old }
+            ≡ placed_with which (copy_applying (copy_of which self.old.pair) message.now
+            (core_by which self.old message.now)) self.old }
     {
         match which {
             Which::First => self.first.apply(message),
@@ -261,9 +268,15 @@ impl ProcessCopies {
         message: &ImageMessage,
         records: &mut Records,
     ) -> Result<StepOutcome, NoMemory>
-        ensures told { IfOk result (λ step. step_sendings step ≡ Some (sent_at (copy_of which self.old.pair).processor (Taking (taken_of message.now) ∷ []))) }
-        ensures process { OnOk result (self.new ≡ record self.old { pair = pair_covering self.old.number which message.now records.old.kept self.old.pair }) }
-        ensures records { OnOk result (records.new ≡ record records.old { kept = (other_covering which self.old records.old.kept).kept }) }
+        ensures told { IfOk result (λ step. step_sendings step
+            ≡ Some (sent_at (copy_of which self.old.pair).processor (Taking (taken_of message.now) ∷ []))) }
+        ensures process { OnOk result (self.new
+            ≡ record self.old {
+              pair = pair_covering self.old.number which message.now records.old.kept
+                  self.old.pair;
+            }) }
+        ensures records { OnOk result (records.new
+            ≡ record records.old { kept = (other_covering which self.old records.old.kept).kept }) }
         ensures site { self.new.site ≡ self.old.site }
         ensures number { self.new.number ≡ self.old.number }
     {
@@ -277,10 +290,13 @@ impl ProcessCopies {
 
     /// The checkpoint of the other copy is kept, with what that copy held. Answers the base.
     fn cover_other(&mut self, which: Which, records: &mut Records) -> Result<u64, NoMemory>
-        ensures base { IfOk result (λ base. base ≡ covered_count self.old.number records.old.kept (share_of (copy_of (other_of which) self.old.pair))) }
+        ensures base { IfOk result (λ base. base
+            ≡ covered_count self.old.number records.old.kept (share_of (copy_of (other_of which) self.old.pair))) }
         ensures process { OnOk result (self.new ≡ placed_with (other_of which)
-            (with_share (other_covering which self.old records.old.kept).share (copy_of (other_of which) self.old.pair)) self.old) }
-        ensures records { OnOk result (records.new ≡ record records.old { kept = (other_covering which self.old records.old.kept).kept }) }
+            (with_share (other_covering which self.old records.old.kept).share
+            (copy_of (other_of which) self.old.pair)) self.old) }
+        ensures records { OnOk result (records.new
+            ≡ record records.old { kept = (other_covering which self.old records.old.kept).kept }) }
         ensures site { self.new.site ≡ self.old.site }
         ensures number { self.new.number ≡ self.old.number }
     {
@@ -294,7 +310,8 @@ impl ProcessCopies {
 
     fn taken_to(&mut self, which: Which, taken: TakenMessage) -> StepOutcome
         ensures step { (records : happened.Records) → Settles
-            (taken_step which self.old.pair records taken (copy_of which self.old.pair).role) self.old records result self.new records }
+            (taken_step which self.old.pair records taken (copy_of which self.old.pair).role) self.old records result
+            self.new records }
         ensures site { self.new.site ≡ self.old.site }
         ensures number { self.new.number ≡ self.old.number }
     {
@@ -320,7 +337,8 @@ impl ProcessCopies {
     }
 
     fn is_of_last(&self, which: Which, taken: TakenMessage) -> bool
-        ensures { result ≡ is_of_last (copy_of which self.now.pair).sent (copy_of which self.now.pair).era (copy_of which self.now.pair).number taken }
+        ensures { result ≡ is_of_last (copy_of which self.now.pair).sent (copy_of which self.now.pair).era
+            (copy_of which self.now.pair).number taken }
     {
         match which {
             Which::First => self.first.is_of_last(taken),

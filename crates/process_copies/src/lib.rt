@@ -1,10 +1,10 @@
 //! A process of the world of copies, in code: its two copies, each in its node, and which of them does what.
 //!
-//! Below stand `node_copies` with one copy and the records of what happened, `disc_device` with sectors, and `sendings` with
-//! messages. The layer above uses that each call makes of the process and the records what the world of copies computes for one
-//! process: the step where it runs (`world_semantics`), that of a message that comes (`computed_changes`), and what its definitions
-//! say of stops and marks. What may raise numbers requires that they have successors (`number_ranges`). A request that comes in must
-//! name an opener that is there.
+//! Below stand `node_copies` with one copy and the records of what happened, `disc_device` with sectors, and `sendings`
+//! with messages. The layer above uses that each call makes of the process and the records what the world of copies
+//! computes for one process: the step where it runs (`world_semantics`), that of a message that comes
+//! (`computed_changes`), and what its definitions say of stops and marks. What may raise numbers requires that they
+//! have successors (`number_ranges`). A request that comes in must name an opener that is there.
 #![tactic(auto)]
 
 mod asking_again;

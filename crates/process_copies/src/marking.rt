@@ -1,7 +1,8 @@
 ghost use Rattle.std.specs.Prelude.{◌≡◌, ◌++◌, OnOk};
 ghost use Rattle.world_semantics.specs.declared.role.Role.TheVariants.{Watching};
 ghost use Rattle.world_semantics.specs.World.{copy_of, other_of};
-ghost use Rattle.world_semantics.specs.Rules.{after_takeover, is_watching, pair_at_down, stopped_pair, taken_over, taker, takes_over, told_again, told_at_down};
+ghost use Rattle.world_semantics.specs.Rules.{after_takeover, is_watching, pair_at_down, stopped_pair, taken_over};
+ghost use Rattle.world_semantics.specs.Rules.{taker, takes_over, told_again, told_at_down};
 ghost use Rattle.world_semantics.specs.Shares.{closed_by};
 ghost use Rattle.number_ranges.specs.HasRoom.{CopyHasRoom};
 ghost use Rattle.process_copies.specs.Receiving.{placed_with};
@@ -14,7 +15,8 @@ use sendings::Sending;
 use world_semantics::{Role, Which};
 
 impl ProcessCopies {
-    /// A node marks a processor: a copy there that watches the one in that processor takes over. What it sends again is added to `told`.
+    /// A node marks a processor: a copy there that watches the one in that processor takes over. What it sends again is
+    /// added to `told`.
     pub fn mark(
         &mut self,
         node: u8,
@@ -23,7 +25,8 @@ impl ProcessCopies {
     ) -> Result<(), NoMemory>
         requires watching { (k : Which) → (copy_of k self.old.pair).role ≡ Watching
             → CopyHasRoom (copy_of k self.old.pair) }
-        ensures process { OnOk result (self.new ≡ record self.old { pair = pair_at_down node processor self.old.pair }) }
+        ensures process { OnOk result (self.new
+            ≡ record self.old { pair = pair_at_down node processor self.old.pair }) }
         ensures told { OnOk result (told.new ≡ told.old ++ told_at_down node processor self.old.pair) }
         ensures site { self.new.site ≡ self.old.site }
         ensures number { self.new.number ≡ self.old.number }
@@ -101,7 +104,8 @@ impl ProcessCopies {
     /// The run is closed: what its copies still hold is kept.
     pub fn close(&mut self, records: &mut Records) -> Result<(), NoMemory>
         ensures process { OnOk result (self.new ≡ record self.old { pair = let_go self.old.pair }) }
-        ensures records { OnOk result (records.new ≡ record records.old { kept = closed_by records.old.kept self.old.pair }) }
+        ensures records { OnOk result (records.new
+            ≡ record records.old { kept = closed_by records.old.kept self.old.pair }) }
         ensures site { self.new.site ≡ self.old.site }
         ensures number { self.new.number ≡ self.old.number }
     {

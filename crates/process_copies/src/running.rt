@@ -7,7 +7,8 @@ ghost use Rattle.world_semantics.specs.Records as happened;
 ghost use Rattle.node_copies.specs.Seen.{step_sendings};
 ghost use Rattle.process_copies.specs.Acting.{HasStepped, step_by_act};
 ghost use Rattle.process_copies.specs.Seen.{placed_after, records_after, sent_by};
-ghost use Rattle.world_semantics.specs.Running.{mark_step, own_of, passing_step, sending_step, step_as, step_at, step_of, step_of_copy};
+ghost use Rattle.world_semantics.specs.Running.{mark_step, own_of, passing_step, sending_step, step_as, step_at};
+ghost use Rattle.world_semantics.specs.Running.{step_of, step_of_copy};
 
 use crate::copies::ProcessCopies;
 use gd_words::NoMemory;
@@ -28,9 +29,12 @@ impl ProcessCopies {
     ) -> Result<StepOutcome, NoMemory>
         requires room { PairHasRoom self.old.pair }
         requires shown { HasNext (length records.old.shown) }
-        ensures told { IfOk result (λ step. step_sendings step ≡ sent_by (step_of self.old.site self.old.number self.old.pair marks.now records.old)) }
-        ensures process { OnOk result (self.new ≡ placed_after self.old (step_of self.old.site self.old.number self.old.pair marks.now records.old)) }
-        ensures records { OnOk result (records.new ≡ records_after records.old (step_of self.old.site self.old.number self.old.pair marks.now records.old)) }
+        ensures told { IfOk result (λ step. step_sendings step
+            ≡ sent_by (step_of self.old.site self.old.number self.old.pair marks.now records.old)) }
+        ensures process { OnOk result (self.new
+            ≡ placed_after self.old (step_of self.old.site self.old.number self.old.pair marks.now records.old)) }
+        ensures records { OnOk result (records.new
+            ≡ records_after records.old (step_of self.old.site self.old.number self.old.pair marks.now records.old)) }
         ensures site { self.new.site ≡ self.old.site }
         ensures number { self.new.number ≡ self.old.number }
     {
@@ -46,7 +50,8 @@ impl ProcessCopies {
     ) -> Result<StepOutcome, NoMemory>
         requires room { PairHasRoom self.old.pair }
         requires shown { HasNext (length records.old.shown) }
-        ensures stepped { IfOk result (λ step. HasStepped (step_of self.old.site self.old.number self.old.pair marks.now records.old)
+        ensures stepped { IfOk result (λ step. HasStepped
+            (step_of self.old.site self.old.number self.old.pair marks.now records.old)
             step self.old self.new records.old records.new) }
         ensures site { self.new.site ≡ self.old.site }
         ensures number { self.new.number ≡ self.old.number }
@@ -70,7 +75,8 @@ impl ProcessCopies {
     ) -> Result<StepOutcome, NoMemory>
         requires room { PairHasRoom self.old.pair }
         requires shown { HasNext (length records.old.shown) }
-        ensures stepped { IfOk result (λ step. HasStepped (step_of_copy self.old.site self.old.number self.old.pair marks.now records.old which)
+        ensures stepped { IfOk result (λ step. HasStepped
+            (step_of_copy self.old.site self.old.number self.old.pair marks.now records.old which)
             step self.old self.new records.old records.new) }
         ensures site { self.new.site ≡ self.old.site }
         ensures number { self.new.number ≡ self.old.number }
@@ -90,7 +96,8 @@ impl ProcessCopies {
     ) -> Result<StepOutcome, NoMemory>
         requires room { CopyHasRoom (copy_of which self.old.pair) }
         requires shown { HasNext (length records.old.shown) }
-        ensures stepped { IfOk result (λ step. HasStepped (step_as self.old.site self.old.number which self.old.pair marks.now records.old role)
+        ensures stepped { IfOk result (λ step. HasStepped
+            (step_as self.old.site self.old.number which self.old.pair marks.now records.old role)
             step self.old self.new records.old records.new) }
         ensures site { self.new.site ≡ self.old.site }
         ensures number { self.new.number ≡ self.old.number }
@@ -120,7 +127,8 @@ impl ProcessCopies {
         requires point { point (copy_of which self.old.pair).core.state ≡ stands }
         requires room { CopyHasRoom (copy_of which self.old.pair) }
         requires shown { HasNext (length records.old.shown) }
-        ensures stepped { IfOk result (λ step. HasStepped (step_at self.old.site self.old.number which self.old.pair marks.now records.old stands)
+        ensures stepped { IfOk result (λ step. HasStepped
+            (step_at self.old.site self.old.number which self.old.pair marks.now records.old stands)
             step self.old self.new records.old records.new) }
         ensures site { self.new.site ≡ self.old.site }
         ensures number { self.new.number ≡ self.old.number }
@@ -140,12 +148,18 @@ impl ProcessCopies {
     }
 
     /// An act of a copy at a point where it stands.
-    fn act(&mut self, which: Which, records: &mut Records, stands: Point) -> Result<StepOutcome, NoMemory>
+    fn act(
+        &mut self,
+        which: Which,
+        records: &mut Records,
+        stands: Point,
+    ) -> Result<StepOutcome, NoMemory>
         requires point { point (copy_of which self.old.pair).core.state ≡ stands }
         requires room { CopyHasRoom (copy_of which self.old.pair) }
         requires shown { HasNext (length records.old.shown) }
         ensures stepped { IfOk result (λ step. HasStepped (step_by_act self.old.number which self.old.pair records.old
-            (own_of self.old.site self.old.number which self.old.pair records.old stands)) step self.old self.new records.old records.new) }
+            (own_of self.old.site self.old.number which self.old.pair records.old stands)) step self.old self.new
+            records.old records.new) }
         ensures site { self.new.site ≡ self.old.site }
         ensures number { self.new.number ≡ self.old.number }
     {
@@ -165,8 +179,10 @@ impl ProcessCopies {
         requires point { point self.old.pair.first.core.state ≡ stands }
         requires room { CopyHasRoom self.old.pair.first }
         requires shown { HasNext (length records.old.shown) }
-        ensures stepped { IfOk result (λ step. HasStepped (step_by_act self.old.number Which.First self.old.pair records.old
-            (own_of self.old.site self.old.number Which.First self.old.pair records.old stands)) step self.old self.new records.old records.new) }
+        ensures stepped { IfOk result (λ step. HasStepped
+            (step_by_act self.old.number Which.First self.old.pair records.old
+            (own_of self.old.site self.old.number Which.First self.old.pair records.old stands)) step self.old self.new
+            records.old records.new) }
         ensures site { self.new.site ≡ self.old.site }
         ensures number { self.new.number ≡ self.old.number }
     {
@@ -182,8 +198,10 @@ impl ProcessCopies {
         requires point { point self.old.pair.second.core.state ≡ stands }
         requires room { CopyHasRoom self.old.pair.second }
         requires shown { HasNext (length records.old.shown) }
-        ensures stepped { IfOk result (λ step. HasStepped (step_by_act self.old.number Which.Second self.old.pair records.old
-            (own_of self.old.site self.old.number Which.Second self.old.pair records.old stands)) step self.old self.new records.old records.new) }
+        ensures stepped { IfOk result (λ step. HasStepped
+            (step_by_act self.old.number Which.Second self.old.pair records.old
+            (own_of self.old.site self.old.number Which.Second self.old.pair records.old stands)) step self.old
+            self.new records.old records.new) }
         ensures site { self.new.site ≡ self.old.site }
         ensures number { self.new.number ≡ self.old.number }
     {
@@ -204,9 +222,10 @@ impl ProcessCopies {
         free: bool,
         sent: bool,
     ) -> Result<StepOutcome, NoMemory>
-        requires point { point (copy_of which self.old.pair).core.state ≡ Point.Mark }
+        requires point { point (copy_of which self.old.pair).core.state ≡ Point.AtCheckpoint }
         requires room { CopyHasRoom (copy_of which self.old.pair) }
-        ensures stepped { IfOk result (λ step. HasStepped (mark_step self.old.number which self.old.pair records.old free sent)
+        ensures stepped { IfOk result (λ step. HasStepped
+            (mark_step self.old.number which self.old.pair records.old free sent)
             step self.old self.new records.old records.new) }
         ensures site { self.new.site ≡ self.old.site }
         ensures number { self.new.number ≡ self.old.number }
@@ -224,8 +243,9 @@ impl ProcessCopies {
 
     /// A copy passes its checkpoint.
     fn pass(&mut self, which: Which, records: &mut Records) -> Result<StepOutcome, NoMemory>
-        requires { point (copy_of which self.old.pair).core.state ≡ Point.Mark }
-        ensures stepped { IfOk result (λ step. HasStepped (Some (passing_step self.old.number which self.old.pair records.old))
+        requires { point (copy_of which self.old.pair).core.state ≡ Point.AtCheckpoint }
+        ensures stepped { IfOk result (λ step. HasStepped
+            (Some (passing_step self.old.number which self.old.pair records.old))
             step self.old self.new records.old records.new) }
         ensures site { self.new.site ≡ self.old.site }
         ensures number { self.new.number ≡ self.old.number }
@@ -240,9 +260,10 @@ impl ProcessCopies {
 
     /// A copy sends its checkpoint.
     fn send(&mut self, alloc: Global, which: Which) -> Result<StepOutcome, NoMemory>
-        requires point { point (copy_of which self.old.pair).core.state ≡ Point.Mark }
+        requires point { point (copy_of which self.old.pair).core.state ≡ Point.AtCheckpoint }
         requires room { CopyHasRoom (copy_of which self.old.pair) }
-        ensures stepped { (records : happened.Records) → IfOk result (λ step. HasStepped (Some (sending_step self.old.number which self.old.pair records))
+        ensures stepped { (records : happened.Records)
+            → IfOk result (λ step. HasStepped (Some (sending_step self.old.number which self.old.pair records))
             step self.old self.new records records) }
         ensures site { self.new.site ≡ self.old.site }
         ensures number { self.new.number ≡ self.old.number }

@@ -29,7 +29,8 @@ impl ProcessCopies {
     ) -> Result<ProcessCopies, NoMemory>
         requires startable { IsStartable site.now }
         requires there { slice_get site.now.processes number ≡ Some spec.now }
-        ensures { IfOk result (λ process. process ≡ record { site = site.now; number = number; pair = pair_at_boot site.now number spec.now }) }
+        ensures { IfOk result (λ process. process
+            ≡ record { site = site.now; number = number; pair = pair_at_boot site.now number spec.now }) }
     {
         let process = start_in(alloc, site, number, spec)?;
         Ok(process)
@@ -48,7 +49,8 @@ fn start_in(
     requires sectors { HasSectors spec.now.what }
     requires few { length (files_of spec.now.what) ≤ 8 }
     requires depths { All (λ opener. IsDepth opener.depth) (openers_of site.now number) }
-    ensures { IfOk result (λ process. process ≡ record { site = site.now; number = number; pair = pair_at_boot site.now number spec.now }) }
+    ensures { IfOk result (λ process. process
+        ≡ record { site = site.now; number = number; pair = pair_at_boot site.now number spec.now }) }
 {
     let what = &spec.what;
     let openers = openers(alloc, site, usize::from(number))?;

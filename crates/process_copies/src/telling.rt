@@ -39,7 +39,8 @@ impl ProcessCopies {
 impl ProcessCopies {
     /// Whether the process can make a step.
     pub fn can_run(&self, marks: &Downs) -> bool
-        ensures { (records : happened.Records) → result ≡ is_some (step_of self.now.site self.now.number self.now.pair marks.now records) }
+        ensures { (records : happened.Records) → result
+            ≡ is_some (step_of self.now.site self.now.number self.now.pair marks.now records) }
     {
         if self.can_run_copy(Which::First, marks) {
             return true;
@@ -48,14 +49,16 @@ impl ProcessCopies {
     }
 
     fn can_run_copy(&self, which: Which, marks: &Downs) -> bool
-        ensures { (records : happened.Records) → result ≡ is_some (step_of_copy self.now.site self.now.number self.now.pair marks.now records which) }
+        ensures { (records : happened.Records) → result
+            ≡ is_some (step_of_copy self.now.site self.now.number self.now.pair marks.now records which) }
     {
         let role = self.role(which);
         self.can_run_as(which, marks, role)
     }
 
     fn can_run_as(&self, which: Which, marks: &Downs, role: Role) -> bool
-        ensures { (records : happened.Records) → result ≡ is_some (step_as self.now.site self.now.number which self.now.pair marks.now records role) }
+        ensures { (records : happened.Records) → result
+            ≡ is_some (step_as self.now.site self.now.number which self.now.pair marks.now records role) }
     {
         match role {
             Role::Acting => {
@@ -67,7 +70,8 @@ impl ProcessCopies {
     }
 
     fn can_run_at(&self, which: Which, marks: &Downs, stands: Point) -> bool
-        ensures { (records : happened.Records) → result ≡ is_some (step_at self.now.site self.now.number which self.now.pair marks.now records stands) }
+        ensures { (records : happened.Records) → result
+            ≡ is_some (step_at self.now.site self.now.number which self.now.pair marks.now records stands) }
     {
         match stands {
             Point::AtCheckpoint => {
@@ -80,7 +84,8 @@ impl ProcessCopies {
     }
 
     fn can_act(&self, which: Which, stands: Point) -> bool
-        ensures { (records : happened.Records) → result ≡ is_some (own_of self.now.site self.now.number which self.now.pair records stands) }
+        ensures { (records : happened.Records) → result
+            ≡ is_some (own_of self.now.site self.now.number which self.now.pair records stands) }
     {
         match which {
             Which::First => self.first.can_act(stands),
@@ -91,7 +96,8 @@ impl ProcessCopies {
 
 /// Whether a copy at its checkpoint can go on, which may pass or not, and has sent its checkpoint or not.
 fn can_go_on(free: bool, sent: bool) -> bool
-    ensures { (number : ℕ) (k : Which) (pair : Pair) (records : happened.Records) → result ≡ is_some (mark_step number k pair records free sent) }
+    ensures { (number : ℕ) (k : Which) (pair : Pair) (records : happened.Records)
+        → result ≡ is_some (mark_step number k pair records free sent) }
 {
     if free {
         return true;

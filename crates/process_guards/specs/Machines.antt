@@ -25,7 +25,8 @@ disc_site = record {
 abbrev pub opening : Program
 opening = record {
   items = [];
-  files = record { item = 0; target = target.Receive; depth = 1 } ∷ record { item = 1; target = target.Process (36 ∷ 68 ∷ []); depth = 3 } ∷ [];
+  files = record { item = 0; target = target.Receive; depth = 1 }
+      ∷ record { item = 1; target = target.Process (36 ∷ 68 ∷ []); depth = 3 } ∷ [];
   procedures = [];
   main = 0;
 }
@@ -36,7 +37,8 @@ opened_site = record {
   processors = 2;
   processes = record { name = 36 ∷ 68 ∷ []; primary = 0; backup = 1; what = kind.Disc 4 }
       ∷ record { name = 36 ∷ 65 ∷ []; primary = 0; backup = 1; what = kind.Pair opening } ∷ [];
-  terminals = record { name = 36 ∷ 84 ∷ []; target = 1; requests = [] } ∷ record { name = 36 ∷ 85 ∷ []; target = 0; requests = [] } ∷ [];
+  terminals = record { name = 36 ∷ 84 ∷ []; target = 1; requests = [] }
+      ∷ record { name = 36 ∷ 85 ∷ []; target = 0; requests = [] } ∷ [];
 }
 
 -- a disc that has made three writes, with this request in hand
@@ -46,13 +48,19 @@ serving label request = record { label = label; request = Some request; reply = 
 -- the machine with this slot, after so many requests were entered
 abbrev pub with_slot : DiscState → Option ℕ → Slot → ℕ → Plain
 with_slot disc hand slot entered = record {
-  processes = record { state = Serves 2 disc; hand = hand; slots = slot ∷ []; sectors = zeros 8 ∷ replicate 8 (pos 4) ∷ [] } ∷ [];
+  processes = record {
+    state = Serves 2 disc;
+    hand = hand;
+    slots = slot ∷ [];
+    sectors = zeros 8 ∷ replicate 8 (pos 4) ∷ [];
+  } ∷ [];
   entered = entered ∷ [];
 }
 
 -- a disc with this request in hand whose reply is ready, after so many writes
 abbrev pub served : ℕ → List ℤ → List ℤ → DiscState
-served writes request reply = record { label = point.Answer; request = Some request; reply = Some reply; last_write = writes }
+served writes request reply =
+    record { label = point.Answer; request = Some request; reply = Some reply; last_write = writes }
 
 abbrev pub having : List (List ℤ) → PlainProcess → PlainProcess
 having sectors one = record one { sectors = sectors }
@@ -71,4 +79,7 @@ two_slots slots server one = record { processes = record server { slots = slots 
 
 -- a disc with two sectors and a terminal that writes 7 on sector 1
 abbrev pub writing_site : Site
-writing_site = record disc_site { terminals = record { name = 36 ∷ 84 ∷ []; target = 0; requests = (pos 2 ∷ pos 1 ∷ pos 7 ∷ []) ∷ [] } ∷ [] }
+writing_site = record disc_site {
+  terminals =
+      record { name = 36 ∷ 84 ∷ []; target = 0; requests = (pos 2 ∷ pos 1 ∷ pos 7 ∷ []) ∷ [] } ∷ [];
+}

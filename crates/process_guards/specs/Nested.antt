@@ -27,7 +27,8 @@ calls = numbered 6 (Call 0 (Number (pos 5) ∷ []))
 
 -- its test has the number 4, and its last assignment 7
 abbrev pub repeats : Statement
-repeats = numbered 3 (For (Local 0) (Number (pos 1)) (Number (pos 9)) (numbered 5 (If (Truth (Number (pos 1))) (calls ∷ []) []) ∷ []) 7)
+repeats = numbered 3 (For (Local 0) (Number (pos 1)) (Number (pos 9))
+    (numbered 5 (If (Truth (Number (pos 1))) (calls ∷ []) []) ∷ []) 7)
 
 abbrev pub stops : Statement
 stops = numbered 8 Stop
@@ -39,7 +40,8 @@ nested = record {
       ∷ record { name = 66 ∷ []; shape = shape.Array (pos 0) (pos 1) }
       ∷ record { name = 70 ∷ []; shape = shape.File 0 } ∷ [];
   files = record { item = 2; target = target.Process (36 ∷ 80 ∷ []); depth = 1 } ∷ [];
-  procedures = procedure_of false 1 ((65 ∷ []) ∷ (76 ∷ []) ∷ []) (marks ∷ gives ∷ []) ∷ procedure_of false 0 ((73 ∷ []) ∷ []) (repeats ∷ stops ∷ []) ∷ [];
+  procedures = procedure_of false 1 ((65 ∷ []) ∷ (76 ∷ []) ∷ []) (marks ∷ gives ∷ [])
+      ∷ procedure_of false 0 ((73 ∷ []) ∷ []) (repeats ∷ stops ∷ []) ∷ [];
   main = 1;
 }
 
@@ -56,7 +58,8 @@ calling = main_at (Run calls ∷ Last repeats ∷ Test repeats ∷ Run stops ∷
 
 -- the program with a request in hand, where the array has these words and these frames run
 abbrev pub busy : List ℤ → List Frame → ProcessState
-busy array frames = Runs nested (record { globals = (pos 7 ∷ []) ∷ array ∷ [] ∷ []; frames = frames; in_hand = true; awaits = false; ended = false })
+busy array frames = Runs nested (record
+    { globals = (pos 7 ∷ []) ∷ array ∷ [] ∷ []; frames = frames; in_hand = true; awaits = false; ended = false })
 
 -- the same where the array's words are 0
 abbrev pub running : List Frame → ProcessState
@@ -68,7 +71,13 @@ fresh = Runs nested (start nested)
 
 -- the program once it ended
 abbrev pub ended : ProcessState
-ended = Runs nested (record { globals = (pos 7 ∷ []) ∷ (pos 0 ∷ pos 0 ∷ []) ∷ [] ∷ []; frames = []; in_hand = false; awaits = false; ended = true })
+ended = Runs nested (record {
+  globals = (pos 7 ∷ []) ∷ (pos 0 ∷ pos 0 ∷ []) ∷ [] ∷ [];
+  frames = [];
+  in_hand = false;
+  awaits = false;
+  ended = true;
+})
 
 -- a disc after 171,072 writes, which are twice 65,536 and 40,000
 abbrev pub disc_at : Point → Option (List ℤ) → Option (List ℤ) → ProcessState

@@ -9,12 +9,14 @@ use Rattle.tal_tree.specs.declared.expression.Expr.{Expr, Number}
 use Rattle.process_semantics.specs.State.{Entry, Run, Frame, ProgramState, zeros}
 
 abbrev pub procedure_of : Bool → ℕ → List (List ℕ) → List Statement → Procedure
-procedure_of gives parameters locals body = record { name = 80 ∷ []; gives = gives; parameters = parameters; locals = locals; body = body }
+procedure_of gives parameters locals body =
+    record { name = 80 ∷ []; gives = gives; parameters = parameters; locals = locals; body = body }
 
 -- MAIN has no statements: what remains stands in each state
 abbrev pub code : Program
 code = record {
-  items = record { name = 88 ∷ []; shape = shape.Simple } ∷ record { name = 66 ∷ []; shape = shape.Array (pos 0) (pos 19) } ∷ [];
+  items = record { name = 88 ∷ []; shape = shape.Simple }
+      ∷ record { name = 66 ∷ []; shape = shape.Array (pos 0) (pos 19) } ∷ [];
   files = [];
   procedures = procedure_of true 1 ((65 ∷ []) ∷ (76 ∷ []) ∷ []) [] ∷ procedure_of false 0 [] [] ∷ [];
   main = 1;
@@ -35,9 +37,11 @@ main_with rest = record { procedure = 1; locals = []; rest = rest }
 abbrev pub function_with : ℤ → ℤ → List Entry → Frame
 function_with first second rest = record { procedure = 0; locals = first ∷ second ∷ []; rest = rest }
 
--- the state with this simple global and these frames, the running one first, where nothing is in hand and no reply is awaited
+-- the state with this simple global and these frames, the running one first, where nothing is in hand and no reply is
+-- awaited
 abbrev pub with_frames : ℤ → List Frame → ProgramState
-with_frames x frames = record { globals = (x ∷ []) ∷ zeros 20 ∷ []; frames = frames; in_hand = false; awaits = false; ended = false }
+with_frames x frames =
+    record { globals = (x ∷ []) ∷ zeros 20 ∷ []; frames = frames; in_hand = false; awaits = false; ended = false }
 
 -- MAIN alone, with these entries
 abbrev pub standing : ℤ → List Entry → ProgramState

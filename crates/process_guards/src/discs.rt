@@ -4,11 +4,14 @@ ghost use Rattle.process_semantics.specs.declared.point.Point.TheVariants.{Devic
 ghost use Rattle.process_semantics.specs.Disc.{disc_call, reply_of};
 ghost use Rattle.process_guards.specs.Machines.{serving};
 
-/// `1 s` reads and `2 s w ..` writes a sector that is there, with one to eight words, zeros after them, under the next number.
+/// `1 s` reads and `2 s w ..` writes a sector that is there, with one to eight words, zeros after them, under the next
+/// number.
 pub fn a_disc_reads_and_writes()
     ensures read { disc_call 2 (serving Device (pos 1 ∷ pos 1 ∷ [])) ≡ Read 1 }
-    ensures write { disc_call 2 (serving Device (pos 2 ∷ pos 0 ∷ pos 9 ∷ [])) ≡ Write 0 (pos 9 ∷ replicate 7 (pos 0)) 4 }
-    ensures eight { disc_call 2 (serving Device (pos 2 ∷ pos 1 ∷ replicate 8 (pos 5))) ≡ Write 1 (replicate 8 (pos 5)) 4 }
+    ensures write { disc_call 2 (serving Device (pos 2 ∷ pos 0 ∷ pos 9 ∷ []))
+        ≡ Write 0 (pos 9 ∷ replicate 7 (pos 0)) 4 }
+    ensures eight { disc_call 2 (serving Device (pos 2 ∷ pos 1 ∷ replicate 8 (pos 5)))
+        ≡ Write 1 (replicate 8 (pos 5)) 4 }
 {}
 
 /// Any other request does nothing.

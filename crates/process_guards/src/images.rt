@@ -4,16 +4,19 @@ ghost use Rattle.process_semantics.specs.Image.{image_of, restored};
 ghost use Rattle.process_semantics.specs.Process.{Serves, after_checkpoint};
 ghost use Rattle.process_semantics.specs.Disc.{disc_start};
 ghost use Rattle.process_semantics.specs.State.{Run, Test, Last};
-ghost use Rattle.process_guards.specs.Nested.{marks, gives, repeats, stops, main_at, called_at, calling, busy, running, fresh, ended, disc_at};
+ghost use Rattle.process_guards.specs.Nested.{marks, gives, repeats, stops, main_at, called_at, calling, busy, running};
+ghost use Rattle.process_guards.specs.Nested.{fresh, ended, disc_at};
 
-/// An image has the frames from MAIN up: how many, and of each the procedure, the number that comes next, or that of the call in progress, and the locals.
-/// Then come the items that are listed: how many, and of each its number and words. What isn't listed stays as it was.
+/// An image has the frames from MAIN up: how many, and of each the procedure, the number that comes next, or that of
+/// the call in progress, and the locals. Then come the items that are listed: how many, and of each its number and
+/// words. What isn't listed stays as it was.
 pub fn an_image_has_frames_and_items()
     ensures call { image_of [] (busy (pos 3 ∷ pos 4 ∷ []) (called_at (Run gives ∷ []) ∷ calling ∷ []))
         ≡ pos 2 ∷ pos 1 ∷ pos 6 ∷ pos 2 ∷ pos 0 ∷ pos 2 ∷ pos 5 ∷ negsuc 0 ∷ pos 0 ∷ [] }
     ensures items { image_of (1 ∷ 0 ∷ []) (busy (pos 3 ∷ pos 4 ∷ []) (main_at (Run stops ∷ []) ∷ []))
         ≡ pos 1 ∷ pos 1 ∷ pos 8 ∷ pos 2 ∷ pos 2 ∷ pos 1 ∷ pos 3 ∷ pos 4 ∷ pos 0 ∷ pos 7 ∷ [] }
-    ensures restored { restored fresh true (pos 2 ∷ pos 1 ∷ pos 6 ∷ pos 2 ∷ pos 0 ∷ pos 2 ∷ pos 5 ∷ negsuc 0 ∷ pos 2 ∷ pos 1 ∷ pos 3 ∷ pos 4 ∷ pos 0 ∷ pos 7 ∷ [])
+    ensures restored { restored fresh true (pos 2 ∷ pos 1 ∷ pos 6 ∷ pos 2 ∷ pos 0 ∷ pos 2 ∷ pos 5 ∷ negsuc 0 ∷ pos 2
+        ∷ pos 1 ∷ pos 3 ∷ pos 4 ∷ pos 0 ∷ pos 7 ∷ [])
         ≡ Some (busy (pos 3 ∷ pos 4 ∷ []) (called_at (Run gives ∷ []) ∷ calling ∷ [])) }
     ensures not_listed { restored fresh true (pos 1 ∷ pos 1 ∷ pos 8 ∷ pos 2 ∷ pos 1 ∷ pos 0 ∷ pos 7 ∷ [])
         ≡ Some (running (main_at (Run stops ∷ []) ∷ [])) }
@@ -21,14 +24,18 @@ pub fn an_image_has_frames_and_items()
 
 /// The test of a FOR and its last assignment have numbers of their own, and a procedure's end has 0.
 pub fn each_entry_has_its_number()
-    ensures test { image_of [] (running (main_at (Test repeats ∷ Run stops ∷ []) ∷ [])) ≡ pos 1 ∷ pos 1 ∷ pos 4 ∷ pos 2 ∷ pos 0 ∷ [] }
+    ensures test { image_of [] (running (main_at (Test repeats ∷ Run stops ∷ []) ∷ []))
+        ≡ pos 1 ∷ pos 1 ∷ pos 4 ∷ pos 2 ∷ pos 0 ∷ [] }
     ensures test_restored { restored fresh true (pos 1 ∷ pos 1 ∷ pos 4 ∷ pos 2 ∷ pos 1 ∷ pos 0 ∷ pos 7 ∷ [])
         ≡ Some (running (main_at (Test repeats ∷ Run stops ∷ []) ∷ [])) }
-    ensures last { image_of [] (running (main_at (Last repeats ∷ Test repeats ∷ Run stops ∷ []) ∷ [])) ≡ pos 1 ∷ pos 1 ∷ pos 7 ∷ pos 2 ∷ pos 0 ∷ [] }
+    ensures last { image_of [] (running (main_at (Last repeats ∷ Test repeats ∷ Run stops ∷ []) ∷ []))
+        ≡ pos 1 ∷ pos 1 ∷ pos 7 ∷ pos 2 ∷ pos 0 ∷ [] }
     ensures last_restored { restored fresh true (pos 1 ∷ pos 1 ∷ pos 7 ∷ pos 2 ∷ pos 1 ∷ pos 0 ∷ pos 7 ∷ [])
         ≡ Some (running (main_at (Last repeats ∷ Test repeats ∷ Run stops ∷ []) ∷ [])) }
-    ensures at_the_end { image_of [] (running (called_at [] ∷ calling ∷ [])) ≡ pos 2 ∷ pos 1 ∷ pos 6 ∷ pos 2 ∷ pos 0 ∷ pos 0 ∷ pos 5 ∷ negsuc 0 ∷ pos 0 ∷ [] }
-    ensures at_the_end_restored { restored fresh true (pos 2 ∷ pos 1 ∷ pos 6 ∷ pos 2 ∷ pos 0 ∷ pos 0 ∷ pos 5 ∷ negsuc 0 ∷ pos 1 ∷ pos 0 ∷ pos 7 ∷ [])
+    ensures at_the_end { image_of [] (running (called_at [] ∷ calling ∷ []))
+        ≡ pos 2 ∷ pos 1 ∷ pos 6 ∷ pos 2 ∷ pos 0 ∷ pos 0 ∷ pos 5 ∷ negsuc 0 ∷ pos 0 ∷ [] }
+    ensures at_the_end_restored { restored fresh true
+        (pos 2 ∷ pos 1 ∷ pos 6 ∷ pos 2 ∷ pos 0 ∷ pos 0 ∷ pos 5 ∷ negsuc 0 ∷ pos 1 ∷ pos 0 ∷ pos 7 ∷ [])
         ≡ Some (running (called_at [] ∷ calling ∷ [])) }
 {}
 
@@ -36,46 +43,58 @@ pub fn each_entry_has_its_number()
 pub fn a_mark_is_passed_and_an_end_has_no_frames()
     ensures mark { image_of (0 ∷ []) (running (called_at (Run marks ∷ Run gives ∷ []) ∷ calling ∷ []))
         ≡ pos 2 ∷ pos 1 ∷ pos 6 ∷ pos 2 ∷ pos 0 ∷ pos 2 ∷ pos 5 ∷ negsuc 0 ∷ pos 1 ∷ pos 0 ∷ pos 7 ∷ [] }
-    ensures mark_restored { restored fresh true (pos 2 ∷ pos 1 ∷ pos 6 ∷ pos 2 ∷ pos 0 ∷ pos 2 ∷ pos 5 ∷ negsuc 0 ∷ pos 1 ∷ pos 0 ∷ pos 7 ∷ [])
+    ensures mark_restored { restored fresh true
+        (pos 2 ∷ pos 1 ∷ pos 6 ∷ pos 2 ∷ pos 0 ∷ pos 2 ∷ pos 5 ∷ negsuc 0 ∷ pos 1 ∷ pos 0 ∷ pos 7 ∷ [])
         ≡ Some (after_checkpoint (running (called_at (Run marks ∷ Run gives ∷ []) ∷ calling ∷ []))) }
     ensures end { image_of (0 ∷ []) ended ≡ pos 0 ∷ pos 1 ∷ pos 0 ∷ pos 7 ∷ [] }
     ensures end_restored { restored fresh false (pos 0 ∷ pos 1 ∷ pos 0 ∷ pos 7 ∷ []) ≡ Some ended }
 {}
 
-/// Words that are no image restore nothing: one too many or too few, a frame of no procedure, of one that wasn't called, or at a number that doesn't stand
-/// in it, and an item that isn't there, is a file, or is named twice.
+/// Words that are no image restore nothing: one too many or too few, a frame of no procedure, of one that wasn't
+/// called, or at a number that doesn't stand in it, and an item that isn't there, is a file, or is named twice.
 pub fn other_words_restore_nothing()
     ensures too_many { restored fresh true (pos 1 ∷ pos 1 ∷ pos 8 ∷ pos 2 ∷ pos 0 ∷ pos 0 ∷ []) ≡ None }
     ensures too_few { restored fresh true (pos 1 ∷ pos 1 ∷ pos 8 ∷ pos 2 ∷ pos 1 ∷ pos 1 ∷ pos 3 ∷ []) ≡ None }
     ensures no_procedure { restored fresh true (pos 1 ∷ pos 2 ∷ pos 0 ∷ pos 0 ∷ []) ≡ None }
     ensures not_main { restored fresh true (pos 1 ∷ pos 0 ∷ pos 2 ∷ pos 5 ∷ pos 0 ∷ pos 0 ∷ []) ≡ None }
-    ensures not_called { restored fresh true (pos 2 ∷ pos 1 ∷ pos 8 ∷ pos 2 ∷ pos 0 ∷ pos 2 ∷ pos 5 ∷ pos 0 ∷ pos 0 ∷ []) ≡ None }
+    ensures not_called { restored fresh true
+        (pos 2 ∷ pos 1 ∷ pos 8 ∷ pos 2 ∷ pos 0 ∷ pos 2 ∷ pos 5 ∷ pos 0 ∷ pos 0 ∷ []) ≡ None }
     ensures no_number { restored fresh true (pos 1 ∷ pos 1 ∷ pos 2 ∷ pos 2 ∷ pos 0 ∷ []) ≡ None }
     ensures below { restored fresh true (pos 1 ∷ pos 1 ∷ negsuc 7 ∷ pos 2 ∷ pos 0 ∷ []) ≡ None }
     ensures no_item { restored fresh true (pos 1 ∷ pos 1 ∷ pos 8 ∷ pos 2 ∷ pos 1 ∷ pos 3 ∷ []) ≡ None }
     ensures file { restored fresh true (pos 1 ∷ pos 1 ∷ pos 8 ∷ pos 2 ∷ pos 1 ∷ pos 2 ∷ []) ≡ None }
-    ensures twice { restored fresh true (pos 1 ∷ pos 1 ∷ pos 8 ∷ pos 2 ∷ pos 2 ∷ pos 0 ∷ pos 7 ∷ pos 0 ∷ pos 7 ∷ []) ≡ None }
+    ensures twice { restored fresh true (pos 1 ∷ pos 1 ∷ pos 8 ∷ pos 2 ∷ pos 2 ∷ pos 0 ∷ pos 7 ∷ pos 0 ∷ pos 7 ∷ [])
+        ≡ None }
 {}
 
-/// A disc's image has the request in hand, the last write's number in two words, the high half first, and the reply. At a checkpoint it is of the disc at Device.
+/// A disc's image has the request in hand, the last write's number in two words, the high half first, and the reply. At
+/// a checkpoint it is of the disc at Device.
 pub fn a_disc_is_imaged()
     ensures take { image_of [] (disc_at point.Take None None) ≡ pos 0 ∷ pos 2 ∷ negsuc 25535 ∷ pos 0 ∷ [] }
-    ensures mark { image_of [] (disc_at point.AtCheckpoint (Some (pos 1 ∷ pos 0 ∷ [])) None) ≡ pos 2 ∷ pos 1 ∷ pos 0 ∷ pos 2 ∷ negsuc 25535 ∷ pos 0 ∷ [] }
-    ensures device { image_of [] (disc_at point.Device (Some (pos 1 ∷ pos 0 ∷ [])) None) ≡ pos 2 ∷ pos 1 ∷ pos 0 ∷ pos 2 ∷ negsuc 25535 ∷ pos 0 ∷ [] }
-    ensures answer { image_of [] (disc_at point.Answer (Some (pos 9 ∷ [])) (Some (pos 1 ∷ []))) ≡ pos 1 ∷ pos 9 ∷ pos 2 ∷ negsuc 25535 ∷ pos 1 ∷ pos 1 ∷ [] }
+    ensures mark { image_of [] (disc_at point.AtCheckpoint (Some (pos 1 ∷ pos 0 ∷ [])) None)
+        ≡ pos 2 ∷ pos 1 ∷ pos 0 ∷ pos 2 ∷ negsuc 25535 ∷ pos 0 ∷ [] }
+    ensures device { image_of [] (disc_at point.Device (Some (pos 1 ∷ pos 0 ∷ [])) None)
+        ≡ pos 2 ∷ pos 1 ∷ pos 0 ∷ pos 2 ∷ negsuc 25535 ∷ pos 0 ∷ [] }
+    ensures answer { image_of [] (disc_at point.Answer (Some (pos 9 ∷ [])) (Some (pos 1 ∷ [])))
+        ≡ pos 1 ∷ pos 9 ∷ pos 2 ∷ negsuc 25535 ∷ pos 1 ∷ pos 1 ∷ [] }
     ensures empty { image_of [] (disc_at point.Device (Some []) None) ≡ pos 0 ∷ pos 2 ∷ negsuc 25535 ∷ pos 0 ∷ [] }
 {}
 
-/// An image with no request in hand restores a disc at Take, one without a reply a disc at Device, and one with a reply a disc at Answer.
+/// An image with no request in hand restores a disc at Take, one without a reply a disc at Device, and one with a reply
+/// a disc at Answer.
 pub fn a_disc_is_restored()
-    ensures take { restored (Serves 2 disc_start) false (pos 0 ∷ pos 2 ∷ negsuc 25535 ∷ pos 0 ∷ []) ≡ Some (disc_at point.Take None None) }
+    ensures take { restored (Serves 2 disc_start) false (pos 0 ∷ pos 2 ∷ negsuc 25535 ∷ pos 0 ∷ [])
+        ≡ Some (disc_at point.Take None None) }
     ensures device { restored (Serves 2 disc_start) true (pos 2 ∷ pos 1 ∷ pos 0 ∷ pos 2 ∷ negsuc 25535 ∷ pos 0 ∷ [])
         ≡ Some (disc_at point.Device (Some (pos 1 ∷ pos 0 ∷ [])) None) }
     ensures answer { restored (Serves 2 disc_start) true (pos 1 ∷ pos 9 ∷ pos 2 ∷ negsuc 25535 ∷ pos 1 ∷ pos 1 ∷ [])
         ≡ Some (disc_at point.Answer (Some (pos 9 ∷ [])) (Some (pos 1 ∷ []))) }
-    ensures empty { restored (Serves 2 disc_start) true (pos 0 ∷ pos 2 ∷ negsuc 25535 ∷ pos 0 ∷ []) ≡ Some (disc_at point.Device (Some []) None) }
-    ensures not_in_hand { restored (Serves 2 disc_start) false (pos 1 ∷ pos 9 ∷ pos 2 ∷ negsuc 25535 ∷ pos 0 ∷ []) ≡ None }
-    ensures reply_to_none { restored (Serves 2 disc_start) false (pos 0 ∷ pos 2 ∷ negsuc 25535 ∷ pos 1 ∷ pos 1 ∷ []) ≡ None }
+    ensures empty { restored (Serves 2 disc_start) true (pos 0 ∷ pos 2 ∷ negsuc 25535 ∷ pos 0 ∷ [])
+        ≡ Some (disc_at point.Device (Some []) None) }
+    ensures not_in_hand { restored (Serves 2 disc_start) false (pos 1 ∷ pos 9 ∷ pos 2 ∷ negsuc 25535 ∷ pos 0 ∷ [])
+        ≡ None }
+    ensures reply_to_none { restored (Serves 2 disc_start) false (pos 0 ∷ pos 2 ∷ negsuc 25535 ∷ pos 1 ∷ pos 1 ∷ [])
+        ≡ None }
     ensures too_long { restored (Serves 2 disc_start) true (pos 17 ∷ replicate 20 (pos 0)) ≡ None }
     ensures too_many { restored (Serves 2 disc_start) false (pos 0 ∷ pos 2 ∷ negsuc 25535 ∷ pos 0 ∷ pos 0 ∷ []) ≡ None }
     ensures too_few { restored (Serves 2 disc_start) false (pos 0 ∷ pos 2 ∷ []) ≡ None }

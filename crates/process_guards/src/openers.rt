@@ -3,9 +3,11 @@ ghost use Rattle.tal_tree.specs.declared.site.Who.TheVariants.{File, Terminal};
 ghost use Rattle.plain_semantics.specs.Openers.{opener_of, openers_of};
 ghost use Rattle.process_guards.specs.Machines.{opened_site};
 
-/// The openers of a process are the files that are opened to its name, and then the terminals that ask it. `$RECEIVE` opens none.
+/// The openers of a process are the files that are opened to its name, and then the terminals that ask it. `$RECEIVE`
+/// opens none.
 pub fn files_come_before_terminals()
-    ensures disc { openers_of opened_site 0 ≡ record { who = File 1 1; depth = 3 } ∷ record { who = Terminal 1; depth = 1 } ∷ [] }
+    ensures disc { openers_of opened_site 0
+        ≡ record { who = File 1 1; depth = 3 } ∷ record { who = Terminal 1; depth = 1 } ∷ [] }
     ensures pair { openers_of opened_site 1 ≡ record { who = Terminal 0; depth = 1 } ∷ [] }
     ensures no_process { openers_of opened_site 2 ≡ [] }
 {}

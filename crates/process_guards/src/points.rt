@@ -1,7 +1,8 @@
 ghost use Rattle.std.specs.Prelude.{◌≡◌, pos, negsuc, true, [], ◌∷◌};
 ghost use Rattle.tal_tree.specs.declared.statement.What.{ReadUpdate, Reply, WriteRead, Checkpoint, Assign, Stop};
 ghost use Rattle.tal_tree.specs.declared.expression.Variable.TheVariants.{Simple};
-ghost use Rattle.process_semantics.specs.declared.point.Point.TheVariants.{Inner, Take, Ask, Await, Answer, AtCheckpoint, Ended};
+ghost use Rattle.process_semantics.specs.declared.point.Point.TheVariants.{Inner, Take, Ask, Await, Answer};
+ghost use Rattle.process_semantics.specs.declared.point.Point.TheVariants.{AtCheckpoint, Ended};
 ghost use Rattle.process_semantics.specs.Points.{point_of};
 ghost use Rattle.process_guards.specs.States.{code, word, at_statement, in_hand, over};
 
@@ -24,9 +25,12 @@ pub fn a_request_is_taken_and_answered_in_turn()
 /// WRITEREAD asks where both its counts are good, and awaits its reply once it has asked.
 pub fn an_ask_is_awaited()
     ensures asked { point_of code (at_statement (WriteRead 0 1 (word (pos 1)) (word (pos 16)) (Simple 0))) ≡ Ask }
-    ensures awaited { point_of code (record (at_statement (WriteRead 0 1 (word (pos 1)) (word (pos 16)) (Simple 0))) { awaits = true }) ≡ Await }
-    ensures too_many_there { point_of code (at_statement (WriteRead 0 1 (word (pos 17)) (word (pos 1)) (Simple 0))) ≡ Inner }
-    ensures too_many_back { point_of code (at_statement (WriteRead 0 1 (word (pos 1)) (word (pos 17)) (Simple 0))) ≡ Inner }
+    ensures awaited { point_of code (record (at_statement (WriteRead 0 1 (word (pos 1)) (word (pos 16)) (Simple 0)))
+        { awaits = true }) ≡ Await }
+    ensures too_many_there { point_of code (at_statement (WriteRead 0 1 (word (pos 17)) (word (pos 1)) (Simple 0)))
+        ≡ Inner }
+    ensures too_many_back { point_of code (at_statement (WriteRead 0 1 (word (pos 1)) (word (pos 17)) (Simple 0)))
+        ≡ Inner }
 {}
 
 /// CHECKPOINT stands at the point of checkpoints, and an ended process stands nowhere else.

@@ -9,7 +9,8 @@ ghost use Rattle.process_guards.specs.Machines.{disc_site, serving, with_slot};
 
 /// A terminal enters its next request where its slot is empty, and no more than it has.
 pub fn a_request_is_entered_where_none_is()
-    ensures entered { made disc_site (with_slot disc_start None Empty 0) (Enter 0) ≡ Some (record { plain = with_slot disc_start None (Waiting (pos 1 ∷ pos 1 ∷ [])) 1; shown = [] }) }
+    ensures entered { made disc_site (with_slot disc_start None Empty 0) (Enter 0)
+        ≡ Some (record { plain = with_slot disc_start None (Waiting (pos 1 ∷ pos 1 ∷ [])) 1; shown = [] }) }
     ensures none_left { made disc_site (with_slot disc_start None Empty 1) (Enter 0) ≡ None }
     ensures not_printed { made disc_site (with_slot disc_start None (Answered (pos 0 ∷ [])) 0) (Enter 0) ≡ None }
 {}
@@ -18,7 +19,8 @@ pub fn a_request_is_entered_where_none_is()
 pub fn a_request_is_taken_where_one_waits()
     ensures taken { made disc_site (with_slot disc_start None (Waiting (pos 1 ∷ pos 1 ∷ [])) 1) (Take 0 0)
         ≡ Some (record { plain = with_slot (disc_took disc_start (pos 1 ∷ pos 1 ∷ [])) (Some 0) Taken 1; shown = [] }) }
-    ensures busy { made disc_site (with_slot (serving point.AtCheckpoint []) (Some 0) (Waiting []) 1) (Take 0 0) ≡ None }
+    ensures busy { made disc_site (with_slot (serving point.AtCheckpoint []) (Some 0) (Waiting []) 1) (Take 0 0)
+        ≡ None }
     ensures nothing_waits { made disc_site (with_slot disc_start None Taken 1) (Take 0 0) ≡ None }
     ensures no_step { made disc_site (with_slot disc_start None Empty 0) (Step 0) ≡ None }
 {}

@@ -46,35 +46,42 @@ device-kind : (s : ProcessState) (found : List ℤ) → kind_of (process.after_d
 device-kind (Runs program s) found = refl
 device-kind (Serves sectors s) found = refl
 
-pub done-kind : {site : Site} {number : ℕ} {spec : ProcessSpec} {deeds : List Deed} {core : Core} → HasDone site number spec deeds core → kind_of core.state ≡ spec.what
+pub done-kind : {site : Site} {number : ℕ} {spec : ProcessSpec} {deeds : List Deed} {core : Core}
+    → HasDone site number spec deeds core → kind_of core.state ≡ spec.what
 done-kind {spec = spec} nothing_done = start-kind spec.what
 done-kind (one_more {before = core} done (goes at)) = inner-kind core.state ∙ done-kind done
 done-kind (one_more {before = core} done (marks at)) = marked-kind core.state ∙ done-kind done
-done-kind (one_more {before = core} done (takes {words = words} block at there)) = took-kind core.state words ∙ done-kind done
+done-kind (one_more {before = core} done (takes {words = words} block at there)) =
+    took-kind core.state words ∙ done-kind done
 done-kind (one_more {before = core} done (asks at file words)) = asked-kind core.state ∙ done-kind done
 done-kind (one_more {before = core} done (gets {words = words} at file)) = got-kind core.state words ∙ done-kind done
-done-kind (one_more {before = core} done (answers opener block at hand known there words)) = answered-kind core.state ∙ done-kind done
+done-kind (one_more {before = core} done (answers opener block at hand known there words)) =
+    answered-kind core.state ∙ done-kind done
 done-kind (one_more {before = core} done (acts {found = found} at call)) = device-kind core.state found ∙ done-kind done
 
 abbrev first_block : OpenerBlock
 first_block = record { taken = 0; kept = [] }
 
 module _ {site : Site} {number : ℕ} {spec : ProcessSpec} where
-  pub files-same : {deeds : List Deed} {core : Core} → HasDone site number spec deeds core → length core.next ≡ length (files_of spec.what)
+  pub files-same : {deeds : List Deed} {core : Core} → HasDone site number spec deeds core
+      → length core.next ≡ length (files_of spec.what)
   files-same nothing_done = length-map (files_of spec.what) (λ (file : FileUse). 1)
   files-same (one_more done (goes at)) = files-same done
   files-same (one_more done (marks at)) = files-same done
   files-same (one_more done (takes block at there)) = files-same done
-  files-same (one_more {before = core} done (asks {file = file} at named said)) = length-set core.next file (next_on core file + 1) ∙ files-same done
+  files-same (one_more {before = core} done (asks {file = file} at named said)) =
+      length-set core.next file (next_on core file + 1) ∙ files-same done
   files-same (one_more done (gets at named)) = files-same done
   files-same (one_more done (answers opener block at hand known there said)) = files-same done
   files-same (one_more done (acts at call)) = files-same done
 
-  pub openers-same : {deeds : List Deed} {core : Core} → HasDone site number spec deeds core → length core.receive.openers ≡ length (openers_of site number)
+  pub openers-same : {deeds : List Deed} {core : Core} → HasDone site number spec deeds core
+      → length core.receive.openers ≡ length (openers_of site number)
   openers-same nothing_done = length-map (openers_of site number) (λ (opener : OpenerSpec). first_block)
   openers-same (one_more done (goes at)) = openers-same done
   openers-same (one_more done (marks at)) = openers-same done
-  openers-same (one_more {before = core} done (takes {place = place} block at there)) = length-set core.receive.openers place _ ∙ openers-same done
+  openers-same (one_more {before = core} done (takes {place = place} block at there)) =
+      length-set core.receive.openers place _ ∙ openers-same done
   openers-same (one_more done (asks at named said)) = openers-same done
   openers-same (one_more done (gets at named)) = openers-same done
   openers-same (one_more {before = core} done (answers {place = place} opener block at hand known there said)) =

@@ -1,5 +1,6 @@
 -- What a process asks has at most 16 words.
-use Rattle.std.proofs.Common.{◌≡◌, ◌≤◌, ℕ, ◌==◌, ℤ, pos, negsuc, Bool, true, false, ◌&&◌, nat_le, if◌then◌else◌, List, [], length, Option, Some, None, option_and_then, inl, inr, refl, arith}
+use Rattle.std.proofs.Common.{◌≡◌, ◌≤◌, ℕ, ◌==◌, ℤ, pos, negsuc, Bool, true, false, ◌&&◌, nat_le, if◌then◌else◌, List}
+use Rattle.std.proofs.Common.{[], length, Option, Some, None, option_and_then, inl, inr, refl, arith}
 use Rattle.std.specs.List.{cons_option}
 use Rattle.std.proofs.lemmas.Bool.{leb-true}
 use Rattle.std.proofs.lemmas.List.{length-take}
@@ -13,7 +14,8 @@ use Rattle.tal_values.specs.Value.{value_of}
 use Rattle.process_semantics.specs.Calls as calls
 use Rattle.process_semantics.specs.Process as process
 use Rattle.process_semantics.specs.Process.{ProcessState, Runs, Serves}
-use Rattle.process_semantics.specs.State.{ProgramState, Entry, Run, Test, Last, memory_of, words_of, good_count, count_of, in_entry, next_of}
+use Rattle.process_semantics.specs.State.{ProgramState, Entry, Run, Test, Last, memory_of, words_of, good_count}
+use Rattle.process_semantics.specs.State.{count_of, in_entry, next_of}
 use Rattle.world_semantics.specs.Core.{Core, Deed, goes, marks, takes, asks, gets, answers, acts}
 use Rattle.process_histories.specs.Histories.{HasDone, nothing_done, one_more}
 use Rattle.process_histories.specs.Words.{requests_on}
@@ -28,16 +30,20 @@ good-few words (Some (pos m)) n is = by (nat_le m (length words)) (nat_le m 16) 
     by true false few is = absurd (cc)
     by false b few is = absurd (cc)
 
-cut-few : (words : List ℤ) (count : Option ℕ) → ((n : ℕ) → count ≡ Some n → n ≤ 16) → length (calls.first_words words count) ≤ 16
+cut-few : (words : List ℤ) (count : Option ℕ) → ((n : ℕ) → count ≡ Some n → n ≤ 16)
+    → length (calls.first_words words count) ≤ 16
 cut-few words None few = omega arith
 cut-few words (Some n) few = let most = few n refl in let cut = length-take n words in omega (arith, most, cut)
 
-layer-short : (program : Program) (s : ProgramState) (what : What-F What Statement) → length (calls.asked_in program s what) ≤ 16
+layer-short : (program : Program) (s : ProgramState) (what : What-F What Statement)
+    → length (calls.asked_in program s what) ≤ 16
 layer-short program s (What-F.WriteRead file buffer send room got) =
-    cut-few (words_of s.globals buffer) (count_of program s buffer send) (λ n is. good-few (words_of s.globals buffer) (value_of (memory_of program s) send) n is)
+    cut-few (words_of s.globals buffer) (count_of program s buffer send)
+    (λ n is. good-few (words_of s.globals buffer) (value_of (memory_of program s) send) n is)
 layer-short program s _ = omega arith
 
-entry-short : (program : Program) (s : ProgramState) (entry : Option Entry) → length (in_entry [] (calls.asked_in program s) entry) ≤ 16
+entry-short : (program : Program) (s : ProgramState) (entry : Option Entry)
+    → length (in_entry [] (calls.asked_in program s) entry) ≤ 16
 entry-short program s None = omega arith
 entry-short program s (Some (Run statement)) = layer-short program s (out-What statement.what)
 entry-short program s (Some (Test statement)) = omega arith
@@ -47,13 +53,15 @@ pub asked-short : (s : ProcessState) → length (process.asked_words s) ≤ 16
 asked-short (Runs program s) = entry-short program s (next_of s.frames)
 asked-short (Serves sectors s) = omega arith
 
-pub requests-short : {site : Site} {number : ℕ} {spec : ProcessSpec} {deeds : List Deed} {core : Core} → HasDone site number spec deeds core
+pub requests-short : {site : Site} {number : ℕ} {spec : ProcessSpec} {deeds : List Deed} {core : Core}
+    → HasDone site number spec deeds core
     → (file : ℕ) (words : List ℤ) → IsAmong words (requests_on file deeds) → length words ≤ 16
 requests-short nothing_done file words among = absurd among
 requests-short (one_more done (goes at)) file words among = requests-short done file words among
 requests-short (one_more done (marks at)) file words among = requests-short done file words among
 requests-short (one_more done (takes block at there)) file words among = requests-short done file words among
-requests-short (one_more {deeds = deeds} {before = core} done (asks {file = one} {words = asked} at named said)) file words among =
+requests-short (one_more {deeds = deeds} {before = core} done (asks {file = one} {words = asked} at named said)) file
+    words among =
     by (one == file) (requests-short done file words) among
   where
     by : (test : Bool) → (IsAmong words (requests_on file deeds) → length words ≤ 16)
@@ -62,5 +70,6 @@ requests-short (one_more {deeds = deeds} {before = core} done (asks {file = one}
     by true old (inr among) = old among
     by false old among = old among
 requests-short (one_more done (gets at file)) named words among = requests-short done named words among
-requests-short (one_more done (answers opener block at hand known there words)) file said among = requests-short done file said among
+requests-short (one_more done (answers opener block at hand known there words)) file said among =
+    requests-short done file said among
 requests-short (one_more done (acts at call)) file words among = requests-short done file words among

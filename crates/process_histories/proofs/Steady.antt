@@ -48,7 +48,8 @@ pub inner-calm : (s : ProcessState) → IsSteady s → IsCalm (process.after_inn
 inner-calm (Runs program s) is = (is.0, inner-awake program s is.0 is.1)
 inner-calm (Serves sectors s) is = is
 
-pub took-calm : (s : ProcessState) (words : List ℤ) → IsSteady s → process.point s ≡ point.Take → IsCalm (process.after_took s words)
+pub took-calm : (s : ProcessState) (words : List ℤ) → IsSteady s → process.point s ≡ point.Take
+    → IsCalm (process.after_took s words)
 took-calm (Runs program s) words is at = (is.0, took-awake program s words at is.1)
 took-calm (Serves sectors s) words is at = (λ same. cc, λ same. cc)
 
@@ -56,7 +57,8 @@ pub asked-steady : (s : ProcessState) → IsSteady s → process.point s ≡ poi
 asked-steady (Runs program s) is at = (is.0, asked-whole program s at is.1)
 asked-steady (Serves sectors s) is at = is
 
-pub asked-awaits : (s : ProcessState) → IsSteady s → process.point s ≡ point.Ask → process.point (process.after_asked s) ≡ point.Await
+pub asked-awaits : (s : ProcessState) → IsSteady s → process.point s ≡ point.Ask
+    → process.point (process.after_asked s) ≡ point.Await
 asked-awaits (Runs program s) is at = (waits-at program (with_waiting true s) (asked-whole program s at is.1) refl).at
 asked-awaits (Serves sectors s) is at = absurd (is.1 at)
 
@@ -65,7 +67,8 @@ pub asked-same : (s : ProcessState) → process.asked_file (process.after_asked 
 asked-same (Runs program s) = refl
 asked-same (Serves sectors s) = refl
 
-pub got-calm : (s : ProcessState) (words : List ℤ) → IsSteady s → process.point s ≡ point.Await → IsCalm (process.after_got s words)
+pub got-calm : (s : ProcessState) (words : List ℤ) → IsSteady s → process.point s ≡ point.Await
+    → IsCalm (process.after_got s words)
 got-calm (Runs program s) words is at = (is.0, got-awake program s words at is.1)
 got-calm (Serves sectors s) words is at = is
 
@@ -73,21 +76,31 @@ pub answered-calm : (s : ProcessState) → IsSteady s → process.point s ≡ po
 answered-calm (Runs program s) is at = (is.0, answered-awake program s at is.1)
 answered-calm (Serves sectors s) is at = (λ same. cc, λ same. cc)
 
-pub marked-calm : (s : ProcessState) → IsSteady s → process.point s ≡ point.AtCheckpoint → IsCalm (process.after_checkpoint s)
+pub marked-calm : (s : ProcessState) → IsSteady s → process.point s ≡ point.AtCheckpoint
+    → IsCalm (process.after_checkpoint s)
 marked-calm (Runs program s) is at = (is.0, marked-awake program s at is.1)
 marked-calm (Serves sectors s) is at = (λ same. cc, λ same. cc)
 
-pub device-calm : (s : ProcessState) (found : List ℤ) → IsSteady s → process.point s ≡ point.Device → IsCalm (process.after_device s found)
+pub device-calm : (s : ProcessState) (found : List ℤ) → IsSteady s → process.point s ≡ point.Device
+    → IsCalm (process.after_device s found)
 device-calm (Runs program s) found is at = (is.0, awake-at program s point.Device at (λ same. cc) is.1)
 device-calm (Serves sectors s) found is at = (λ same. cc, λ same. cc)
 
-pub done-steady : {site : Site} {number : ℕ} {spec : ProcessSpec} {deeds : List Deed} {core : Core} → IsRegularKind spec.what → HasDone site number spec deeds core
+pub done-steady : {site : Site} {number : ℕ} {spec : ProcessSpec} {deeds : List Deed} {core : Core}
+    → IsRegularKind spec.what → HasDone site number spec deeds core
     → IsSteady core.state
 done-steady {spec = spec} regular nothing_done = calm-steady _ (start-calm spec.what regular)
-done-steady regular (one_more {before = core} done (goes at)) = calm-steady _ (inner-calm core.state (done-steady regular done))
-done-steady regular (one_more {before = core} done (marks at)) = calm-steady _ (marked-calm core.state (done-steady regular done) at)
-done-steady regular (one_more {before = core} done (takes {words = words} block at there)) = calm-steady _ (took-calm core.state words (done-steady regular done) at)
-done-steady regular (one_more {before = core} done (asks at file words)) = asked-steady core.state (done-steady regular done) at
-done-steady regular (one_more {before = core} done (gets {words = words} at file)) = calm-steady _ (got-calm core.state words (done-steady regular done) at)
-done-steady regular (one_more {before = core} done (answers opener block at hand known there words)) = calm-steady _ (answered-calm core.state (done-steady regular done) at)
-done-steady regular (one_more {before = core} done (acts {found = found} at call)) = calm-steady _ (device-calm core.state found (done-steady regular done) at)
+done-steady regular (one_more {before = core} done (goes at)) =
+    calm-steady _ (inner-calm core.state (done-steady regular done))
+done-steady regular (one_more {before = core} done (marks at)) =
+    calm-steady _ (marked-calm core.state (done-steady regular done) at)
+done-steady regular (one_more {before = core} done (takes {words = words} block at there)) =
+    calm-steady _ (took-calm core.state words (done-steady regular done) at)
+done-steady regular (one_more {before = core} done (asks at file words)) =
+    asked-steady core.state (done-steady regular done) at
+done-steady regular (one_more {before = core} done (gets {words = words} at file)) =
+    calm-steady _ (got-calm core.state words (done-steady regular done) at)
+done-steady regular (one_more {before = core} done (answers opener block at hand known there words)) =
+    calm-steady _ (answered-calm core.state (done-steady regular done) at)
+done-steady regular (one_more {before = core} done (acts {found = found} at call)) =
+    calm-steady _ (device-calm core.state found (done-steady regular done) at)

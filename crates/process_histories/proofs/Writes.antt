@@ -1,5 +1,7 @@
 -- The writes of a disc are numbered in turn, and each is to a sector that is there.
-use Rattle.std.proofs.Common.{◌≡◌, ◌≤◌, ◌<◌, ℕ, zero, suc, ◌+◌, ◌-◌, ◌==◌, ◌&&◌, nat_le, nat_lt, ℤ, pos, negsuc, Bool, true, false, if◌then◌else◌, List, [], ◌∷◌, length, replicate, Option, Some, None, slice_get, slice_set, refl, ap, sym, ◌∙◌, inl, inr, arith, eq-eqb}
+use Rattle.std.proofs.Common.{◌≡◌, ◌≤◌, ◌<◌, ℕ, zero, suc, ◌+◌, ◌-◌, ◌==◌, ◌&&◌, nat_le, nat_lt, ℤ, pos, negsuc, Bool}
+use Rattle.std.proofs.Common.{true, false, if◌then◌else◌, List, [], ◌∷◌, length, replicate, Option, Some, None}
+use Rattle.std.proofs.Common.{slice_get, slice_set, refl, ap, sym, ◌∙◌, inl, inr, arith, eq-eqb}
 use Rattle.std.specs.Option.{unwrap_or}
 use Rattle.std.specs.Ordering.{int_eq}
 use borrow.Author.Tests.{ltb-true}
@@ -18,7 +20,8 @@ use Rattle.process_semantics.specs.Process.{ProcessState, Runs, Serves}
 use Rattle.disc_device.specs.declared.stored.Stored.{Stored}
 use Rattle.disc_device.specs.Sectors.{blank, is_of_write, is_written}
 use Rattle.checkpoint_image.specs.Behaving.{last_write_of}
-use Rattle.world_semantics.specs.Core.{Core, Deed, Went, Checkpointed, Took, Asked, Got, Answered, Acted, goes, marks, takes, asks, gets, answers, acts}
+use Rattle.world_semantics.specs.Core.{Core, Deed, Went, Checkpointed, Took, Asked, Got, Answered, Acted, goes, marks}
+use Rattle.world_semantics.specs.Core.{takes, asks, gets, answers, acts}
 use Rattle.world_semantics.specs.World.{device_at_boot}
 use Rattle.world_semantics.proofs.Lists.{some-same}
 use Rattle.process_histories.specs.Devices.{after_call, sectors_after, writes_in}
@@ -40,36 +43,46 @@ filled-eight words few =
     let more = length-replicate (8 - length words) (pos 0) in
     omega (arith, all, more, few)
 
-write-of : (sectors given : ℕ) (request : List ℤ) (sector : ℕ) (words : List ℤ) (number : ℕ) → disc.call_of sectors given request ≡ Write sector words number
+write-of : (sectors given : ℕ) (request : List ℤ) (sector : ℕ) (words : List ℤ) (number : ℕ)
+    → disc.call_of sectors given request ≡ Write sector words number
     → IsWriteOf sectors given sector words number
 write-of sectors given [] sector words number is = absurd (cc)
 write-of sectors given (kind ∷ []) sector words number is = absurd (cc)
 write-of sectors given (kind ∷ named ∷ request) sector words number is = by-sector named is
   where
     by-tests : (at : ℕ) → at < sectors → (reads writes some few : Bool) → nat_le (length request) 8 ≡ few
-        → (if reads then Read at else if writes && some && few then Write at (disc.filled request) given else Nothing) ≡ Write sector words number
+        → (if reads then Read at else if writes && some && few then Write at (disc.filled request) given else Nothing)
+        ≡ Write sector words number
         → IsWriteOf sectors given sector words number
     by-tests at within true writes some few fits is = absurd (cc)
     by-tests at within false true true true fits is =
         let place : at ≡ sector = cc in let its : given ≡ number = cc in let all : disc.filled request ≡ words = cc in
-        record { number_is = sym its; there = rw (← place) within; full = rw (← all) (filled-eight request (leb-true (length request) 8 fits)) }
+        record {
+          number_is = sym its;
+          there = rw (← place) within;
+          full = rw (← all) (filled-eight request (leb-true (length request) 8 fits));
+        }
     by-tests at within false true true false fits is = absurd (cc)
     by-tests at within false true false few fits is = absurd (cc)
     by-tests at within false false some few fits is = absurd (cc)
 
-    by-place : (m : ℕ) (test : Bool) → nat_lt m sectors ≡ test → disc.call_at given kind request (if test then Some m else None) ≡ Write sector words number
+    by-place : (m : ℕ) (test : Bool) → nat_lt m sectors ≡ test
+        → disc.call_at given kind request (if test then Some m else None) ≡ Write sector words number
         → IsWriteOf sectors given sector words number
     by-place m true there is =
-        by-tests m (ltb-true m sectors there) (int_eq kind (pos 1) && (length request == 0)) (int_eq kind (pos 2)) (nat_le 1 (length request)) (nat_le (length request) 8) refl is
+        by-tests m (ltb-true m sectors there) (int_eq kind (pos 1) && (length request == 0)) (int_eq kind (pos 2))
+        (nat_le 1 (length request)) (nat_le (length request) 8) refl is
     by-place m false there is = absurd (cc)
 
-    by-sector : (named : ℤ) → disc.call_at given kind request (disc.sector_of sectors named) ≡ Write sector words number → IsWriteOf sectors given sector words number
+    by-sector : (named : ℤ) → disc.call_at given kind request (disc.sector_of sectors named)
+        ≡ Write sector words number → IsWriteOf sectors given sector words number
     by-sector (pos m) is = by-place m (nat_lt m sectors) refl is
     by-sector (negsuc m) is = absurd (cc)
 
 -- The number of the last write
 
-pub write-next : (s : ProcessState) {sector number : ℕ} {words : List ℤ} → process.call_of s ≡ Write sector words number → number ≡ last_write_of s + 1
+pub write-next : (s : ProcessState) {sector number : ℕ} {words : List ℤ}
+    → process.call_of s ≡ Write sector words number → number ≡ last_write_of s + 1
 write-next (Runs program s) is = absurd (cc)
 write-next (Serves sectors s) {sector = sector} {number = number} {words = words} is =
     (write-of sectors (s.last_write + 1) (unwrap_or s.request []) sector words number is).number_is
@@ -79,11 +92,13 @@ abbrev one_write : DeviceCall → ℕ
 one_write (Write sector words number) = 1
 one_write _ = 0
 
-device-last : (s : ProcessState) (call : DeviceCall) (found : List ℤ) → call ≡ process.call_of s → last_write_of (process.after_device s found) ≡ last_write_of s + one_write call
+device-last : (s : ProcessState) (call : DeviceCall) (found : List ℤ) → call ≡ process.call_of s
+    → last_write_of (process.after_device s found) ≡ last_write_of s + one_write call
 device-last (Runs program s) call found is = rw is (omega arith)
 device-last (Serves sectors s) Nothing found is = rw (← is) (omega arith)
 device-last (Serves sectors s) (Read sector) found is = rw (← is) (omega arith)
-device-last (Serves sectors s) (Write sector words number) found is = rw (← is) (write-next (Serves sectors s) {sector = sector} {words = words} (sym is))
+device-last (Serves sectors s) (Write sector words number) found is =
+    rw (← is) (write-next (Serves sectors s) {sector = sector} {words = words} (sym is))
 
 inner-last : (s : ProcessState) → last_write_of (process.after_inner s) ≡ last_write_of s
 inner-last (Runs program s) = refl
@@ -113,7 +128,8 @@ start-last : (what : Kind) → last_write_of (process.start_of what) ≡ 0
 start-last (kind.Pair program) = refl
 start-last (kind.Disc sectors) = refl
 
-count-write : (call : DeviceCall) (found : List ℤ) (deeds : List Deed) → writes_in (Acted call found ∷ deeds) ≡ writes_in deeds + one_write call
+count-write : (call : DeviceCall) (found : List ℤ) (deeds : List Deed)
+    → writes_in (Acted call found ∷ deeds) ≡ writes_in deeds + one_write call
 count-write Nothing found deeds = omega arith
 count-write (Read sector) found deeds = omega arith
 count-write (Write sector words number) found deeds = omega arith
@@ -121,23 +137,28 @@ count-write (Write sector words number) found deeds = omega arith
 -- Sectors
 
 -- what holds of a blank sector, and of each that is written, holds of all sectors
-pub all-stored : (P : Stored → Type 0) (sectors : List Stored) (call : DeviceCall) → ((sector : ℕ) (stored : Stored) → slice_get sectors sector ≡ Some stored → P stored)
-    → ((sector number : ℕ) (words : List ℤ) → call ≡ Write sector words number → P (record { words = words; number = number }))
+pub all-stored : (P : Stored → Type 0) (sectors : List Stored) (call : DeviceCall)
+    → ((sector : ℕ) (stored : Stored) → slice_get sectors sector ≡ Some stored → P stored)
+    → ((sector number : ℕ) (words : List ℤ) → call ≡ Write sector words number
+    → P (record { words = words; number = number }))
     → (sector : ℕ) (stored : Stored) → slice_get (after_call call sectors) sector ≡ Some stored → P stored
 all-stored P sectors Nothing old new sector stored there = old sector stored there
 all-stored P sectors (Read at) old new sector stored there = old sector stored there
 all-stored P sectors (Write at words number) old new sector stored there = by (is_written sectors at number) there
   where
-    by : (done : Bool) → slice_get (if done then sectors else slice_set sectors at (record { words = words; number = number })) sector ≡ Some stored → P stored
+    by : (done : Bool) → slice_get (if done then sectors else slice_set sectors at
+        (record { words = words; number = number })) sector ≡ Some stored → P stored
     by true there = old sector stored there
-    by false there = set-one (λ j z. P z) sectors at (record { words = words; number = number }) (λ j z apart stood. old j z stood) (λ _ _. new at number words refl) sector stored there
+    by false there = set-one (λ j z. P z) sectors at (record { words = words; number = number })
+        (λ j z apart stood. old j z stood) (λ _ _. new at number words refl) sector stored there
 
 all-blank : (n sector : ℕ) (stored : Stored) → slice_get (replicate n blank) sector ≡ Some stored → stored ≡ blank
 all-blank zero sector stored there = absurd (cc)
 all-blank (suc n) zero stored there = sym (some-same there)
 all-blank (suc n) (suc sector) stored there = all-blank n sector stored there
 
-pub first-blank : (what : Kind) (sector : ℕ) (stored : Stored) → slice_get (device_at_boot what) sector ≡ Some stored → stored ≡ blank
+pub first-blank : (what : Kind) (sector : ℕ) (stored : Stored) → slice_get (device_at_boot what) sector ≡ Some stored
+    → stored ≡ blank
 first-blank (kind.Disc sectors) sector stored there = all-blank sectors sector stored there
 first-blank (kind.Pair program) sector stored there = absurd (cc)
 
@@ -151,10 +172,12 @@ device-length what (Got file words ∷ deeds) = device-length what deeds
 device-length what (Answered place words ∷ deeds) = device-length what deeds
 device-length what (Acted Nothing found ∷ deeds) = device-length what deeds
 device-length what (Acted (Read sector) found ∷ deeds) = device-length what deeds
-device-length what (Acted (Write sector words number) found ∷ deeds) = by (is_written (sectors_after what deeds) sector number) (device-length what deeds)
+device-length what (Acted (Write sector words number) found ∷ deeds) =
+    by (is_written (sectors_after what deeds) sector number) (device-length what deeds)
   where
     by : (done : Bool) → length (sectors_after what deeds) ≡ length (device_at_boot what)
-        → length (if done then sectors_after what deeds else slice_set (sectors_after what deeds) sector (record { words = words; number = number })) ≡ length (device_at_boot what)
+        → length (if done then sectors_after what deeds else slice_set (sectors_after what deeds) sector
+        (record { words = words; number = number })) ≡ length (device_at_boot what)
     by true same = same
     by false same = length-set (sectors_after what deeds) sector (record { words = words; number = number }) ∙ same
 
@@ -165,36 +188,48 @@ set-within (x ∷ xs) (suc i) y within = set-within xs i y (omega (arith, within
 
 module _ {site : Site} {number : ℕ} {spec : ProcessSpec} where
   -- the number of the last write is how many writes there were
-  pub last-count : {deeds : List Deed} {core : Core} → HasDone site number spec deeds core → last_write_of core.state ≡ writes_in deeds
+  pub last-count : {deeds : List Deed} {core : Core} → HasDone site number spec deeds core
+      → last_write_of core.state ≡ writes_in deeds
   last-count nothing_done = start-last spec.what
   last-count (one_more {before = core} done (goes at)) = inner-last core.state ∙ last-count done
   last-count (one_more {before = core} done (marks at)) = marked-last core.state ∙ last-count done
-  last-count (one_more {before = core} done (takes {words = words} block at there)) = took-last core.state words ∙ last-count done
+  last-count (one_more {before = core} done (takes {words = words} block at there)) =
+      took-last core.state words ∙ last-count done
   last-count (one_more {before = core} done (asks at file words)) = asked-last core.state ∙ last-count done
-  last-count (one_more {before = core} done (gets {words = words} at file)) = got-last core.state words ∙ last-count done
-  last-count (one_more {before = core} done (answers opener block at hand known there words)) = answered-last core.state ∙ last-count done
+  last-count (one_more {before = core} done (gets {words = words} at file)) =
+      got-last core.state words ∙ last-count done
+  last-count (one_more {before = core} done (answers opener block at hand known there words)) =
+      answered-last core.state ∙ last-count done
   last-count (one_more {deeds = deeds} {before = core} done (acts {call = call} {found = found} at is)) =
-      device-last core.state call found is ∙ ap (λ k. k + one_write call) (last-count done) ∙ sym (count-write call found deeds)
+      device-last core.state call found is ∙ ap (λ k. k + one_write call) (last-count done)
+      ∙ sym (count-write call found deeds)
 
   -- a write has the next number
-  pub write-count : {deeds : List Deed} {core : Core} {sector write : ℕ} {words found : List ℤ} → HasDone site number spec (Acted (Write sector words write) found ∷ deeds) core
+  pub write-count : {deeds : List Deed} {core : Core} {sector write : ℕ} {words found : List ℤ}
+      → HasDone site number spec (Acted (Write sector words write) found ∷ deeds) core
       → write ≡ writes_in deeds + 1
   write-count {sector = sector} {write = write} {words = words} (one_more {before = core} done (acts at is)) =
-      let next = write-next core.state {sector = sector} {words = words} (sym is) in let last = last-count done in omega (arith, next, last)
+      let next = write-next core.state {sector = sector} {words = words} (sym is) in let last =
+      last-count done in omega (arith, next, last)
 
   -- no sector has the number of a write that wasn't done
-  pub stored-most : {deeds : List Deed} {core : Core} → HasDone site number spec deeds core → (sector : ℕ) (stored : Stored)
+  pub stored-most : {deeds : List Deed} {core : Core} → HasDone site number spec deeds core
+      → (sector : ℕ) (stored : Stored)
       → slice_get (sectors_after spec.what deeds) sector ≡ Some stored → stored.number ≤ writes_in deeds
-  stored-most nothing_done sector stored there = let first = ap (λ (s : Stored). s.number) (first-blank spec.what sector stored there) in omega (arith, first)
+  stored-most nothing_done sector stored there =
+      let first = ap (λ (s : Stored). s.number) (first-blank spec.what sector stored there) in omega (arith, first)
   stored-most (one_more done (goes at)) sector stored there = stored-most done sector stored there
   stored-most (one_more done (marks at)) sector stored there = stored-most done sector stored there
   stored-most (one_more done (takes block at known)) sector stored there = stored-most done sector stored there
   stored-most (one_more done (asks at file words)) sector stored there = stored-most done sector stored there
   stored-most (one_more done (gets at file)) sector stored there = stored-most done sector stored there
-  stored-most (one_more done (answers opener block at hand known stood words)) sector stored there = stored-most done sector stored there
-  stored-most (one_more {deeds = deeds} {before = core} done (acts {call = call} {found = found} at is)) sector stored there =
+  stored-most (one_more done (answers opener block at hand known stood words)) sector stored there =
+      stored-most done sector stored there
+  stored-most (one_more {deeds = deeds} {before = core} done (acts {call = call} {found = found} at is)) sector stored
+      there =
       all-stored (λ (s : Stored). s.number ≤ writes_in (Acted call found ∷ deeds)) (sectors_after spec.what deeds) call
-      (λ at old stood. let most = stored-most done at old stood in let more = count-write call found deeds in omega (arith, most, more))
+      (λ at old stood. let most = stored-most done at old stood in let more = count-write call found deeds in
+      omega (arith, most, more))
       (λ at write words same.
       let next = write-next core.state {sector = at} {words = words} (sym is ∙ same) in
       let last = last-count done in
@@ -202,13 +237,17 @@ module _ {site : Site} {number : ℕ} {spec : ProcessSpec} where
       let one : one_write call ≡ 1 = rw same refl in omega (arith, next, last, more, one)) sector stored there
 
   -- a write was not done before
-  pub write-new : {deeds : List Deed} {core : Core} {sector write : ℕ} {words found : List ℤ} → HasDone site number spec (Acted (Write sector words write) found ∷ deeds) core
+  pub write-new : {deeds : List Deed} {core : Core} {sector write : ℕ} {words found : List ℤ}
+      → HasDone site number spec (Acted (Write sector words write) found ∷ deeds) core
       → is_written (sectors_after spec.what deeds) sector write ≡ false
   write-new {deeds = deeds} {sector = sector} {write = write} {found = found} (one_more done (acts at is)) =
-      by (slice_get (sectors_after spec.what deeds) sector) refl (write-count {found = found} (one_more done (acts at is))) (stored-most done sector)
+      by (slice_get (sectors_after spec.what deeds) sector) refl
+      (write-count {found = found} (one_more done (acts at is))) (stored-most done sector)
     where
-      by : (stored : Option Stored) → slice_get (sectors_after spec.what deeds) sector ≡ stored → write ≡ writes_in deeds + 1
-          → ((stored : Stored) → slice_get (sectors_after spec.what deeds) sector ≡ Some stored → stored.number ≤ writes_in deeds) → is_of_write stored write ≡ false
+      by : (stored : Option Stored) → slice_get (sectors_after spec.what deeds) sector ≡ stored
+          → write ≡ writes_in deeds + 1
+          → ((stored : Stored) → slice_get (sectors_after spec.what deeds) sector ≡ Some stored
+          → stored.number ≤ writes_in deeds) → is_of_write stored write ≡ false
       by None there next most = refl
       by (Some stored) there next most = elim (eqb_tells stored.number write) [
         | inl t ↦ (let few = most stored there in absurd (omega (arith, t.1, next, few)))
@@ -216,12 +255,15 @@ module _ {site : Site} {number : ℕ} {spec : ProcessSpec} where
       ]
 
   -- it is to a sector that is there, and stands there after it
-  pub write-there : {deeds : List Deed} {core : Core} {sector write : ℕ} {words found : List ℤ} → HasDone site number spec (Acted (Write sector words write) found ∷ deeds) core
+  pub write-there : {deeds : List Deed} {core : Core} {sector write : ℕ} {words found : List ℤ}
+      → HasDone site number spec (Acted (Write sector words write) found ∷ deeds) core
       → sector < length (sectors_after spec.what deeds)
-  write-there {deeds = deeds} {sector = sector} {write = write} {words = words} (one_more {before = core} done (acts at is)) =
+  write-there {deeds = deeds} {sector = sector} {write = write} {words = words}
+      (one_more {before = core} done (acts at is)) =
       by core.state (sym is) (done-kind done)
     where
-      by : (s : ProcessState) → process.call_of s ≡ Write sector words write → kind_of s ≡ spec.what → sector < length (sectors_after spec.what deeds)
+      by : (s : ProcessState) → process.call_of s ≡ Write sector words write → kind_of s ≡ spec.what
+          → sector < length (sectors_after spec.what deeds)
       by (Runs program s) is same = absurd (cc)
       by (Serves sectors s) is same =
           let many = device-length spec.what deeds in
@@ -229,27 +271,35 @@ module _ {site : Site} {number : ℕ} {spec : ProcessSpec} where
           let there = (write-of sectors (s.last_write + 1) (unwrap_or s.request []) sector words write is).there in
           omega (arith, many, all, there)
 
-  pub write-done : {deeds : List Deed} {core : Core} {sector write : ℕ} {words found : List ℤ} → HasDone site number spec (Acted (Write sector words write) found ∷ deeds) core
+  pub write-done : {deeds : List Deed} {core : Core} {sector write : ℕ} {words found : List ℤ}
+      → HasDone site number spec (Acted (Write sector words write) found ∷ deeds) core
       → is_written (sectors_after spec.what (Acted (Write sector words write) found ∷ deeds)) sector write ≡ true
   write-done {deeds = deeds} {sector = sector} {write = write} {words = words} {found = found} done =
       let new = write-new {found = found} done in
       let there = write-there {found = found} done in
-      rw new (rw (set-within (sectors_after spec.what deeds) sector (record { words = words; number = write }) there) (eq-eqb write write refl))
+      rw new (rw (set-within (sectors_after spec.what deeds) sector (record { words = words; number = write }) there)
+      (eq-eqb write write refl))
 
   -- each sector has 8 words, and so has what was found
-  pub stored-eight : {deeds : List Deed} {core : Core} → HasDone site number spec deeds core → (sector : ℕ) (stored : Stored)
+  pub stored-eight : {deeds : List Deed} {core : Core} → HasDone site number spec deeds core
+      → (sector : ℕ) (stored : Stored)
       → slice_get (sectors_after spec.what deeds) sector ≡ Some stored → length stored.words ≡ 8
-  stored-eight nothing_done sector stored there = ap (λ (s : Stored). length s.words) (first-blank spec.what sector stored there)
+  stored-eight nothing_done sector stored there =
+      ap (λ (s : Stored). length s.words) (first-blank spec.what sector stored there)
   stored-eight (one_more done (goes at)) sector stored there = stored-eight done sector stored there
   stored-eight (one_more done (marks at)) sector stored there = stored-eight done sector stored there
   stored-eight (one_more done (takes block at known)) sector stored there = stored-eight done sector stored there
   stored-eight (one_more done (asks at file words)) sector stored there = stored-eight done sector stored there
   stored-eight (one_more done (gets at file)) sector stored there = stored-eight done sector stored there
-  stored-eight (one_more done (answers opener block at hand known stood words)) sector stored there = stored-eight done sector stored there
+  stored-eight (one_more done (answers opener block at hand known stood words)) sector stored there =
+      stored-eight done sector stored there
   stored-eight (one_more {deeds = deeds} {before = core} done (acts {call = call} at is)) sector stored there =
-      all-stored (λ (s : Stored). length s.words ≡ 8) (sectors_after spec.what deeds) call (λ at old stood. stored-eight done at old stood)
+      all-stored (λ (s : Stored). length s.words ≡ 8) (sectors_after spec.what deeds) call
+      (λ at old stood. stored-eight done at old stood)
       (λ at write words same. full core.state (sym is ∙ same)) sector stored there
     where
-      full : (s : ProcessState) {at write : ℕ} {words : List ℤ} → process.call_of s ≡ Write at words write → length words ≡ 8
+      full : (s : ProcessState) {at write : ℕ} {words : List ℤ} → process.call_of s ≡ Write at words write
+          → length words ≡ 8
       full (Runs program s) is = absurd (cc)
-      full (Serves sectors s) {at = at} {write = write} {words = words} is = (write-of sectors (s.last_write + 1) (unwrap_or s.request []) at words write is).full
+      full (Serves sectors s) {at = at} {write = write} {words = words} is =
+          (write-of sectors (s.last_write + 1) (unwrap_or s.request []) at words write is).full

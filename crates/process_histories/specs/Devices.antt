@@ -24,7 +24,8 @@ sectors_after what (_ ∷ deeds) = sectors_after what deeds
 -- each call of the device found what stood there
 abbrev pub FoundWhatStood : Kind → List Deed → Type 0
 FoundWhatStood what [] = Unit {0}
-FoundWhatStood what (Acted call found ∷ deeds) = (found ≡ found_on (sectors_after what deeds) call) × FoundWhatStood what deeds
+FoundWhatStood what (Acted call found ∷ deeds) =
+    (found ≡ found_on (sectors_after what deeds) call) × FoundWhatStood what deeds
 FoundWhatStood what (_ ∷ deeds) = FoundWhatStood what deeds
 
 -- whether a deed is a write

@@ -27,7 +27,8 @@ sector_with word = word ∷ replicate 7 (pos 0)
 -- what the disc does for the request
 abbrev pub one_write : List Deed
 one_write =
-    Answered 0 (pos 0 ∷ []) ∷ Acted (Write 1 (sector_with (pos 5)) 1) (sector_with (pos 0)) ∷ Checkpointed ∷ Took 0 (pos 2 ∷ pos 1 ∷ pos 5 ∷ []) ∷ []
+    Answered 0 (pos 0 ∷ []) ∷ Acted (Write 1 (sector_with (pos 5)) 1) (sector_with (pos 0)) ∷ Checkpointed
+    ∷ Took 0 (pos 2 ∷ pos 1 ∷ pos 5 ∷ []) ∷ []
 
 -- what it is then
 abbrev pub after_one : Core

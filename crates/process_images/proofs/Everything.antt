@@ -1,5 +1,6 @@
 -- The image of everything tells the imaged state.
-use Rattle.std.proofs.Common.{◌≡◌, inl, inr, ℕ, zero, suc, ◌+◌, Bool, true, false, if◌then◌else◌, List, [], ◌∷◌, Some, slice_get, refl, ap, sym, subst, ◌∙◌, arith}
+use Rattle.std.proofs.Common.{◌≡◌, inl, inr, ℕ, zero, suc, ◌+◌, Bool, true, false, if◌then◌else◌, List, [], ◌∷◌, Some}
+use Rattle.std.proofs.Common.{slice_get, refl, ap, sym, subst, ◌∙◌, arith}
 use Rattle.std.proofs.lemmas.Option.{same_Some}
 use Rattle.gd_words.specs.Members.{IsAmong, AreDistinct}
 use Rattle.tal_tree.specs.Regular.{MayBeListed}
@@ -24,16 +25,21 @@ record IsFrom (first : ℕ) (items : List Item) (k : ℕ) : Type 0 where
   there : slice_get items place ≡ Some item
   filled : has_words item.shape ≡ true
 
-from-later : {first : ℕ} {items : List Item} {k : ℕ} (item : Item) → IsFrom (first + 1) items k → IsFrom first (item ∷ items) k
-from-later item is = let same = is.is in record { place = suc is.place; is = omega (arith, same); item = is.item; there = is.there; filled = is.filled }
+from-later : {first : ℕ} {items : List Item} {k : ℕ} (item : Item) → IsFrom (first + 1) items k
+    → IsFrom first (item ∷ items) k
+from-later item is = let same = is.is in
+    record { place = suc is.place; is = omega (arith, same); item = is.item; there = is.there; filled = is.filled }
 
 from-list : (first : ℕ) (items : List Item) (k : ℕ) → IsAmong k (listable_from first items) → IsFrom first items k
 from-list first [] k among = absurd among
-from-list first (item ∷ items) k among = which (has_words item.shape) refl among (λ later. from-list (first + 1) items k later)
+from-list first (item ∷ items) k among =
+    which (has_words item.shape) refl among (λ later. from-list (first + 1) items k later)
   where
-    which : (b : Bool) → has_words item.shape ≡ b → IsAmong k (if b then first ∷ listable_from (first + 1) items else listable_from (first + 1) items)
+    which : (b : Bool) → has_words item.shape ≡ b
+        → IsAmong k (if b then first ∷ listable_from (first + 1) items else listable_from (first + 1) items)
         → (IsAmong k (listable_from (first + 1) items) → IsFrom (first + 1) items k) → IsFrom first (item ∷ items) k
-    which true filled (inl same) later = record { place = 0; is = omega (arith, same); item = item; there = refl; filled = filled }
+    which true filled (inl same) later =
+        record { place = 0; is = omega (arith, same); item = item; there = refl; filled = filled }
     which true filled (inr among) later = from-later item (later among)
     which false filled among later = from-later item (later among)
 
@@ -43,14 +49,20 @@ distinct-list first (item ∷ items) = which (has_words item.shape) (distinct-li
   where
     which : (b : Bool) → AreDistinct (listable_from (first + 1) items)
         → AreDistinct (if b then first ∷ listable_from (first + 1) items else listable_from (first + 1) items)
-    which true later = ((λ among. let is = from-list (first + 1) items first among in let same = is.is in omega (arith, same)), later)
+    which true later =
+        ((λ among. let is = from-list (first + 1) items first among in let same = is.is in omega (arith, same)), later)
     which false later = later
 
 pub everything-listed : (s : ProcessState) → MayList s (everything_of s) []
 everything-listed (Runs program s) = record {
   distinct_items = distinct-list 0 program.items;
   items_there = λ k among. let is = from-list 0 program.items k among in let same = is.is in
-      record { item = is.item; there = subst (λ (j : ℕ). slice_get program.items j ≡ Some is.item) (omega (arith, same)) is.there; words = is.filled };
+      record {
+        item = is.item;
+        there = subst (λ (j : ℕ). slice_get program.items j ≡ Some is.item)
+            (omega (arith, same)) is.there;
+        words = is.filled;
+      };
   distinct_files = tt;
   files_there = λ k none. absurd none;
 }
@@ -58,18 +70,22 @@ everything-listed (Serves sectors s) = (refl, refl)
 
 -- Each item that may be listed is there
 
-in-list : (first : ℕ) (items : List Item) (k : ℕ) (item : Item) → slice_get items k ≡ Some item → has_words item.shape ≡ true
+in-list : (first : ℕ) (items : List Item) (k : ℕ) (item : Item) → slice_get items k ≡ Some item
+    → has_words item.shape ≡ true
     → IsAmong (first + k) (listable_from first items)
 in-list first [] k item there filled = absurd (cc)
 in-list first (one ∷ items) zero item there filled =
-    subst (λ (b : Bool). IsAmong (first + 0) (if b then first ∷ listable_from (first + 1) items else listable_from (first + 1) items))
+    subst (λ (b : Bool). IsAmong (first + 0)
+    (if b then first ∷ listable_from (first + 1) items else listable_from (first + 1) items))
     (sym (ap (λ (i : Item). has_words i.shape) (same_Some _ _ there) ∙ filled)) (inl (omega arith))
 in-list first (one ∷ items) (suc k) item there filled =
-    which (has_words one.shape) (subst (λ (n : ℕ). IsAmong n (listable_from (first + 1) items)) (let same : first + 1 + k ≡ first + suc k = omega arith in same)
+    which (has_words one.shape) (subst (λ (n : ℕ). IsAmong n (listable_from (first + 1) items))
+    (let same : first + 1 + k ≡ first + suc k = omega arith in same)
     (in-list (first + 1) items k item there filled))
   where
     which : (b : Bool) → IsAmong (first + suc k) (listable_from (first + 1) items)
-        → IsAmong (first + suc k) (if b then first ∷ listable_from (first + 1) items else listable_from (first + 1) items)
+        → IsAmong (first + suc k) (if b then first
+        ∷ listable_from (first + 1) items else listable_from (first + 1) items)
     which true among = inr among
     which false among = among
 
@@ -92,11 +108,14 @@ of-itself : (s : ProcessState) → AreOfOne s s
 of-itself (Runs program s) = refl
 of-itself (Serves sectors s) = refl
 
-pub everything-tells : (s t : ProcessState) → IsWholeProcess s → IsWholeProcess t → AreOfOne s t → (process.point s ≡ point.Await → ⊥)
+pub everything-tells : (s t : ProcessState) → IsWholeProcess s → IsWholeProcess t → AreOfOne s t
+    → (process.point s ≡ point.Await → ⊥)
     → (process.point t ≡ point.Await → ⊥)
-    → process.in_hand s ≡ process.in_hand t → image_of (everything_of s) s ≡ image_of (everything_of t) t → imaged s ≡ imaged t
+    → process.in_hand s ≡ process.in_hand t → image_of (everything_of s) s ≡ image_of (everything_of t) t
+    → imaged s ≡ imaged t
 everything-tells s t is other same away away_too hand words =
-    same_Some _ _ (sym (restores s s (everything_of s) [] is is (everything-listed s) away (everything-agrees s s (of-itself s)))
+    same_Some _ _ (sym (restores s s (everything_of s) [] is is (everything-listed s) away
+    (everything-agrees s s (of-itself s)))
     ∙ ap (λ h. restored s h (image_of (everything_of s) s)) hand
     ∙ ap (restored s (process.in_hand t)) words
     ∙ restores t s (everything_of t) [] other is (everything-listed t) away_too (everything-agrees s t same))

@@ -24,7 +24,8 @@ abbrev StaysBy : What-F What Statement → Statement → List Entry → List Ent
 StaysBy layer self after way = (way ≡ after) ⊎ IsAmong way ((Run self ∷ after) ∷ rests_by layer self after)
 
 abbrev Lead : List Statement → Type 0
-Lead statements = (after from way : List Entry) → IsAmong from (rests statements after) → IsAmong way (ways_from from) → Stays statements after way
+Lead statements = (after from way : List Entry) → IsAmong from (rests statements after) → IsAmong way (ways_from from)
+    → Stays statements after way
 
 -- one of two, where the first leads to one of two others, and the second to the second of these
 through : {A B C D : Type 0} → A ⊎ B → (A → C ⊎ D) → (B → D) → C ⊎ D
@@ -33,47 +34,62 @@ through (inr b) f g = inr (g b)
 
 all-stay : (statements : List Statement) (after : List Entry) → Stays statements after (runs_of statements ++ after)
 all-stay [] after = inl refl
-all-stay (statement ∷ rest) after = inr (subst (IsAmong (Run statement ∷ behind rest after)) (sym (rests-more statement rest after)) (inl refl))
+all-stay (statement ∷ rest) after =
+    inr (subst (IsAmong (Run statement ∷ behind rest after)) (sym (rests-more statement rest after)) (inl refl))
 
 module _ (statement : Statement) (rest : List Statement) (after way : List Entry) where
   others-stay : Stays rest after way → Stays (statement ∷ rest) after way
-  others-stay stays = through stays (λ same. inl same) (λ among. subst (IsAmong way) (sym (rests-more statement rest after))
-      (inr (among-right way (rests_by (out-What statement.what) statement (behind rest after)) (rests rest after) among)))
+  others-stay stays =
+      through stays (λ same. inl same) (λ among. subst (IsAmong way) (sym (rests-more statement rest after))
+      (inr (among-right way (rests_by (out-What statement.what) statement (behind rest after)) (rests rest after)
+      among)))
 
   first-stays : StaysBy (out-What statement.what) statement (behind rest after) way → Stays (statement ∷ rest) after way
   first-stays (inl same) = others-stay (subst (Stays rest after) (sym same) (all-stay rest after))
   first-stays (inr among) = inr (subst (IsAmong way) (sym (rests-more statement rest after))
-      (among-left way ((Run statement ∷ behind rest after) ∷ rests_by (out-What statement.what) statement (behind rest after)) (rests rest after) among))
+      (among-left way ((Run statement ∷ behind rest after)
+      ∷ rests_by (out-What statement.what) statement (behind rest after)) (rests rest after) among))
 
 module _ (self : Statement) (after way : List Entry) where
   -- what stays with a branch stays with its IF
-  branch-stays : (test : _) (first second : List Statement) → Stays first after way ⊎ Stays second after way → StaysBy (What-F.If test first second) self after way
-  branch-stays test first second (inl stays) = through stays (λ same. inl same) (λ among. inr (among-left way (rests first after) (rests second after) among))
-  branch-stays test first second (inr stays) = through stays (λ same. inl same) (λ among. inr (among-right way (rests first after) (rests second after) among))
+  branch-stays : (test : _) (first second : List Statement) → Stays first after way ⊎ Stays second after way
+      → StaysBy (What-F.If test first second) self after way
+  branch-stays test first second (inl stays) =
+      through stays (λ same. inl same) (λ among. inr (among-left way (rests first after) (rests second after) among))
+  branch-stays test first second (inr stays) =
+      through stays (λ same. inl same) (λ among. inr (among-right way (rests first after) (rests second after) among))
 
   -- what stays with the body of a WHILE stays with the WHILE, which comes after the body
-  body-stays : (test : _) (body : List Statement) → Stays body (Run self ∷ after) way → StaysBy (What-F.While test body) self after way
+  body-stays : (test : _) (body : List Statement) → Stays body (Run self ∷ after) way
+      → StaysBy (What-F.While test body) self after way
   body-stays test body stays = through stays (λ same. inr (inl same)) (λ among. inr among)
 
   -- what stays with the body of a FOR stays with the FOR, whose last assignment and test come after the body
-  round-stays : (variable : _) (from to : _) (body : List Statement) (last : ℕ) → Stays body (Last self ∷ Test self ∷ after) way
+  round-stays : (variable : _) (from to : _) (body : List Statement) (last : ℕ)
+      → Stays body (Last self ∷ Test self ∷ after) way
       → StaysBy (What-F.For variable from to body last) self after way
   round-stays variable from to body last (inl same) =
-      inr (inr (inr (among-right way (rests body (Last self ∷ Test self ∷ after)) ((Last self ∷ Test self ∷ after) ∷ []) (inl same))))
+      inr (inr (inr (among-right way (rests body (Last self ∷ Test self ∷ after))
+      ((Last self ∷ Test self ∷ after) ∷ []) (inl same))))
   round-stays variable from to body last (inr among) =
-      inr (inr (inr (among-left way (rests body (Last self ∷ Test self ∷ after)) ((Last self ∷ Test self ∷ after) ∷ []) among)))
+      inr (inr (inr (among-left way (rests body (Last self ∷ Test self ∷ after)) ((Last self ∷ Test self ∷ after) ∷ [])
+      among)))
 
 module _ (self : Statement) (after way : List Entry) where
   -- the ways into a statement
   into-stays : (layer : What-F What Statement) → IsAmong way (ways_into self after layer) → StaysBy layer self after way
   into-stays (What-F.If test first second) (inl same) =
-      subst (StaysBy (What-F.If test first second) self after) (sym same) (branch-stays self after (runs_of first ++ after) test first second (inl (all-stay first after)))
-  into-stays (What-F.If test first second) (inr among) = among-one (StaysBy (What-F.If test first second) self after) way (runs_of second ++ after) among
+      subst (StaysBy (What-F.If test first second) self after) (sym same)
+      (branch-stays self after (runs_of first ++ after) test first second (inl (all-stay first after)))
+  into-stays (What-F.If test first second) (inr among) =
+      among-one (StaysBy (What-F.If test first second) self after) way (runs_of second ++ after) among
       (branch-stays self after (runs_of second ++ after) test first second (inr (all-stay second after)))
-  into-stays (What-F.While test body) among = among-one (StaysBy (What-F.While test body) self after) way (runs_of body ++ Run self ∷ after) among
+  into-stays (What-F.While test body) among =
+      among-one (StaysBy (What-F.While test body) self after) way (runs_of body ++ Run self ∷ after) among
       (body-stays self after (runs_of body ++ Run self ∷ after) test body (all-stay body (Run self ∷ after)))
   into-stays (What-F.For variable from to body last) among =
-      among-one (StaysBy (What-F.For variable from to body last) self after) way (Test self ∷ after) among (inr (inr (inl refl)))
+      among-one (StaysBy (What-F.For variable from to body last) self after) way (Test self ∷ after) among
+      (inr (inr (inl refl)))
   into-stays _ among = absurd among
 
   -- where a statement leads
@@ -82,46 +98,59 @@ module _ (self : Statement) (after way : List Entry) where
   run-stays (inr among) = into-stays (out-What self.what) among
 
   -- where the test of a FOR leads
-  test-stays : (variable : _) (from to : _) (body : List Statement) (last : ℕ) → out-What self.what ≡ What-F.For variable from to body last
+  test-stays : (variable : _) (from to : _) (body : List Statement) (last : ℕ)
+      → out-What self.what ≡ What-F.For variable from to body last
       → IsAmong way (leads_to (Test self) after) → StaysBy (What-F.For variable from to body last) self after way
   test-stays variable from to body last is (inl same) = inl same
   test-stays variable from to body last is (inr among) =
-      among-one (StaysBy (What-F.For variable from to body last) self after) way (runs_of body ++ Last self ∷ Test self ∷ after)
+      among-one (StaysBy (What-F.For variable from to body last) self after) way
+      (runs_of body ++ Last self ∷ Test self ∷ after)
       (subst (λ (layer : What-F What Statement). IsAmong way (ways_round self after layer)) is among)
-      (round-stays self after (runs_of body ++ Last self ∷ Test self ∷ after) variable from to body last (all-stay body (Last self ∷ Test self ∷ after)))
+      (round-stays self after (runs_of body ++ Last self ∷ Test self ∷ after) variable from to body last
+      (all-stay body (Last self ∷ Test self ∷ after)))
 
   -- where an entry inside a statement leads
-  inner-stays : (layer : What-F What Statement) → out-What self.what ≡ layer → HoldsInside Lead layer → (from : List Entry)
+  inner-stays : (layer : What-F What Statement) → out-What self.what ≡ layer → HoldsInside Lead layer
+      → (from : List Entry)
       → IsAmong from (rests_by layer self after) → IsAmong way (ways_from from) → StaysBy layer self after way
   inner-stays (What-F.If test first second) is holds from among on = branch-stays self after way test first second
       (elim (among-either from (rests first after) (rests second after) among) [
         | inl in_first ↦ inl (holds.0 after from way in_first on)
         | inr in_second ↦ inr (holds.1 after from way in_second on)
       ])
-  inner-stays (What-F.While test body) is holds from among on = body-stays self after way test body (holds (Run self ∷ after) from way among on)
+  inner-stays (What-F.While test body) is holds from among on =
+      body-stays self after way test body (holds (Run self ∷ after) from way among on)
   inner-stays (What-F.For variable from to body last) is holds one (inl same) on =
       test-stays variable from to body last is (subst (λ (first : List Entry). IsAmong way (ways_from first)) same on)
   inner-stays (What-F.For variable from to body last) is holds one (inr among) on =
       elim (among-either one (rests body (Last self ∷ Test self ∷ after)) ((Last self ∷ Test self ∷ after) ∷ []) among) [
-        | inl in_body ↦ round-stays self after way variable from to body last (holds (Last self ∷ Test self ∷ after) one way in_body on)
+        | inl in_body ↦ round-stays self after way variable from to body last
+            (holds (Last self ∷ Test self ∷ after) one way in_body on)
         | inr in_last ↦ among-one (StaysBy (What-F.For variable from to body last) self after) way (Test self ∷ after)
-            (among-one (λ (first : List Entry). IsAmong way (ways_from first) → IsAmong way ((Test self ∷ after) ∷ [])) one (Last self ∷ Test self ∷ after) in_last
+            (among-one (λ (first : List Entry). IsAmong way (ways_from first) → IsAmong way ((Test self ∷ after) ∷ []))
+            one (Last self ∷ Test self ∷ after) in_last
             (λ found. found) on)
             (inr (inr (inl refl)))
       ]
   inner-stays _ is holds from among on = absurd among
 
-more-lead : (statement : Statement) (rest : List Statement) → HoldsInside Lead (out-What statement.what) → Lead rest → Lead (statement ∷ rest)
-more-lead statement rest inside later after from way among on = which (subst (IsAmong from) (rests-more statement rest after) among)
+more-lead : (statement : Statement) (rest : List Statement) → HoldsInside Lead (out-What statement.what) → Lead rest
+    → Lead (statement ∷ rest)
+more-lead statement rest inside later after from way among on =
+    which (subst (IsAmong from) (rests-more statement rest after) among)
   where
-    which : IsAmong from ((Run statement ∷ behind rest after) ∷ rests_by (out-What statement.what) statement (behind rest after) ++ rests rest after)
+    which : IsAmong from ((Run statement ∷ behind rest after)
+        ∷ rests_by (out-What statement.what) statement (behind rest after) ++ rests rest after)
         → Stays (statement ∷ rest) after way
     which (inl same) = first-stays statement rest after way
-        (run-stays statement (behind rest after) way (subst (λ (first : List Entry). IsAmong way (ways_from first)) same on))
-    which (inr found) = elim (among-either from (rests_by (out-What statement.what) statement (behind rest after)) (rests rest after) found) [
-      | inl inner ↦ first-stays statement rest after way (inner-stays statement (behind rest after) way (out-What statement.what) refl inside from inner on)
-      | inr other ↦ others-stay statement rest after way (later after from way other on)
-    ]
+        (run-stays statement (behind rest after) way
+        (subst (λ (first : List Entry). IsAmong way (ways_from first)) same on))
+    which (inr found) = elim (among-either from (rests_by (out-What statement.what) statement (behind rest after))
+        (rests rest after) found) [
+          | inl inner ↦ first-stays statement rest after way
+              (inner-stays statement (behind rest after) way (out-What statement.what) refl inside from inner on)
+          | inr other ↦ others-stay statement rest after way (later after from way other on)
+        ]
 
 all-lead : (statements : List Statement) → Lead statements
 all-lead = by-statements Lead (record { none = λ after from way among on. absurd among; more = more-lead })
@@ -130,6 +159,7 @@ all-lead = by-statements Lead (record { none = λ after from way among on. absur
 pub body-remains : (body : List Statement) → Remains body (runs_of body)
 body-remains body = subst (Stays body []) (append-nil (runs_of body)) (all-stay body [])
 
-pub leads-remains : (body : List Statement) (entry : Entry) (rest way : List Entry) → Remains body (entry ∷ rest) → IsAmong way (leads_to entry rest) → Remains body way
+pub leads-remains : (body : List Statement) (entry : Entry) (rest way : List Entry) → Remains body (entry ∷ rest)
+    → IsAmong way (leads_to entry rest) → Remains body way
 leads-remains body entry rest way (inl none) on = absurd (cc)
 leads-remains body entry rest way (inr among) on = all-lead body [] (entry ∷ rest) way among on

@@ -1,9 +1,11 @@
 -- Words that are put over others, one after the other.
-use Rattle.std.proofs.Common.{◌≡◌, ℕ, suc, ◌+◌, ◌<◌, ◌≤◌, List, [], ◌∷◌, ◌++◌, length, get_or, set, take, drop, arith, ap, sym, ◌∙◌, append_assoc}
+use Rattle.std.proofs.Common.{◌≡◌, ℕ, suc, ◌+◌, ◌<◌, ◌≤◌, List, [], ◌∷◌, ◌++◌, length, get_or, set, take, drop, arith}
+use Rattle.std.proofs.Common.{ap, sym, ◌∙◌, append_assoc}
 use Rattle.std.proofs.Math.Seq.{set-append_seam, drop-cons}
 use Rattle.std.proofs.lemmas.List.{take_more, length-take-le}
 
-pub overwrite-more : {A : Type 0} (words cells : List A) (k : ℕ) (d : A) → k < length words → length words ≤ length cells
+pub overwrite-more : {A : Type 0} (words cells : List A) (k : ℕ) (d : A) → k < length words
+    → length words ≤ length cells
     → set (take k words ++ drop k cells) k (get_or words k d) ≡ take (k + 1) words ++ drop (k + 1) cells
 overwrite-more words cells k d within fits =
     let len : length (take k words) ≡ k = length-take-le k words (omega arith) in

@@ -3,7 +3,10 @@ use Rattle.std.proofs.Common.{◌≡◌, List, [], ◌∷◌, ◌++◌, refl, ap
 use Rattle.tal_tree.specs.Rows.{rows, if-is, while-is, for-is}
 use Rattle.tal_tree.specs.declared.statement.Statement.{Statement}
 use Rattle.tal_tree.specs.declared.statement.What.{What, What-F, out-What, roll-What, roll-out-What}
-use Rattle.tal_tree.specs.declared.statement.What.TheViews.{rolls-Assign, rolls-AssignCall, rolls-If, rolls-While, rolls-For, rolls-Call, rolls-Return, rolls-ReadUpdate, rolls-Reply, rolls-WriteRead, rolls-Checkpoint, rolls-CheckMonitor, rolls-Open, rolls-Stop}
+use Rattle.tal_tree.specs.declared.statement.What.TheViews.{rolls-Assign, rolls-AssignCall, rolls-If, rolls-While}
+use Rattle.tal_tree.specs.declared.statement.What.TheViews.{rolls-For, rolls-Call, rolls-Return, rolls-ReadUpdate}
+use Rattle.tal_tree.specs.declared.statement.What.TheViews.{rolls-Reply, rolls-WriteRead, rolls-Checkpoint}
+use Rattle.tal_tree.specs.declared.statement.What.TheViews.{rolls-CheckMonitor, rolls-Open, rolls-Stop}
 use Rattle.process_semantics.specs.Rests.{runs_row, rests_in, rests}
 use Rattle.process_semantics.specs.State.{Entry, Run, Test, Last, runs_of}
 
@@ -22,7 +25,8 @@ module _ (self : Statement) (after : List Entry) where
   rests-roll : (layer : What-F What Statement) → inside (roll-What layer) ≡ rests_by layer self after
   rests-roll (What-F.If test first second) = ap inside (rolls-If test first second ∙ if-is test first second)
   rests-roll (What-F.While test body) = ap inside (rolls-While test body ∙ while-is test body)
-  rests-roll (What-F.For variable from to body last) = ap inside (rolls-For variable from to body last ∙ for-is variable from to body last)
+  rests-roll (What-F.For variable from to body last) =
+      ap inside (rolls-For variable from to body last ∙ for-is variable from to body last)
   rests-roll (What-F.Assign to value) = ap inside (rolls-Assign to value)
   rests-roll (What-F.AssignCall to procedure arguments) = ap inside (rolls-AssignCall to procedure arguments)
   rests-roll (What-F.Call procedure arguments) = ap inside (rolls-Call procedure arguments)
@@ -48,7 +52,10 @@ behind rest after = runs_of rest ++ after
 
 -- from the first statement on, from each entry inside it on, and from each entry of the others on
 pub rests-more : (statement : Statement) (rest : List Statement) (after : List Entry) → rests (statement ∷ rest) after
-    ≡ (Run statement ∷ behind rest after) ∷ rests_by (out-What statement.what) statement (behind rest after) ++ rests rest after
+    ≡ (Run statement ∷ behind rest after) ∷ rests_by (out-What statement.what) statement (behind rest after)
+    ++ rests rest after
 rests-more statement rest after =
-    ap (λ (later : List Entry). (Run statement ∷ (later ++ after)) ∷ rests_in statement.what statement (later ++ after) ++ rests rest after) (runs-are rest)
-    ∙ ap (λ (inner : List (List Entry)). (Run statement ∷ behind rest after) ∷ inner ++ rests rest after) (rests-is statement (behind rest after) statement.what)
+    ap (λ (later : List Entry). (Run statement ∷ (later ++ after)) ∷ rests_in statement.what statement (later ++ after)
+    ++ rests rest after) (runs-are rest)
+    ∙ ap (λ (inner : List (List Entry)). (Run statement ∷ behind rest after) ∷ inner ++ rests rest after)
+    (rests-is statement (behind rest after) statement.what)

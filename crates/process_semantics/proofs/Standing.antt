@@ -33,15 +33,19 @@ begins-right : (xs ys : List Statement) (one : List Entry) → BeginsIn ys one �
 begins-right xs ys [] begins = tt
 begins-right xs ys (entry ∷ rest) begins = among-right (statement_of entry) xs ys begins
 
-inner-stand : (self : Statement) (after one : List Entry) (layer : What-F What Statement) → HoldsInside Stand layer → IsAmong one (rests_by layer self after)
+inner-stand : (self : Statement) (after one : List Entry) (layer : What-F What Statement) → HoldsInside Stand layer
+    → IsAmong one (rests_by layer self after)
     → BeginsIn (self ∷ within_of layer) one
-inner-stand self after one (What-F.If test first second) holds among = begins-right (self ∷ []) (all_of first ++ all_of second) one
+inner-stand self after one (What-F.If test first second) holds among =
+    begins-right (self ∷ []) (all_of first ++ all_of second) one
     (elim (among-either one (rests first after) (rests second after) among) [
       | inl in_first ↦ begins-left (all_of first) (all_of second) one (holds.0 after one in_first)
       | inr in_second ↦ begins-right (all_of first) (all_of second) one (holds.1 after one in_second)
     ])
-inner-stand self after one (What-F.While test body) holds among = begins-right (self ∷ []) (all_of body) one (holds (Run self ∷ after) one among)
-inner-stand self after one (What-F.For variable from to body last) holds (inl same) = subst (BeginsIn (self ∷ all_of body)) (sym same) (inl refl)
+inner-stand self after one (What-F.While test body) holds among =
+    begins-right (self ∷ []) (all_of body) one (holds (Run self ∷ after) one among)
+inner-stand self after one (What-F.For variable from to body last) holds (inl same) =
+    subst (BeginsIn (self ∷ all_of body)) (sym same) (inl refl)
 inner-stand self after one (What-F.For variable from to body last) holds (inr among) =
     elim (among-either one (rests body (Last self ∷ Test self ∷ after)) ((Last self ∷ Test self ∷ after) ∷ []) among) [
       | inl in_body ↦ begins-right (self ∷ []) (all_of body) one (holds (Last self ∷ Test self ∷ after) one in_body)
@@ -49,24 +53,30 @@ inner-stand self after one (What-F.For variable from to body last) holds (inr am
     ]
 inner-stand self after one _ holds among = absurd among
 
-more-stand : (statement : Statement) (rest : List Statement) → HoldsInside Stand (out-What statement.what) → Stand rest → Stand (statement ∷ rest)
-more-stand statement rest inside later after one among = which (subst (IsAmong one) (rests-more statement rest after) among)
+more-stand : (statement : Statement) (rest : List Statement) → HoldsInside Stand (out-What statement.what) → Stand rest
+    → Stand (statement ∷ rest)
+more-stand statement rest inside later after one among =
+    which (subst (IsAmong one) (rests-more statement rest after) among)
   where
     in_first : BeginsIn (statement ∷ within_of (out-What statement.what)) one → BeginsIn (all_of (statement ∷ rest)) one
     in_first begins = begins-left (all_in statement) (all_of rest) one
         (subst (λ (parts : List Statement). BeginsIn (statement ∷ parts) one) (sym (within-is statement.what)) begins)
 
-    which : IsAmong one ((Run statement ∷ behind rest after) ∷ rests_by (out-What statement.what) statement (behind rest after) ++ rests rest after)
+    which : IsAmong one ((Run statement ∷ behind rest after)
+        ∷ rests_by (out-What statement.what) statement (behind rest after) ++ rests rest after)
         → BeginsIn (all_of (statement ∷ rest)) one
-    which (inl same) = in_first (subst (BeginsIn (statement ∷ within_of (out-What statement.what))) (sym same) (inl refl))
-    which (inr found) = elim (among-either one (rests_by (out-What statement.what) statement (behind rest after)) (rests rest after) found) [
-      | inl inner ↦ in_first (inner-stand statement (behind rest after) one (out-What statement.what) inside inner)
-      | inr other ↦ begins-right (all_in statement) (all_of rest) one (later after one other)
-    ]
+    which (inl same) =
+        in_first (subst (BeginsIn (statement ∷ within_of (out-What statement.what))) (sym same) (inl refl))
+    which (inr found) = elim (among-either one (rests_by (out-What statement.what) statement (behind rest after))
+        (rests rest after) found) [
+          | inl inner ↦ in_first (inner-stand statement (behind rest after) one (out-What statement.what) inside inner)
+          | inr other ↦ begins-right (all_in statement) (all_of rest) one (later after one other)
+        ]
 
 all-stand : (statements : List Statement) → Stand statements
 all-stand = by-statements Stand (record { none = λ after one among. absurd among; more = more-stand })
 
-pub entry-stands : (body : List Statement) (entry : Entry) (rest : List Entry) → Remains body (entry ∷ rest) → IsAmong (statement_of entry) (all_of body)
+pub entry-stands : (body : List Statement) (entry : Entry) (rest : List Entry) → Remains body (entry ∷ rest)
+    → IsAmong (statement_of entry) (all_of body)
 entry-stands body entry rest (inl none) = absurd (cc)
 entry-stands body entry rest (inr among) = all-stand body [] (entry ∷ rest) among

@@ -15,12 +15,14 @@ received s buffer got words (Some room) =
 
 -- READUPDATE gets the words of a request, which is in hand from now on
 abbrev pub took_in : Program → ProgramState → List ℤ → What-F What Statement → ProgramState
-took_in program s words (What-F.ReadUpdate buffer most got) = with_hand true (received s buffer got words (count_of program s buffer most))
+took_in program s words (What-F.ReadUpdate buffer most got) =
+    with_hand true (received s buffer got words (count_of program s buffer most))
 took_in program s words _ = s
 
 -- WRITEREAD gets the words of a reply, which is awaited no more
 abbrev pub got_in : Program → ProgramState → List ℤ → What-F What Statement → ProgramState
-got_in program s words (What-F.WriteRead file buffer send room got) = with_waiting false (received s buffer got words (count_of program s buffer room))
+got_in program s words (What-F.WriteRead file buffer send room got) =
+    with_waiting false (received s buffer got words (count_of program s buffer room))
 got_in program s words _ = s
 
 -- as many words as a count names
@@ -35,12 +37,14 @@ file_in _ = 0
 
 -- the words that WRITEREAD asks
 abbrev pub asked_in : Program → ProgramState → What-F What Statement → List ℤ
-asked_in program s (What-F.WriteRead file buffer send room got) = first_words (words_of s.globals buffer) (count_of program s buffer send)
+asked_in program s (What-F.WriteRead file buffer send room got) =
+    first_words (words_of s.globals buffer) (count_of program s buffer send)
 asked_in program s _ = []
 
 -- the words that REPLY answers
 abbrev pub answer_in : Program → ProgramState → What-F What Statement → List ℤ
-answer_in program s (What-F.Reply buffer count) = first_words (words_of s.globals buffer) (count_of program s buffer count)
+answer_in program s (What-F.Reply buffer count) =
+    first_words (words_of s.globals buffer) (count_of program s buffer count)
 answer_in program s _ = []
 
 -- the step at Take: READUPDATE gets the words of the request that is taken

@@ -55,11 +55,13 @@ local_set local word (frame ∷ callers) = record frame { locals = slice_set fra
 -- the state with a word in a cell
 abbrev pub with_word : Cell → ℤ → ProgramState → ProgramState
 with_word (cell.Local local) word s = record s { frames = local_set local word s.frames }
-with_word (cell.Global item offset) word s = record s { globals = slice_set s.globals item (slice_set (words_of s.globals item) offset word) }
+with_word (cell.Global item offset) word s =
+    record s { globals = slice_set s.globals item (slice_set (words_of s.globals item) offset word) }
 
 -- the state with words at the start of a global
 abbrev pub with_words : ℕ → List ℤ → ProgramState → ProgramState
-with_words item words s = record s { globals = slice_set s.globals item (words ++ drop (length words) (words_of s.globals item)) }
+with_words item words s =
+    record s { globals = slice_set s.globals item (words ++ drop (length words) (words_of s.globals item)) }
 
 -- the cell of a simple variable
 abbrev pub variable_cell : Variable → Cell

@@ -1,5 +1,6 @@
 -- Disc processes. For each request a disc goes through the points Take, AtCheckpoint, Device and Answer in turn.
-use Rattle.std.specs.Prelude.{ℕ, ◌+◌, ◌-◌, ◌==◌, ℤ, pos, negsuc, ◌&&◌, if◌then◌else◌, nat_lt, nat_le, List, [], ◌∷◌, ◌++◌, length, replicate, Option, Some, None}
+use Rattle.std.specs.Prelude.{ℕ, ◌+◌, ◌-◌, ◌==◌, ℤ, pos, negsuc, ◌&&◌, if◌then◌else◌, nat_lt, nat_le, List, [], ◌∷◌}
+use Rattle.std.specs.Prelude.{◌++◌, length, replicate, Option, Some, None}
 use Rattle.std.specs.Option.{unwrap_or}
 use Rattle.std.specs.Ordering.{int_eq}
 use Rattle.gd_words.specs.declared.device.DeviceCall.{DeviceCall}
@@ -25,7 +26,8 @@ abbrev pub call_at : ℕ → ℤ → List ℤ → Option ℕ → DeviceCall
 call_at number kind words None = Nothing
 call_at number kind words (Some sector) =
     if int_eq kind (pos 1) && (length words == 0) then Read sector
-    else if int_eq kind (pos 2) && nat_le 1 (length words) && nat_le (length words) 8 then Write sector (filled words) number
+    else if int_eq kind (pos 2) && nat_le 1 (length words)
+    && nat_le (length words) 8 then Write sector (filled words) number
     else Nothing
 
 -- what the words of a request ask of the device, under the number that a write would have

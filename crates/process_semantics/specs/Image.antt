@@ -1,7 +1,9 @@
--- The words of an image, by which a process that watches gets the state of one that acts, and the state that such words restore.
+-- The words of an image, by which a process that watches gets the state of one that acts, and the state that such words
+-- restore.
 use Rattle.std.specs.List.{flat_map}
 use Rattle.std.specs.Option.{option_map, option_and_then}
-use Rattle.std.specs.Prelude.{ℕ, ℤ, pos, Bool, true, false, ◌&&◌, if◌then◌else◌, List, [], ◌∷◌, ◌++◌, length, slice_get, slice_set, Option, Some, None, zero, suc, ◌==◌, not, reverse}
+use Rattle.std.specs.Prelude.{ℕ, ℤ, pos, Bool, true, false, ◌&&◌, if◌then◌else◌, List, [], ◌∷◌, ◌++◌, length, slice_get}
+use Rattle.std.specs.Prelude.{slice_set, Option, Some, None, zero, suc, ◌==◌, not, reverse}
 use Rattle.gd_words.specs.Members.{is_among}
 use Rattle.tal_tree.specs.Shapes.{width, has_words}
 use Rattle.tal_tree.specs.declared.program.Item.{Item}
@@ -30,7 +32,8 @@ item_words s item = pos item ∷ words_of s.globals item
 -- the frames from MAIN up, then the items of a list with their words
 abbrev pub program_words : List ℕ → ProgramState → List ℤ
 program_words items s =
-    pos (length s.frames) ∷ flat_map frame_words (reverse s.frames) ++ pos (length items) ∷ flat_map (item_words s) items
+    pos (length s.frames) ∷ flat_map frame_words (reverse s.frames)
+    ++ pos (length items) ∷ flat_map (item_words s) items
 
 -- The words of a disc's state
 
@@ -82,7 +85,8 @@ listed_files (Serves sectors s) = []
 
 -- a frame, where what remains and the locals are there
 abbrev pub frame_with : ℕ → Option (List Entry) → Front (List ℤ) → Front Frame
-frame_with procedure (Some rest) (Some (locals, left)) = Some (record { procedure = procedure; locals = locals; rest = rest }, left)
+frame_with procedure (Some rest) (Some (locals, left)) =
+    Some (record { procedure = procedure; locals = locals; rest = rest }, left)
 frame_with procedure _ _ = None
 
 -- a frame of this procedure
@@ -93,13 +97,15 @@ frame_of_words number _ _ = None
 
 -- a frame: its procedure is one of the program's, and the number stands in the procedure
 abbrev pub frame_in : Program → List ℤ → Front Frame
-frame_in program words = option_and_then (λ (number, left). frame_of_words number (slice_get program.procedures number) (count_in left)) (count_in words)
+frame_in program words = option_and_then
+    (λ (number, left). frame_of_words number (slice_get program.procedures number) (count_in left)) (count_in words)
 
 -- frames from MAIN up
 abbrev pub frames_in : Program → ℕ → List ℤ → Front (List Frame)
 frames_in program zero words = Some ([], words)
 frames_in program (suc n) words =
-    option_and_then (λ (frame, left). option_map (λ (frames, rest). (frame ∷ frames, rest)) (frames_in program n left)) (frame_in program words)
+    option_and_then (λ (frame, left). option_map (λ (frames, rest). (frame ∷ frames, rest)) (frames_in program n left))
+    (frame_in program words)
 
 -- whether this procedure is the one that was called
 abbrev pub is_called : Option ℕ → ℕ → Bool
@@ -114,14 +120,16 @@ are_called called (frame ∷ frames) = is_called called frame.procedure && are_c
 -- a global that may be listed and wasn't named before: its words
 abbrev pub item_in : List ℕ → ℕ → Option Item → List ℤ → Front (List ℤ)
 item_in named number None words = None
-item_in named number (Some item) words = if has_words item.shape && not (is_among number named) then words_in (width item.shape) words else None
+item_in named number (Some item) words =
+    if has_words item.shape && not (is_among number named) then words_in (width item.shape) words else None
 
 -- so many globals, put over those that a state has
 abbrev pub items_in : Program → ℕ → List ℕ → List (List ℤ) → List ℤ → Front (List (List ℤ))
 items_in program zero named globals words = Some (globals, words)
 items_in program (suc n) named globals words =
     option_and_then
-    (λ (item, left). option_and_then (λ (found, rest). items_in program n (item ∷ named) (slice_set globals item found) rest)
+    (λ (item, left). option_and_then (λ (found, rest). items_in program n (item ∷ named) (slice_set globals item found)
+    rest)
     (item_in named item (slice_get program.items item) left))
     (count_in words)
 
@@ -140,24 +148,28 @@ with_globals in_hand frames globals = record {
   ended = is_empty frames;
 }
 
--- the items after the frames, from MAIN up; none where a frame isn't that of the procedure that the one before it has called
+-- the items after the frames, from MAIN up; none where a frame isn't that of the procedure that the one before it has
+-- called
 abbrev pub restored_items : Program → ProgramState → Bool → List Frame → List ℤ → Option ProgramState
 restored_items program s in_hand frames words =
     if are_called (Some program.main) frames
-    then option_map (with_globals in_hand frames) (whole (option_and_then (λ (n, left). items_in program n [] s.globals left) (count_in words)))
+    then option_map (with_globals in_hand frames)
+    (whole (option_and_then (λ (n, left). items_in program n [] s.globals left) (count_in words)))
     else None
 
--- the state that an image restores in a program: the image's frames, and its globals in the place of the program's. No frames are those of a program
--- that has ended
+-- the state that an image restores in a program: the image's frames, and its globals in the place of the program's. No
+-- frames are those of a program that has ended
 abbrev pub restored_program : Program → ProgramState → Bool → List ℤ → Option ProgramState
 restored_program program s in_hand words =
     option_and_then (λ (frames, left). restored_items program s in_hand frames left)
     (option_and_then (λ (n, left). frames_in program n left) (count_in words))
 
--- the disc with this request, number and reply: with nothing in hand it is at Take, without a reply at Device, and else at Answer
+-- the disc with this request, number and reply: with nothing in hand it is at Take, without a reply at Device, and else
+-- at Answer
 abbrev pub disc_with : Bool → List ℤ → ℕ → List ℤ → Option DiscState
 disc_with false [] number [] = Some (record { label = Take; request = None; reply = None; last_write = number })
-disc_with true request number [] = Some (record { label = Device; request = Some request; reply = None; last_write = number })
+disc_with true request number [] =
+    Some (record { label = Device; request = Some request; reply = None; last_write = number })
 disc_with true request number (word ∷ words) =
     Some (record { label = Answer; request = Some request; reply = Some (word ∷ words); last_write = number })
 disc_with _ _ number _ = None
@@ -171,7 +183,8 @@ restored_disc in_hand words =
     (long_in left))
     (counted_in words)
 
--- the state that an image's words restore, for an image that has a request in hand or none; none where they are no image of the process
+-- the state that an image's words restore, for an image that has a request in hand or none; none where they are no
+-- image of the process
 abbrev pub restored : ProcessState → Bool → List ℤ → Option ProcessState
 restored (Runs code s) in_hand words = option_map (Runs code) (restored_program code s in_hand words)
 restored (Serves sectors s) in_hand words = option_map (Serves sectors) (restored_disc in_hand words)

@@ -4,7 +4,8 @@ use Rattle.tal_tree.specs.declared.program.Program.{Program}
 use Rattle.tal_tree.specs.declared.statement.Statement.{Statement}
 use Rattle.tal_tree.specs.declared.statement.What.{What, What-F, out-What}
 use Rattle.process_semantics.specs.declared.point.Point.{Point}
-use Rattle.process_semantics.specs.declared.point.Point.TheVariants.{Inner, Take, Ask, Await, Answer, AtCheckpoint, Ended}
+use Rattle.process_semantics.specs.declared.point.Point.TheVariants.{Inner, Take, Ask, Await, Answer, AtCheckpoint}
+use Rattle.process_semantics.specs.declared.point.Point.TheVariants.{Ended}
 use Rattle.process_semantics.specs.State.{Entry, ProgramState, next_of, count_of, Run}
 
 -- the point of a call with this count; one that traps is at Inner
@@ -19,10 +20,12 @@ where_both_good point (Some m) n = where_good point n
 
 -- the point of a statement that comes next
 abbrev pub point_in : Program → ProgramState → What-F What Statement → Point
-point_in program s (What-F.ReadUpdate buffer most got) = if s.in_hand then Inner else where_good Take (count_of program s buffer most)
+point_in program s (What-F.ReadUpdate buffer most got) =
+    if s.in_hand then Inner else where_good Take (count_of program s buffer most)
 point_in program s (What-F.WriteRead file buffer send room got) =
     if s.awaits then Await else where_both_good Ask (count_of program s buffer send) (count_of program s buffer room)
-point_in program s (What-F.Reply buffer count) = if s.in_hand then where_good Answer (count_of program s buffer count) else Inner
+point_in program s (What-F.Reply buffer count) =
+    if s.in_hand then where_good Answer (count_of program s buffer count) else Inner
 point_in program s (What-F.Checkpoint items files) = AtCheckpoint
 point_in program s (What-F.Assign to value) = Inner
 point_in program s (What-F.AssignCall to procedure arguments) = Inner
@@ -40,6 +43,7 @@ abbrev pub point_at : Program → ProgramState → Option Entry → Point
 point_at program s (Some (Run statement)) = point_in program s (out-What statement.what)
 point_at program s _ = Inner
 
--- READUPDATE is at Take, WRITEREAD at Ask and then at Await, REPLY at Answer and CHECKPOINT at AtCheckpoint; everything else, and each call that would trap, is at Inner
+-- READUPDATE is at Take, WRITEREAD at Ask and then at Await, REPLY at Answer and CHECKPOINT at AtCheckpoint; everything
+-- else, and each call that would trap, is at Inner
 abbrev pub point_of : Program → ProgramState → Point
 point_of program s = if s.ended then Ended else point_at program s (next_of s.frames)

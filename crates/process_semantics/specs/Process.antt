@@ -1,4 +1,5 @@
--- A process of either kind, a program or a disc: its point and its steps. A step is a function of the state and of the words that come.
+-- A process of either kind, a program or a disc: its point and its steps. A step is a function of the state and of the
+-- words that come.
 use Rattle.std.specs.Prelude.{ℕ, ℤ, Bool, List, [], is_some}
 use Rattle.gd_words.specs.declared.device.DeviceCall.{DeviceCall}
 use Rattle.gd_words.specs.declared.device.DeviceCall.TheVariants.{Nothing}

@@ -10,7 +10,8 @@ use Rattle.process_semantics.specs.Rests.{rests_of}
 abbrev pub Remains : List Statement → List Entry → Type 0
 Remains body rest = (rest ≡ []) ⊎ IsAmong rest (rests_of body)
 
--- the ways into a statement, where others come after it: either branch of an IF, the body of a WHILE and then the WHILE again, the test of a FOR
+-- the ways into a statement, where others come after it: either branch of an IF, the body of a WHILE and then the WHILE
+-- again, the test of a FOR
 abbrev pub ways_into : Statement → List Entry → What-F What Statement → List (List Entry)
 ways_into self after (What-F.If test first second) = (runs_of first ++ after) ∷ (runs_of second ++ after) ∷ []
 ways_into self after (What-F.While test body) = (runs_of body ++ Run self ∷ after) ∷ []
@@ -53,4 +54,5 @@ leads_to (Last statement) after = after ∷ []
 -- what a body comes to, whatever its tests say: the whole body, and where the next entry of what it comes to leads
 pub data ComesTo (body : List Statement) : List Entry → Type 0 where
   whole : ComesTo body (runs_of body)
-  onward : {entry : Entry} {rest way : List Entry} → ComesTo body (entry ∷ rest) → IsAmong way (leads_to entry rest) → ComesTo body way
+  onward : {entry : Entry} {rest way : List Entry} → ComesTo body (entry ∷ rest) → IsAmong way (leads_to entry rest)
+      → ComesTo body way

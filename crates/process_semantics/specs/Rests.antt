@@ -3,7 +3,9 @@ use Rattle.std.specs.Prelude.{ℕ, if◌then◌else◌, List, [], ◌∷◌, ◌
 use Rattle.tal_tree.specs.Rows.{rows}
 use Rattle.tal_tree.specs.Statements.{last_of}
 use Rattle.tal_tree.specs.declared.statement.Statement.{Statement}
-use Rattle.tal_tree.specs.declared.statement.What.{What, out-What, Assign, AssignCall, If', While', For', Call, Return, ReadUpdate, Reply, WriteRead, Checkpoint, CheckMonitor, Open, Stop, Row_of-Statement, end_of-Statement, more_of-Statement}
+use Rattle.tal_tree.specs.declared.statement.What.{What, out-What, Assign, AssignCall, If', While', For', Call, Return}
+use Rattle.tal_tree.specs.declared.statement.What.{ReadUpdate, Reply, WriteRead, Checkpoint, CheckMonitor, Open, Stop}
+use Rattle.tal_tree.specs.declared.statement.What.{Row_of-Statement, end_of-Statement, more_of-Statement}
 use Rattle.process_semantics.specs.State.{Entry, Run, Test, Last}
 
 -- the number of an entry: a FOR's test has the one after its first assignment
@@ -22,7 +24,8 @@ next_number (entry ∷ rest) = entry_number entry
 -- the statements of a list as entries
 abbrev pub runs_row : {n : _} → Row_of-Statement n → List Entry
 runs_row end_of-Statement = []
-runs_row (more_of-Statement number line what rest) = Run (record { number = number; line = line; what = what }) ∷ runs_row rest
+runs_row (more_of-Statement number line what rest) =
+    Run (record { number = number; line = line; what = what }) ∷ runs_row rest
 
 abbrev mutual
   -- of the statements of a list: what remains from each entry in it on, where others come after the list
@@ -30,7 +33,8 @@ abbrev mutual
   rests_row end_of-Statement after = []
   rests_row (more_of-Statement number line what rest) after =
       (Run (record { number = number; line = line; what = what }) ∷ (runs_row rest ++ after))
-      ∷ rests_in what (record { number = number; line = line; what = what }) (runs_row rest ++ after) ++ rests_row rest after
+      ∷ rests_in what (record { number = number; line = line; what = what }) (runs_row rest ++ after)
+      ++ rests_row rest after
 
   -- of the entries inside a statement
   pub rests_in : What → Statement → List Entry → List (List Entry)

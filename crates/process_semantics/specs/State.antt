@@ -1,6 +1,7 @@
 -- The state of a program: what remains in each procedure that runs, and the words of its globals and locals.
 use Rattle.std.specs.Option.{option_and_then, unwrap_or}
-use Rattle.std.specs.Prelude.{ℕ, ◌-◌, ℤ, pos, negsuc, Bool, false, ◌&&◌, if◌then◌else◌, nat_le, List, [], ◌∷◌, ◌++◌, length, map, replicate, slice_get, Option, Some, None}
+use Rattle.std.specs.Prelude.{ℕ, ◌-◌, ℤ, pos, negsuc, Bool, false, ◌&&◌, if◌then◌else◌, nat_le, List, [], ◌∷◌, ◌++◌}
+use Rattle.std.specs.Prelude.{length, map, replicate, slice_get, Option, Some, None}
 use Rattle.tal_tree.specs.Shapes.{width}
 use Rattle.tal_tree.specs.Statements.{called_in}
 use Rattle.tal_tree.specs.declared.expression.Expr.{Expr}
@@ -16,7 +17,8 @@ pub data Entry : Type 0 where
   Test : Statement → Entry
   Last : Statement → Entry
 
--- a procedure that runs: its number, its locals, and what remains, the next entry first. A call in progress stays first until its procedure returns
+-- a procedure that runs: its number, its locals, and what remains, the next entry first. A call in progress stays first
+-- until its procedure returns
 pub record Frame : Type 0 where
   pub procedure : ℕ
   pub locals : List ℤ
@@ -104,7 +106,8 @@ good_count words (negsuc n) = None
 
 -- a count of words of an array; none where it traps: it has no value, is below 0, or is above 16 or the array's words
 abbrev pub count_of : Program → ProgramState → ℕ → Expr → Option ℕ
-count_of program s buffer count = option_and_then (good_count (words_of s.globals buffer)) (value_of (memory_of program s) count)
+count_of program s buffer count =
+    option_and_then (good_count (words_of s.globals buffer)) (value_of (memory_of program s) count)
 
 -- what a function gives of an entry's statement
 abbrev pub in_entry : {A : Type 0} → A → (What-F What Statement → A) → Option Entry → A

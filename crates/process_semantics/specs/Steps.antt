@@ -1,6 +1,8 @@
--- The steps of a program at Inner: an assignment, a test, entering a procedure, its RETURN or its end, or a system call that no other process sees.
+-- The steps of a program at Inner: an assignment, a test, entering a procedure, its RETURN or its end, or a system call
+-- that no other process sees.
 use Rattle.std.specs.Option.{option_map, option_and_then, unwrap_or}
-use Rattle.std.specs.Prelude.{ℕ, ℤ, pos, ◌+ℤ◌, Bool, if◌then◌else◌, List, [], ◌∷◌, ◌++◌, drop, slice_get, Option, Some, None}
+use Rattle.std.specs.Prelude.{ℕ, ℤ, pos, ◌+ℤ◌, Bool, if◌then◌else◌, List, [], ◌∷◌, ◌++◌, drop, slice_get, Option, Some}
+use Rattle.std.specs.Prelude.{None}
 use Rattle.gd_words.specs.Arithmetic.{wrap}
 use Rattle.tal_tree.specs.declared.expression.Expr.{Expr}
 use Rattle.tal_tree.specs.declared.expression.Rel.TheVariants.{AtMost}
@@ -12,12 +14,14 @@ use Rattle.tal_tree.specs.declared.statement.What.{What, What-F, out-What}
 use Rattle.tal_values.specs.Value.{Memory, value_of, cell_of, truth_of, both, holds}
 use Rattle.tal_values.specs.declared.memory.Cell.{Cell}
 use Rattle.process_semantics.specs.Changes.{done, before, entering, left, ends, with_word, variable_cell, variable_of}
-use Rattle.process_semantics.specs.State.{Entry, Frame, ProgramState, runs_of, first_of, next_of, memory_of, Run, Test, Last}
+use Rattle.process_semantics.specs.State.{Entry, Frame, ProgramState, runs_of, first_of, next_of, memory_of, Run, Test}
+use Rattle.process_semantics.specs.State.{Last}
 
 -- the values of arguments, from left to right; none where one traps
 abbrev pub values_of : Memory → List Expr → Option (List ℤ)
 values_of memory [] = Some []
-values_of memory (e ∷ es) = option_and_then (λ word. option_map (λ words. word ∷ words) (values_of memory es)) (value_of memory e)
+values_of memory (e ∷ es) =
+    option_and_then (λ word. option_map (λ words. word ∷ words) (values_of memory es)) (value_of memory e)
 
 -- the state after a word went to a target, if neither traps
 abbrev pub assigned : ProgramState → Option Cell → Option ℤ → Option ProgramState
@@ -42,7 +46,8 @@ entered program s number (Some arguments) = entered_by s number arguments (slice
 
 -- the state after the call in this statement got its word back: only an assignment keeps it
 abbrev pub given_in : Program → ℤ → ProgramState → What-F What Statement → Option ProgramState
-given_in program word s (What-F.AssignCall to procedure arguments) = assigned s (cell_of (memory_of program s) to) (Some word)
+given_in program word s (What-F.AssignCall to procedure arguments) =
+    assigned s (cell_of (memory_of program s) to) (Some word)
 given_in program word s _ = Some (done s)
 
 -- the state after a call got its word back
@@ -55,7 +60,8 @@ abbrev pub given_to : Program → ℤ → ProgramState → List Frame → Option
 given_to program word s [] = Some (ends s)
 given_to program word s (caller ∷ callers) = given program word s (first_of caller.rest)
 
--- the state after the procedure that runs returned a word: it goes to the target of the call. MAIN's return ends the process
+-- the state after the procedure that runs returned a word: it goes to the target of the call. MAIN's return ends the
+-- process
 abbrev pub returned : Program → ProgramState → Option ℤ → Option ProgramState
 returned program s None = None
 returned program s (Some word) = given_to program word (left s) (drop 1 s.frames)
@@ -68,17 +74,23 @@ result_of memory (Some e) = value_of memory e
 -- a FOR's variable got a word, and its test comes next
 abbrev pub for_begun : ProgramState → Statement → Variable → Option ℤ → Option ProgramState
 for_begun s statement variable None = None
-for_begun s statement variable (Some word) = Some (before (Test statement ∷ []) (done (with_word (variable_cell variable) word s)))
+for_begun s statement variable (Some word) =
+    Some (before (Test statement ∷ []) (done (with_word (variable_cell variable) word s)))
 
 -- the step of a statement
 abbrev pub inner_in : Program → ProgramState → Statement → What-F What Statement → Option ProgramState
 inner_in program s statement (What-F.Assign to value) =
     assigned s (cell_of (memory_of program s) to) (value_of (memory_of program s) value)
-inner_in program s statement (What-F.AssignCall to procedure arguments) = entered program s procedure (values_of (memory_of program s) arguments)
-inner_in program s statement (What-F.If test first second) = tested s (runs_of first) (runs_of second) (truth_of (memory_of program s) test)
-inner_in program s statement (What-F.While test body) = tested s (runs_of body ++ Run statement ∷ []) [] (truth_of (memory_of program s) test)
-inner_in program s statement (What-F.For variable from to body last) = for_begun s statement variable (value_of (memory_of program s) from)
-inner_in program s statement (What-F.Call procedure arguments) = entered program s procedure (values_of (memory_of program s) arguments)
+inner_in program s statement (What-F.AssignCall to procedure arguments) =
+    entered program s procedure (values_of (memory_of program s) arguments)
+inner_in program s statement (What-F.If test first second) =
+    tested s (runs_of first) (runs_of second) (truth_of (memory_of program s) test)
+inner_in program s statement (What-F.While test body) =
+    tested s (runs_of body ++ Run statement ∷ []) [] (truth_of (memory_of program s) test)
+inner_in program s statement (What-F.For variable from to body last) =
+    for_begun s statement variable (value_of (memory_of program s) from)
+inner_in program s statement (What-F.Call procedure arguments) =
+    entered program s procedure (values_of (memory_of program s) arguments)
 inner_in program s statement (What-F.Return value) = returned program s (result_of (memory_of program s) value)
 inner_in program s statement What-F.CheckMonitor = Some (done s)
 inner_in program s statement (What-F.Open file) = Some (done s)
@@ -95,7 +107,8 @@ goes_round variable limit = both (λ i last. Some (holds AtMost i last)) variabl
 -- the step of a FOR's test
 abbrev pub tested_in : Program → ProgramState → Statement → What-F What Statement → Option ProgramState
 tested_in program s statement (What-F.For variable from to body last) =
-    tested s (runs_of body ++ Last statement ∷ Test statement ∷ []) [] (goes_round (variable_of program s variable) (value_of (memory_of program s) to))
+    tested s (runs_of body ++ Last statement ∷ Test statement ∷ []) []
+    (goes_round (variable_of program s variable) (value_of (memory_of program s) to))
 tested_in program s statement _ = None
 
 -- a FOR's variable rose by 1
@@ -105,7 +118,8 @@ counted_up s variable (Some word) = Some (done (with_word variable (wrap (word +
 
 -- the step of a FOR's last assignment
 abbrev pub counted_in : Program → ProgramState → What-F What Statement → Option ProgramState
-counted_in program s (What-F.For variable from to body last) = counted_up s (variable_cell variable) (variable_of program s variable)
+counted_in program s (What-F.For variable from to body last) =
+    counted_up s (variable_cell variable) (variable_of program s variable)
 counted_in program s _ = None
 
 -- the step of the next entry; a procedure's end returns 0

@@ -1,6 +1,8 @@
--- Numbers and counted words as words, and reading them from the front of words. Each reader leaves the words behind what it takes.
+-- Numbers and counted words as words, and reading them from the front of words. Each reader leaves the words behind
+-- what it takes.
 use Rattle.std.specs.Option.{option_and_then}
-use Rattle.std.specs.Prelude.{ℕ, ◌-◌, ℤ, pos, negsuc, if◌then◌else◌, nat_le, List, [], ◌∷◌, length, take, drop, Option, Some, None, ◌+◌, ◌*◌, ◌/◌, ◌%◌}
+use Rattle.std.specs.Prelude.{ℕ, ◌-◌, ℤ, pos, negsuc, if◌then◌else◌, nat_le, List, [], ◌∷◌, length, take, drop, Option}
+use Rattle.std.specs.Prelude.{Some, None, ◌+◌, ◌*◌, ◌/◌, ◌%◌}
 use Rattle.gd_words.specs.Arithmetic.{wrap}
 
 -- a number of 32 bits: two words, the high half first, each as a pattern of 16 bits

@@ -1,8 +1,9 @@
 use crate::point::Point;
 use gd_words::Words;
 
-/// The state of a disc, as the definitions of its steps speak of it: its point, which is Take, Checkpoint, Device or Answer, the words
-/// of the request in hand, those of its reply once the device has acted, and the number of its last write.
+/// The state of a disc, as the definitions of its steps speak of it: its point, which is Take, Checkpoint, Device or
+/// Answer, the words of the request in hand, those of its reply once the device has acted, and the number of its last
+/// write.
 #[derive(Drop)]
 pub struct DiscState {
     pub label: Point,

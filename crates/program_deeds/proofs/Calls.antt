@@ -4,7 +4,8 @@ use Rattle.std.specs.Prelude.{if◌then◌else◌}
 use Rattle.tal_tree.specs.declared.program.Program.{Program}
 use Rattle.tal_tree.specs.declared.statement.Statement.{Statement}
 use Rattle.tal_tree.specs.declared.statement.What.{What, What-F, out-What}
-use Rattle.process_semantics.specs.Calls.{took_in, got_in, file_in, asked_in, answer_in, after_took, after_got, asked_file, asked_words, answer_of}
+use Rattle.process_semantics.specs.Calls.{took_in, got_in, file_in, asked_in, answer_in, after_took, after_got}
+use Rattle.process_semantics.specs.Calls.{asked_file, asked_words, answer_of}
 use Rattle.process_semantics.specs.Image.{listed_items_in, listed_files_in, listed_items, listed_files}
 use Rattle.process_semantics.specs.Points.{point_in, point_at, point_of}
 use Rattle.process_semantics.specs.Process.{Runs}
@@ -12,7 +13,8 @@ use Rattle.process_semantics.specs.State.{Entry, Run, Test, Last, ProgramState, 
 use Rattle.process_semantics.specs.declared.point.Point.{Point}
 use Rattle.process_semantics.specs.declared.point.Point.TheVariants as point
 use Rattle.program_deeds.specs.Deed.{Deed, deed_run, deed_test, deed_last, deed_of}
-use Rattle.program_deeds.specs.Doing.{point_by, deed_point, deed_took, deed_file, deed_asked, deed_got, deed_answer, deed_items, deed_files}
+use Rattle.program_deeds.specs.Doing.{point_by, deed_point, deed_took, deed_file, deed_asked, deed_got, deed_answer}
+use Rattle.program_deeds.specs.Doing.{deed_items, deed_files}
 
 -- all that the calls do and tell at a place, so that one equation says it of a statement and its deed
 record Told : Type 0 where
@@ -62,7 +64,8 @@ module _ (program : Program) (s : ProgramState) (words : List ℤ) where
     files = deed_files deed;
   }
 
-  run-told : (after : List Entry) (statement : Statement) (what : What-F What Statement) → told-in what ≡ told-by (deed_run after statement what)
+  run-told : (after : List Entry) (statement : Statement) (what : What-F What Statement)
+      → told-in what ≡ told-by (deed_run after statement what)
   run-told after statement (What-F.Assign to value) = refl
   run-told after statement (What-F.AssignCall to procedure arguments) = refl
   run-told after statement (What-F.If test first second) = refl
@@ -118,27 +121,36 @@ module _ (program : Program) (s : ProgramState) (words : List ℤ) where
   rest-told (Test statement ∷ after) = test-told after statement (out-What statement.what)
   rest-told (Last statement ∷ after) = last-told after statement (out-What statement.what)
 
-pub point-is : (program : Program) (s : ProgramState) → point_of program s ≡ deed_point program s (deed_of (rest_of s.frames))
-point-is program s = ap (λ (told : Told). if s.ended then point.Ended else told.stands) (rest-told program s [] (rest_of s.frames))
+pub point-is : (program : Program) (s : ProgramState)
+    → point_of program s ≡ deed_point program s (deed_of (rest_of s.frames))
+point-is program s =
+    ap (λ (told : Told). if s.ended then point.Ended else told.stands) (rest-told program s [] (rest_of s.frames))
 
-pub took-is : (program : Program) (s : ProgramState) (words : List ℤ) → after_took program s words ≡ deed_took program s words (deed_of (rest_of s.frames))
+pub took-is : (program : Program) (s : ProgramState) (words : List ℤ)
+    → after_took program s words ≡ deed_took program s words (deed_of (rest_of s.frames))
 took-is program s words = ap (λ (told : Told). told.took) (rest-told program s words (rest_of s.frames))
 
 -- the file doesn't depend on the program: any one serves
 pub file-is : (s : ProgramState) → asked_file s ≡ deed_file (deed_of (rest_of s.frames))
-file-is s = ap (λ (told : Told). told.file) (rest-told (record { items = []; files = []; procedures = []; main = 0 }) s [] (rest_of s.frames))
+file-is s = ap (λ (told : Told). told.file)
+    (rest-told (record { items = []; files = []; procedures = []; main = 0 }) s [] (rest_of s.frames))
 
-pub asked-is : (program : Program) (s : ProgramState) → asked_words program s ≡ deed_asked program s (deed_of (rest_of s.frames))
+pub asked-is : (program : Program) (s : ProgramState)
+    → asked_words program s ≡ deed_asked program s (deed_of (rest_of s.frames))
 asked-is program s = ap (λ (told : Told). told.asked) (rest-told program s [] (rest_of s.frames))
 
-pub got-is : (program : Program) (s : ProgramState) (words : List ℤ) → after_got program s words ≡ deed_got program s words (deed_of (rest_of s.frames))
+pub got-is : (program : Program) (s : ProgramState) (words : List ℤ)
+    → after_got program s words ≡ deed_got program s words (deed_of (rest_of s.frames))
 got-is program s words = ap (λ (told : Told). told.got) (rest-told program s words (rest_of s.frames))
 
-pub answer-is : (program : Program) (s : ProgramState) → answer_of program s ≡ deed_answer program s (deed_of (rest_of s.frames))
+pub answer-is : (program : Program) (s : ProgramState)
+    → answer_of program s ≡ deed_answer program s (deed_of (rest_of s.frames))
 answer-is program s = ap (λ (told : Told). told.answer) (rest-told program s [] (rest_of s.frames))
 
-pub items-are : (program : Program) (s : ProgramState) → listed_items (Runs program s) ≡ deed_items (deed_of (rest_of s.frames))
+pub items-are : (program : Program) (s : ProgramState)
+    → listed_items (Runs program s) ≡ deed_items (deed_of (rest_of s.frames))
 items-are program s = ap (λ (told : Told). told.items) (rest-told program s [] (rest_of s.frames))
 
-pub files-are : (program : Program) (s : ProgramState) → listed_files (Runs program s) ≡ deed_files (deed_of (rest_of s.frames))
+pub files-are : (program : Program) (s : ProgramState)
+    → listed_files (Runs program s) ≡ deed_files (deed_of (rest_of s.frames))
 files-are program s = ap (λ (told : Told). told.files) (rest-told program s [] (rest_of s.frames))

@@ -1,4 +1,5 @@
--- What a call gets back is told by the deed that stands first in its frame, and a deed that is done leaves the entries after its own.
+-- What a call gets back is told by the deed that stands first in its frame, and a deed that is done leaves the entries
+-- after its own.
 use Rattle.std.proofs.Common.{◌≡◌, ℤ, List, [], ◌∷◌, drop, Option, Some, None, refl}
 use Rattle.tal_tree.specs.declared.program.Program.{Program}
 use Rattle.tal_tree.specs.declared.statement.Statement.{Statement}
@@ -20,7 +21,8 @@ pub done-goes : (s : ProgramState) → done s ≡ going_on (drop 1 (rest_of s.fr
 done-goes s = done-frames s s.frames
 
 assigned-frames : (s : ProgramState) (frames : List Frame) (to : Option Cell) (word : Option ℤ)
-    → assigned (record s { frames = frames }) to word ≡ stored (drop 1 (rest_of frames)) (record s { frames = frames }) to word
+    → assigned (record s { frames = frames }) to word
+    ≡ stored (drop 1 (rest_of frames)) (record s { frames = frames }) to word
 assigned-frames s frames None None = refl
 assigned-frames s frames (Some to) None = refl
 assigned-frames s frames None (Some word) = refl
@@ -29,11 +31,13 @@ assigned-frames s (frame ∷ callers) (Some (cell.Local local)) (Some word) = re
 assigned-frames s [] (Some (cell.Global item offset)) (Some word) = refl
 assigned-frames s (frame ∷ callers) (Some (cell.Global item offset)) (Some word) = refl
 
-pub assigned-goes : (s : ProgramState) (to : Option Cell) (word : Option ℤ) → assigned s to word ≡ stored (drop 1 (rest_of s.frames)) s to word
+pub assigned-goes : (s : ProgramState) (to : Option Cell) (word : Option ℤ)
+    → assigned s to word ≡ stored (drop 1 (rest_of s.frames)) s to word
 assigned-goes s to word = assigned-frames s s.frames to word
 
 module _ (program : Program) (word : ℤ) (s : ProgramState) (after : List Entry) (statement : Statement) where
-  given-run : (what : What-F What Statement) → given_in program word s what ≡ deed_given program word s (deed_run after statement what)
+  given-run : (what : What-F What Statement)
+      → given_in program word s what ≡ deed_given program word s (deed_run after statement what)
   given-run (What-F.Assign to value) = refl
   given-run (What-F.AssignCall to procedure arguments) = refl
   given-run (What-F.If test first second) = refl
@@ -49,7 +53,8 @@ module _ (program : Program) (word : ℤ) (s : ProgramState) (after : List Entry
   given-run (What-F.Open file) = refl
   given-run What-F.Stop = refl
 
-  given-test : (what : What-F What Statement) → Some (done s) ≡ deed_given program word s (deed_test after statement what)
+  given-test : (what : What-F What Statement)
+      → Some (done s) ≡ deed_given program word s (deed_test after statement what)
   given-test (What-F.Assign to value) = refl
   given-test (What-F.AssignCall to procedure arguments) = refl
   given-test (What-F.If test first second) = refl
@@ -94,6 +99,7 @@ given-caller program word s [] = refl
 given-caller program word s (caller ∷ callers) = given-rest program word s caller.rest
 
 -- a return gives its word to the deed of the caller
-pub returned-gives : (program : Program) (s : ProgramState) (word : Option ℤ) → returned program s word ≡ gives_back program s word
+pub returned-gives : (program : Program) (s : ProgramState) (word : Option ℤ)
+    → returned program s word ≡ gives_back program s word
 returned-gives program s None = refl
 returned-gives program s (Some word) = given-caller program word (left s) (drop 1 s.frames)

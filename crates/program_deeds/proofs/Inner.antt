@@ -1,5 +1,6 @@
 -- The step of a program at Inner is that of its deed.
-use Rattle.std.proofs.Common.{◌≡◌, pos, Bool, true, false, List, [], ◌∷◌, ◌++◌, Option, Some, None, ℤ, refl, ap, sym, ◌∙◌, append_assoc}
+use Rattle.std.proofs.Common.{◌≡◌, pos, Bool, true, false, List, [], ◌∷◌, ◌++◌, Option, Some, None, ℤ, refl, ap, sym}
+use Rattle.std.proofs.Common.{◌∙◌, append_assoc}
 use Rattle.tal_tree.specs.declared.expression.Expr.TheVariants.{Number, Read}
 use Rattle.tal_tree.specs.declared.expression.Op.TheVariants.{Add}
 use Rattle.tal_tree.specs.declared.expression.Variable.{Variable}
@@ -11,7 +12,8 @@ use Rattle.tal_values.specs.Value.{Memory, value_of, cell_of, truth_of, both, re
 use Rattle.tal_values.proofs.ValueSteps.{value-read, value-two}
 use Rattle.process_semantics.specs.Changes.{variable_cell, variable_of}
 use Rattle.process_semantics.specs.State.{Entry, Run, Test, Last, Frame, ProgramState, memory_of, rest_of, runs_of}
-use Rattle.process_semantics.specs.Steps.{tested, for_begun, counted_up, tested_in, counted_in, goes_round, inner_in, inner, or_ends, result_of}
+use Rattle.process_semantics.specs.Steps.{tested, for_begun, counted_up, tested_in, counted_in, goes_round, inner_in}
+use Rattle.process_semantics.specs.Steps.{inner, or_ends, result_of}
 use Rattle.tal_values.specs.Spots.{spot_of}
 use Rattle.program_deeds.specs.Deed.{Deed, deed_run, deed_test, deed_last, deed_of}
 use Rattle.program_deeds.specs.Doing.{stored, chosen, deed_inner}
@@ -30,7 +32,8 @@ standing s frame callers rest = record s { frames = record frame { rest = rest }
 abbrev step-by : Program → ProgramState → Deed → ProgramState
 step-by program s deed = or_ends s (deed_inner program s deed)
 
-module _ (program : Program) (s : ProgramState) (frame : Frame) (callers : List Frame) (statement : Statement) (after : List Entry) where
+module _ (program : Program) (s : ProgramState) (frame : Frame) (callers : List Frame) (statement : Statement)
+    (after : List Entry) where
   -- the state in which this entry comes next
   abbrev at : Entry → ProgramState
   at entry = standing s frame callers (entry ∷ after)
@@ -49,7 +52,8 @@ module _ (program : Program) (s : ProgramState) (frame : Frame) (callers : List 
   begun-is memory (variable.Local local) (Some word) = refl
   begun-is memory (variable.Simple item) (Some word) = refl
 
-  counted-is : (memory : Memory) (one : Variable) (word : Option ℤ) → counted_up (at (Last statement)) (variable_cell one) word
+  counted-is : (memory : Memory) (one : Variable) (word : Option ℤ)
+      → counted_up (at (Last statement)) (variable_cell one) word
       ≡ stored after (at (Last statement)) (cell_of memory (spot_of one)) (both (operated Add) word (Some (pos 1)))
   counted-is memory (variable.Local local) None = refl
   counted-is memory (variable.Simple item) None = refl
@@ -100,7 +104,8 @@ module _ (program : Program) (s : ProgramState) (frame : Frame) (callers : List 
       let here = value_of (memory_of program t) (Read (spot_of variable)) in
       ap (or_ends t) (ap (λ word. tested t body_then [] (goes_round word limit)) (variable-read program t variable)
       ∙ tested-is (Test statement) body_then [] (goes_round here limit)
-      ∙ ap (λ first. chosen first after t (goes_round here limit)) (append_assoc (runs_of body) (Last statement ∷ Test statement ∷ []) after))
+      ∙ ap (λ first. chosen first after t (goes_round here limit))
+      (append_assoc (runs_of body) (Last statement ∷ Test statement ∷ []) after))
   test-is (What-F.Call procedure arguments) = refl
   test-is (What-F.Return value) = refl
   test-is (What-F.ReadUpdate buffer most got) = refl
@@ -140,14 +145,19 @@ rest-is : (program : Program) (s : ProgramState) (frame : Frame) (callers : List
 rest-is program s frame callers [] =
     let t = standing s frame callers [] in
     ap (or_ends t) (returned-gives program t (Some (pos 0)))
-rest-is program s frame callers (Run statement ∷ after) = run-is program s frame callers statement after (out-What statement.what)
-rest-is program s frame callers (Test statement ∷ after) = test-is program s frame callers statement after (out-What statement.what)
-rest-is program s frame callers (Last statement ∷ after) = last-is program s frame callers statement after (out-What statement.what)
+rest-is program s frame callers (Run statement ∷ after) =
+    run-is program s frame callers statement after (out-What statement.what)
+rest-is program s frame callers (Test statement ∷ after) =
+    test-is program s frame callers statement after (out-What statement.what)
+rest-is program s frame callers (Last statement ∷ after) =
+    last-is program s frame callers statement after (out-What statement.what)
 
 frames-is : (program : Program) (s : ProgramState) (frames : List Frame)
-    → inner program (record s { frames = frames }) ≡ step-by program (record s { frames = frames }) (deed_of (rest_of frames))
+    → inner program (record s { frames = frames })
+    ≡ step-by program (record s { frames = frames }) (deed_of (rest_of frames))
 frames-is program s [] = refl
 frames-is program s (frame ∷ callers) = rest-is program s frame callers frame.rest
 
-pub inner-is : (program : Program) (s : ProgramState) → inner program s ≡ or_ends s (deed_inner program s (deed_of (rest_of s.frames)))
+pub inner-is : (program : Program) (s : ProgramState)
+    → inner program s ≡ or_ends s (deed_inner program s (deed_of (rest_of s.frames)))
 inner-is program s = frames-is program s s.frames

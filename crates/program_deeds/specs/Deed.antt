@@ -13,8 +13,8 @@ use Rattle.tal_tree.specs.declared.statement.What.{What, What-F, out-What}
 use Rattle.tal_values.specs.Spots.{spot_of}
 use Rattle.process_semantics.specs.State.{Entry, Run, Test, Last, runs_of}
 
--- what is done at an entry. An assignment and a test have the entries that come next. Where any other deed goes on in its procedure,
--- the entries after its own come next
+-- what is done at an entry. An assignment and a test have the entries that come next. Where any other deed goes on in
+-- its procedure, the entries after its own come next
 pub data Deed : Type 0 where
   -- a spot gets the value of an expression
   Assigns : Spot → Expr → List Entry → Deed
@@ -30,7 +30,8 @@ pub data Deed : Type 0 where
   Stops : Deed
   -- READUPDATE takes a request: its buffer, the most words that it takes, and the variable that gets their number
   Takes : ℕ → Expr → Variable → Deed
-  -- WRITEREAD asks on a file: its buffer, how many words it sends, for how many it has room, and the variable that gets their number
+  -- WRITEREAD asks on a file: its buffer, how many words it sends, for how many it has room, and the variable that gets
+  -- their number
   Asks : ℕ → ℕ → Expr → Expr → Variable → Deed
   -- REPLY answers: its buffer, and how many words it sends
   Answers : ℕ → Expr → Deed
@@ -43,7 +44,8 @@ deed_run after statement (What-F.Assign to value) = Assigns to value after
 deed_run after statement (What-F.AssignCall to procedure arguments) = Enters procedure arguments (Some to)
 deed_run after statement (What-F.If test first second) = Tests test (runs_of first ++ after) (runs_of second ++ after)
 deed_run after statement (What-F.While test body) = Tests test (runs_of body ++ Run statement ∷ after) after
-deed_run after statement (What-F.For variable from to body last) = Assigns (spot_of variable) from (Test statement ∷ after)
+deed_run after statement (What-F.For variable from to body last) =
+    Assigns (spot_of variable) from (Test statement ∷ after)
 deed_run after statement (What-F.Call procedure arguments) = Enters procedure arguments None
 deed_run after statement (What-F.Return value) = Returns value
 deed_run after statement (What-F.ReadUpdate buffer most got) = Takes buffer most got
@@ -54,7 +56,8 @@ deed_run after statement What-F.CheckMonitor = Passes
 deed_run after statement (What-F.Open file) = Passes
 deed_run after statement What-F.Stop = Stops
 
--- what is done at a FOR's test: the body, its last assignment and the test again come next while the variable is at most the end
+-- what is done at a FOR's test: the body, its last assignment and the test again come next while the variable is at
+-- most the end
 abbrev pub deed_test : List Entry → Statement → What-F What Statement → Deed
 deed_test after statement (What-F.For variable from to body last) =
     Tests (Compare AtMost (Read (spot_of variable)) to) (runs_of body ++ Last statement ∷ Test statement ∷ after) after
@@ -62,7 +65,8 @@ deed_test after statement _ = Stops
 
 -- what is done at a FOR's last assignment: its variable rises by 1
 abbrev pub deed_last : List Entry → What-F What Statement → Deed
-deed_last after (What-F.For variable from to body last) = Assigns (spot_of variable) (Two Add (Read (spot_of variable)) (Number (pos 1))) after
+deed_last after (What-F.For variable from to body last) =
+    Assigns (spot_of variable) (Two Add (Read (spot_of variable)) (Number (pos 1))) after
 deed_last after _ = Stops
 
 -- what is done at the first of what remains; a procedure's end returns 0

@@ -10,7 +10,8 @@ use Rattle.process_semantics.specs.State.{Entry, Frame, ProgramState, memory_of,
 use Rattle.process_semantics.specs.Steps.{entered, assigned, result_of, values_of}
 use Rattle.process_semantics.specs.declared.point.Point.{Point}
 use Rattle.process_semantics.specs.declared.point.Point.TheVariants as point
-use Rattle.program_deeds.specs.Deed.{Deed, Assigns, Tests, Enters, Returns, Passes, Stops, Takes, Asks, Answers, Checkpoints, deed_of}
+use Rattle.program_deeds.specs.Deed.{Deed, Assigns, Tests, Enters, Returns, Passes, Stops, Takes, Asks, Answers}
+use Rattle.program_deeds.specs.Deed.{Checkpoints, deed_of}
 
 -- The step at Inner
 
@@ -36,7 +37,8 @@ chosen first second s (Some holds) = Some (going_on (if holds then first else se
 
 -- the state after a word came back to a deed: only an assignment's call keeps it
 abbrev pub deed_given : Program → ℤ → ProgramState → Deed → Option ProgramState
-deed_given program word s (Enters procedure arguments (Some to)) = assigned s (cell_of (memory_of program s) to) (Some word)
+deed_given program word s (Enters procedure arguments (Some to)) =
+    assigned s (cell_of (memory_of program s) to) (Some word)
 deed_given program word s _ = Some (done s)
 
 -- the state after the caller got a word back; where there is none, the process ends
@@ -51,9 +53,11 @@ gives_back program s (Some word) = caller_given program word (left s) (drop 1 s.
 
 -- the step of a deed at Inner: READUPDATE, WRITEREAD, REPLY and CHECKPOINT do nothing there but trap
 abbrev pub deed_inner : Program → ProgramState → Deed → Option ProgramState
-deed_inner program s (Assigns to value rest) = stored rest s (cell_of (memory_of program s) to) (value_of (memory_of program s) value)
+deed_inner program s (Assigns to value rest) =
+    stored rest s (cell_of (memory_of program s) to) (value_of (memory_of program s) value)
 deed_inner program s (Tests test first second) = chosen first second s (truth_of (memory_of program s) test)
-deed_inner program s (Enters procedure arguments to) = entered program s procedure (values_of (memory_of program s) arguments)
+deed_inner program s (Enters procedure arguments to) =
+    entered program s procedure (values_of (memory_of program s) arguments)
 deed_inner program s (Returns value) = gives_back program s (result_of (memory_of program s) value)
 deed_inner program s Passes = Some (done s)
 deed_inner program s Stops = Some (ends s)
@@ -66,10 +70,13 @@ deed_inner program s (Checkpoints items files) = None
 
 -- the point of a deed in a state that hasn't ended
 abbrev pub point_by : Program → ProgramState → Deed → Point
-point_by program s (Takes buffer most got) = if s.in_hand then point.Inner else where_good point.Take (count_of program s buffer most)
+point_by program s (Takes buffer most got) =
+    if s.in_hand then point.Inner else where_good point.Take (count_of program s buffer most)
 point_by program s (Asks file buffer send room got) =
-    if s.awaits then point.Await else where_both_good point.Ask (count_of program s buffer send) (count_of program s buffer room)
-point_by program s (Answers buffer count) = if s.in_hand then where_good point.Answer (count_of program s buffer count) else point.Inner
+    if s.awaits then point.Await else where_both_good point.Ask (count_of program s buffer send)
+    (count_of program s buffer room)
+point_by program s (Answers buffer count) =
+    if s.in_hand then where_good point.Answer (count_of program s buffer count) else point.Inner
 point_by program s (Checkpoints items files) = point.AtCheckpoint
 point_by program s _ = point.Inner
 
@@ -79,7 +86,8 @@ deed_point program s deed = if s.ended then point.Ended else point_by program s 
 
 -- the step at Take, with the words of the request
 abbrev pub deed_took : Program → ProgramState → List ℤ → Deed → ProgramState
-deed_took program s words (Takes buffer most got) = with_hand true (received s buffer got words (count_of program s buffer most))
+deed_took program s words (Takes buffer most got) =
+    with_hand true (received s buffer got words (count_of program s buffer most))
 deed_took program s words _ = s
 
 -- the number of the file that is asked
@@ -89,12 +97,14 @@ deed_file _ = 0
 
 -- the words that are asked
 abbrev pub deed_asked : Program → ProgramState → Deed → List ℤ
-deed_asked program s (Asks file buffer send room got) = first_words (words_of s.globals buffer) (count_of program s buffer send)
+deed_asked program s (Asks file buffer send room got) =
+    first_words (words_of s.globals buffer) (count_of program s buffer send)
 deed_asked program s _ = []
 
 -- the step at Await, with the words of the reply
 abbrev pub deed_got : Program → ProgramState → List ℤ → Deed → ProgramState
-deed_got program s words (Asks file buffer send room got) = with_waiting false (received s buffer got words (count_of program s buffer room))
+deed_got program s words (Asks file buffer send room got) =
+    with_waiting false (received s buffer got words (count_of program s buffer room))
 deed_got program s words _ = s
 
 -- the words that are answered

@@ -9,8 +9,10 @@ use Rattle.tal_tree.specs.declared.site.Site.{Site}
 -- a program with the variables RCV, opened to `$RECEIVE`, and DISK, opened to the disc
 abbrev pub program : Program
 program = record {
-  items = record { name = codes "RCV"; shape = shape.File 0 } ∷ record { name = codes "DISK"; shape = shape.File 1 } ∷ [];
-  files = record { item = 0; target = target.Receive; depth = 1 } ∷ record { item = 1; target = target.Process (codes "$DATA"); depth = 1 } ∷ [];
+  items = record { name = codes "RCV"; shape = shape.File 0 } ∷ record { name = codes "DISK"; shape = shape.File 1 }
+      ∷ [];
+  files = record { item = 0; target = target.Receive; depth = 1 }
+      ∷ record { item = 1; target = target.Process (codes "$DATA"); depth = 1 } ∷ [];
   procedures = [];
   main = 0;
 }
@@ -20,5 +22,6 @@ site = record {
   processors = 3;
   processes = record { name = codes "$DATA"; primary = 0; backup = 1; what = kind.Disc 16 }
       ∷ record { name = codes "$BANK"; primary = 1; backup = 2; what = kind.Pair program } ∷ [];
-  terminals = record { name = codes "$T1"; target = 1; requests = [] } ∷ record { name = codes "$T2"; target = 0; requests = [] } ∷ [];
+  terminals = record { name = codes "$T1"; target = 1; requests = [] }
+      ∷ record { name = codes "$T2"; target = 0; requests = [] } ∷ [];
 }

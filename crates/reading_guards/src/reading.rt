@@ -7,7 +7,8 @@ ghost use Rattle.report_reader.specs.Telling.{may_follow, told_by};
 ghost use Rattle.report_reader.specs.declared.told.Told.TheVariants as told;
 ghost use Rattle.reading_guards.specs.ReadSite.{site};
 
-/// A line of an act tells it where it is written just so and names what the site has; an opener has to be one of its process.
+/// A line of an act tells it where it is written just so and names what the site has; an opener has to be one of its
+/// process.
 pub fn an_act_is_told_by_its_line()
     ensures step { told_by site (codes "A step $BANK") ≡ Some (told.Act (Step 1)) }
     ensures take { told_by site (codes "A take $BANK $T1") ≡ Some (told.Act (Take 1 0)) }
@@ -40,7 +41,8 @@ pub fn a_write_names_a_sector()
 /// A reply is of a terminal, has a number of 32 bits, and at most 16 words.
 pub fn a_reply_names_a_terminal()
     ensures no_word { told_by site (codes "R $T1 1:") ≡ Some told.Shown }
-    ensures sixteen { told_by site (codes "R $T2 4294967295: 1 2 3 4 5 6 7 8 9 10 11 12 13 14 15 16") ≡ Some told.Shown }
+    ensures sixteen { told_by site (codes "R $T2 4294967295: 1 2 3 4 5 6 7 8 9 10 11 12 13 14 15 16")
+        ≡ Some told.Shown }
     ensures seventeen { told_by site (codes "R $T2 1: 1 2 3 4 5 6 7 8 9 10 11 12 13 14 15 16 17") ≡ None }
     ensures too_large { told_by site (codes "R $T2 4294967296: 1") ≡ None }
     ensures no_colon { told_by site (codes "R $T1 1 5") ≡ None }
@@ -61,7 +63,8 @@ pub fn a_stop_names_a_processor()
     ensures empty { told_by site [] ≡ None }
 {}
 
-/// Writes and replies come first, in any order, then sectors, then processors rising, then acts, and the end comes last.
+/// Writes and replies come first, in any order, then sectors, then processors rising, then acts, and the end comes
+/// last.
 pub fn lines_have_their_order()
     ensures shown_after_sector { may_follow (Some told.Sector) told.Shown ≡ false }
     ensures sector_after_shown { may_follow (Some told.Shown) told.Sector ≡ true }
@@ -78,8 +81,10 @@ pub fn lines_have_their_order()
 pub fn a_report_is_read()
     ensures read { read_report site (codes "S 0" ++ 10 ∷ codes "A enter $T1" ++ 10 ∷ codes "END cut" ++ 10 ∷ [])
         ≡ Ok (record { told = told.Stop 0 ∷ told.Act (Enter 0) ∷ told.End Cut ∷ []; end = Cut }) }
-    ensures formless { read_report site (codes "S 0" ++ 10 ∷ codes "A enter $T3" ++ 10 ∷ codes "END cut" ++ 10 ∷ []) ≡ Err 2 }
-    ensures out_of_order { read_report site (codes "A enter $T1" ++ 10 ∷ codes "S 0" ++ 10 ∷ codes "END cut" ++ 10 ∷ []) ≡ Err 2 }
+    ensures formless { read_report site (codes "S 0" ++ 10 ∷ codes "A enter $T3" ++ 10 ∷ codes "END cut" ++ 10 ∷ [])
+        ≡ Err 2 }
+    ensures out_of_order { read_report site
+        (codes "A enter $T1" ++ 10 ∷ codes "S 0" ++ 10 ∷ codes "END cut" ++ 10 ∷ []) ≡ Err 2 }
     ensures no_end { read_report site (codes "S 0" ++ 10 ∷ []) ≡ Err 2 }
     ensures nothing { read_report site [] ≡ Err 1 }
     ensures no_feed { read_report site (codes "END cut") ≡ Err 1 }
@@ -90,7 +95,8 @@ pub fn a_report_is_read()
 /// A deck ends after its line END, which may have spaces around it, and not in a program.
 pub fn a_deck_ends_after_its_end()
     ensures first { deck_end (codes "a" ++ 10 ∷ codes " END " ++ 10 ∷ codes "END" ++ 10 ∷ []) ≡ 8 }
-    ensures in_program { deck_end (codes "pair $A 0 1" ++ 10 ∷ codes "END" ++ 10 ∷ codes "." ++ 10 ∷ codes "END" ++ 10 ∷ codes "S 0" ++ 10 ∷ []) ≡ 22 }
+    ensures in_program { deck_end (codes "pair $A 0 1" ++ 10 ∷ codes "END" ++ 10 ∷ codes "." ++ 10 ∷ codes "END"
+        ++ 10 ∷ codes "S 0" ++ 10 ∷ []) ≡ 22 }
     ensures two_words { deck_end (codes "END END" ++ 10 ∷ codes "S" ++ 10 ∷ []) ≡ 10 }
     ensures point_with_a_space { deck_end (codes "pair" ++ 10 ∷ codes ". " ++ 10 ∷ codes "END" ++ 10 ∷ []) ≡ 12 }
     ensures no_end { deck_end (codes "a" ++ 10 ∷ codes "b") ≡ 3 }

@@ -1,5 +1,6 @@
 -- How much of what a reason speaks of is due, as one number, and at which number its statements break.
-use Rattle.std.specs.Prelude.{ℕ, ◌+◌, Bool, true, false, ◌&&◌, if◌then◌else◌, nat_le, min, List, slice_get, Option, Some, None, is_some}
+use Rattle.std.specs.Prelude.{ℕ, ◌+◌, Bool, true, false, ◌&&◌, if◌then◌else◌, nat_le, min, List, slice_get, Option}
+use Rattle.std.specs.Prelude.{Some, None, is_some}
 use Rattle.gd_words.specs.Members.{is_among}
 use Rattle.tal_tree.specs.declared.program.FileUse.{FileUse}
 use Rattle.tal_tree.specs.declared.program.Program.{Program}
@@ -15,7 +16,8 @@ use Rattle.path_semantics.specs.Break.{asked_count, may_break}
 abbrev pub one_if : Bool → ℕ
 one_if b = if b then 1 else 0
 
--- how much is due: 1 where a global may have changed, a file was asked or a request was read, and for a depth the count of the file's WRITEREADs
+-- how much is due: 1 where a global may have changed, a file was asked or a request was read, and for a depth the count
+-- of the file's WRITEREADs
 abbrev pub amount : Reason → Dues → ℕ
 amount (Data item) dues = one_if (is_among item dues.globals)
 amount (SyncBlock file) dues = one_if (is_among file dues.asked)
@@ -77,7 +79,8 @@ abbrev pub depth_in : Option FileUse → ℕ
 depth_in None = 0
 depth_in (Some file) = file.depth
 
--- as much as breaks: a WRITEREAD breaks for a depth where as many are due as the file's replies are kept, and all else with 1
+-- as much as breaks: a WRITEREAD breaks for a depth where as many are due as the file's replies are kept, and all else
+-- with 1
 abbrev pub most_of : Program → Reason → ℕ
 most_of program (Data item) = 1
 most_of program (SyncBlock file) = 1
@@ -103,4 +106,5 @@ may_break_at reason (Last statement) = false
 
 -- whether an entry breaks for a reason where so much is due
 abbrev pub breaks_with : Program → Reason → Entry → ℕ → Bool
-breaks_with program reason entry n = may_break_at reason entry && (is_there program reason && nat_le (most_of program reason) n)
+breaks_with program reason entry n =
+    may_break_at reason entry && (is_there program reason && nat_le (most_of program reason) n)

@@ -38,6 +38,7 @@ AreReasons set holds = (reason : Reason) → IsNear reason → has_reason set re
 
 -- whether something may be due after an entry, where it may be or not before
 abbrev pub due_after : Reason → Entry → Bool → Bool
-due_after reason (Run statement) before = if clears (out-What statement.what) then false else (adds reason (out-What statement.what) || before)
+due_after reason (Run statement) before =
+    if clears (out-What statement.what) then false else (adds reason (out-What statement.what) || before)
 due_after reason (Test statement) before = before
 due_after reason (Last statement) before = adds_changed reason (changed_by (out-What statement.what)) || before

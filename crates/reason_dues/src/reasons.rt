@@ -94,7 +94,8 @@ impl Reasons {
     /// Whether all are among others.
     #[inline(always)]
     pub fn are_among(self, others: Reasons) -> bool
-        ensures { OnTrue result ((reason : Reason) → IsTrue (has_reason self reason) → IsTrue (has_reason others reason)) }
+        ensures { OnTrue result ((reason : Reason) → IsTrue (has_reason self reason)
+            → IsTrue (has_reason others reason)) }
     {
         let input = !self.input | others.input;
         let data = self.data.are_among(others.data);

@@ -16,32 +16,40 @@ use Rattle.replay.specs.declared.replayed.Replay.{Replay}
 
 -- one act more
 made-more : (old new : Replay) (act : Act) (shown : List Shown) → IsMade old
-    → made old.plain.site old.plain.state act ≡ Some (record { plain = new.plain.state; shown = shown }) → new.plain.site ≡ old.plain.site
+    → made old.plain.site old.plain.state act ≡ Some (record { plain = new.plain.state; shown = shown })
+    → new.plain.site ≡ old.plain.site
     → new.acts ≡ old.acts ++ act ∷ [] → new.shown ≡ old.shown ++ shown → IsMade new
 made-more old new act shown is came site acts more =
     rw site (rw acts (rw more
-    (made_all-snoc old.plain.site old.acts act (plain_start old.plain.site) (record { plain = old.plain.state; shown = old.shown }) is
+    (made_all-snoc old.plain.site old.acts act (plain_start old.plain.site)
+    (record { plain = old.plain.state; shown = old.shown }) is
     ∙ ap (option_map (made_before old.shown)) came)))
 
 pub goes-on : (old new : Replay) (act : Act) (shown : List Shown) → IsMade old
-    → made old.plain.site old.plain.state act ≡ Some (record { plain = new.plain.state; shown = shown }) → new.plain.site ≡ old.plain.site
+    → made old.plain.site old.plain.state act ≡ Some (record { plain = new.plain.state; shown = shown })
+    → new.plain.site ≡ old.plain.site
     → new.acts ≡ old.acts ++ act ∷ [] → new.shown ≡ old.shown ++ shown → GoesOn old new
 goes-on old new act shown is came site acts more = (site, made-more old new act shown is came site acts more)
 
-shown-told : (site : Site) (replay : Replay) → replay.plain.site ≡ site → IsMade replay → replay.shown ≡ shown_by site replay.acts
+shown-told : (site : Site) (replay : Replay) → replay.plain.site ≡ site → IsMade replay
+    → replay.shown ≡ shown_by site replay.acts
 shown-told site replay same is =
-    sym (ap (λ (at : Site). shown_by at replay.acts) (sym same) ∙ ap (λ (m : Option Made). unwrap_or (option_map (λ (m : Made). m.shown) m) []) is)
+    sym (ap (λ (at : Site). shown_by at replay.acts) (sym same)
+    ∙ ap (λ (m : Option Made). unwrap_or (option_map (λ (m : Made). m.shown) m) []) is)
 
 -- what is promised, where the report is the one of the acts and nothing is left at an idle end
 pub is-replayed : (site : Site) (report : _) (replay : Replay) (end : End) → replay.plain.site ≡ site → IsMade replay
-    → report ≡ text_of site replay end → (end ≡ Idle → IsStill replay.plain.site replay.plain.state) → IsReplayed site report replay.acts
+    → report ≡ text_of site replay end → (end ≡ Idle → IsStill replay.plain.site replay.plain.state)
+    → IsReplayed site report replay.acts
 is-replayed site report replay end same is text still =
-    let told = subst (λ (at : Site). made_all at (plain_start at) replay.acts ≡ Some (record { plain = replay.plain.state; shown = replay.shown })) same is in
+    let told = subst (λ (at : Site). made_all at (plain_start at) replay.acts
+    ≡ Some (record { plain = replay.plain.state; shown = replay.shown })) same is in
     record {
       possible = ap is_some told;
       stopped = replay.stopped;
       end = end;
-      text = text ∙ ap (λ (shown : List Shown). report_text site shown (sectors_after site shown) replay.stopped replay.acts end) (shown-told site replay same is);
+      text = text ∙ ap (λ (shown : List Shown). report_text site shown (sectors_after site shown) replay.stopped
+          replay.acts end) (shown-told site replay same is);
       idle = λ idle. (
         record { plain = replay.plain.state; shown = replay.shown },
         told,
@@ -51,8 +59,10 @@ is-replayed site report replay end same is text still =
 
 -- one act more, after which the machine stands so
 pub goes-on-from : (old new : Replay) (after : Machine) (act : Act) (shown : List Shown) → IsMade old
-    → made old.plain.site old.plain.state act ≡ Some (record { plain = after.state; shown = shown }) → after.site ≡ old.plain.site
+    → made old.plain.site old.plain.state act ≡ Some (record { plain = after.state; shown = shown })
+    → after.site ≡ old.plain.site
     → new.plain ≡ after → new.acts ≡ old.acts ++ act ∷ [] → new.shown ≡ old.shown ++ shown → GoesOn old new
 goes-on-from old new after act shown is came site same acts more =
-    goes-on old new act shown is (came ∙ ap (λ (p : Machine). Some (record { plain = p.state; shown = shown })) (sym same))
+    goes-on old new act shown is (came ∙ ap (λ (p : Machine). Some (record { plain = p.state; shown = shown }))
+    (sym same))
     (ap (λ (p : Machine). p.site) same ∙ site) acts more

@@ -25,12 +25,14 @@ kind-loadable (body.Disc told) (kind.Pair program) is = absurd is
 kind-loadable (body.Pair lines) (kind.Disc sectors) is = absurd is
 kind-loadable (body.Pair lines) (kind.Pair program) reads = read-is-loadable lines.text program reads
 
-all-loadable : (lines : List (List ℕ × ProcessLines)) (specs : List ProcessSpec) → AreProcessesOf lines specs → AreLoadable specs
+all-loadable : (lines : List (List ℕ × ProcessLines)) (specs : List ProcessSpec) → AreProcessesOf lines specs
+    → AreLoadable specs
 all-loadable [] [] are = All-nil (λ (spec : ProcessSpec). IsLoadableKind spec.what)
 all-loadable [] (one ∷ specs) are = absurd are
 all-loadable (one ∷ lines) [] are = absurd are
 all-loadable (one ∷ lines) (first ∷ specs) are =
-    All-cons (λ (spec : ProcessSpec). IsLoadableKind spec.what) first specs (kind-loadable one.1.body first.what are.0.what) (all-loadable lines specs are.1)
+    All-cons (λ (spec : ProcessSpec). IsLoadableKind spec.what) first specs
+    (kind-loadable one.1.body first.what are.0.what) (all-loadable lines specs are.1)
 
 deck-loadable : (bytes : List ℕ) (deck : Deck) → Decks bytes deck → AreLoadable deck.site.processes
 deck-loadable bytes deck decks =

@@ -11,8 +11,8 @@ use Rattle.trace_print.specs.declared.closing.End.{End}
 use Rattle.trace_print.specs.declared.closing.End.TheVariants.{Idle}
 use Rattle.replay.specs.declared.replayed.Replay.{Replay}
 
--- the acts are possible on the machine of single unfailing processes; the report is the one of what they show there, with some processors that have stopped
--- and an end; and after an idle end no act is possible
+-- the acts are possible on the machine of single unfailing processes; the report is the one of what they show there,
+-- with some processors that have stopped and an end; and after an idle end no act is possible
 pub record IsReplayed (site : Site) (report : List ℕ) (acts : List Act) : Type 0 where
   pub possible : IsPossible site acts
   pub stopped : List ℕ
@@ -34,7 +34,8 @@ pub record Replays (input : List ℕ) (count : ℕ) : Type 0 where
 -- the acts come to the machine as it is now, and show what is kept of them
 abbrev pub IsMade : Replay → Type 0
 IsMade replay =
-    made_all replay.plain.site (plain_start replay.plain.site) replay.acts ≡ Some (record { plain = replay.plain.state; shown = replay.shown })
+    made_all replay.plain.site (plain_start replay.plain.site) replay.acts
+    ≡ Some (record { plain = replay.plain.state; shown = replay.shown })
 
 -- no act was made on the machine of this site
 abbrev pub IsBegun : Site → Replay → Type 0

@@ -36,10 +36,13 @@ impl From<NoMemory> for DifferenceFault {
 }
 
 impl DifferenceFault {
-    /// The status of the program: 1 where the report differs, 2 where the input has another form, 8 where memory ran out.
+    /// The status of the program: 1 where the report differs, 2 where the input has another form, 8 where memory ran
+    /// out.
     pub fn status(self) -> u8 {
         match self {
-            DifferenceFault::Impossible(_) | DifferenceFault::OtherLine(_) | DifferenceFault::ActLeft => 1,
+            DifferenceFault::Impossible(_)
+            | DifferenceFault::OtherLine(_)
+            | DifferenceFault::ActLeft => 1,
             DifferenceFault::NoInput
             | DifferenceFault::NoReport
             | DifferenceFault::NoDeck

@@ -17,7 +17,8 @@ pub fn parts_of(input: &[u8]) -> Option<(&[u8], &[u8])>
     None
 }
 
-/// The number of the first line in which two texts differ, counted from 1; one past the last line feed where one text ends.
+/// The number of the first line in which two texts differ, counted from 1; one past the last line feed where one text
+/// ends.
 pub fn first_difference(one: &[u8], other: &[u8]) -> usize {
     let mut line: usize = 1;
     for (byte, same) in one.iter().zip(other.iter()) {

@@ -32,8 +32,8 @@ pub struct Replay<'a> {
     end: Option<End>,
 }
 
-/// Replays the report that follows a deck and the line `REPORT`, and answers how many acts it tells. The input isn't so long
-/// that acts of its lines might write more often than there are numbers of 32 bits.
+/// Replays the report that follows a deck and the line `REPORT`, and answers how many acts it tells. The input isn't so
+/// long that acts of its lines might write more often than there are numbers of 32 bits.
 pub fn replay_input(alloc: Global, input: &[u8]) -> Result<usize, DifferenceFault>
     requires { length input.now < 4294967296 }
     ensures { IfOk result (Replays input.now) }
@@ -104,7 +104,8 @@ impl<'a> Replay<'a> {
         requires made { IsMade self.old }
         requires room { HasRoomFor 1 self.old.plain.state }
         ensures made { OnOk result (GoesOn self.old self.new) }
-        ensures writes { OnOk result (most_write self.new.plain.state.processes ≤ most_write self.old.plain.state.processes + 1) }
+        ensures writes { OnOk result (most_write self.new.plain.state.processes
+            ≤ most_write self.old.plain.state.processes + 1) }
     {
         match told {
             ReportLine::Shown => Ok(()),
@@ -124,7 +125,8 @@ impl<'a> Replay<'a> {
         requires made { IsMade self.old }
         requires room { HasRoomFor 1 self.old.plain.state }
         ensures made { OnOk result (GoesOn self.old self.new) }
-        ensures writes { OnOk result (most_write self.new.plain.state.processes ≤ most_write self.old.plain.state.processes + 1) }
+        ensures writes { OnOk result (most_write self.new.plain.state.processes
+            ≤ most_write self.old.plain.state.processes + 1) }
     {
         match self.plain.act(act) {
             Ok(shown) => {
@@ -148,7 +150,13 @@ impl<'a> Replay<'a> {
     }
 
     /// Compares a report with the one of these acts.
-    fn compare(&self, alloc: Global, site: &Site, report: &[u8], end: End) -> Result<(), DifferenceFault>
+    fn compare(
+        &self,
+        alloc: Global,
+        site: &Site,
+        report: &[u8],
+        end: End,
+    ) -> Result<(), DifferenceFault>
         requires { KeepsSiteLimits site.now }
         ensures { OnOk result (report.now ≡ text_of site.now self.now end) }
     {
@@ -166,7 +174,10 @@ impl<'a> Replay<'a> {
         );
         match written {
             Ok(()) => compared(report, sink.bytes()),
-            Err(WriteFault) => Err(DifferenceFault::OtherLine(first_difference(report, sink.bytes()))),
+            Err(WriteFault) => Err(DifferenceFault::OtherLine(first_difference(
+                report,
+                sink.bytes(),
+            ))),
         }
     }
 

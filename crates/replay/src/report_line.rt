@@ -2,7 +2,7 @@
 ghost use Rattle.plain_semantics.specs.SiteLimits.{KeepsSiteLimits};
 
 use crate::names::{opener_named, process_named, terminal_named};
-use deck_lines::{next_word, written_number, one_word, two_words};
+use deck_lines::{next_word, one_word, two_words, written_number};
 use tal_tree::{Act, Site};
 use trace_print::End;
 

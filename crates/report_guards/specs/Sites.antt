@@ -11,8 +11,10 @@ use Rattle.tal_tree.specs.declared.act.Shown.TheVariants.{Write, Reply}
 -- a program with the variables RCV, opened to `$RECEIVE`, and DISK, opened to the disc
 abbrev pub program : Program
 program = record {
-  items = record { name = codes "RCV"; shape = shape.File 0 } ∷ record { name = codes "DISK"; shape = shape.File 1 } ∷ [];
-  files = record { item = 0; target = target.Receive; depth = 1 } ∷ record { item = 1; target = target.Process (codes "$DATA"); depth = 1 } ∷ [];
+  items = record { name = codes "RCV"; shape = shape.File 0 } ∷ record { name = codes "DISK"; shape = shape.File 1 }
+      ∷ [];
+  files = record { item = 0; target = target.Receive; depth = 1 }
+      ∷ record { item = 1; target = target.Process (codes "$DATA"); depth = 1 } ∷ [];
   procedures = [];
   main = 0;
 }
@@ -22,7 +24,8 @@ site = record {
   processors = 3;
   processes = record { name = codes "$DATA"; primary = 0; backup = 1; what = kind.Disc 16 }
       ∷ record { name = codes "$BANK"; primary = 1; backup = 2; what = kind.Pair program } ∷ [];
-  terminals = record { name = codes "$T1"; target = 1; requests = [] } ∷ record { name = codes "$T2"; target = 0; requests = [] } ∷ [];
+  terminals = record { name = codes "$T1"; target = 1; requests = [] }
+      ∷ record { name = codes "$T2"; target = 0; requests = [] } ∷ [];
 }
 
 -- the words of a sector that begins with this one
@@ -37,6 +40,7 @@ shown = Write 0 3 (sector 5) ∷ Write 0 1 (sector 6) ∷ Reply 0 1 (pos 5 ∷ [
 abbrev pub discs : Site
 discs = record {
   processors = 2;
-  processes = record { name = codes "$A"; primary = 0; backup = 1; what = kind.Disc 4 } ∷ record { name = codes "$B"; primary = 0; backup = 1; what = kind.Disc 2 } ∷ [];
+  processes = record { name = codes "$A"; primary = 0; backup = 1; what = kind.Disc 4 }
+      ∷ record { name = codes "$B"; primary = 0; backup = 1; what = kind.Disc 2 } ∷ [];
   terminals = [];
 }

@@ -15,13 +15,19 @@ pub fn an_act_has_its_line()
     ensures print { act_line site (Print 0) ≡ codes "A print $T1" ++ 10 ∷ [] }
 {}
 
-/// Sectors rise, whatever the order of their writes, and each has the words of its last write: those of each disc, in deck order, from 0 to its last one.
+/// Sectors rise, whatever the order of their writes, and each has the words of its last write: those of each disc, in
+/// deck order, from 0 to its last one.
 pub fn sectors_have_their_last_words()
-    ensures sectors { sectors_after site shown ≡ record { process = 0; sector = 1; words = sector 6 } ∷ record { process = 0; sector = 3; words = sector 7 } ∷ [] }
+    ensures sectors { sectors_after site shown
+        ≡ record { process = 0; sector = 1; words = sector 6 } ∷ record { process = 0; sector = 3; words = sector 7 }
+        ∷ [] }
     ensures none { sectors_after site [] ≡ [] }
-    ensures edges { sectors_after site (Write 0 16 (sector 4) ∷ Write 0 15 (sector 5) ∷ Write 0 0 (sector 6) ∷ Reply 0 2 (sector 7) ∷ [])
-        ≡ record { process = 0; sector = 0; words = sector 6 } ∷ record { process = 0; sector = 15; words = sector 5 } ∷ [] }
+    ensures edges { sectors_after site (Write 0 16 (sector 4) ∷ Write 0 15 (sector 5) ∷ Write 0 0 (sector 6)
+        ∷ Reply 0 2 (sector 7) ∷ [])
+        ≡ record { process = 0; sector = 0; words = sector 6 } ∷ record { process = 0; sector = 15; words = sector 5 }
+        ∷ [] }
     ensures discs { sectors_after discs (Write 1 1 (sector 4) ∷ Write 0 2 (sector 5) ∷ Write 2 1 (sector 6) ∷ [])
-        ≡ record { process = 0; sector = 2; words = sector 5 } ∷ record { process = 1; sector = 1; words = sector 4 } ∷ [] }
+        ≡ record { process = 0; sector = 2; words = sector 5 } ∷ record { process = 1; sector = 1; words = sector 4 }
+        ∷ [] }
     ensures no_disc { sectors_after site (Write 1 0 (sector 4) ∷ []) ≡ [] }
 {}

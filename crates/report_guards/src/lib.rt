@@ -1,5 +1,5 @@
-//! Guards of the report: the numbers by which faults are told, the lines of what is shown, of sectors, acts and verdicts, their order,
-//! and the lines that end a report. A wrong definition is refused here.
+//! Guards of the report: the numbers by which faults are told, the lines of what is shown, of sectors, acts and
+//! verdicts, their order, and the lines that end a report. A wrong definition is refused here.
 //!
 //! Below stand `trace_print` and `shown_sectors`, whose definitions are guarded; nothing stands above.
 #![tactic(auto)]

@@ -16,22 +16,34 @@ ghost use Rattle.trace_print.specs.ShownLine.{shown_line, shown_lines};
 ghost use Rattle.trace_print.specs.StopLine.{stop_lines};
 ghost use Rattle.report_guards.specs.Sites.{site};
 
-/// A write is told by its disc and sector, a reply by its terminal and number, and a sector as a write is; then come the words, each after a space.
+/// A write is told by its disc and sector, a reply by its terminal and number, and a sector as a write is; then come
+/// the words, each after a space.
 pub fn what_is_shown_has_its_line()
-    ensures write { (words : List ℤ) → shown_line site (Write 0 3 words) ≡ codes "W $DATA " ++ decimal 3 ++ codes ":" ++ words_text words ++ 10 ∷ [] }
-    ensures reply { (words : List ℤ) → shown_line site (Reply 1 4 words) ≡ codes "R $T2 " ++ decimal 4 ++ codes ":" ++ words_text words ++ 10 ∷ [] }
-    ensures sector { (words : List ℤ) → sector_line site (record { process = 0; sector = 3; words = words }) ≡ codes "D $DATA " ++ decimal 3 ++ codes ":" ++ words_text words ++ 10 ∷ [] }
-    ensures words { (word : ℤ) (rest : List ℤ) → words_text (word ∷ rest) ≡ codes " " ++ signed_decimal word ++ words_text rest }
+    ensures write { (words : List ℤ) → shown_line site (Write 0 3 words)
+        ≡ codes "W $DATA " ++ decimal 3 ++ codes ":" ++ words_text words ++ 10 ∷ [] }
+    ensures reply { (words : List ℤ) → shown_line site (Reply 1 4 words)
+        ≡ codes "R $T2 " ++ decimal 4 ++ codes ":" ++ words_text words ++ 10 ∷ [] }
+    ensures sector { (words : List ℤ) → sector_line site (record { process = 0; sector = 3; words = words })
+        ≡ codes "D $DATA " ++ decimal 3 ++ codes ":" ++ words_text words ++ 10 ∷ [] }
+    ensures words { (word : ℤ) (rest : List ℤ)
+        → words_text (word ∷ rest) ≡ codes " " ++ signed_decimal word ++ words_text rest }
     ensures no_words { words_text [] ≡ [] }
 {}
 
-/// Lines stand in the order of what they tell. What a run shows comes first, or a load's counts in its place, then the sectors, the stops, the acts and the end.
+/// Lines stand in the order of what they tell. What a run shows comes first, or a load's counts in its place, then the
+/// sectors, the stops, the acts and the end.
 pub fn a_report_is_in_order()
     ensures run { (all : List Shown) (sectors : List SectorWords) (stopped : List ℕ) (acts : List Act) (end : End)
-        → report_text site all sectors stopped acts end ≡ shown_lines site all ++ sector_lines site sectors ++ stop_lines stopped ++ act_lines site acts ++ end_line end }
+        → report_text site all sectors stopped acts end
+        ≡ shown_lines site all ++ sector_lines site sectors ++ stop_lines stopped ++ act_lines site acts
+        ++ end_line end }
     ensures load { (counts : LoadCounts) (sectors : List SectorWords) (stopped : List ℕ) (end : End)
-        → load_report_text site counts sectors stopped end ≡ load_lines counts ++ sector_lines site sectors ++ stop_lines stopped ++ end_line end }
-    ensures shown { (one : Shown) (rest : List Shown) → shown_lines site (one ∷ rest) ≡ shown_line site one ++ shown_lines site rest }
-    ensures sectors { (one : SectorWords) (rest : List SectorWords) → sector_lines site (one ∷ rest) ≡ sector_line site one ++ sector_lines site rest }
-    ensures acts { (one : Act) (rest : List Act) → act_lines site (one ∷ rest) ≡ act_line site one ++ act_lines site rest }
+        → load_report_text site counts sectors stopped end
+        ≡ load_lines counts ++ sector_lines site sectors ++ stop_lines stopped ++ end_line end }
+    ensures shown { (one : Shown) (rest : List Shown)
+        → shown_lines site (one ∷ rest) ≡ shown_line site one ++ shown_lines site rest }
+    ensures sectors { (one : SectorWords) (rest : List SectorWords)
+        → sector_lines site (one ∷ rest) ≡ sector_line site one ++ sector_lines site rest }
+    ensures acts { (one : Act) (rest : List Act)
+        → act_lines site (one ∷ rest) ≡ act_line site one ++ act_lines site rest }
 {}

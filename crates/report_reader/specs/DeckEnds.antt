@@ -1,5 +1,5 @@
--- Where a deck ends that a report follows: after the first line whose one word is END, outside the programs of pairs. A program stands after a line
--- whose first word is `pair`, up to the next line that is a point alone. Our own rule.
+-- Where a deck ends that a report follows: after the first line whose one word is END, outside the programs of pairs. A
+-- program stands after a line whose first word is `pair`, up to the next line that is a point alone. Our own rule.
 use Rattle.std.specs.Prelude.{ℕ, ◌+◌, Bool, false, not, List, [], ◌∷◌, length, codes, Option, Some, None, if◌then◌else◌}
 use Rattle.std.specs.Str.{bytes_eq}
 use Rattle.deck_lines.specs.Lines.{one_word, words_of}

@@ -17,7 +17,8 @@ process_named site name = named_from name 0 site.processes
 -- the place of the first terminal of a name, from a number on
 abbrev pub terminal_from : List ℕ → ℕ → List TerminalSpec → Option ℕ
 terminal_from name number [] = None
-terminal_from name number (terminal ∷ terminals) = if bytes_eq name terminal.name then Some number else terminal_from name (number + 1) terminals
+terminal_from name number (terminal ∷ terminals) =
+    if bytes_eq name terminal.name then Some number else terminal_from name (number + 1) terminals
 
 abbrev pub terminal_named : Site → List ℕ → Option ℕ
 terminal_named site name = terminal_from name 0 site.terminals
@@ -25,7 +26,8 @@ terminal_named site name = terminal_from name 0 site.terminals
 -- the place of the first opener of a name among openers, from a number on
 abbrev pub opener_from : Site → List ℕ → ℕ → List OpenerSpec → Option ℕ
 opener_from site name place [] = None
-opener_from site name place (opener ∷ openers) = if bytes_eq name (who_name site opener.who) then Some place else opener_from site name (place + 1) openers
+opener_from site name place (opener ∷ openers) =
+    if bytes_eq name (who_name site opener.who) then Some place else opener_from site name (place + 1) openers
 
 -- among those of a process
 abbrev pub opener_named : Site → ℕ → List ℕ → Option ℕ

@@ -1,5 +1,6 @@
 -- Numbers and words as a report writes them: in decimal digits, without zeros before them. Our own rule.
-use Rattle.std.specs.Prelude.{ℕ, ◌+◌, Bool, true, false, not, ◌==◌, ◌&&◌, ◌||◌, nat_le, List, [], ◌∷◌, length, Option, Some, None, is_some, if◌then◌else◌}
+use Rattle.std.specs.Prelude.{ℕ, ◌+◌, Bool, true, false, not, ◌==◌, ◌&&◌, ◌||◌, nat_le, List, [], ◌∷◌, length, Option}
+use Rattle.std.specs.Prelude.{Some, None, is_some, if◌then◌else◌}
 use Rattle.std.specs.Char.{is_ascii_digit}
 use Rattle.std.specs.List.{list_all}
 use Rattle.deck_lines.specs.Numbers.{digits_value, word_of}
@@ -19,7 +20,8 @@ is_numeral text = nat_le 1 (length text) && nat_le (length text) 10 && list_all 
 
 -- a number of 32 bits
 abbrev pub number_told : List ℕ → Option ℕ
-number_told text = if is_numeral text then (if nat_le (digits_value text) 4294967295 then Some (digits_value text) else None) else None
+number_told text =
+    if is_numeral text then (if nat_le (digits_value text) 4294967295 then Some (digits_value text) else None) else None
 
 -- no zero stands before other digits, and none after `-`
 abbrev pub is_plain_word : List ℕ → Bool

@@ -1,5 +1,6 @@
 -- The lines of a report, one after the other. Our own rule.
-use Rattle.std.specs.Prelude.{◌≡◌, ℕ, ◌+◌, ◌==◌, List, [], ◌∷◌, length, Option, Some, None, Result, Ok, Err, if◌then◌else◌}
+use Rattle.std.specs.Prelude.{◌≡◌, ℕ, ◌+◌, ◌==◌, List, [], ◌∷◌, length, Option, Some, None, Result, Ok, Err}
+use Rattle.std.specs.Prelude.{if◌then◌else◌}
 use Rattle.tal_tree.specs.declared.act.Act.{Act}
 use Rattle.tal_tree.specs.declared.site.Site.{Site}
 use Rattle.trace_print.specs.declared.closing.End.{End}
@@ -31,11 +32,12 @@ abbrev pub read_on : ℕ → (Told → Result Reading ℕ) → Option Told → R
 read_on number rest None = Err number
 read_on number rest (Some next) = told_first next (rest next)
 
--- what lines tell, from one of this number on, and behind one that told this; what follows the last line feed is no line. Or the number of the first that can't
--- stand where it does, or of the one that is missing
+-- what lines tell, from one of this number on, and behind one that told this; what follows the last line feed is no
+-- line. Or the number of the first that can't stand where it does, or of the one that is missing
 abbrev pub read_lines : Site → Option Told → ℕ → List ℕ → List (List ℕ) → Result Reading ℕ
 read_lines site before number left [] = closed number (ended_by before left)
-read_lines site before number line (next ∷ lines) = read_on number (λ (one : Told). read_lines site (Some one) (number + 1) next lines) (next_told site before line)
+read_lines site before number line (next ∷ lines) =
+    read_on number (λ (one : Told). read_lines site (Some one) (number + 1) next lines) (next_told site before line)
 
 -- the lines of a report, each of which ends with a line feed
 abbrev pub read_report : Site → List ℕ → Result Reading ℕ

@@ -1,5 +1,6 @@
 -- What a line of a report tells of a site, and after which line it may stand. Our own rule.
-use Rattle.std.specs.Prelude.{ℕ, Bool, true, false, ◌==◌, ◌&&◌, nat_le, nat_lt, List, slice_get, codes, Option, Some, None, is_some, if◌then◌else◌}
+use Rattle.std.specs.Prelude.{ℕ, Bool, true, false, ◌==◌, ◌&&◌, nat_le, nat_lt, List, slice_get, codes, Option, Some}
+use Rattle.std.specs.Prelude.{None, is_some, if◌then◌else◌}
 use Rattle.std.specs.Option.{option_map, option_and_then}
 use Rattle.std.specs.Str.{bytes_eq}
 use Rattle.tal_tree.specs.declared.act.Act.{Act}
@@ -18,23 +19,28 @@ use Rattle.report_reader.specs.declared.told.Told.TheVariants as told
 
 -- `A step PROCESS`
 abbrev pub step_told : Site → List ℕ → Option Act
-step_told site line = option_and_then (λ name. option_map Step (process_named site name)) (rest_after (codes "A step ") line)
+step_told site line =
+    option_and_then (λ name. option_map Step (process_named site name)) (rest_after (codes "A step ") line)
 
 -- `PROCESS OPENER`, an opener of the process
 abbrev pub take_of : Site → List ℕ × List ℕ → Option Act
-take_of site names = option_and_then (λ process. option_map (Take process) (opener_named site process names.1)) (process_named site names.0)
+take_of site names = option_and_then (λ process. option_map (Take process) (opener_named site process names.1))
+    (process_named site names.0)
 
 -- `A take PROCESS OPENER`
 abbrev pub take_told : Site → List ℕ → Option Act
-take_told site line = option_and_then (λ names. option_and_then (take_of site) (cut_at 32 names)) (rest_after (codes "A take ") line)
+take_told site line =
+    option_and_then (λ names. option_and_then (take_of site) (cut_at 32 names)) (rest_after (codes "A take ") line)
 
 -- `A enter TERMINAL`
 abbrev pub enter_told : Site → List ℕ → Option Act
-enter_told site line = option_and_then (λ name. option_map Enter (terminal_named site name)) (rest_after (codes "A enter ") line)
+enter_told site line =
+    option_and_then (λ name. option_map Enter (terminal_named site name)) (rest_after (codes "A enter ") line)
 
 -- `A print TERMINAL`
 abbrev pub print_told : Site → List ℕ → Option Act
-print_told site line = option_and_then (λ name. option_map Print (terminal_named site name)) (rest_after (codes "A print ") line)
+print_told site line =
+    option_and_then (λ name. option_map Print (terminal_named site name)) (rest_after (codes "A print ") line)
 
 -- the first of two answers that is there
 abbrev pub or_else : {X : Type 0} → Option X → Option X → Option X
@@ -43,12 +49,15 @@ or_else (Some first) later = Some first
 
 -- an act
 abbrev pub act_told : Site → List ℕ → Option Act
-act_told site line = or_else (step_told site line) (or_else (take_told site line) (or_else (enter_told site line) (print_told site line)))
+act_told site line = or_else (step_told site line)
+    (or_else (take_told site line) (or_else (enter_told site line) (print_told site line)))
 
 -- `NAME number: words`: the name, the number, and how many words there are
 abbrev pub parts_told : List ℕ → Option (List ℕ × ℕ × ℕ)
 parts_told text =
-    option_and_then (λ name. option_and_then (λ number. option_and_then (λ value. option_map (λ count. (name.0, value, count)) (word_count number.1)) (number_told number.0)) (cut_at 58 name.1))
+    option_and_then (λ name. option_and_then
+    (λ number. option_and_then (λ value. option_map (λ count. (name.0, value, count)) (word_count number.1))
+    (number_told number.0)) (cut_at 58 name.1))
     (cut_at 32 text)
 
 abbrev pub has_sectors : Kind → ℕ → Bool
@@ -99,7 +108,8 @@ is_sector site line = passes (is_write_text site) (rest_after (codes "D ") line)
 
 -- a processor of the site
 abbrev pub processor_told : Site → List ℕ → Option ℕ
-processor_told site text = option_and_then (λ number. if nat_lt number site.processors then Some number else None) (number_told text)
+processor_told site text =
+    option_and_then (λ number. if nat_lt number site.processors then Some number else None) (number_told text)
 
 -- `S processor`
 abbrev pub stop_told : Site → List ℕ → Option ℕ
@@ -107,7 +117,8 @@ stop_told site line = option_and_then (processor_told site) (rest_after (codes "
 
 -- `END second processor`
 abbrev pub second_told : Site → List ℕ → Option End
-second_told site line = option_and_then (λ text. option_map end.Second (processor_told site text)) (rest_after (codes "END second ") line)
+second_told site line =
+    option_and_then (λ text. option_map end.Second (processor_told site text)) (rest_after (codes "END second ") line)
 
 -- `END idle`, `END cut`, or that of a second processor
 abbrev pub end_told : Site → List ℕ → Option End
@@ -127,7 +138,8 @@ other_told site line =
 abbrev pub told_by : Site → List ℕ → Option Told
 told_by site line = or_else (option_map told.Act (act_told site line)) (other_told site line)
 
--- what may stand where a sector, a stopped processor or an act was told: nothing that comes before it in a report, and processors rising
+-- what may stand where a sector, a stopped processor or an act was told: nothing that comes before it in a report, and
+-- processors rising
 abbrev pub may_follow_sector : Told → Bool
 may_follow_sector told.Shown = false
 may_follow_sector _ = true
@@ -154,4 +166,5 @@ may_follow (Some (told.End how)) next = false
 
 -- what a line tells there
 abbrev pub next_told : Site → Option Told → List ℕ → Option Told
-next_told site before line = option_and_then (λ next. if may_follow before next then Some next else None) (told_by site line)
+next_told site before line =
+    option_and_then (λ next. if may_follow before next then Some next else None) (told_by site line)

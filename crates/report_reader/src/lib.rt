@@ -1,8 +1,9 @@
 //! Reads the report of a run line by line: what each line tells of a site, and which line can't stand where it does.
 //!
-//! Below stand `tal_tree` and `plain_semantics` with sites, acts and openers, `deck_lines` with the words of a deck's lines, and
-//! `trace_print`, whose texts these are. The layer above uses the clauses of `read_report`, which answers what the lines tell or
-//! the first that has no form there, as `specs/Reading.antt` says, and of `deck_end`, where a deck ends that a report follows.
+//! Below stand `tal_tree` and `plain_semantics` with sites, acts and openers, `deck_lines` with the words of a deck's
+//! lines, and `trace_print`, whose texts these are. The layer above uses the clauses of `read_report`, which answers
+//! what the lines tell or the first that has no form there, as `specs/Reading.antt` says, and of `deck_end`, where a
+//! deck ends that a report follows.
 #![tactic(auto)]
 
 pub mod deck_ends;

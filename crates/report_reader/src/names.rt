@@ -7,7 +7,8 @@ ghost use Rattle.plain_semantics.specs.Openers.{named_from};
 ghost use Rattle.plain_semantics.specs.SiteLimits.{KeepsSiteLimits};
 ghost use Rattle.trace_print.specs.ActLine.{variable_in, variable_name, who_name};
 ghost use Rattle.trace_print.specs.ShownLine.{process_name, terminal_name};
-ghost use Rattle.report_reader.specs.Names.{AreOpeners, opener_from, opener_lists, opener_named, process_named, terminal_from, terminal_named};
+ghost use Rattle.report_reader.specs.Names.{AreOpeners, opener_from, opener_lists, opener_named, process_named};
+ghost use Rattle.report_reader.specs.Names.{terminal_from, terminal_named};
 
 use crate::parts::rest_after;
 use gd_words::{List, NoMemory};

@@ -3,7 +3,8 @@ ghost use Rattle.std.specs.Prelude.{◌≡◌, ◌≤◌, Some, None, IsTrue, if
 ghost use Rattle.std.specs.Char.{is_ascii_digit};
 ghost use Rattle.std.specs.List.{list_all};
 ghost use Rattle.deck_lines.specs.Numbers.{digits_value};
-ghost use Rattle.report_reader.specs.Numbers.{begins_with_zero, is_numeral, is_plain, is_plain_word, is_word, number_told, word_count};
+ghost use Rattle.report_reader.specs.Numbers.{begins_with_zero, is_numeral, is_plain, is_plain_word, is_word};
+ghost use Rattle.report_reader.specs.Numbers.{number_told, word_count};
 ghost use Rattle.report_reader.specs.Numbers.{are_words};
 ghost use Rattle.report_reader.specs.Parts.{parts_of};
 

@@ -18,8 +18,8 @@ pub struct Reading {
     pub end: End,
 }
 
-/// Why a report isn't read: the line of this number, from 1, can't stand there, or memory ran out. Where the report ends too early,
-/// the number is that of the line that is missing.
+/// Why a report isn't read: the line of this number, from 1, can't stand there, or memory ran out. Where the report
+/// ends too early, the number is that of the line that is missing.
 #[derive(Drop)]
 pub enum ReportFault {
     Formless(u32),

@@ -3,7 +3,10 @@ ghost use Rattle.std.specs.Prelude.{◌≡◌};
 ghost use Rattle.std.specs.Option.{option_map};
 ghost use Rattle.plain_semantics.specs.SiteLimits.{KeepsSiteLimits};
 ghost use Rattle.report_reader.specs.Names.{AreOpeners};
-ghost use Rattle.report_reader.specs.Telling.{act_told, end_told, enter_told, has_sector, has_sectors, is_reply, is_sector, is_shown, is_write_text, may_follow, next_told, parts_told, print_told, processor_told, second_told, step_told, stop_told, take_told, told_by};
+ghost use Rattle.report_reader.specs.Telling.{act_told, end_told, enter_told, has_sector, has_sectors, is_reply};
+ghost use Rattle.report_reader.specs.Telling.{is_sector, is_shown, is_write_text, may_follow, next_told, parts_told};
+ghost use Rattle.report_reader.specs.Telling.{print_told, processor_told, second_told, step_told, stop_told, take_told};
+ghost use Rattle.report_reader.specs.Telling.{told_by};
 
 use crate::names::{opener_named, process_named, terminal_named};
 use crate::numbers::{number_told, word_count};
@@ -12,7 +15,8 @@ use gd_words::List;
 use tal_tree::{Act, Kind, OpenerSpec, Site};
 use trace_print::End;
 
-/// What a line of a report tells: something that is shown, what stands on a sector, a processor that has stopped, an act, or the end.
+/// What a line of a report tells: something that is shown, what stands on a sector, a processor that has stopped, an
+/// act, or the end.
 #[derive(Clone, Copy, PartialEq, Eq)]
 pub enum Told {
     Shown,

@@ -1,7 +1,8 @@
-//! Guards of requests: how a number stands to a receive table, which replies are kept, which tables fit, which requests wait, and
-//! which writes are done, each at telling points. A wrong definition is refused here.
+//! Guards of requests: how a number stands to a receive table, which replies are kept, which tables fit, which requests
+//! wait, and which writes are done, each at telling points. A wrong definition is refused here.
 //!
-//! Below stand `checkpoint_image`, `disc_device`, `file_calls` and `sync_ids`, whose definitions are guarded; nothing stands above.
+//! Below stand `checkpoint_image`, `disc_device`, `file_calls` and `sync_ids`, whose definitions are guarded; nothing
+//! stands above.
 #![tactic(auto)]
 
 pub mod standing;

@@ -12,14 +12,24 @@ use Rattle.run_guards.specs.Played.{both_stop, disc_after, skipped_first, stop_o
 abbrev run_plan : Plan
 run_plan = record {
   event = event.Run 0;
-  agenda = record { standing = standing.Event (event.Run 0) 0; lines = One (event.Enter 0) ∷ []; stop = stop_of_first; held_back = None };
+  agenda = record {
+    standing = standing.Event (event.Run 0) 0;
+    lines = One (event.Enter 0) ∷ [];
+    stop = stop_of_first;
+    held_back = None;
+  };
 }
 
 -- the stop, which holds the entry back
 abbrev stop_plan : Plan
 stop_plan = record {
   event = event.Fail 0;
-  agenda = record { standing = standing.Event (event.Enter 0) 0; lines = []; stop = None; held_back = Some (event.Enter 0) };
+  agenda = record {
+    standing = standing.Event (event.Enter 0) 0;
+    lines = [];
+    stop = None;
+    held_back = Some (event.Enter 0);
+  };
 }
 
 -- the entry
@@ -29,10 +39,12 @@ enter_plan = record {
   agenda = record { standing = standing.Event (event.Enter 0) 0; lines = []; stop = None; held_back = None };
 }
 
-skipped : PlaysSchedule disc_site skipped_first stop_of_first (event.Run 0 ∷ []) run_plan.agenda (machine_at_boot disc_site)
+skipped : PlaysSchedule disc_site skipped_first stop_of_first (event.Run 0 ∷ []) run_plan.agenda
+    (machine_at_boot disc_site)
 skipped = plays_on {events = []} run_plan plays_none refl (inr (refl, refl))
 
-stopped : PlaysSchedule disc_site skipped_first stop_of_first (event.Run 0 ∷ event.Fail 0 ∷ []) stop_plan.agenda (disc_after (event.Run 0 ∷ event.Fail 0 ∷ []))
+stopped : PlaysSchedule disc_site skipped_first stop_of_first (event.Run 0 ∷ event.Fail 0 ∷ []) stop_plan.agenda
+    (disc_after (event.Run 0 ∷ event.Fail 0 ∷ []))
 stopped = plays_on {events = event.Run 0 ∷ []} stop_plan skipped refl (inl refl)
 
 pub entered : RunsOut disc_site skipped_first stop_of_first (event.Run 0 ∷ event.Fail 0 ∷ event.Enter 0 ∷ [])
@@ -47,7 +59,12 @@ entered = record {
 abbrev first_plan : Plan
 first_plan = record {
   event = event.Fail 1;
-  agenda = record { standing = standing.Event (event.Fail 1) 0; lines = One (event.Fail 0) ∷ []; stop = None; held_back = None };
+  agenda = record {
+    standing = standing.Event (event.Fail 1) 0;
+    lines = One (event.Fail 0) ∷ [];
+    stop = None;
+    held_back = None;
+  };
 }
 
 -- and the second, which isn't played

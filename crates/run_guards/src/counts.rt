@@ -10,20 +10,24 @@ ghost use Rattle.schedule_runs.specs.Runs.{RunsOut, RunsToStop, counts_of, sizes
 ghost use Rattle.run_guards.specs.Asked.{showing, with_bus};
 ghost use Rattle.run_guards.specs.Played.{both_stop, disc_after, skipped_first, stop_of_first};
 
-/// What is counted before an event: the packets, which are all on bus X and none an alive one; the writes and the replies that were shown; and whether the machine
-/// is idle.
+/// What is counted before an event: the packets, which are all on bus X and none an alive one; the writes and the
+/// replies that were shown; and whether the machine is idle.
 pub fn what_is_there_is_counted()
-    ensures packets { (s : MachineState) (a b : Sent) → ((counts_of (with_bus (a ∷ b ∷ []) s)).x ≡ 2) × ((counts_of (with_bus (a ∷ b ∷ []) s)).y ≡ 0) }
+    ensures packets { (s : MachineState) (a b : Sent)
+        → ((counts_of (with_bus (a ∷ b ∷ []) s)).x ≡ 2) × ((counts_of (with_bus (a ∷ b ∷ []) s)).y ≡ 0) }
     ensures alive { (s : MachineState) → (counts_of s).alive ≡ false }
-    ensures shown { (s : MachineState) (words : List ℤ) → ((counts_of (showing (Reply 0 2 words ∷ Write 0 3 words ∷ Reply 0 1 words ∷ []) s)).writes ≡ 1)
+    ensures shown { (s : MachineState) (words : List ℤ)
+        → ((counts_of (showing (Reply 0 2 words ∷ Write 0 3 words ∷ Reply 0 1 words ∷ []) s)).writes ≡ 1)
         × ((counts_of (showing (Reply 0 2 words ∷ Write 0 3 words ∷ Reply 0 1 words ∷ []) s)).replies ≡ 2) }
     ensures idle { (s : MachineState) → (counts_of s).idle ≡ is_idle s }
     ensures sizes { sizes_of bank_site ≡ record { processors = 4; processes = 2; terminals = 1 } }
 {}
 
-/// An event that is skipped counts as any other: the stop before the event that one precedes comes after it, and not before.
+/// An event that is skipped counts as any other: the stop before the event that one precedes comes after it, and not
+/// before.
 pub fn a_skipped_event_counts()
-    ensures { RunsOut disc_site skipped_first stop_of_first (Run 0 ∷ Fail 0 ∷ Enter 0 ∷ []) (disc_after (Run 0 ∷ Fail 0 ∷ Enter 0 ∷ [])) }
+    ensures { RunsOut disc_site skipped_first stop_of_first (Run 0 ∷ Fail 0 ∷ Enter 0 ∷ [])
+        (disc_after (Run 0 ∷ Fail 0 ∷ Enter 0 ∷ [])) }
 {}
 
 /// A run ends before the event that would stop a second processor.

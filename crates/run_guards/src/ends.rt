@@ -11,14 +11,17 @@ ghost use Rattle.schedule_runs.specs.Runs.{RunsOut, RunsToStop};
 ghost use Rattle.schedule_runs.specs.declared.ran.Ending.TheVariants.{Idle, Cut, Second};
 ghost use Rattle.schedule_runs.specs.declared.ran.Ran.{Ran};
 
-/// A run that is over asked for the events that it played: where nothing is left to do it ended idle and was closed, and else it was cut. One that ends before
-/// a second stop asked for that one too.
+/// A run that is over asked for the events that it played: where nothing is left to do it ended idle and was closed,
+/// and else it was cut. One that ends before a second stop asked for that one too.
 pub fn a_run_ends_as_it_says()
-    ensures idle { (site : Site) (lines : List Line) (stop : Option ProcessorStop) (events : List Event) (s left : MachineState) (asked : ℕ) → EndsAs site lines stop events s left asked Idle
+    ensures idle { (site : Site) (lines : List Line) (stop : Option ProcessorStop) (events : List Event)
+        (s left : MachineState) (asked : ℕ) → EndsAs site lines stop events s left asked Idle
         → RunsOut site lines stop events s × (is_idle s ≡ true) × (left ≡ closed_state s) × (asked ≡ length events) }
-    ensures cut { (site : Site) (lines : List Line) (stop : Option ProcessorStop) (events : List Event) (s left : MachineState) (asked : ℕ) → EndsAs site lines stop events s left asked Cut
+    ensures cut { (site : Site) (lines : List Line) (stop : Option ProcessorStop) (events : List Event)
+        (s left : MachineState) (asked : ℕ) → EndsAs site lines stop events s left asked Cut
         → RunsOut site lines stop events s × (is_idle s ≡ false) × (left ≡ s) × (asked ≡ length events) }
-    ensures second { (site : Site) (lines : List Line) (stop : Option ProcessorStop) (events : List Event) (s left : MachineState) (asked processor : ℕ)
+    ensures second { (site : Site) (lines : List Line) (stop : Option ProcessorStop) (events : List Event)
+        (s left : MachineState) (asked processor : ℕ)
         → EndsAs site lines stop events s left asked (Second processor)
         → RunsToStop site lines stop events s processor × (left ≡ s) × (asked ≡ length events + 1) }
 {}

@@ -3,7 +3,8 @@ use Rattle.std.proofs.Common.{◌≡◌, ◌<◌, ℕ, ◌+◌, Bool, List, leng
 use Rattle.std.specs.Prelude.{filter}
 use Rattle.std.proofs.lemmas.List.Sums.{count_by-le-length, length-filter}
 
-pub has_room : {X : Type 0} (p : X → Bool) (kinds : List X) (n : ℕ) → n ≡ length (filter p kinds) → length kinds < 4294967295 → Fits w32 (n + 1)
+pub has_room : {X : Type 0} (p : X → Bool) (kinds : List X) (n : ℕ) → n ≡ length (filter p kinds)
+    → length kinds < 4294967295 → Fits w32 (n + 1)
 has_room p kinds n is few =
     let same = length-filter p kinds in
     omega (arith, count_by-le-length p kinds)

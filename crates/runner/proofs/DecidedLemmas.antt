@@ -16,7 +16,8 @@ use Rattle.tal_tree.specs.declared.fault.TalFault.{TalFault}
 use Rattle.tal_tree.specs.declared.fault.TalFault.TheVariants as tal
 use Rattle.trace_print.specs.FaultLine.{IsOfDeck}
 use Rattle.trace_print.specs.TalNumbers.{IsOfText}
-use Rattle.runner.specs.Decided.{IsTold, IsDueOfAccepted, IsDueOfBytes, IsDueOfDeck, IsDueOfPrograms, IsDueOfSource, due_of_fault}
+use Rattle.runner.specs.Decided.{IsTold, IsDueOfAccepted, IsDueOfBytes, IsDueOfDeck, IsDueOfPrograms, IsDueOfSource}
+use Rattle.runner.specs.Decided.{due_of_fault}
 use Rattle.runner.specs.RunEnds.{status_of_run}
 use Rattle.runner.specs.Tasks.{can_stop}
 use Rattle.runner.specs.Written.{outcome_of, CanBeWritten}
@@ -38,17 +39,21 @@ of_text (tal.NoMemory _) memory = absurd (memory refl)
 of_text _ memory = tt
 
 -- why bytes are refused is due
-pub fault_is_due : (task : Task) (bytes : List ℕ) (f : DeckFault) → (f ≢ fault.NoMemory no_memory → IsRefusalOf bytes f) → IsDueOfBytes task bytes (due_of_fault f)
+pub fault_is_due : (task : Task) (bytes : List ℕ) (f : DeckFault)
+    → (f ≢ fault.NoMemory no_memory → IsRefusalOf bytes f) → IsDueOfBytes task bytes (due_of_fault f)
 fault_is_due task bytes (fault.NoMemory _) refused = tt
 fault_is_due task bytes f refused = refused (λ e. absurd (cc))
 
 -- why bytes are refused has a line
-has_line : (bytes : List ℕ) (f : DeckFault) → IsRefusalOf bytes f → ((number : ℕ) → f ≢ fault.Program number (tal.NoMemory no_memory)) → IsOfDeck f
-has_line bytes (fault.Program number why) refused memory = of_text why (λ e. memory number (ap (fault.Program number) e))
+has_line : (bytes : List ℕ) (f : DeckFault) → IsRefusalOf bytes f
+    → ((number : ℕ) → f ≢ fault.Program number (tal.NoMemory no_memory)) → IsOfDeck f
+has_line bytes (fault.Program number why) refused memory =
+    of_text why (λ e. memory number (ap (fault.Program number) e))
 has_line bytes (fault.NoMemory _) refused memory = absurd refused
 has_line bytes _ refused memory = tt
 
-pub fault_is_written : (bytes : List ℕ) (f : DeckFault) → (f ≢ fault.NoMemory no_memory → IsRefusalOf bytes f) → ((number : ℕ) → f ≢ fault.Program number (tal.NoMemory no_memory)) → CanBeWritten (due_of_fault f)
+pub fault_is_written : (bytes : List ℕ) (f : DeckFault) → (f ≢ fault.NoMemory no_memory → IsRefusalOf bytes f)
+    → ((number : ℕ) → f ≢ fault.Program number (tal.NoMemory no_memory)) → CanBeWritten (due_of_fault f)
 fault_is_written bytes (fault.NoMemory _) refused memory = tt
 fault_is_written bytes f refused memory = has_line bytes f (refused (λ e. absurd (cc))) memory
 
@@ -59,7 +64,8 @@ run_read Cut e = cc
 run_read (Second processor) e = cc
 
 -- a read fault is the status of no other decision
-read_fault_only : (decided : Due) (result : Result ⊤ WriteFault) → (outcome_of decided result).status ≡ status.ReadFault → decided ≡ due.ReadFault
+read_fault_only : (decided : Due) (result : Result ⊤ WriteFault)
+    → (outcome_of decided result).status ≡ status.ReadFault → decided ≡ due.ReadFault
 read_fault_only due.Usage (Ok done) e = absurd (cc)
 read_fault_only due.ReadFault (Ok done) e = refl
 read_fault_only (due.NoMemory _) (Ok done) e = absurd (cc)
@@ -70,12 +76,14 @@ read_fault_only (due.Swept rows) (Ok done) e = absurd (cc)
 read_fault_only (due.Report report) (Ok done) e = absurd (run_read report.run.ran.ending e)
 read_fault_only decided (Err fault) e = absurd (cc)
 
-pub read_fault_is_due : (decided : Due) (result : Result ⊤ WriteFault) (outcome : Outcome) → outcome ≡ outcome_of decided result
+pub read_fault_is_due : (decided : Due) (result : Result ⊤ WriteFault) (outcome : Outcome)
+    → outcome ≡ outcome_of decided result
     → outcome.status ≡ status.ReadFault → decided ≡ due.ReadFault
 read_fault_is_due decided result outcome is e = read_fault_only decided result (sym (ap (λ o. o.status) is) ∙ e)
 
 -- what is due of a deck whose programs are all accepted
-pub accepted_is_due : (task : Task) (deck : Deck) (decided : Due) → AreAccepted deck.site.processes → IsDueOfAccepted task deck decided
+pub accepted_is_due : (task : Task) (deck : Deck) (decided : Due) → AreAccepted deck.site.processes
+    → IsDueOfAccepted task deck decided
     → IsDueOfPrograms task deck decided
 accepted_is_due (task.Run acts stop) deck (due.ProgramRefused refused) accepted is = absurd is
 accepted_is_due task.Check deck (due.ProgramRefused refused) accepted is = absurd (cc)
@@ -105,7 +113,8 @@ no_deck_fault task.Check deck f is = cc
 no_deck_fault (task.Sweep runs) deck f is = is
 
 -- what is due of the programs of a deck on which the stop can be made
-pub programs_are_due : (task : Task) (deck : Deck) (decided : Due) → can_stop task deck.site ≡ true → IsDueOfPrograms task deck decided
+pub programs_are_due : (task : Task) (deck : Deck) (decided : Due) → can_stop task deck.site ≡ true
+    → IsDueOfPrograms task deck decided
     → IsDueOfDeck task deck decided
 programs_are_due task deck due.Usage can is = absurd (no_usage task deck is.1)
 programs_are_due task deck (due.NoMemory _) can is = (can, is)
@@ -117,7 +126,8 @@ programs_are_due task deck (due.Report report) can is = (can, is)
 programs_are_due task deck (due.Swept rows) can is = (can, is)
 
 -- what is due of the deck that bytes spell
-pub deck_is_due : (task : Task) (bytes : List ℕ) (deck : Deck) (decided : Due) → Decks bytes deck → IsDueOfDeck task deck decided
+pub deck_is_due : (task : Task) (bytes : List ℕ) (deck : Deck) (decided : Due) → Decks bytes deck
+    → IsDueOfDeck task deck decided
     → IsDueOfBytes task bytes decided
 deck_is_due task bytes deck (due.DeckRefused f) decks is = absurd (no_deck_fault task deck f is.1.1)
 deck_is_due task bytes deck (due.NoMemory _) decks is = tt
@@ -132,11 +142,13 @@ deck_is_due task bytes deck (due.Swept rows) decks is = (deck, decks, is)
 bytes_are_read : (task : Task) (bytes : List ℕ) → IsDueOfBytes task bytes due.ReadFault → ⊥
 bytes_are_read task bytes is = no_read_fault task is.0 is.2.1.1
 
-pub not_read_fault : (task : Task) (bytes : List ℕ) (decided : Due) → IsDueOfBytes task bytes decided → decided ≢ due.ReadFault
+pub not_read_fault : (task : Task) (bytes : List ℕ) (decided : Due) → IsDueOfBytes task bytes decided
+    → decided ≢ due.ReadFault
 not_read_fault task bytes decided is e = bytes_are_read task bytes (subst (IsDueOfBytes task bytes) e is)
 
 -- what is due of the bytes of a source
-pub bytes_are_due : (task : Task) (left : Option (List ℕ)) (before now : ℕ) (bytes : List ℕ) (decided : Due) → IsTold left bytes → IsDueOfBytes task bytes decided
+pub bytes_are_due : (task : Task) (left : Option (List ℕ)) (before now : ℕ) (bytes : List ℕ) (decided : Due)
+    → IsTold left bytes → IsDueOfBytes task bytes decided
     → IsDueOfSource task left before now decided
 bytes_are_due task left before now bytes due.ReadFault told is = absurd (bytes_are_read task bytes is)
 bytes_are_due task left before now bytes (due.NoMemory _) told is = tt

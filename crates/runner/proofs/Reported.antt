@@ -19,7 +19,8 @@ use Rattle.runner.specs.Written.{text_telling, told_acts}
 use Rattle.runner.specs.declared.due.Report.{Report}
 use Rattle.runner.specs.declared.task.Telling.TheVariants.{Lines, Counts}
 
-pub reported : (deck : Deck) (stop : Option ProcessorStop) (report : Report) → report.site ≡ deck.site → IsRunOf deck.site deck.lines stop report.run.ran
+pub reported : (deck : Deck) (stop : Option ProcessorStop) (report : Report) → report.site ≡ deck.site
+    → IsRunOf deck.site deck.lines stop report.run.ran
     → KeepsPossibleActs deck.site report.run.ran → report.sectors ≡ sectors_after deck.site (shown_in report.run)
     → report.stopped ≡ stopped_from 0 report.run.ran.machine.state.world.stopped → IsReportOf deck stop report
 reported deck stop report site run keeps sectors stopped = record {
@@ -33,20 +34,27 @@ reported deck stop report site run keeps sectors stopped = record {
 }
 
 -- the text of what stands in a report is the text that tells of it
-pub lines_are : (report : Report) (tells_acts : Bool) (site : Site) (shown : List Shown) (sectors : List SectorWords) (stopped : List ℕ) (acts : List Act) (end : End)
-    → site ≡ report.site → shown ≡ shown_in report.run → sectors ≡ report.sectors → stopped ≡ report.stopped → acts ≡ told_acts tells_acts report.run
-    → end ≡ end_of report.run.ran.ending → report_text site shown sectors stopped acts end ≡ text_telling (Lines tells_acts) report
+pub lines_are : (report : Report) (tells_acts : Bool) (site : Site) (shown : List Shown) (sectors : List SectorWords)
+    (stopped : List ℕ) (acts : List Act) (end : End)
+    → site ≡ report.site → shown ≡ shown_in report.run → sectors ≡ report.sectors → stopped ≡ report.stopped
+    → acts ≡ told_acts tells_acts report.run
+    → end ≡ end_of report.run.ran.ending → report_text site shown sectors stopped acts end
+    ≡ text_telling (Lines tells_acts) report
 lines_are report tells_acts site shown sectors stopped acts end is_site is_shown is_sectors is_stopped is_acts is_end =
     ap (λ x. report_text x shown sectors stopped acts end) is_site
     ∙ ap (λ x. report_text report.site x sectors stopped acts end) is_shown
     ∙ ap (λ x. report_text report.site (shown_in report.run) x stopped acts end) is_sectors
     ∙ ap (λ x. report_text report.site (shown_in report.run) report.sectors x acts end) is_stopped
     ∙ ap (λ x. report_text report.site (shown_in report.run) report.sectors report.stopped x end) is_acts
-    ∙ ap (λ x. report_text report.site (shown_in report.run) report.sectors report.stopped (told_acts tells_acts report.run) x) is_end
+    ∙ ap (λ x. report_text report.site (shown_in report.run) report.sectors report.stopped
+    (told_acts tells_acts report.run) x) is_end
 
-pub counts_are : (report : Report) (requests : ℕ) (site : Site) (counts : LoadCounts) (sectors : List SectorWords) (stopped : List ℕ) (end : End)
-    → site ≡ report.site → counts ≡ load_counts requests report.run → sectors ≡ report.sectors → stopped ≡ report.stopped
-    → end ≡ end_of report.run.ran.ending → load_report_text site counts sectors stopped end ≡ text_telling (Counts requests) report
+pub counts_are : (report : Report) (requests : ℕ) (site : Site) (counts : LoadCounts) (sectors : List SectorWords)
+    (stopped : List ℕ) (end : End)
+    → site ≡ report.site → counts ≡ load_counts requests report.run → sectors ≡ report.sectors
+    → stopped ≡ report.stopped
+    → end ≡ end_of report.run.ran.ending → load_report_text site counts sectors stopped end
+    ≡ text_telling (Counts requests) report
 counts_are report requests site counts sectors stopped end is_site is_counts is_sectors is_stopped is_end =
     ap (λ x. load_report_text x counts sectors stopped end) is_site
     ∙ ap (λ x. load_report_text report.site x sectors stopped end) is_counts

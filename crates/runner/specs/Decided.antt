@@ -33,9 +33,10 @@ use Rattle.runner.specs.declared.task.Telling.TheVariants as telling
 abbrev pub IsSpelt : Deck → Type 0
 IsSpelt deck = (bytes : List ℕ) × Decks bytes deck
 
--- the run of a deck, after Bartlett's paper: it is a run of the schedule, with the stop of the words, on the machine of copies; the acts that it keeps are
--- possible on the machine of single unfailing processes; what it shows, in order, is what they show there; where it ended idle no act is possible after
--- them; the sectors are those that what is shown leaves written; and the processors that have stopped are those of its world at the end
+-- the run of a deck, after Bartlett's paper: it is a run of the schedule, with the stop of the words, on the machine of
+-- copies; the acts that it keeps are possible on the machine of single unfailing processes; what it shows, in order, is
+-- what they show there; where it ended idle no act is possible after them; the sectors are those that what is shown
+-- leaves written; and the processors that have stopped are those of its world at the end
 pub record IsReportOf (deck : Deck) (stop : Option ProcessorStop) (report : Report) : Type 0 where
   pub site : report.site ≡ deck.site
   pub run : IsRunOf deck.site deck.lines stop report.run.ran
@@ -63,9 +64,11 @@ IsDueOfAccepted (task.Run tells stop) deck decided = IsDueOfRun deck stop tells 
 IsDueOfAccepted task.Check deck decided = decided ≡ due.Accepted deck.site
 IsDueOfAccepted (task.Sweep runs) deck decided = IsDueOfSweep deck runs decided
 
--- what is due of the programs of a deck: the first that is refused, or else what is due by what is to be done, and then all are accepted
+-- what is due of the programs of a deck: the first that is refused, or else what is due by what is to be done, and then
+-- all are accepted
 abbrev pub IsDueOfPrograms : Task → Deck → Due → Type 0
-IsDueOfPrograms task deck (due.ProgramRefused refused) = (refused.site ≡ deck.site) × IsFirstRefused deck.site.processes refused.found
+IsDueOfPrograms task deck (due.ProgramRefused refused) =
+    (refused.site ≡ deck.site) × IsFirstRefused deck.site.processes refused.found
 IsDueOfPrograms task deck (due.NoMemory _) = Unit {0}
 IsDueOfPrograms task deck decided = AreAccepted deck.site.processes × IsDueOfAccepted task deck decided
 
@@ -98,10 +101,12 @@ IsDueOfSource task left before now decided = (bytes : List ℕ) × IsTold left b
 
 -- what is due by a command: of the deck that is read, or of the load deck, whose text is read as any other
 abbrev pub IsDueOfCommand : Command → Option (List ℕ) → ℕ → ℕ → Due → Type 0
-IsDueOfCommand (command.Run acts stop) left before now decided = IsDueOfSource (task.Run (telling.Lines acts) stop) left before now decided
+IsDueOfCommand (command.Run acts stop) left before now decided =
+    IsDueOfSource (task.Run (telling.Lines acts) stop) left before now decided
 IsDueOfCommand command.Check left before now decided = IsDueOfSource task.Check left before now decided
 IsDueOfCommand (command.Sweep runs) left before now decided = IsDueOfSource (task.Sweep runs) left before now decided
-IsDueOfCommand (command.Load requests) left before now decided = IsDueOfBytes (load_task requests) (load_text requests) decided
+IsDueOfCommand (command.Load requests) left before now decided =
+    IsDueOfBytes (load_task requests) (load_text requests) decided
 
 -- what is due by what is asked for: the usage where that is nothing
 abbrev pub IsDueOn : Option Command → Option (List ℕ) → ℕ → ℕ → Due → Type 0
@@ -110,7 +115,8 @@ IsDueOn (Some asked) left before now decided = IsDueOfCommand asked left before 
 
 -- what is due: want of memory, or what is due by what the words ask for, the program's name first
 abbrev pub IsDue : List (List ℕ) → Option (List ℕ) → ℕ → ℕ → Due → Type 0
-IsDue words left before now decided = (decided ≡ due.NoMemory no_memory) ⊎ IsDueOn (asked_by words) left before now decided
+IsDue words left before now decided =
+    (decided ≡ due.NoMemory no_memory) ⊎ IsDueOn (asked_by words) left before now decided
 
 -- whether a deck is read for what is asked: not where that is nothing, or a load, whose deck is made
 abbrev pub reads_deck : Option Command → Bool
@@ -120,8 +126,8 @@ reads_deck (Some command.Check) = true
 reads_deck (Some (command.Load requests)) = false
 reads_deck (Some (command.Sweep runs)) = true
 
--- what is due only once the deck was read to its end: a report, a sweep or a verdict, a refusal for what the deck says, or the usage, where the deck hasn't the processor
--- that is to stop
+-- what is due only once the deck was read to its end: a report, a sweep or a verdict, a refusal for what the deck says,
+-- or the usage, where the deck hasn't the processor that is to stop
 abbrev pub IsOfWholeDeck : Due → Type 0
 IsOfWholeDeck due.Usage = Unit {0}
 IsOfWholeDeck (due.Report report) = Unit {0}

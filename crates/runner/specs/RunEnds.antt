@@ -23,7 +23,11 @@ shown_in run = reverse run.ran.machine.state.world.shown
 
 -- how much was shown in it, as a load of so many requests of each terminal
 abbrev pub load_counts : ℕ → RunEnd → LoadCounts
-load_counts requests run = record { requests = requests; writes = writes_in run.ran.machine.state.world.shown; replies = replies_in run.ran.machine.state.world.shown }
+load_counts requests run = record {
+  requests = requests;
+  writes = writes_in run.ran.machine.state.world.shown;
+  replies = replies_in run.ran.machine.state.world.shown;
+}
 
 -- the end that its report tells
 abbrev pub end_of : Ending → End

@@ -27,9 +27,11 @@ told_acts acts run = if acts then acts_of_run run else []
 -- the report of a run, by what it tells
 abbrev pub text_telling : Telling → Report → List ℕ
 text_telling (telling.Lines acts) report =
-    report_text report.site (shown_in report.run) report.sectors report.stopped (told_acts acts report.run) (end_of report.run.ran.ending)
+    report_text report.site (shown_in report.run) report.sectors report.stopped (told_acts acts report.run)
+    (end_of report.run.ran.ending)
 text_telling (telling.Counts requests) report =
-    load_report_text report.site (load_counts requests report.run) report.sectors report.stopped (end_of report.run.ran.ending)
+    load_report_text report.site (load_counts requests report.run) report.sectors report.stopped
+    (end_of report.run.ran.ending)
 
 abbrev pub text_of_run : Report → List ℕ
 text_of_run report = text_telling report.tells report
@@ -40,7 +42,8 @@ text_of due.Usage = usage_line
 text_of due.ReadFault = []
 text_of (due.NoMemory _) = []
 text_of (due.DeckRefused fault) = fault_line fault
-text_of (due.ProgramRefused refused) = refusal_text refused.site refused.found.process refused.found.refusal refused.found.lines
+text_of (due.ProgramRefused refused) =
+    refusal_text refused.site refused.found.process refused.found.refusal refused.found.lines
 text_of (due.Accepted site) = accepted_text site
 text_of (due.Report report) = text_of_run report
 text_of (due.Swept rows) = sweep_text rows
@@ -71,7 +74,8 @@ CanBeWritten (due.Report report) = KeepsSiteLimits report.site
 CanBeWritten _ = Unit {0}
 
 -- the text that is due goes out, whole or at a write fault a part of it, and the outcome is by that
-pub record IsWritten {K : Type 0} (held : K → Option (List ℕ)) (faults : K → ℕ) (sure : K → ℕ → Type 0) (old new : K) (decided : Due) (outcome : Outcome) : Type 0 where
+pub record IsWritten {K : Type 0} (held : K → Option (List ℕ)) (faults : K → ℕ) (sure : K → ℕ → Type 0) (old new : K)
+    (decided : Due) (outcome : Outcome) : Type 0 where
   pub result : Result ⊤ WriteFault
   pub puts : Puts held faults sure old new (text_of decided) result
   pub is : outcome ≡ outcome_of decided result

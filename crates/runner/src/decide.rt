@@ -6,7 +6,8 @@ ghost use Rattle.plain_semantics.specs.SiteLimits.{KeepsSiteLimits};
 ghost use Rattle.verdicts.specs.Refused.{AreAccepted};
 ghost use Rattle.runner.specs.Tasks.{load_task};
 ghost use Rattle.runner.specs.Written.{CanBeWritten};
-ghost use Rattle.runner.specs.Decided.{IsDue, IsDueOfCommand, IsDueOfSource, IsDueOfBytes, IsDueOfDeck, IsDueOfPrograms, IsDueOfAccepted, IsDueOfRun, IsDueOfSweep};
+ghost use Rattle.runner.specs.Decided.{IsDue, IsDueOfCommand, IsDueOfSource, IsDueOfBytes, IsDueOfDeck};
+ghost use Rattle.runner.specs.Decided.{IsDueOfPrograms, IsDueOfAccepted, IsDueOfRun, IsDueOfSweep};
 ghost use Rattle.runner.specs.Decided.{IsReportOf, IsSpelt, IsOfWholeDeck, due_of_fault, reads_deck};
 
 use crate::due::{Due, RefusedSite, Report};
@@ -19,7 +20,7 @@ use accepted_decks::{
 };
 use command_words::{Command, asked_by};
 use deck_reader::{Deck, read_deck};
-use gd_io::{SourceFault, Source, read_all};
+use gd_io::{Source, SourceFault, read_all};
 use gd_words::NoMemory;
 use load_deck::load_text;
 use logs::Shared;
@@ -35,11 +36,13 @@ const MOST_BYTES: usize = 1_048_576;
 
 /// What is due: by the words, then by reading, then by the deck, then by the run. All memory is taken here.
 pub fn decide<S: Source>(alloc: Global, words: &[String], source: &mut S) -> Due
-    ensures due { IsDue (map string_bytes words.entry.now) (S.left source.old) (S.faults source.old) (S.faults source.new) result }
+    ensures due { IsDue (map string_bytes words.entry.now) (S.left source.old) (S.faults source.old)
+        (S.faults source.new) result }
     ensures written { CanBeWritten result }
     ensures unfailing { S.sure source.old → result ≢ Due.ReadFault }
     ensures unread { reads_deck (asked_by (map string_bytes words.entry.now)) ≡ false → source.new ≡ source.old }
-    ensures read_whole { reads_deck (asked_by (map string_bytes words.entry.now)) ≡ true → IsOfWholeDeck result → IsAtEnd (S.left source.new) }
+    ensures read_whole { reads_deck (asked_by (map string_bytes words.entry.now)) ≡ true → IsOfWholeDeck result
+        → IsAtEnd (S.left source.new) }
 {
     match asked_by(alloc, words) {
         Err(memory) => Due::NoMemory(memory),

@@ -24,8 +24,8 @@ pub enum Due {
     Swept(Table),
 }
 
-/// A run that was made: its site, the run, what stands on the sectors that were written, the processors that have stopped, and
-/// what is to be told of it.
+/// A run that was made: its site, the run, what stands on the sectors that were written, the processors that have
+/// stopped, and what is to be told of it.
 #[derive(Drop)]
 pub struct Report {
     pub site: Shared<Site>,

@@ -28,26 +28,29 @@ pub fn exit_number<S: Source, K: Sink>(
     sink: &mut K,
 ) -> u8
     ensures { (outcome : Outcome)
-        × Ends S.left S.faults S.sure K.held K.faults K.sure (map string_bytes words.entry.now) source.old source.new sink.old sink.new outcome
+        × Ends S.left S.faults S.sure K.held K.faults K.sure (map string_bytes words.entry.now) source.old source.new
+        sink.old sink.new outcome
         × (result ≡ status_number outcome.status) }
 {
     command(alloc, words, source, sink).status.number()
 }
 
-/// Runs one command; the words have the program's name first. `check` reads a deck from the source to its end, judges its programs in
-/// deck order and writes to the sink that all are accepted, or why the first is refused that isn't. `run` judges them so before any
-/// act, and where all are accepted it runs the deck's schedule on the machine of copies and writes the report; `run --acts` tells
-/// the acts that the run keeps besides, and `run --fail P:K` stops a processor. Any other words give the usage, and so does a
-/// processor that the deck hasn't. `load N` reads no deck: it runs the load deck with N requests of each terminal, and tells in place of
-/// each write and reply how many there were. `sweep N` judges a deck as `run` does, runs it once for each of its processors and each
-/// number of events below N, with a stop of that processor after so many, and tells for each processor how its runs ended.
+/// Runs one command; the words have the program's name first. `check` reads a deck from the source to its end, judges
+/// its programs in deck order and writes to the sink that all are accepted, or why the first is refused that isn't.
+/// `run` judges them so before any act, and where all are accepted it runs the deck's schedule on the machine of copies
+/// and writes the report; `run --acts` tells the acts that the run keeps besides, and `run --fail P:K` stops a
+/// processor. Any other words give the usage, and so does a processor that the deck hasn't. `load N` reads no deck: it
+/// runs the load deck with N requests of each terminal, and tells in place of each write and reply how many there were.
+/// `sweep N` judges a deck as `run` does, runs it once for each of its processors and each number of events below N,
+/// with a stop of that processor after so many, and tells for each processor how its runs ended.
 pub fn command<S: Source, K: Sink>(
     alloc: Global,
     words: &[String],
     source: &mut S,
     sink: &mut K,
 ) -> Outcome
-    ensures { Ends S.left S.faults S.sure K.held K.faults K.sure (map string_bytes words.entry.now) source.old source.new sink.old sink.new result }
+    ensures { Ends S.left S.faults S.sure K.held K.faults K.sure (map string_bytes words.entry.now) source.old
+        source.new sink.old sink.new result }
 {
     let due = decide(alloc, words, source);
     let written = write_due(sink, &due);

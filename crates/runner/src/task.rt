@@ -16,14 +16,20 @@ pub enum Telling {
 /// What is to be done with a deck.
 #[derive(Clone, Copy, PartialEq, Eq)]
 pub enum Task {
-    /// To judge its programs, and, where all are accepted, to run its schedule, with this stop beside those of the schedule, and to
-    /// tell of the run.
-    Run { tells: Telling, stop: Option<ProcessorStop> },
+    /// To judge its programs, and, where all are accepted, to run its schedule, with this stop beside those of the
+    /// schedule, and to tell of the run.
+    Run {
+        tells: Telling,
+        stop: Option<ProcessorStop>,
+    },
     /// To judge its programs.
     Check,
-    /// To judge its programs, and, where all are accepted, to run its schedule so many times for each of its processors, with a stop of
-    /// that processor after 0, 1, 2 and more events beside those of the schedule, and to count how the runs end.
-    Sweep { runs: u32 },
+    /// To judge its programs, and, where all are accepted, to run its schedule so many times for each of its
+    /// processors, with a stop of that processor after 0, 1, 2 and more events beside those of the schedule, and to
+    /// count how the runs end.
+    Sweep {
+        runs: u32,
+    },
 }
 
 impl Task {

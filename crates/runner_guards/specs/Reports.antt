@@ -7,7 +7,10 @@ use Rattle.runner.specs.declared.outcome.RunEnd.{RunEnd}
 
 -- a run that ended in this world
 abbrev pub ended_in : World → RunEnd → RunEnd
-ended_in w run = record run { ran = record run.ran { machine = record run.ran.machine { state = record run.ran.machine.state { world = w } } } }
+ended_in w run = record run {
+  ran = record run.ran
+      { machine = record run.ran.machine { state = record run.ran.machine.state { world = w } } };
+}
 
 -- a run that showed this, and one that kept these acts, the newest first
 abbrev pub showing : List Shown → RunEnd → RunEnd

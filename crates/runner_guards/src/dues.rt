@@ -23,46 +23,64 @@ ghost use Rattle.runner.specs.declared.task.Task.TheVariants.{Check, Run, Sweep}
 ghost use Rattle.runner.specs.declared.task.Telling.{Telling};
 ghost use Rattle.runner.specs.declared.task.Telling.TheVariants.{Lines};
 
-/// The usage is due where nothing is asked for, or the deck hasn't the processor that is to stop; a read fault where the count of the
-/// source's faults has risen.
+/// The usage is due where nothing is asked for, or the deck hasn't the processor that is to stop; a read fault where
+/// the count of the source's faults has risen.
 pub fn a_command_that_does_nothing_has_its_cause()
-    ensures asked { (left : Option (List ℕ)) (before now : ℕ) (decided : Due) → IsDueOn None left before now decided → decided ≡ due.Usage }
+    ensures asked { (left : Option (List ℕ)) (before now : ℕ) (decided : Due) → IsDueOn None left before now decided
+        → decided ≡ due.Usage }
     ensures has_not { (task : Task) (deck : Deck) → IsDueOfDeck task deck due.Usage → can_stop task deck.site ≡ false }
-    ensures has { (task : Task) (deck : Deck) (site : Site) → IsDueOfDeck task deck (due.Accepted site) → can_stop task deck.site ≡ true }
-    ensures read { (task : Task) (left : Option (List ℕ)) (before now : ℕ) → IsDueOfSource task left before now due.ReadFault → HasRisen before now }
+    ensures has { (task : Task) (deck : Deck) (site : Site) → IsDueOfDeck task deck (due.Accepted site)
+        → can_stop task deck.site ≡ true }
+    ensures read { (task : Task) (left : Option (List ℕ)) (before now : ℕ)
+        → IsDueOfSource task left before now due.ReadFault → HasRisen before now }
 {}
 
 /// A refusal is that of the bytes that are read, of the deck or of its first program that isn't accepted.
 pub fn a_refusal_is_of_what_was_read()
-    ensures bytes { (task : Task) (bytes : List ℕ) (fault : DeckFault) → IsDueOfBytes task bytes (due.DeckRefused fault) → IsRefusalOf bytes fault }
-    ensures program { (task : Task) (deck : Deck) (refused : RefusedSite) → IsDueOfPrograms task deck (due.ProgramRefused refused)
+    ensures bytes { (task : Task) (bytes : List ℕ) (fault : DeckFault)
+        → IsDueOfBytes task bytes (due.DeckRefused fault) → IsRefusalOf bytes fault }
+    ensures program { (task : Task) (deck : Deck) (refused : RefusedSite)
+        → IsDueOfPrograms task deck (due.ProgramRefused refused)
         → IsFirstRefused deck.site.processes refused.found }
-    ensures site { (task : Task) (deck : Deck) (refused : RefusedSite) → IsDueOfPrograms task deck (due.ProgramRefused refused) → refused.site ≡ deck.site }
+    ensures site { (task : Task) (deck : Deck) (refused : RefusedSite)
+        → IsDueOfPrograms task deck (due.ProgramRefused refused) → refused.site ≡ deck.site }
     ensures line { (fault : DeckFault) → CanBeWritten (due.DeckRefused fault) → IsOfDeck fault }
 {}
 
-/// A verdict or a report is of a deck whose programs are all accepted: of its own site, of its own run, and told as it was asked.
+/// A verdict or a report is of a deck whose programs are all accepted: of its own site, of its own run, and told as it
+/// was asked.
 pub fn a_report_is_of_an_accepted_deck()
-    ensures verdict { (deck : Deck) (site : Site) → IsDueOfPrograms Check deck (due.Accepted site) → AreAccepted deck.site.processes }
-    ensures site { (deck : Deck) (site : Site) → IsDueOfAccepted Check deck (due.Accepted site) → due.Accepted site ≡ due.Accepted deck.site }
-    ensures report { (deck : Deck) (task : Task) (report : Report) → IsDueOfPrograms task deck (due.Report report) → AreAccepted deck.site.processes }
-    ensures run { (deck : Deck) (stop : Option ProcessorStop) (tells : Telling) (report : Report) → IsDueOfRun deck stop tells (due.Report report) → IsReportOf deck stop report }
-    ensures tells { (deck : Deck) (stop : Option ProcessorStop) (tells : Telling) (report : Report) → IsDueOfRun deck stop tells (due.Report report) → report.tells ≡ tells }
+    ensures verdict { (deck : Deck) (site : Site) → IsDueOfPrograms Check deck (due.Accepted site)
+        → AreAccepted deck.site.processes }
+    ensures site { (deck : Deck) (site : Site) → IsDueOfAccepted Check deck (due.Accepted site)
+        → due.Accepted site ≡ due.Accepted deck.site }
+    ensures report { (deck : Deck) (task : Task) (report : Report) → IsDueOfPrograms task deck (due.Report report)
+        → AreAccepted deck.site.processes }
+    ensures run { (deck : Deck) (stop : Option ProcessorStop) (tells : Telling) (report : Report)
+        → IsDueOfRun deck stop tells (due.Report report) → IsReportOf deck stop report }
+    ensures tells { (deck : Deck) (stop : Option ProcessorStop) (tells : Telling) (report : Report)
+        → IsDueOfRun deck stop tells (due.Report report) → report.tells ≡ tells }
 {}
 
-/// A run is of the deck that is read, with the acts and the stop that the words ask for; a load is of its own deck, and reads none.
+/// A run is of the deck that is read, with the acts and the stop that the words ask for; a load is of its own deck, and
+/// reads none.
 pub fn a_command_reads_its_deck()
-    ensures run { (stop : Option ProcessorStop) (left : Option (List ℕ)) (before now : ℕ) (decided : Due) → IsDueOfCommand (command.Run true stop) left before now decided
+    ensures run { (stop : Option ProcessorStop) (left : Option (List ℕ)) (before now : ℕ) (decided : Due)
+        → IsDueOfCommand (command.Run true stop) left before now decided
         → IsDueOfSource (Run (Lines true) stop) left before now decided }
-    ensures check { (left : Option (List ℕ)) (before now : ℕ) (decided : Due) → IsDueOfCommand command.Check left before now decided
+    ensures check { (left : Option (List ℕ)) (before now : ℕ) (decided : Due)
+        → IsDueOfCommand command.Check left before now decided
         → IsDueOfSource Check left before now decided }
-    ensures sweep { (runs : ℕ) (left : Option (List ℕ)) (before now : ℕ) (decided : Due) → IsDueOfCommand (command.Sweep runs) left before now decided
+    ensures sweep { (runs : ℕ) (left : Option (List ℕ)) (before now : ℕ) (decided : Due)
+        → IsDueOfCommand (command.Sweep runs) left before now decided
         → IsDueOfSource (Sweep runs) left before now decided }
-    ensures load { (requests : ℕ) (left : Option (List ℕ)) (before now : ℕ) (decided : Due) → IsDueOfCommand (command.Load requests) left before now decided
+    ensures load { (requests : ℕ) (left : Option (List ℕ)) (before now : ℕ) (decided : Due)
+        → IsDueOfCommand (command.Load requests) left before now decided
         → IsDueOfBytes (load_task requests) (load_text requests) decided }
 {}
 
-/// A deck was read to its end where a report, a verdict, the usage or a fault of a line is due, but for one that is too long.
+/// A deck was read to its end where a report, a verdict, the usage or a fault of a line is due, but for one that is too
+/// long.
 pub fn a_deck_is_read_to_its_end()
     ensures usage { IsOfWholeDeck due.Usage }
     ensures report { (report : Report) → IsOfWholeDeck (due.Report report) }

@@ -1,5 +1,6 @@
-//! Guards of commands: the numbers with which the program ends, which processors are told to have stopped, which task a command is,
-//! what is written of what is due, and what is told of a run, each at telling points. A wrong definition is refused here.
+//! Guards of commands: the numbers with which the program ends, which processors are told to have stopped, which task a
+//! command is, what is written of what is due, and what is told of a run, each at telling points. A wrong definition is
+//! refused here.
 //!
 //! Below stands `runner`, whose definitions are guarded; nothing stands above.
 #![tactic(auto)]

@@ -20,18 +20,27 @@ ghost use Rattle.runner.specs.declared.outcome.Status.TheVariants as status;
 pub fn what_is_due_is_written()
     ensures usage { (text_of due.Usage ≡ usage_line) × (status_of due.Usage ≡ status.Usage) }
     ensures read_fault { (text_of due.ReadFault ≡ []) × (status_of due.ReadFault ≡ status.ReadFault) }
-    ensures no_memory { (text_of (due.NoMemory no_memory) ≡ []) × (status_of (due.NoMemory no_memory) ≡ status.NoMemory no_memory) }
-    ensures deck_refused { (fault : DeckFault) → (text_of (due.DeckRefused fault) ≡ fault_line fault) × (status_of (due.DeckRefused fault) ≡ status.DeckRefused fault) }
-    ensures refused { (refused : RefusedSite) → (text_of (due.ProgramRefused refused) ≡ refusal_text refused.site refused.found.process refused.found.refusal refused.found.lines)
+    ensures no_memory { (text_of (due.NoMemory no_memory) ≡ [])
+        × (status_of (due.NoMemory no_memory) ≡ status.NoMemory no_memory) }
+    ensures deck_refused { (fault : DeckFault)
+        → (text_of (due.DeckRefused fault) ≡ fault_line fault)
+        × (status_of (due.DeckRefused fault) ≡ status.DeckRefused fault) }
+    ensures refused { (refused : RefusedSite)
+        → (text_of (due.ProgramRefused refused)
+        ≡ refusal_text refused.site refused.found.process refused.found.refusal refused.found.lines)
         × (status_of (due.ProgramRefused refused) ≡ status.Refused refused.found.process refused.found.refusal) }
-    ensures accepted { (site : Site) → (text_of (due.Accepted site) ≡ accepted_text site) × (status_of (due.Accepted site) ≡ status.Done) }
-    ensures swept { (rows : List ProcessorRow) → (text_of (due.Swept rows) ≡ sweep_text rows) × (status_of (due.Swept rows) ≡ status.Done) }
+    ensures accepted { (site : Site) → (text_of (due.Accepted site) ≡ accepted_text site)
+        × (status_of (due.Accepted site) ≡ status.Done) }
+    ensures swept { (rows : List ProcessorRow)
+        → (text_of (due.Swept rows) ≡ sweep_text rows) × (status_of (due.Swept rows) ≡ status.Done) }
 {}
 
 /// A write fault changes the status and not the run; and only a report has one.
 pub fn a_write_fault_leaves_the_run()
-    ensures whole { (decided : Due) → outcome_of decided (Ok tt) ≡ record { status = status_of decided; run = run_of decided } }
-    ensures fault { (decided : Due) (fault : WriteFault) → outcome_of decided (Err fault) ≡ record { status = status.WriteFault; run = run_of decided } }
+    ensures whole { (decided : Due) → outcome_of decided (Ok tt)
+        ≡ record { status = status_of decided; run = run_of decided } }
+    ensures fault { (decided : Due) (fault : WriteFault)
+        → outcome_of decided (Err fault) ≡ record { status = status.WriteFault; run = run_of decided } }
     ensures report { (report : Report) → run_of (due.Report report) ≡ Some report.run }
     ensures accepted { (site : Site) → run_of (due.Accepted site) ≡ None }
     ensures swept { (rows : List ProcessorRow) → run_of (due.Swept rows) ≡ None }

@@ -31,8 +31,10 @@ pub fn stopped_processors_are_told()
 
 /// A processor can stop that the site has; a load runs with no stop, and is counted; a sweep stops what the site has.
 pub fn a_task_is_that_of_its_command()
-    ensures has { (site : Site) (tells : Telling) → can_stop (Run tells (Some (record { processor = 2; after = 9 }))) (record site { processors = 3 }) ≡ true }
-    ensures has_not { (site : Site) (tells : Telling) → can_stop (Run tells (Some (record { processor = 3; after = 0 }))) (record site { processors = 3 }) ≡ false }
+    ensures has { (site : Site) (tells : Telling)
+        → can_stop (Run tells (Some (record { processor = 2; after = 9 }))) (record site { processors = 3 }) ≡ true }
+    ensures has_not { (site : Site) (tells : Telling)
+        → can_stop (Run tells (Some (record { processor = 3; after = 0 }))) (record site { processors = 3 }) ≡ false }
     ensures no_stop { (site : Site) (tells : Telling) → can_stop (Run tells None) site ≡ true }
     ensures check { (site : Site) → can_stop Check site ≡ true }
     ensures sweep { (site : Site) (runs : ℕ) → can_stop (Sweep runs) site ≡ true }

@@ -16,28 +16,33 @@ ghost use Rattle.runner.specs.declared.outcome.Status.TheVariants as status;
 ghost use Rattle.runner.specs.declared.task.Telling.TheVariants.{Counts, Lines};
 ghost use Rattle.runner_guards.specs.Reports.{keeping, showing};
 
-/// What a run kept and showed is told the oldest first, its acts only where they are asked for; of a load it is counted.
+/// What a run kept and showed is told the oldest first, its acts only where they are asked for; of a load it is
+/// counted.
 pub fn what_a_run_did_is_told_in_order()
     ensures shown { (run : RunEnd) (a b : Shown) → shown_in (showing (a ∷ b ∷ []) run) ≡ b ∷ a ∷ [] }
     ensures kept { (run : RunEnd) (a b : Act) → acts_of_run (keeping (a ∷ b ∷ []) run) ≡ b ∷ a ∷ [] }
     ensures asked_for { (run : RunEnd) → told_acts true run ≡ acts_of_run run }
     ensures not_asked_for { (run : RunEnd) → told_acts false run ≡ [] }
-    ensures counted { (run : RunEnd) → load_counts 50 (showing (Reply 0 2 [] ∷ Write 0 3 [] ∷ Reply 0 1 [] ∷ []) run) ≡ record { requests = 50; writes = 1; replies = 2 } }
+    ensures counted { (run : RunEnd) → load_counts 50 (showing (Reply 0 2 [] ∷ Write 0 3 [] ∷ Reply 0 1 [] ∷ []) run)
+        ≡ record { requests = 50; writes = 1; replies = 2 } }
 {}
 
 /// A run that ended idle is done, one with something left was cut, and one before a second stop says which.
 pub fn an_ending_has_its_status_and_its_line()
     ensures idle { (status_of_run Idle ≡ status.Done) × (end_of Idle ≡ end.Idle) }
     ensures cut { (status_of_run Cut ≡ status.Cut) × (end_of Cut ≡ end.Cut) }
-    ensures second { (processor : ℕ) → (status_of_run (Second processor) ≡ status.SecondStop processor) × (end_of (Second processor) ≡ end.Second processor) }
+    ensures second { (processor : ℕ) → (status_of_run (Second processor) ≡ status.SecondStop processor)
+        × (end_of (Second processor) ≡ end.Second processor) }
 {}
 
 /// A report tells of its own run: by lines, or for a load by counts.
 pub fn a_report_is_by_what_it_tells()
     ensures lines { (report : Report) (acts : Bool) → text_of_run (record report { tells = Lines acts })
-        ≡ report_text report.site (shown_in report.run) report.sectors report.stopped (told_acts acts report.run) (end_of report.run.ran.ending) }
+        ≡ report_text report.site (shown_in report.run) report.sectors report.stopped (told_acts acts report.run)
+        (end_of report.run.ran.ending) }
     ensures load { (report : Report) (requests : ℕ) → text_of_run (record report { tells = Counts requests })
-        ≡ load_report_text report.site (load_counts requests report.run) report.sectors report.stopped (end_of report.run.ran.ending) }
+        ≡ load_report_text report.site (load_counts requests report.run) report.sectors report.stopped
+        (end_of report.run.ran.ending) }
 {}
 
 /// A deck is read to run, check or sweep it, and not for a load or for words that are no command.

@@ -11,8 +11,8 @@ pub enum Event {
     Fail(u8),
 }
 
-/// What the next event of a line is chosen by: the packets on the buses, whether the packet that it concerns is an alive
-/// packet and of which sender, whether the machine is idle, and how many writes and replies were shown.
+/// What the next event of a line is chosen by: the packets on the buses, whether the packet that it concerns is an
+/// alive packet and of which sender, whether the machine is idle, and how many writes and replies were shown.
 #[derive(Clone, Copy, PartialEq, Eq)]
 pub struct Counts {
     pub x: u32,

@@ -1,5 +1,6 @@
 -- What the limits of a deck make of the most events of its schedule.
-use Rattle.std.proofs.Common.{◌≡◌, ◌≤◌, ℕ, ◌+◌, ◌*◌, List, [], ◌∷◌, length, Option, Some, None, arith, add-mul, mul-le-mul}
+use Rattle.std.proofs.Common.{◌≡◌, ◌≤◌, ℕ, ◌+◌, ◌*◌, List, [], ◌∷◌, length, Option, Some, None, arith, add-mul}
+use Rattle.std.proofs.Common.{mul-le-mul}
 use Rattle.tal_tree.specs.declared.site.Site.{Site}
 use Rattle.schedule.specs.declared.event.Event.{Event}
 use Rattle.schedule.specs.declared.line.Line.{Line}
@@ -28,17 +29,20 @@ lines-are round [] = omega arith
 lines-are round (line ∷ lines) =
     let one = line-is round line in
     let rest = lines-are round lines in
-    let sum : (rounds_in line + rounds_of lines) * round ≡ rounds_in line * round + rounds_of lines * round = add-mul (rounds_in line) (rounds_of lines) round in
+    let sum : (rounds_in line + rounds_of lines) * round ≡ rounds_in line * round + rounds_of lines * round =
+    add-mul (rounds_in line) (rounds_of lines) round in
     omega (arith, one, rest, sum)
 
 one-stop : (stop : Option ProcessorStop) → stops_of_words stop ≤ 1
 one-stop None = omega arith
 one-stop (Some stop) = omega arith
 
-round-few : (site : Site) → site.processors ≤ 16 → length site.processes ≤ 16 → length site.terminals ≤ 16 → most_in_round site ≤ 8273
+round-few : (site : Site) → site.processors ≤ 16 → length site.processes ≤ 16 → length site.terminals ≤ 16
+    → most_in_round site ≤ 8273
 round-few site processors processes terminals = omega (arith, processors, processes, terminals)
 
-pub deck-asks : (deck : Deck) (stop : Option ProcessorStop) → IsWithinDeckLimits deck → most_events deck.site deck.lines stop ≤ 828300001
+pub deck-asks : (deck : Deck) (stop : Option ProcessorStop) → IsWithinDeckLimits deck
+    → most_events deck.site deck.lines stop ≤ 828300001
 deck-asks deck stop within =
     let sum = lines-are (most_in_round deck.site) deck.lines in
     let round = round-few deck.site within.site.most_processors within.site.processes within.site.terminals in
@@ -47,7 +51,8 @@ deck-asks deck stop within =
     let one = one-stop stop in
     omega (arith, sum, rounds, singles, one)
 
-pub deck-few : (deck : Deck) (stop : Option ProcessorStop) (events : List Event) (agenda : Agenda) (s : MachineState) → IsWithinDeckLimits deck
+pub deck-few : (deck : Deck) (stop : Option ProcessorStop) (events : List Event) (agenda : Agenda) (s : MachineState)
+    → IsWithinDeckLimits deck
     → PlaysSchedule deck.site deck.lines stop events agenda s → length events ≤ 828300001
 deck-few deck stop events agenda s within plays =
     let played = so-many deck.site deck.lines stop events agenda s plays in

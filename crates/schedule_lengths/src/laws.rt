@@ -12,20 +12,27 @@ ghost use Rattle.schedule_runs.specs.Lengths.{AsksForFewEvents, most_events};
 
 /// No more packets are on the bus than it has room for.
 pub fn a_bus_has_room_for_its_packets()
-    ensures { (site : Site) (events : List Event) (s : MachineState) → IsPlayed site events s → length s.wires.bus ≤ 4096 }
+    ensures { (site : Site) (events : List Event) (s : MachineState) → IsPlayed site events s
+        → length s.wires.bus ≤ 4096 }
 {}
 
-/// However a schedule is played, on whatever site, it asks for no more events than its lines, their rounds and its stop have at most.
+/// However a schedule is played, on whatever site, it asks for no more events than its lines, their rounds and its stop
+/// have at most.
 pub fn a_schedule_asks_for_so_many_events()
-    ensures { (site : Site) (lines : List Line) (stop : Option ProcessorStop) (events : List Event) (agenda : Agenda) (s : MachineState)
+    ensures { (site : Site) (lines : List Line) (stop : Option ProcessorStop) (events : List Event) (agenda : Agenda)
+        (s : MachineState)
         → PlaysSchedule site lines stop events agenda s → length events ≤ most_events site lines stop }
 {}
 
-/// The schedule of a deck asks for few events: at most 8,273 in each of 100,000 rounds, 1,000,000 single ones, and the stop.
+/// The schedule of a deck asks for few events: at most 8,273 in each of 100,000 rounds, 1,000,000 single ones, and the
+/// stop.
 pub fn a_schedule_asks_for_few_events()
-    ensures most { (deck : Deck) (stop : Option ProcessorStop) (events : List Event) (agenda : Agenda) (s : MachineState) → IsWithinDeckLimits deck
+    ensures most { (deck : Deck) (stop : Option ProcessorStop) (events : List Event) (agenda : Agenda)
+        (s : MachineState) → IsWithinDeckLimits deck
         → PlaysSchedule deck.site deck.lines stop events agenda s → length events ≤ 828300001 }
-    ensures few { (deck : Deck) (stop : Option ProcessorStop) (events : List Event) (agenda : Agenda) (s : MachineState) → IsWithinDeckLimits deck
+    ensures few { (deck : Deck) (stop : Option ProcessorStop) (events : List Event) (agenda : Agenda)
+        (s : MachineState) → IsWithinDeckLimits deck
         → PlaysSchedule deck.site deck.lines stop events agenda s → length events < 4294967294 }
-    ensures asks { (deck : Deck) (stop : Option ProcessorStop) → IsWithinDeckLimits deck → AsksForFewEvents deck.site deck.lines stop }
+    ensures asks { (deck : Deck) (stop : Option ProcessorStop) → IsWithinDeckLimits deck
+        → AsksForFewEvents deck.site deck.lines stop }
 {}

@@ -1,5 +1,6 @@
 -- No bus has more packets than it has room for.
-use Rattle.std.proofs.Common.{◌≡◌, ◌≤◌, inl, inr, ℕ, zero, suc, ◌+◌, Bool, true, false, if◌then◌else◌, List, [], ◌∷◌, ◌++◌, length, take, drop, Option, Some, None, refl, sym, subst, arith, length-append}
+use Rattle.std.proofs.Common.{◌≡◌, ◌≤◌, inl, inr, ℕ, zero, suc, ◌+◌, Bool, true, false, if◌then◌else◌, List, [], ◌∷◌}
+use Rattle.std.proofs.Common.{◌++◌, length, take, drop, Option, Some, None, refl, sym, subst, arith, length-append}
 use Rattle.std.specs.List.{remove}
 use Rattle.std.proofs.lemmas.Bool.{ltb-true}
 use Rattle.tal_tree.specs.declared.site.Site.{Site}
@@ -13,8 +14,11 @@ use Rattle.computed_changes.specs.Stopped.{stop_done, down_done}
 use Rattle.letters.specs.Routes.{Letter, letters_of}
 use Rattle.letters.specs.Again.{sent_again}
 use Rattle.machine_states.specs.States.{Played, Makes, Skips, WouldStop}
-use Rattle.message_wires.specs.Wires.{Sent, Wires, has_room, put_on, wires_after_post, wires_after_posts, paid, paid_between, without_packet, is_due, put_again}
-use Rattle.message_wires.specs.Play.{MachineState, after_done, made_by, after_any, state_after_handing, comes_in, deliver_played, lose_played, repeat_played, has_stopped, fail_played, noted_by, notes_from, state_after_tick, tick_played, packet_at, play}
+use Rattle.message_wires.specs.Wires.{Sent, Wires, has_room, put_on, wires_after_post, wires_after_posts, paid}
+use Rattle.message_wires.specs.Wires.{paid_between, without_packet, is_due, put_again}
+use Rattle.message_wires.specs.Play.{MachineState, after_done, made_by, after_any, state_after_handing, comes_in}
+use Rattle.message_wires.specs.Play.{deliver_played, lose_played, repeat_played, has_stopped, fail_played, noted_by}
+use Rattle.message_wires.specs.Play.{notes_from, state_after_tick, tick_played, packet_at, play}
 use Rattle.message_wires.specs.Runs.{IsPlayed, played_none, played_more, skipped}
 use Rattle.schedule_runs.specs.Runs.{IsPlay}
 
@@ -25,7 +29,8 @@ put-few : (packet : Sent) (bus : List Sent) → IsFew bus → IsFew (put_on pack
 put-few packet bus few = by (has_room bus) refl
   where
     by : (room : Bool) → has_room bus ≡ room → IsFew (if room then bus ++ packet ∷ [] else bus)
-    by true is = let low = ltb-true (length bus) 4096 is in let sum = length-append bus (packet ∷ []) in omega (arith, low, sum)
+    by true is =
+        let low = ltb-true (length bus) 4096 is in let sum = length-append bus (packet ∷ []) in omega (arith, low, sum)
     by false is = few
 
 posted-few : (letters : List Letter) (wires : Wires) → IsFew wires.bus → IsFew (wires_after_posts letters wires).bus
@@ -41,7 +46,8 @@ take-few (suc k) (x ∷ xs) = let rest = take-few k xs in omega (arith, rest)
 remove-few : (bus : List Sent) (k : ℕ) → IsFew bus → IsFew (remove bus k)
 remove-few bus k few = let less = take-few k bus in omega (arith, less, few)
 
-again-few : (stopped : List Bool) (node : ℕ) (owed bus : List Sent) → IsFew bus → IsFew (put_again stopped node owed bus)
+again-few : (stopped : List Bool) (node : ℕ) (owed bus : List Sent) → IsFew bus
+    → IsFew (put_again stopped node owed bus)
 again-few stopped node [] bus few = few
 again-few stopped node (one ∷ rest) bus few = again-few stopped node rest _ (by (is_due stopped node bus one))
   where
@@ -62,12 +68,14 @@ any-few : (s : MachineState) (done : Option Done) → IsFew s.wires.bus → IsFe
 any-few s None few = few
 any-few s (Some done) few = posted-few (letters_of s.site done.world done.sendings) s.wires few
 
-deliver-few : (k : ℕ) (s : MachineState) (packet : Option Sent) → IsFew s.wires.bus → IsFewPlayed (deliver_played k s packet)
+deliver-few : (k : ℕ) (s : MachineState) (packet : Option Sent) → IsFew s.wires.bus
+    → IsFewPlayed (deliver_played k s packet)
 deliver-few k s None few = tt
 deliver-few k s (Some packet) few = by (comes_in (record s { wires = without_packet k s.wires }) packet.letter)
   where
     by : (test : Bool)
-        → IsFew (if test then state_after_handing packet (record s { wires = without_packet k s.wires }) else record s { wires = without_packet k s.wires }).wires.bus
+        → IsFew (if test then state_after_handing packet (record s { wires = without_packet k s.wires }) else record s
+        { wires = without_packet k s.wires }).wires.bus
     by true =
         any-few (record s { wires = paid packet.number (without_packet k s.wires) })
         (handed_done s.site packet.letter.receiver packet.letter.message s.world) (remove-few s.wires.bus k few)
@@ -81,12 +89,15 @@ repeat-few : (s : MachineState) (packet : Option Sent) → IsFew s.wires.bus →
 repeat-few s None few = tt
 repeat-few s (Some packet) few = put-few packet s.wires.bus few
 
-marked-few : (node processor : ℕ) (s : MachineState) (done : Option Done) → IsFew s.wires.bus → IsFew (noted_by node processor s done).wires.bus
+marked-few : (node processor : ℕ) (s : MachineState) (done : Option Done) → IsFew s.wires.bus
+    → IsFew (noted_by node processor s done).wires.bus
 marked-few node processor s None few = few
 marked-few node processor s (Some done) few =
-    posted-few (letters_of s.site done.world (done.sendings ++ sent_again s.site s.world done.world node processor)) (paid_between node processor s.wires) few
+    posted-few (letters_of s.site done.world (done.sendings ++ sent_again s.site s.world done.world node processor))
+    (paid_between node processor s.wires) few
 
-marks-few : (node processor left : ℕ) (s : MachineState) → IsFew s.wires.bus → IsFew (notes_from node processor left s).wires.bus
+marks-few : (node processor left : ℕ) (s : MachineState) → IsFew s.wires.bus
+    → IsFew (notes_from node processor left s).wires.bus
 marks-few node processor zero s few = few
 marks-few node processor (suc left) s few =
     marks-few node (processor + 1) left _ (marked-few node processor s (down_done node processor s.world) few)
@@ -94,13 +105,16 @@ marks-few node processor (suc left) s few =
 tick-few : (node : ℕ) (s : MachineState) → IsFew s.wires.bus → IsFewPlayed (tick_played node s)
 tick-few node s few = by (is_running s.world.stopped node)
   where
-    by : (test : Bool) → IsFewPlayed (if test then Makes (state_after_tick node (notes_from node 0 (length s.world.stopped) s)) else Skips)
+    by : (test : Bool) → IsFewPlayed (if test then Makes
+        (state_after_tick node (notes_from node 0 (length s.world.stopped) s)) else Skips)
     by true =
         let after = notes_from node 0 (length s.world.stopped) s in
-        again-few after.world.stopped node after.wires.owed after.wires.bus (marks-few node 0 (length s.world.stopped) s few)
+        again-few after.world.stopped node after.wires.owed after.wires.bus
+        (marks-few node 0 (length s.world.stopped) s few)
     by false = tt
 
-fail-few : (processor : ℕ) (s : MachineState) (done : Option Done) → IsFew s.wires.bus → IsFewPlayed (fail_played processor s done)
+fail-few : (processor : ℕ) (s : MachineState) (done : Option Done) → IsFew s.wires.bus
+    → IsFewPlayed (fail_played processor s done)
 fail-few processor s None few = tt
 fail-few processor s (Some done) few = by (has_stopped s.world.stopped)
   where
@@ -118,11 +132,13 @@ play-few s (Tick node) few = tick-few node s few
 play-few s (Fail processor) few = fail-few processor s (stop_done processor s.world) few
 
 -- an event leaves at most 4,096 packets on the bus
-pub bus-few : (s : MachineState) (event : Event) (next : MachineState) → IsPlay s event next → length s.wires.bus ≤ 4096 → length next.wires.bus ≤ 4096
+pub bus-few : (s : MachineState) (event : Event) (next : MachineState) → IsPlay s event next
+    → length s.wires.bus ≤ 4096 → length next.wires.bus ≤ 4096
 bus-few s event next (inl makes) few = subst IsFewPlayed makes (play-few s event few)
 bus-few s event next (inr skips) few = subst (λ (one : MachineState). IsFew one.wires.bus) (sym skips.1) few
 
-pub played-few : (site : Site) (events : List Event) (s : MachineState) → IsPlayed site events s → length s.wires.bus ≤ 4096
+pub played-few : (site : Site) (events : List Event) (s : MachineState) → IsPlayed site events s
+    → length s.wires.bus ≤ 4096
 played-few site _ _ played_none = omega arith
 played-few site _ _ (played_more {events = events} {s = s} event before makes) =
     subst IsFewPlayed makes (play-few s event (played-few site events s before))

@@ -1,5 +1,6 @@
 -- How many events are left of a line, and that each event takes one.
-use Rattle.std.proofs.Common.{◌≡◌, ◌≤◌, ◌<◌, ℕ, zero, suc, ◌+◌, ◌-◌, ◌*◌, Bool, true, false, if◌then◌else◌, nat_lt, Option, Some, None, option_map, refl, arith, suc-mul}
+use Rattle.std.proofs.Common.{◌≡◌, ◌≤◌, ◌<◌, ℕ, zero, suc, ◌+◌, ◌-◌, ◌*◌, Bool, true, false, if◌then◌else◌, nat_lt}
+use Rattle.std.proofs.Common.{Option, Some, None, option_map, refl, arith, suc-mul}
 use Rattle.std.proofs.lemmas.Bool.{ltb-true}
 use Rattle.schedule.specs.declared.event.Counts.{Counts}
 use Rattle.schedule.specs.declared.line.Line.{Line}
@@ -16,7 +17,8 @@ use Rattle.player.specs.Rounds.{next_turn}
 use Rattle.player.specs.Mixes.{next_mixed}
 use Rattle.player.specs.Lines.{begun, moved, moved_mixed, proposed, is_over, decided_move, next_event}
 use Rattle.schedule_runs.specs.Lengths.{most_in_line}
-use Rattle.schedule_runs.proofs.Turns.{round_of, left_at, left_at_mixed, first-turn, later-turn, first-mixed, later-mixed}
+use Rattle.schedule_runs.proofs.Turns.{round_of, left_at, left_at_mixed, first-turn, later-turn, first-mixed}
+use Rattle.schedule_runs.proofs.Turns.{later-mixed}
 
 -- what is left of a line that stands here
 abbrev pub left_in : Sizes → LinePlace → ℕ
@@ -52,19 +54,25 @@ some-left sizes left before move takes = by (nat_lt 0 left) refl
     by true is = takes (ltb-true 0 left is)
     by false is = tt
 
-proposed-takes : (sizes : Sizes) (x : ℕ) (standing : LinePlace) → x ≤ 4096 → MoveTakes sizes (left_in sizes standing) (proposed sizes x 0 standing)
+proposed-takes : (sizes : Sizes) (x : ℕ) (standing : LinePlace) → x ≤ 4096
+    → MoveTakes sizes (left_in sizes standing) (proposed sizes x 0 standing)
 proposed-takes sizes x standing.Ended few = tt
 proposed-takes sizes x (standing.Event event left) few =
-    some-left sizes left left (record { event = event; standing = standing.Event event (left - 1) }) (λ some. omega (arith, some))
+    some-left sizes left left (record { event = event; standing = standing.Event event (left - 1) })
+    (λ some. omega (arith, some))
 proposed-takes sizes x (standing.Rounds rule left at) few = by at
   where
-    later : (at : Place) → (at ≡ place.Before → ⊥) → left_in sizes (moved rule left (next_turn sizes x 0 at)).standing + 1 ≤ left * round_of sizes + left_at sizes at
+    later : (at : Place) → (at ≡ place.Before → ⊥)
+        → left_in sizes (moved rule left (next_turn sizes x 0 at)).standing + 1
+        ≤ left * round_of sizes + left_at sizes at
     later at isnt = goes-on (left * round_of sizes) _ _ (later-turn sizes x at few isnt)
 
-    by : (at : Place) → MoveTakes sizes (left * round_of sizes + left_at sizes at) (proposed sizes x 0 (standing.Rounds rule left at))
+    by : (at : Place) → MoveTakes sizes (left * round_of sizes + left_at sizes at)
+        (proposed sizes x 0 (standing.Rounds rule left at))
     by place.Before =
         some-left sizes left (left * round_of sizes + 0) (moved rule (left - 1) (next_turn sizes x 0 place.Before))
-        (λ some. begins (left * round_of sizes) ((left - 1) * round_of sizes) (round_of sizes) _ (one-round left (round_of sizes) some) (first-turn sizes x few))
+        (λ some. begins (left * round_of sizes) ((left - 1) * round_of sizes) (round_of sizes) _
+        (one-round left (round_of sizes) some) (first-turn sizes x few))
     by (place.Enters terminal) = later (place.Enters terminal) (λ is. absurd (cc))
     by (place.Runs process) = later (place.Runs process) (λ is. absurd (cc))
     by (place.Delivers y packets) = later (place.Delivers y packets) (λ is. absurd (cc))
@@ -72,13 +80,17 @@ proposed-takes sizes x (standing.Rounds rule left at) few = by at
 proposed-takes sizes x (standing.Mixed left at draws) few = by at
   where
     later : (at : MixedPlace) → (at ≡ mixed.Before → ⊥)
-        → left_in sizes (moved_mixed left (next_mixed sizes x 0 at draws)).standing + 1 ≤ left * round_of sizes + left_at_mixed sizes at
+        → left_in sizes (moved_mixed left (next_mixed sizes x 0 at draws)).standing + 1
+        ≤ left * round_of sizes + left_at_mixed sizes at
     later at isnt = goes-on (left * round_of sizes) _ _ (later-mixed sizes x at draws few isnt)
 
-    by : (at : MixedPlace) → MoveTakes sizes (left * round_of sizes + left_at_mixed sizes at) (proposed sizes x 0 (standing.Mixed left at draws))
+    by : (at : MixedPlace) → MoveTakes sizes (left * round_of sizes + left_at_mixed sizes at)
+        (proposed sizes x 0 (standing.Mixed left at draws))
     by mixed.Before =
-        some-left sizes left (left * round_of sizes + 0) (moved_mixed (left - 1) (next_mixed sizes x 0 mixed.Before draws))
-        (λ some. begins (left * round_of sizes) ((left - 1) * round_of sizes) (round_of sizes) _ (one-round left (round_of sizes) some) (first-mixed sizes x draws few))
+        some-left sizes left (left * round_of sizes + 0)
+        (moved_mixed (left - 1) (next_mixed sizes x 0 mixed.Before draws))
+        (λ some. begins (left * round_of sizes) ((left - 1) * round_of sizes) (round_of sizes) _
+        (one-round left (round_of sizes) some) (first-mixed sizes x draws few))
     by (mixed.Enters terminal) = later (mixed.Enters terminal) (λ is. absurd (cc))
     by (mixed.Runs next more) = later (mixed.Runs next more) (λ is. absurd (cc))
     by (mixed.Delivers y packets) = later (mixed.Delivers y packets) (λ is. absurd (cc))
@@ -92,7 +104,8 @@ next-takes sizes standing counts few none = by (is_over standing counts) (propos
     (rw none (proposed-takes sizes counts.x standing few))
   where
     by : (over : Bool) (move : Option Move) → MoveTakes sizes (left_in sizes standing) move
-        → MoveTakes sizes (left_in sizes standing) (if over then None else option_map (decided_move standing counts) move)
+        → MoveTakes sizes (left_in sizes standing)
+        (if over then None else option_map (decided_move standing counts) move)
     by true move takes = tt
     by false None takes = tt
     by false (Some move) takes = takes

@@ -13,14 +13,18 @@ use Rattle.schedule_runs.specs.Runs.{Plan, planned_by, stopped_by}
 use Rattle.schedule_runs.specs.Seen.{IsBegun, Scheduled, event_in}
 
 -- where the line gives an event, that is the plan
-pub gives-event : (sizes : Sizes) (counts : Counts) (stop : Option ProcessorStop) (lines : List Line) (move : Option Move) (event : Event) → event_of move ≡ Some event
+pub gives-event : (sizes : Sizes) (counts : Counts) (stop : Option ProcessorStop) (lines : List Line)
+    (move : Option Move) (event : Event) → event_of move ≡ Some event
     → Some event ≡ event_in (planned_by sizes counts stop lines move)
 gives-event sizes counts stop lines None event e = absurd (cc)
 gives-event sizes counts stop lines (Some move) event e = sym e
 
-pub gives-agenda : (here after : Scheduled) (sizes : Sizes) (counts : Counts) (move : Option Move) (event : Event) → here.agenda.held_back ≡ None
-    → here.sizes ≡ sizes → event_of move ≡ Some event → after ≡ record here { agenda = record here.agenda { standing = stands_after move } }
-    → IfSome (planned_by here.sizes counts here.agenda.stop here.agenda.lines move) (λ plan. after ≡ record { sizes = sizes; agenda = plan.agenda })
+pub gives-agenda : (here after : Scheduled) (sizes : Sizes) (counts : Counts) (move : Option Move) (event : Event)
+    → here.agenda.held_back ≡ None
+    → here.sizes ≡ sizes → event_of move ≡ Some event
+    → after ≡ record here { agenda = record here.agenda { standing = stands_after move } }
+    → IfSome (planned_by here.sizes counts here.agenda.stop here.agenda.lines move)
+    (λ plan. after ≡ record { sizes = sizes; agenda = plan.agenda })
 gives-agenda here after sizes counts None event held same e next = absurd (cc)
 gives-agenda here after sizes counts (Some move) event held same e next =
     next
@@ -31,7 +35,8 @@ gives-agenda here after sizes counts (Some move) event held same e next =
 
 -- the plan of where a schedule stands
 abbrev pub Planned : Counts → Scheduled → Option Plan
-Planned counts at = planned_by at.sizes counts at.agenda.stop at.agenda.lines (next_event at.sizes at.agenda.standing counts)
+Planned counts at =
+    planned_by at.sizes counts at.agenda.stop at.agenda.lines (next_event at.sizes at.agenda.standing counts)
 
 no_move : (move : Option Move) → event_of move ≡ None → move ≡ None
 no_move None e = refl
@@ -40,9 +45,13 @@ no_move (Some move) e = absurd (cc)
 -- where the line gives no event, and the next one begins, the plan is the same
 pub goes_on : (counts : Counts) (here ended begun_ : Scheduled) (lines : List Line) → ended.agenda.lines ≡ lines
     → event_of (next_event here.sizes here.agenda.standing counts) ≡ None
-    → ended ≡ record here { agenda = record here.agenda { standing = stands_after (next_event here.sizes here.agenda.standing counts) } }
+    → ended ≡ record here {
+      agenda = record here.agenda
+          { standing = stands_after (next_event here.sizes here.agenda.standing counts) };
+    }
     → IsBegun lines ended true begun_
-    → (begun_.agenda.held_back ≡ here.agenda.held_back) × (begun_.agenda.stop ≡ here.agenda.stop) × (begun_.sizes ≡ here.sizes)
+    → (begun_.agenda.held_back ≡ here.agenda.held_back) × (begun_.agenda.stop ≡ here.agenda.stop)
+    × (begun_.sizes ≡ here.sizes)
     × (Planned counts begun_ ≡ Planned counts here)
 goes_on counts here ended begun_ [] is e same begins = absurd (cc)
 goes_on counts here ended begun_ (line ∷ rest) is e same begins =
@@ -51,15 +60,20 @@ goes_on counts here ended begun_ (line ∷ rest) is e same begins =
       ap (λ (s : Scheduled). s.agenda.stop) begins.1 ∙ ap (λ (s : Scheduled). s.agenda.stop) same,
       ap (λ (s : Scheduled). s.sizes) begins.1 ∙ ap (λ (s : Scheduled). s.sizes) same,
       ap (Planned counts) begins.1
-          ∙ ap (λ (s : Scheduled). planned_by s.sizes counts s.agenda.stop rest (next_event s.sizes (begun line) counts)) same
-          ∙ sym (ap₂ (λ (all : List Line) (move : Option Move). planned_by here.sizes counts here.agenda.stop all move) lines
+          ∙ ap (λ (s : Scheduled). planned_by s.sizes counts s.agenda.stop rest
+          (next_event s.sizes (begun line) counts)) same
+          ∙ sym (ap₂ (λ (all : List Line) (move : Option Move). planned_by here.sizes counts here.agenda.stop all move)
+          lines
           (no_move (next_event here.sizes here.agenda.standing counts) e)),
     )
 
 -- and where there is no line more, nothing is planned
 pub is_over : (counts : Counts) (here ended after : Scheduled) (lines : List Line) → ended.agenda.lines ≡ lines
     → event_of (next_event here.sizes here.agenda.standing counts) ≡ None
-    → ended ≡ record here { agenda = record here.agenda { standing = stands_after (next_event here.sizes here.agenda.standing counts) } }
+    → ended ≡ record here {
+      agenda = record here.agenda
+          { standing = stands_after (next_event here.sizes here.agenda.standing counts) };
+    }
     → IsBegun lines ended false after → Planned counts here ≡ None
 is_over counts here ended after [] is e same begins =
     ap₂ (λ (all : List Line) (move : Option Move). planned_by here.sizes counts here.agenda.stop all move)
@@ -74,7 +88,8 @@ stays-event None stop event e none = absurd (cc)
 stays-event (Some plan) None event e none = sym e
 stays-event (Some plan) (Some processor) event e none = absurd (cc)
 
-pub stays-agenda : (plan : Option Plan) (stop : Option ℕ) (event : Event) (sizes : Sizes) (after : Scheduled) → event_in plan ≡ Some event → stop ≡ None
+pub stays-agenda : (plan : Option Plan) (stop : Option ℕ) (event : Event) (sizes : Sizes) (after : Scheduled)
+    → event_in plan ≡ Some event → stop ≡ None
     → IfSome plan (λ one. after ≡ record { sizes = sizes; agenda = one.agenda })
     → IfSome (option_map (stopped_by stop) plan) (λ one. after ≡ record { sizes = sizes; agenda = one.agenda })
 stays-agenda None stop event sizes after e none is = tt
@@ -82,14 +97,17 @@ stays-agenda (Some plan) None event sizes after e none is = is
 stays-agenda (Some plan) (Some processor) event sizes after e none is = absurd (cc)
 
 -- or one comes, and the event is held back
-pub stops-event : (plan : Option Plan) (stop : Option ℕ) (event : Event) (processor : ℕ) → event_in plan ≡ Some event → stop ≡ Some processor
+pub stops-event : (plan : Option Plan) (stop : Option ℕ) (event : Event) (processor : ℕ) → event_in plan ≡ Some event
+    → stop ≡ Some processor
     → Some (Fail processor) ≡ event_in (option_map (stopped_by stop) plan)
 stops-event None stop event processor e some = absurd (cc)
 stops-event (Some plan) None event processor e some = absurd (cc)
 stops-event (Some plan) (Some other) event processor e some = ap (option_map Fail) (sym some)
 
-pub stops-agenda : (plan : Option Plan) (stop : Option ℕ) (event : Event) (processor : ℕ) (sizes : Sizes) (before after : Scheduled)
-    → event_in plan ≡ Some event → stop ≡ Some processor → IfSome plan (λ one. before ≡ record { sizes = sizes; agenda = one.agenda })
+pub stops-agenda : (plan : Option Plan) (stop : Option ℕ) (event : Event) (processor : ℕ) (sizes : Sizes)
+    (before after : Scheduled)
+    → event_in plan ≡ Some event → stop ≡ Some processor
+    → IfSome plan (λ one. before ≡ record { sizes = sizes; agenda = one.agenda })
     → after ≡ record before { agenda = record before.agenda { stop = None; held_back = Some event } }
     → IfSome (option_map (stopped_by stop) plan) (λ one. after ≡ record { sizes = sizes; agenda = one.agenda })
 stops-agenda None stop event processor sizes before after e some is next = tt
@@ -97,4 +115,7 @@ stops-agenda (Some plan) None event processor sizes before after e some is next 
 stops-agenda (Some plan) (Some other) event processor sizes before after e some is next =
     next
     ∙ ap (λ (s : Scheduled). record s { agenda = record s.agenda { stop = None; held_back = Some event } }) is
-    ∙ ap (λ (held : Option Event). record { sizes = sizes; agenda = record plan.agenda { stop = None; held_back = held } }) (sym e)
+    ∙ ap (λ (held : Option Event). record {
+      sizes = sizes;
+      agenda = record plan.agenda { stop = None; held_back = held };
+    }) (sym e)

@@ -13,9 +13,10 @@ use Rattle.schedule_runs.specs.declared.ran.Ending.{Ending}
 use Rattle.schedule_runs.specs.declared.ran.Ending.TheVariants.{Idle, Cut, Second}
 use Rattle.schedule_runs.specs.declared.ran.Ran.{Ran}
 
--- the run ended so: idle, and then it was closed; or with something left to do; or before an event that would stop a second processor. The events that it asked
--- for are those that it played, and the one before which it ended
-abbrev pub EndsAs : Site → List Line → Option ProcessorStop → List Event → MachineState → MachineState → ℕ → Ending → Type 0
+-- the run ended so: idle, and then it was closed; or with something left to do; or before an event that would stop a
+-- second processor. The events that it asked for are those that it played, and the one before which it ended
+abbrev pub EndsAs : Site → List Line → Option ProcessorStop → List Event → MachineState → MachineState → ℕ → Ending
+    → Type 0
 EndsAs site lines stop events s left asked Idle =
     RunsOut site lines stop events s × (is_idle s ≡ true) × (left ≡ closed_state s) × (asked ≡ length events)
 EndsAs site lines stop events s left asked Cut =
@@ -23,8 +24,8 @@ EndsAs site lines stop events s left asked Cut =
 EndsAs site lines stop events s left asked (Second processor) =
     RunsToStop site lines stop events s processor × (left ≡ s) × (asked ≡ length events + 1)
 
--- what ran is a run of the schedule with the stop on the site: these events were played one after the other, fewer than 4,294,967,295 of them, and led to a
--- state, with which the run ended as it says
+-- what ran is a run of the schedule with the stop on the site: these events were played one after the other, fewer than
+-- 4,294,967,295 of them, and led to a state, with which the run ended as it says
 pub record IsRunOf (site : Site) (lines : List Line) (stop : Option ProcessorStop) (ran : Ran) : Type 0 where
   pub events : List Event
   pub state : MachineState

@@ -5,8 +5,9 @@ use Rattle.schedule.specs.declared.line.Line.{Line}
 use Rattle.schedule.specs.declared.line.Line.TheVariants.{One, Many, Drain, Mix, Mute, Until}
 use Rattle.player.specs.declared.stop.ProcessorStop.{ProcessorStop}
 
--- a round on a site: each terminal enters; each process runs, in a mixed round up to three times; each of the 4,096 packets for which bus X has room is
--- delivered or lost, in a mixed round repeated before; on bus Y there is none; and each node ticks, that of the terminals too
+-- a round on a site: each terminal enters; each process runs, in a mixed round up to three times; each of the 4,096
+-- packets for which bus X has room is delivered or lost, in a mixed round repeated before; on bus Y there is none; and
+-- each node ticks, that of the terminals too
 abbrev pub most_in_round : Site → ℕ
 most_in_round site = length site.terminals + 3 * length site.processes + 2 * 4096 + site.processors + 1
 

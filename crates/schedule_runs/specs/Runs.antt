@@ -1,4 +1,5 @@
--- The run of a schedule on the machine over whole messages: which event comes next, and how a run ends. The lines are our own.
+-- The run of a schedule on the machine over whole messages: which event comes next, and how a run ends. The lines are
+-- our own.
 use Rattle.std.specs.Prelude.{◌≡◌, ◌⊎◌, ℕ, false, List, length, Option, Some, None}
 use Rattle.tal_tree.specs.declared.site.Site.{Site}
 use Rattle.schedule.specs.declared.event.Counts.{Counts}
@@ -16,7 +17,8 @@ use Rattle.node_copies.specs.ShownCounts.{replies_in, writes_in}
 -- What is counted before an event
 
 abbrev pub sizes_of : Site → Sizes
-sizes_of site = record { processors = site.processors; processes = length site.processes; terminals = length site.terminals }
+sizes_of site =
+    record { processors = site.processors; processes = length site.processes; terminals = length site.terminals }
 
 -- the counts of a state: all packets are on bus X, and none is an alive one
 abbrev pub counts_of : MachineState → Counts
@@ -36,18 +38,21 @@ counts_of s = record {
 abbrev pub IsPlay : MachineState → Event → MachineState → Type 0
 IsPlay s event next = (play s event ≡ Makes next) ⊎ ((play s event ≡ Skips) × (next ≡ s))
 
--- these events of a schedule with a stop were played on the site one after the other, each as it came, and lead to a state and to where the schedule stands
+-- these events of a schedule with a stop were played on the site one after the other, each as it came, and lead to a
+-- state and to where the schedule stands
 abbrev pub PlaysSchedule : Site → List Line → Option ProcessorStop → List Event → Agenda → MachineState → Type 0
 PlaysSchedule site lines stop = PlaysOn (sizes_of site) counts_of IsPlay (machine_at_boot site) lines stop
 
 -- a run of a schedule played these events, with this state at its end: the schedule is over
-pub record RunsOut (site : Site) (lines : List Line) (stop : Option ProcessorStop) (events : List Event) (s : MachineState) : Type 0 where
+pub record RunsOut (site : Site) (lines : List Line) (stop : Option ProcessorStop) (events : List Event)
+    (s : MachineState) : Type 0 where
   pub agenda : Agenda
   pub played : PlaysSchedule site lines stop events agenda s
   pub over : upcoming (sizes_of site) (length events) (counts_of s) agenda ≡ None
 
 -- or it ends before an event that would stop a second processor
-pub record RunsToStop (site : Site) (lines : List Line) (stop : Option ProcessorStop) (events : List Event) (s : MachineState) (processor : ℕ) : Type 0 where
+pub record RunsToStop (site : Site) (lines : List Line) (stop : Option ProcessorStop) (events : List Event)
+    (s : MachineState) (processor : ℕ) : Type 0 where
   pub agenda : Agenda
   pub plan : Plan
   pub played : PlaysSchedule site lines stop events agenda s

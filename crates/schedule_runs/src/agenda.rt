@@ -5,12 +5,12 @@ ghost use Rattle.schedule_runs.specs.Runs.{agenda_of, coming, counts_of, planned
 ghost use Rattle.schedule_runs.specs.Seen.{IsBegun, event_in};
 
 use pair_machine::PairMachine;
-use player::{Player, Sizes, ProcessorStop};
+use player::{Player, ProcessorStop, Sizes};
 use schedule::{Counts, Event, Line};
 use std::marker::Model;
 
-/// Where a schedule stands that is played: its line, those after it, the stop that is still to come, and the event that was to come
-/// when the stop came before it.
+/// Where a schedule stands that is played: its line, those after it, the stop that is still to come, and the event that
+/// was to come when the stop came before it.
 #[derive(Drop)]
 pub struct Schedule<'a> {
     player: Player,
@@ -49,8 +49,10 @@ impl<'a> Schedule<'a> {
 
     /// The next event, that so many precede; none where the schedule is over.
     pub fn next(&mut self, before: u32, machine: &PairMachine) -> Option<Event>
-        ensures event { result ≡ event_in (upcoming self.old.sizes before (counts_of machine.now.state) self.old.agenda) }
-        ensures agenda { IfSome (upcoming self.old.sizes before (counts_of machine.now.state) self.old.agenda) (λ plan. self.new ≡ record self.old { agenda = plan.agenda }) }
+        ensures event { result ≡ event_in (upcoming self.old.sizes before (counts_of machine.now.state)
+            self.old.agenda) }
+        ensures agenda { IfSome (upcoming self.old.sizes before (counts_of machine.now.state) self.old.agenda)
+            (λ plan. self.new ≡ record self.old { agenda = plan.agenda }) }
     {
         match self.held_back {
             Some(event) => {
@@ -64,8 +66,13 @@ impl<'a> Schedule<'a> {
     /// The next event of the lines, or the stop that comes before it.
     fn next_or_stop(&mut self, before: u32, machine: &PairMachine) -> Option<Event>
         requires { self.old.agenda.held_back ≡ None }
-        ensures event { result ≡ event_in (option_map (stopped_by (coming self.old.agenda.stop before)) (planned_by self.old.sizes (counts_of machine.now.state) self.old.agenda.stop self.old.agenda.lines (next_event self.old.sizes self.old.agenda.standing (counts_of machine.now.state)))) }
-        ensures agenda { IfSome (option_map (stopped_by (coming self.old.agenda.stop before)) (planned_by self.old.sizes (counts_of machine.now.state) self.old.agenda.stop self.old.agenda.lines (next_event self.old.sizes self.old.agenda.standing (counts_of machine.now.state)))) (λ plan. self.new ≡ record self.old { agenda = plan.agenda }) }
+        ensures event { result ≡ event_in (option_map (stopped_by (coming self.old.agenda.stop before))
+            (planned_by self.old.sizes (counts_of machine.now.state) self.old.agenda.stop self.old.agenda.lines
+            (next_event self.old.sizes self.old.agenda.standing (counts_of machine.now.state)))) }
+        ensures agenda { IfSome (option_map (stopped_by (coming self.old.agenda.stop before))
+            (planned_by self.old.sizes (counts_of machine.now.state) self.old.agenda.stop self.old.agenda.lines
+            (next_event self.old.sizes self.old.agenda.standing (counts_of machine.now.state))))
+            (λ plan. self.new ≡ record self.old { agenda = plan.agenda }) }
     {
         let stop = self.coming(before);
         let event = self.planned(machine)?;
@@ -96,7 +103,10 @@ impl<'a> Schedule<'a> {
 
     /// Notes that the stop was given, and holds back the event that comes after it.
     fn hold_back(&mut self, event: Event)
-        ensures { self.new ≡ record self.old { agenda = record self.old.agenda { stop = None; held_back = Some event } } }
+        ensures { self.new ≡ record self.old {
+          agenda =
+              record self.old.agenda { stop = None; held_back = Some event };
+        } }
     {
         self.stop = None;
         self.held_back = Some(event);
@@ -105,8 +115,11 @@ impl<'a> Schedule<'a> {
     /// The next event of the lines.
     fn planned(&mut self, machine: &PairMachine) -> Option<Event>
         requires { self.old.agenda.held_back ≡ None }
-        ensures event { result ≡ event_in (planned_by self.old.sizes (counts_of machine.now.state) self.old.agenda.stop self.old.agenda.lines (next_event self.old.sizes self.old.agenda.standing (counts_of machine.now.state))) }
-        ensures agenda { IfSome (planned_by self.old.sizes (counts_of machine.now.state) self.old.agenda.stop self.old.agenda.lines (next_event self.old.sizes self.old.agenda.standing (counts_of machine.now.state))) (λ plan. self.new ≡ record self.old { agenda = plan.agenda }) }
+        ensures event { result ≡ event_in (planned_by self.old.sizes (counts_of machine.now.state) self.old.agenda.stop
+            self.old.agenda.lines (next_event self.old.sizes self.old.agenda.standing (counts_of machine.now.state))) }
+        ensures agenda { IfSome (planned_by self.old.sizes (counts_of machine.now.state) self.old.agenda.stop
+            self.old.agenda.lines (next_event self.old.sizes self.old.agenda.standing (counts_of machine.now.state)))
+            (λ plan. self.new ≡ record self.old { agenda = plan.agenda }) }
     {
         loop {
             if let Some(event) = self.next_of_line(machine) {
@@ -134,8 +147,14 @@ impl<'a> Schedule<'a> {
 
     /// The next event of the line at which the schedule stands.
     fn next_of_line(&mut self, machine: &PairMachine) -> Option<Event>
-        ensures event { result ≡ event_of (next_event self.old.sizes self.old.agenda.standing (counts_of machine.now.state)) }
-        ensures agenda { self.new ≡ record self.old { agenda = record self.old.agenda { standing = stands_after (next_event self.old.sizes self.old.agenda.standing (counts_of machine.now.state)) } } }
+        ensures event { result ≡ event_of (next_event self.old.sizes self.old.agenda.standing
+            (counts_of machine.now.state)) }
+        ensures agenda { self.new ≡ record self.old {
+          agenda = record self.old.agenda {
+            standing =
+                stands_after (next_event self.old.sizes self.old.agenda.standing (counts_of machine.now.state));
+          };
+        } }
     {
         let idle = self.player.asks_idle() && machine.is_idle();
         let counts = Counts {

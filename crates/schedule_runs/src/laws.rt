@@ -10,6 +10,7 @@ ghost use Rattle.std.specs.Prelude.{List, Option};
 
 /// The events of a schedule, each played as it came, are events that were played one after the other on the machine.
 pub fn events_of_a_schedule_are_played()
-    ensures { (site : Site) (lines : List Line) (stop : Option ProcessorStop) (events : List Event) (agenda : Agenda) (s : MachineState)
+    ensures { (site : Site) (lines : List Line) (stop : Option ProcessorStop) (events : List Event) (agenda : Agenda)
+        (s : MachineState)
         → PlaysSchedule site lines stop events agenda s → IsPlayed site events s }
 {}

@@ -8,7 +8,8 @@ pub enum Ending {
     Second(u8),
 }
 
-/// A run that was made: the machine as the run left it, closed where it is idle; how many events were asked for; and how it ended.
+/// A run that was made: the machine as the run left it, closed where it is idle; how many events were asked for; and
+/// how it ended.
 #[derive(Drop)]
 pub struct Ran {
     pub machine: PairMachine,

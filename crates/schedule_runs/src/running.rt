@@ -13,7 +13,7 @@ use gd_words::NoMemory;
 use logs::Shared;
 use machine_states::Effect;
 use pair_machine::PairMachine;
-use player::{Sizes, ProcessorStop};
+use player::{ProcessorStop, Sizes};
 use schedule::{Event, Line};
 use std::alloc::Global;
 use tal_tree::Site;

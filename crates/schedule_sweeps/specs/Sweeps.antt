@@ -27,9 +27,11 @@ IsKindOf site lines stop how = (ran : Ran) × IsRunOf site lines (Some stop) ran
 abbrev pub AreKindsOf : Site → List Line → ℕ → List RunKind → Type 0
 AreKindsOf site lines processor [] = Unit {0}
 AreKindsOf site lines processor (how ∷ rest) =
-    IsKindOf site lines (record { processor = processor; after = length rest }) how × AreKindsOf site lines processor rest
+    IsKindOf site lines (record { processor = processor; after = length rest }) how
+    × AreKindsOf site lines processor rest
 
--- the row of a processor counts as many runs: those with a stop of it after each number of events below this one, each by its kind
+-- the row of a processor counts as many runs: those with a stop of it after each number of events below this one, each
+-- by its kind
 pub record IsRowOf (site : Site) (lines : List Line) (processor runs : ℕ) (row : Row) : Type 0 where
   pub kinds : List RunKind
   pub many : length kinds ≡ runs
@@ -40,7 +42,8 @@ pub record IsRowOf (site : Site) (lines : List Line) (processor runs : ℕ) (row
 abbrev pub AreRowsFrom : Site → List Line → ℕ → ℕ → List ProcessorRow → Type 0
 AreRowsFrom site lines runs processor [] = Unit {0}
 AreRowsFrom site lines runs processor (one ∷ rest) =
-    (one.processor ≡ processor) × IsRowOf site lines processor runs one.row × AreRowsFrom site lines runs (processor + 1) rest
+    (one.processor ≡ processor) × IsRowOf site lines processor runs one.row
+    × AreRowsFrom site lines runs (processor + 1) rest
 
 -- a sweep of the schedule has the row of each processor of the site
 pub record IsSweepOf (site : Site) (lines : List Line) (runs : ℕ) (rows : List ProcessorRow) : Type 0 where

@@ -13,8 +13,8 @@ use schedule_runs::{Ending, run};
 use std::alloc::Global;
 use tal_tree::Site;
 
-/// Runs the schedule so many times for each processor of the site, with a stop of that processor after 0, 1, 2 and more events. The runs
-/// are made one after the other, and none is kept.
+/// Runs the schedule so many times for each processor of the site, with a stop of that processor after 0, 1, 2 and more
+/// events. The runs are made one after the other, and none is kept.
 pub fn sweep(
     alloc: Global,
     site: &Shared<Site>,

@@ -22,7 +22,11 @@ impl Model for Letter {
 
     ghost coded = { Prim.hlevel codes };
 
-    ghost view = { λ letter. record { sender = letter.sender; receiver = letter.receiver; message = message_of letter.message } };
+    ghost view = { λ letter. record {
+      sender = letter.sender;
+      receiver = letter.receiver;
+      message = message_of letter.message;
+    } };
 }
 
 impl Letter {

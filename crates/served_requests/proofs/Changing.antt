@@ -27,97 +27,123 @@ use Rattle.letter_laws.proofs.Known.{WasSentTo}
 use Rattle.served_requests.proofs.Awaiting.{WasAwaited, was_awaited, is_asked, awaited-before, come-none}
 use Rattle.served_requests.proofs.Coming.{come-seen}
 use Rattle.served_requests.proofs.Numbers.{asked-low, awaited-low, early-low}
-use Rattle.served_requests.proofs.Routes.{route-same, route-where, seat-within, stopped-is, rests-stopped, marks-stay, home-before}
+use Rattle.served_requests.proofs.Routes.{route-same, route-where, seat-within, stopped-is, rests-stopped, marks-stay}
+use Rattle.served_requests.proofs.Routes.{home-before}
 use Rattle.served_requests.proofs.Seeing.{LeavesTold, turn-seen}
 use Rattle.served_requests.proofs.Sending.{letter-in, IsTold, told-now}
 use Rattle.served_requests.proofs.Turned.{Turned, change-turned}
 
 -- of the letters that were owed these are, but for what is handed over
 abbrev pub AreLeft : Post → Cause → List Letter → Type 0
-AreLeft post cause rest = (letter : Letter) → IsAmong letter post.owed → IsAmong letter rest ⊎ (cause ≡ Handing letter.receiver letter.message)
+AreLeft post cause rest = (letter : Letter) → IsAmong letter post.owed
+    → IsAmong letter rest ⊎ (cause ≡ Handing letter.receiver letter.message)
 
-module _ (site : Site) (fit : IsFit site) (events : ℕ) (post : Post) (good : IsGood site events post.world) (seated : AreSeated site post.world)
+module _ (site : Site) (fit : IsFit site) (events : ℕ) (post : Post) (good : IsGood site events post.world)
+    (seated : AreSeated site post.world)
     (known : IsKnown site post) (served : AreServed site post) where
-  module _ (next : World) (cause : Cause) (sendings : List Sending) (rest : List Letter) (change : Change site post.world cause sendings next)
-      (unmarked : (node processor : ℕ) → cause ≡ NotingDown node processor → ⊥) (sent : WasSentTo post cause) (left : AreLeft post cause rest) where
+  module _ (next : World) (cause : Cause) (sendings : List Sending) (rest : List Letter)
+      (change : Change site post.world cause sendings next)
+      (unmarked : (node processor : ℕ) → cause ≡ NotingDown node processor → ⊥) (sent : WasSentTo post cause)
+      (left : AreLeft post cause rest) where
     abbrev After : Post
     After = after_change site sendings next (record post { owed = rest })
 
-    turned : (number : ℕ) (now : Pair) → slice_get next.processes number ≡ Some now → Turned site post.world cause sendings number now
+    turned : (number : ℕ) (now : Pair) → slice_get next.processes number ≡ Some now
+        → Turned site post.world cause sendings number now
     turned = change-turned site fit events post.world good known.honest.calm change
 
     route : (node number : ℕ) (now : Pair) (there : slice_get next.processes number ≡ Some now)
         → route_of next.marks node now ≡ route_of post.world.marks node (turned number now there).before
     route node number now there =
         let was = turned number now there in
-        ap (λ marks. route_of marks node now) (marks-stay change unmarked) ∙ route-same post.world.marks node was.before now (λ k. (was.goes k).0)
+        ap (λ marks. route_of marks node now) (marks-stay change unmarked)
+        ∙ route-same post.world.marks node was.before now (λ k. (was.goes k).0)
 
-    home-was : (node asker : ℕ) (one : Who) → home_of next node one ≡ Some asker → home_of post.world node one ≡ Some asker
+    home-was : (node asker : ℕ) (one : Who) → home_of next node one ≡ Some asker
+        → home_of post.world node one ≡ Some asker
     home-was node asker one =
         home-before post.world next node asker one
-        (λ number file is now there. let was = turned number now there in (was.before, was.there, route node number now there))
+        (λ number file is now there. let was = turned number now there in
+        (was.before, was.there, route node number now there))
 
-    asked : (node : ℕ) (request : Request) → cause ≡ Handing node (Asking request) → IsAsked site good.invariant.ledger request
+    asked : (node : ℕ) (request : Request) → cause ≡ Handing node (Asking request)
+        → IsAsked site good.invariant.ledger request
     asked node request is =
         let letter = sent node request is in
         good.invariant.requests request (subst (IsSent post.world) letter.3 (known.honest.letters letter.0 letter.1))
 
-    module _ (asker : ℕ) (one : Who) (n : ℕ) (opener : Opener) (opens : opener_of site one ≡ Some opener) (awaited : IsAwaited site next asker one n) where
-      told : (node : ℕ) (words : List ℤ) → IsAmong (record { node = node; message = Replying (reply_of opener n words) }) sendings
+    module _ (asker : ℕ) (one : Who) (n : ℕ) (opener : Opener) (opens : opener_of site one ≡ Some opener)
+        (awaited : IsAwaited site next asker one n) where
+      told : (node : ℕ) (words : List ℤ) → IsAmong
+          (record { node = node; message = Replying (reply_of opener n words) }) sendings
           → IsTold After asker one opener n node words
       told node words among = elim (told-now site next node asker one opener n words sendings opens among) [
         | inl letter ↦ inl (among-right _ rest (letters_of site next sendings) letter)
         | inr away ↦ inr away
       ]
 
-      leaves : IsAwaited site post.world asker one n → (pair : Pair) (k : Which) (after : Copy) → slice_get post.world.processes opener.server ≡ Some pair
+      leaves : IsAwaited site post.world asker one n → (pair : Pair) (k : Which) (after : Copy)
+          → slice_get post.world.processes opener.server ≡ Some pair
           → LeavesTold post After asker one opener n cause sendings (copy_of k pair) after
       leaves old pair k after there = record {
         carried = λ words role acts kept was. elim was [
           | inl letter ↦ elim (left _ letter) [
             | inl among ↦ inl (among-left _ rest (letters_of site next sendings) among)
-            | inr handed ↦ absurd (come-none site fit events post.world good known.honest.calm change asker (reply_of opener n words) handed asker one n opens awaited)
+            | inr handed ↦ absurd (come-none site fit events post.world good known.honest.calm change asker
+                (reply_of opener n words) handed asker one n opens awaited)
           ]
           | inr away ↦ inr (λ home. away (home-was (copy_of k pair).processor asker one home))
         ];
         told = λ words among. told (copy_of k pair).processor words among;
-        low = λ block role at. awaited-low site fit events post.world good asker one n opener pair k opens there old role block at;
+        low = λ block role at. awaited-low site fit events post.world good asker one n opener pair k opens there old
+            role block at;
         heard =
-            λ request block role is process at. asked-low site fit events post.world good opener.server pair k there role request process
+            λ request block role is process at. asked-low site fit events post.world good opener.server pair k there
+            role request process
             (asked (copy_of k pair).processor request is) block at;
         early = λ request role is process place.
             let letter = sent (copy_of k pair).processor request is in
             let early = known.early.sent letter.0 request pair k letter.1 letter.3 (rw process there) letter.2 role in
-            early-low site fit events post.world good request asker one n opener early (asked (copy_of k pair).processor request is) opens old process place;
+            early-low site fit events post.world good request asker one n opener early
+            (asked (copy_of k pair).processor request is) opens old process place;
       }
 
-      still-served : (now : Pair) (there : slice_get next.processes opener.server ≡ Some now) → IsAwaited site post.world asker one n
-          → IsServed site post asker one n opener (turned opener.server now there).before → IsServed site After asker one n opener now
+      still-served : (now : Pair) (there : slice_get next.processes opener.server ≡ Some now)
+          → IsAwaited site post.world asker one n
+          → IsServed site post asker one n opener (turned opener.server now there).before
+          → IsServed site After asker one n opener now
       still-served now there old (route_stopped rests) =
           let was = turned opener.server now there in
           let to = route-where post.world.marks asker was.before in
           let within = seat-within to.0 (seated.pairs opener.server was.before was.there) in
           let stopped = stopped-is post.world.stopped (copy_of to.0 was.before).processor within (rw to.1 rests) in
-          let still = (change-grows post.world next cause sendings change).stopped (copy_of to.0 was.before).processor stopped in
-          route_stopped (rw (route asker opener.server now there, ← to.1) (rests-stopped next.stopped (copy_of to.0 was.before).processor still))
+          let still = (change-grows post.world next cause sendings change).stopped (copy_of to.0 was.before).processor
+          stopped in
+          route_stopped (rw (route asker opener.server now there, ← to.1)
+          (rests-stopped next.stopped (copy_of to.0 was.before).processor still))
       still-served now there old (is_owed words letter) = elim (left _ letter) [
-        | inl among ↦ is_owed words (rw (route asker opener.server now there) (among-left _ rest (letters_of site next sendings) among))
+        | inl among ↦ is_owed words (rw (route asker opener.server now there)
+            (among-left _ rest (letters_of site next sendings) among))
         | inr handed ↦
             let was = turned opener.server now there in
-            let seen = come-seen site fit events post.world good asker one opener n opens change (rest ++ letters_of site next sendings) (letters_of site next sendings ++ post.sent)
+            let seen = come-seen site fit events post.world good asker one opener n opens change
+            (rest ++ letters_of site next sendings) (letters_of site next sendings ++ post.sent)
             (route_of post.world.marks asker was.before) words handed old told known.early.waiting in
             let same : seen.now ≡ now = some-same (sym seen.there ∙ there) in
             subst (λ p. IsServed site After asker one n opener p) same
-            (is_seen seen.k (seen.seat ∙ sym (ap (λ p. route_of next.marks asker p) same ∙ route asker opener.server now there)) seen.seen)
+            (is_seen seen.k (seen.seat ∙ sym (ap (λ p. route_of next.marks asker p) same
+            ∙ route asker opener.server now there)) seen.seen)
       ]
       still-served now there old (is_seen k at has) =
           let was = turned opener.server now there in
           is_seen k ((was.goes k).0 ∙ at ∙ sym (route asker opener.server now there))
-          (turn-seen site post After asker one opener n cause sendings (copy_of k was.before) (copy_of k now) (was.goes k).0
+          (turn-seen site post After asker one opener n cause sendings (copy_of k was.before) (copy_of k now)
+          (was.goes k).0
           (leaves old was.before k (copy_of k now) was.there) (was.goes k).1 has)
 
   -- a change but a mark leaves what is awaited served
-  pub change-served : (next : World) (cause : Cause) (sendings : List Sending) (rest : List Letter) → Change site post.world cause sendings next
+  pub change-served : (next : World) (cause : Cause) (sendings : List Sending) (rest : List Letter)
+      → Change site post.world cause sendings next
       → ((node processor : ℕ) → cause ≡ NotingDown node processor → ⊥) → WasSentTo post cause → AreLeft post cause rest
       → AreServed site (after_change site sendings next (record post { owed = rest }))
   change-served next cause sendings rest change unmarked sent left asker one n opener now opens there awaited =
@@ -131,4 +157,5 @@ module _ (site : Site) (fit : IsFit site) (events : ℕ) (post : Post) (good : I
           (served asker one n opener was.before opens was.there old)
       by (is_asked words asks) =
           is_owed words (among-right _ rest (letters_of site next sendings)
-          (letter-in site next asker (route_of next.marks asker now) (Asking (request_of opener n words)) sendings (asks opener opens) (rw there refl)))
+          (letter-in site next asker (route_of next.marks asker now) (Asking (request_of opener n words)) sendings
+          (asks opener opens) (rw there refl)))

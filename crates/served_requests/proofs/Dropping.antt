@@ -1,4 +1,5 @@
--- A letter that may be dropped, since it changes nothing where it comes, is one that no awaited request stands in need of.
+-- A letter that may be dropped, since it changes nothing where it comes, is one that no awaited request stands in need
+-- of.
 use Rattle.std.proofs.Common.{◌≡◌, ◌⊎◌, inl, inr, ℕ, ℤ, true, List, Some, slice_get, refl, sym, subst}
 use Rattle.gd_words.specs.Members.{IsAmong}
 use Rattle.tal_tree.specs.declared.act.Act.TheVariants as act
@@ -28,42 +29,52 @@ use Rattle.letter_laws.specs.Known.{IsHonest}
 use Rattle.served_requests.proofs.Routes.{route-where, rests-stopped}
 
 -- a letter of a list is the one that is taken from it, or one of the rest
-pub taken-or : {letter : Letter} {letters rest : List Letter} (other : Letter) → IsTaken letter letters rest → IsAmong other letters
+pub taken-or : {letter : Letter} {letters rest : List Letter} (other : Letter) → IsTaken letter letters rest
+    → IsAmong other letters
     → (other ≡ letter) ⊎ IsAmong other rest
 taken-or other takes_first among = among
 taken-or other (takes_later taken) (inl same) = inr (inl same)
-taken-or other (takes_later taken) (inr later) = elim (taken-or other taken later) [ inl same ↦ inl same | inr among ↦ inr (inr among) ]
+taken-or other (takes_later taken) (inr later) =
+    elim (taken-or other taken later) [ inl same ↦ inl same | inr among ↦ inr (inr among) ]
 
 module _ (site : Site) (events : ℕ) (w : World) (good : IsGood site events w) where
   -- a request that comes where it is routed changes something
-  request-taken : (asker n : ℕ) (opener : Opener) (pair : Pair) (words : List ℤ) → slice_get w.processes opener.server ≡ Some pair
+  request-taken : (asker n : ℕ) (opener : Opener) (pair : Pair) (words : List ℤ)
+      → slice_get w.processes opener.server ≡ Some pair
       → is_running w.stopped (route_of w.marks asker pair) ≡ true → IsAmong (request_of opener n words) w.requests
       → IsIdleFor site w (Handing (route_of w.marks asker pair) (Asking (request_of opener n words))) → ⊥
   request-taken asker n opener pair words there runs sent idle =
-      by (copy_of to.0 pair).role refl (subst (λ p. IsIdleFor site w (Handing p (Asking (request_of opener n words)))) (sym to.1) idle)
+      by (copy_of to.0 pair).role refl (subst (λ p. IsIdleFor site w (Handing p (Asking (request_of opener n words))))
+      (sym to.1) idle)
     where
       to : (k : Which) × ((copy_of k pair).processor ≡ route_of w.marks asker pair)
       to = route-where w.marks asker pair
 
-      by : (role : Role) → (copy_of to.0 pair).role ≡ role → IsIdleFor site w (Handing (copy_of to.0 pair).processor (Asking (request_of opener n words))) → ⊥
+      by : (role : Role) → (copy_of to.0 pair).role ≡ role
+          → IsIdleFor site w (Handing (copy_of to.0 pair).processor (Asking (request_of opener n words))) → ⊥
       by Acting role none = none _ _ (by_request (request_of opener n words) to.0 pair sent there role)
       by Watching role none = none _ _ (by_early_request (request_of opener n words) to.0 pair sent there role)
       by Gone role none =
-          let stopped = rests-stopped w.stopped (copy_of to.0 pair).processor ((gone-is w.stopped pair (good.roles opener.server pair there) to.0).0 role) in
+          let stopped = rests-stopped w.stopped (copy_of to.0 pair).processor
+          ((gone-is w.stopped pair (good.roles opener.server pair there) to.0).0 role) in
           let lives : is_running w.stopped (copy_of to.0 pair).processor ≡ true = rw to.1 runs in
           cc
 
   -- a reply that comes where it is awaited changes something
-  reply-taken : (asker : ℕ) (one : Who) (n : ℕ) (opener : Opener) (words : List ℤ) → opener_of site one ≡ Some opener → IsAwaited site w asker one n
-      → IsAmong (reply_of opener n words) w.replies → IsIdleFor site w (Handing asker (Replying (reply_of opener n words))) → ⊥
+  reply-taken : (asker : ℕ) (one : Who) (n : ℕ) (opener : Opener) (words : List ℤ) → opener_of site one ≡ Some opener
+      → IsAwaited site w asker one n
+      → IsAmong (reply_of opener n words) w.replies
+      → IsIdleFor site w (Handing asker (Replying (reply_of opener n words))) → ⊥
   reply-taken asker one n opener words opens (by_copy {number = number} pair k there role at on last) sent idle =
-      idle _ _ (by_own number k pair there role (by_reply {reply = reply_of opener n words} sent opens (sym last) refl) (gets at (sym on))
+      idle _ _ (by_own number k pair there role (by_reply {reply = reply_of opener n words} sent opens (sym last) refl)
+      (gets at (sym on))
       (enters-as number (act.Step number) w.kept (copy_of k pair)))
   reply-taken asker one n opener words opens (by_terminal {number = number} terminal there odd) sent idle =
       idle _ _ (by_print number terminal (reply_of opener terminal.entered words) there odd sent opens refl)
 
   -- so a letter that changes nothing is dropped, and all is served as it was
-  pub drop-served : (owed sent rest : List Letter) (letter : Letter) → IsHonest site (record { world = w; owed = owed; sent = sent })
+  pub drop-served : (owed sent rest : List Letter) (letter : Letter)
+      → IsHonest site (record { world = w; owed = owed; sent = sent })
       → AreServed site (record { world = w; owed = owed; sent = sent }) → IsTaken letter owed rest
       → is_running w.stopped letter.receiver ≡ true → IsIdleFor site w (Handing letter.receiver letter.message)
       → AreServed site (record { world = w; owed = rest; sent = sent })
@@ -78,8 +89,10 @@ module _ (site : Site) (events : ℕ) (w : World) (good : IsGood site events w) 
       by (route_stopped rests) = route_stopped rests
       by (is_owed words among) = elim (taken-or _ taken among) [
         | inr left ↦ is_owed words left
-        | inl same ↦ absurd (request-taken asker n opener pair words there (subst (λ l. is_running w.stopped l.receiver ≡ true) (sym same) runs)
-            (subst (λ l. IsSent w l.message) (sym same) was_sent) (subst (λ l. IsIdleFor site w (Handing l.receiver l.message)) (sym same) idle))
+        | inl same ↦ absurd (request-taken asker n opener pair words there
+            (subst (λ l. is_running w.stopped l.receiver ≡ true) (sym same) runs)
+            (subst (λ l. IsSent w l.message) (sym same) was_sent)
+            (subst (λ l. IsIdleFor site w (Handing l.receiver l.message)) (sym same) idle))
       ]
       by (is_seen k at has) = is_seen k at (record {
         watching = has.watching;
@@ -88,7 +101,8 @@ module _ (site : Site) (events : ℕ) (w : World) (good : IsGood site events w) 
           | inr away ↦ inr away
           | inl among ↦ elim (taken-or _ taken among) [
             | inr left ↦ inl left
-            | inl same ↦ absurd (reply-taken asker one n opener words opens awaited (subst (λ l. IsSent w l.message) (sym same) was_sent)
+            | inl same ↦ absurd (reply-taken asker one n opener words opens awaited
+                (subst (λ l. IsSent w l.message) (sym same) was_sent)
                 (subst (λ l. IsIdleFor site w (Handing l.receiver l.message)) (sym same) idle))
           ]
         ];

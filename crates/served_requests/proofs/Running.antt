@@ -13,13 +13,18 @@ use Rattle.awaited_requests.specs.Seats.{IsLaidOut, AreSeated}
 
 module _ (site : Site) (events : ℕ) (w : World) (good : IsGood site events w) where
   -- the processor of a copy that acts hasn't stopped
-  pub acting-runs : (number : ℕ) (pair : Pair) (k : Which) → slice_get w.processes number ≡ Some pair → (copy_of k pair).role ≡ Acting
+  pub acting-runs : (number : ℕ) (pair : Pair) (k : Which) → slice_get w.processes number ≡ Some pair
+      → (copy_of k pair).role ≡ Acting
       → slice_get w.stopped (copy_of k pair).processor ≢ Some true
-  acting-runs number pair k there role stopped = let gone = (gone-is w.stopped pair (good.roles number pair there) k).1 stopped in cc
+  acting-runs number pair k there role stopped =
+      let gone = (gone-is w.stopped pair (good.roles number pair there) k).1 stopped in cc
 
   -- nor has the node of one that awaits a reply
-  pub asker-runs : (out : IsLaidOut site) → AreSeated site w → {asker : ℕ} {one : Who} {n : ℕ} → IsAwaited site w asker one n
+  pub asker-runs : (out : IsLaidOut site) → AreSeated site w → {asker : ℕ} {one : Who} {n : ℕ}
+      → IsAwaited site w asker one n
       → slice_get w.stopped asker ≢ Some true
-  asker-runs out seated (by_copy {number = number} pair k there role at on last) stopped = acting-runs number pair k there role stopped
+  asker-runs out seated (by_copy {number = number} pair k there role at on last) stopped =
+      acting-runs number pair k there role stopped
   asker-runs out seated (by_terminal terminal there odd) stopped =
-      let within = slice_get_within w.stopped _ true stopped in let few = out.few in let all = seated.processors in omega (arith, within, few, all)
+      let within = slice_get_within w.stopped _ true stopped in let few = out.few in let all = seated.processors in
+      omega (arith, within, few, all)

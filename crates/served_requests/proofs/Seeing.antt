@@ -1,5 +1,6 @@
 -- A copy that has seen to a request has seen to it after each turn as well.
-use Rattle.std.proofs.Common.{◌≡◌, ◌≢◌, ◌⊎◌, inl, inr, ℕ, ◌+◌, ◌≤◌, ℤ, List, Some, slice_get, refl, ap, sym, ◌∙◌, subst, arith}
+use Rattle.std.proofs.Common.{◌≡◌, ◌≢◌, ◌⊎◌, inl, inr, ℕ, ◌+◌, ◌≤◌, ℤ, List, Some, slice_get, refl, ap, sym, ◌∙◌, subst}
+use Rattle.std.proofs.Common.{arith}
 use Rattle.gd_words.specs.Members.{IsAmong}
 use Rattle.gd_words.specs.declared.message.Request.{Request}
 use Rattle.gd_words.proofs.Among.{among-given}
@@ -19,35 +20,48 @@ use Rattle.letter_laws.proofs.Calm.{not-both}
 use Rattle.served_requests.proofs.Queues.{filter-in, waits-still, came-still, chosen-leaves}
 use Rattle.served_requests.proofs.Sending.{IsTold}
 use Rattle.served_requests.proofs.Standings.{next-is, took-next, took-kept, answered-next, answered-kept}
-use Rattle.served_requests.proofs.Turns.{Turns, is_quiet, has_asked, has_taken, has_answered, has_heard, has_heard_early, has_taken_over}
+use Rattle.served_requests.proofs.Turns.{Turns, is_quiet, has_asked, has_taken, has_answered, has_heard}
+use Rattle.served_requests.proofs.Turns.{has_heard_early, has_taken_over}
 
--- what must be so around the turn of a copy for which it has seen to a request: what was told stays told; what is sent is told; the number isn't past the next one
--- at the copy where that acts; what comes to a copy that acts isn't either; and what comes to one that watches isn't past the number
-pub record LeavesTold (post next : Post) (asker : ℕ) (one : Who) (opener : Opener) (n : ℕ) (cause : Cause) (sendings : List Sending) (before after : Copy) : Type 0 where
-  pub carried : (words : List ℤ) → before.role ≡ Acting → after.role ≡ Acting → standing_at after.core.receive opener.place n ≡ Kept words
+-- what must be so around the turn of a copy for which it has seen to a request: what was told stays told; what is sent
+-- is told; the number isn't past the next one at the copy where that acts; what comes to a copy that acts isn't either;
+-- and what comes to one that watches isn't past the number
+pub record LeavesTold (post next : Post) (asker : ℕ) (one : Who) (opener : Opener) (n : ℕ) (cause : Cause)
+    (sendings : List Sending) (before after : Copy) : Type 0 where
+  pub carried : (words : List ℤ) → before.role ≡ Acting → after.role ≡ Acting
+      → standing_at after.core.receive opener.place n ≡ Kept words
       → IsTold post asker one opener n before.processor words → IsTold next asker one opener n before.processor words
-  pub told : (words : List ℤ) → IsAmong (record { node = before.processor; message = Replying (reply_of opener n words) }) sendings
+  pub told : (words : List ℤ) → IsAmong (record
+      { node = before.processor; message = Replying (reply_of opener n words) }) sendings
       → IsTold next asker one opener n before.processor words
-  pub low : (block : OpenerBlock) → before.role ≡ Acting → slice_get before.core.receive.openers opener.place ≡ Some block → n ≤ block.taken + 1
-  pub heard : (request : Request) (block : OpenerBlock) → before.role ≡ Acting → cause ≡ Handing before.processor (Asking request)
+  pub low : (block : OpenerBlock) → before.role ≡ Acting
+      → slice_get before.core.receive.openers opener.place ≡ Some block → n ≤ block.taken + 1
+  pub heard : (request : Request) (block : OpenerBlock) → before.role ≡ Acting
+      → cause ≡ Handing before.processor (Asking request)
       → request.process ≡ opener.server
       → slice_get before.core.receive.openers request.opener ≡ Some block → request.number ≤ block.taken + 1
-  pub early : (request : Request) → before.role ≡ Watching → cause ≡ Handing before.processor (Asking request) → request.process ≡ opener.server
+  pub early : (request : Request) → before.role ≡ Watching → cause ≡ Handing before.processor (Asking request)
+      → request.process ≡ opener.server
       → request.opener ≡ opener.place → request.number ≤ n
 
-module _ (site : Site) (post next : Post) (asker : ℕ) (one : Who) (opener : Opener) (n : ℕ) (cause : Cause) (sendings : List Sending) (before after : Copy)
-    (seat : after.processor ≡ before.processor) (leaves : LeavesTold post next asker one opener n cause sendings before after) where
+module _ (site : Site) (post next : Post) (asker : ℕ) (one : Who) (opener : Opener) (n : ℕ) (cause : Cause)
+    (sendings : List Sending) (before after : Copy)
+    (seat : after.processor ≡ before.processor)
+    (leaves : LeavesTold post next asker one opener n cause sendings before after) where
   abbrev IsKeptIn : ReceiveBlock → List ℤ → Type 0
   IsKeptIn table words = standing_at table opener.place n ≡ Kept words
 
-  moved : (words : List ℤ) → IsTold next asker one opener n before.processor words → IsTold next asker one opener n after.processor words
+  moved : (words : List ℤ) → IsTold next asker one opener n before.processor words
+      → IsTold next asker one opener n after.processor words
   moved words told = subst (λ p. IsTold next asker one opener n p words) (sym seat) told
 
   -- a copy acts, before and after
   acting-seen : before.role ≡ Acting → after.role ≡ Acting
       → (standing_at after.core.receive opener.place n ≡ Next → standing_at before.core.receive opener.place n ≡ Next)
-      → (standing_at after.core.receive opener.place n ≡ Next → WaitsFor before.waiting opener n → WaitsFor after.waiting opener n)
-      → ((words : List ℤ) → IsKeptIn after.core.receive words → IsTold next asker one opener n before.processor words ⊎ IsKeptIn before.core.receive words)
+      → (standing_at after.core.receive opener.place n ≡ Next → WaitsFor before.waiting opener n
+      → WaitsFor after.waiting opener n)
+      → ((words : List ℤ) → IsKeptIn after.core.receive words
+      → IsTold next asker one opener n before.processor words ⊎ IsKeptIn before.core.receive words)
       → HasSeen post asker one before opener n → HasSeen next asker one after opener n
   acting-seen acted acts was_next waits was_kept has = record {
     watching = λ r. absurd (not-both acts r);
@@ -66,13 +80,16 @@ module _ (site : Site) (post next : Post) (asker : ℕ) (one : Who) (opener : Op
     kept = λ r. absurd (not-both r watches);
   }
 
-  same-seen : after.core.receive ≡ before.core.receive → after.waiting ≡ before.waiting → before.role ≡ Acting → after.role ≡ Acting
+  same-seen : after.core.receive ≡ before.core.receive → after.waiting ≡ before.waiting → before.role ≡ Acting
+      → after.role ≡ Acting
       → HasSeen post asker one before opener n → HasSeen next asker one after opener n
   same-seen table waits acted acts = acting-seen acted acts
-      (λ is. subst (λ t. standing_at t opener.place n ≡ Next) table is) (λ is wait. subst (λ ws. WaitsFor ws opener n) (sym waits) wait)
+      (λ is. subst (λ t. standing_at t opener.place n ≡ Next) table is)
+      (λ is wait. subst (λ ws. WaitsFor ws opener n) (sym waits) wait)
       (λ words is. inr (subst (λ t. IsKeptIn t words) table is))
 
-  pub turn-seen : Turns site opener.server cause sendings before after → HasSeen post asker one before opener n → HasSeen next asker one after opener n
+  pub turn-seen : Turns site opener.server cause sendings before after → HasSeen post asker one before opener n
+      → HasSeen next asker one after opener n
   turn-seen (is_quiet quiet) has = record {
     watching = λ r. subst (λ ws. WaitsFor ws opener n) (sym quiet.waits) (has.watching (quiet.watches r));
     next = λ r is. (same-seen (quiet.table r) quiet.waits (quiet.acts r) r has).next r is;
@@ -84,21 +101,27 @@ module _ (site : Site) (post next : Post) (asker : ℕ) (one : Who) (opener : Op
       (λ next wait. (
         wait.0,
         subst (λ ws. IsAmong wait.0 ws) (sym rest)
-            (chosen-leaves before.core.receive before.waiting found wait.0 is wait.1 (λ same. (took next).0 (sym same ∙ wait.3))),
+            (chosen-leaves before.core.receive before.waiting found wait.0 is wait.1
+            (λ same. (took next).0 (sym same ∙ wait.3))),
         wait.2,
         wait.3,
         wait.4,
       ))
-      (λ words kept. inr (took-kept before.core.receive found.request.opener block known opener.place n words free (subst (λ t. IsKeptIn t words) table kept))) has
+      (λ words kept. inr (took-kept before.core.receive found.request.opener block known opener.place n words free
+      (subst (λ t. IsKeptIn t words) table kept))) has
     where
       took : standing_at after.core.receive opener.place n ≡ Next
           → (found.request.opener ≢ opener.place) × (standing_at before.core.receive opener.place n ≡ Next)
-      took next = took-next before.core.receive found.request.opener block known opener.place n (λ old there. leaves.low old acted there)
+      took next = took-next before.core.receive found.request.opener block known opener.place n
+          (λ old there. leaves.low old acted there)
           (subst (λ t. standing_at t opener.place n ≡ Next) table next)
-  turn-seen (has_answered place depth said block acted acts away hand known table waits sent) has = acting-seen acted acts
-      (λ next. answered-next before.core.receive place block known opener.place n depth said (subst (λ t. standing_at t opener.place n ≡ Next) table next))
+  turn-seen (has_answered place depth said block acted acts away hand known table waits sent) has =
+      acting-seen acted acts
+      (λ next. answered-next before.core.receive place block known opener.place n depth said
+      (subst (λ t. standing_at t opener.place n ≡ Next) table next))
       (λ next wait. subst (λ ws. WaitsFor ws opener n) (sym waits) wait)
-      (λ words kept. elim (answered-kept before.core.receive place block known opener.place n depth said words hand (subst (λ t. IsKeptIn t words) table kept)) [
+      (λ words kept. elim (answered-kept before.core.receive place block known opener.place n depth said words hand
+      (subst (λ t. IsKeptIn t words) table kept)) [
         | inl now ↦ inl (leaves.told words (rw (← now.0, now.1, now.2) sent))
         | inr kept ↦ inr kept
       ]) has
@@ -106,9 +129,13 @@ module _ (site : Site) (post next : Post) (asker : ℕ) (one : Who) (opener : Op
       (λ next. subst (λ t. standing_at t opener.place n ≡ Next) (ap (λ c. c.receive) core) next)
       (λ next wait. (
         wait.0,
-        subst (λ ws. IsAmong wait.0 ws) (sym waits) (came-still before.core.receive request wait.0 before.waiting wait.1 (λ same.
-            let stands = next-is before.core.receive opener.place n (subst (λ t. standing_at t opener.place n ≡ Next) (ap (λ c. c.receive) core) next) in
-            let low = leaves.heard request stands.block acted is process (subst (λ p. slice_get before.core.receive.openers p ≡ Some stands.block) (sym wait.3 ∙ same) stands.there) in
+        subst (λ ws. IsAmong wait.0 ws) (sym waits)
+            (came-still before.core.receive request wait.0 before.waiting wait.1 (λ same.
+            let stands = next-is before.core.receive opener.place n
+            (subst (λ t. standing_at t opener.place n ≡ Next) (ap (λ c. c.receive) core) next) in
+            let low = leaves.heard request stands.block acted is process
+            (subst (λ p. slice_get before.core.receive.openers p ≡ Some stands.block) (sym wait.3 ∙ same)
+            stands.there) in
             let number = wait.4 in
             omega (arith, low, stands.next, number))),
         wait.2,
@@ -121,7 +148,8 @@ module _ (site : Site) (post next : Post) (asker : ℕ) (one : Who) (opener : Op
       watching-seen watches (
         wait.0,
         subst (λ ws. IsAmong wait.0 ws) (sym waits) (waits-still request wait.0 before.waiting wait.1 (λ same.
-            let low = leaves.early request watched is process (sym same ∙ wait.3) in let number = wait.4 in omega (arith, low, number))),
+            let low = leaves.early request watched is process (sym same ∙ wait.3) in let number =
+            wait.4 in omega (arith, low, number))),
         wait.2,
         wait.3,
         wait.4,
@@ -129,18 +157,22 @@ module _ (site : Site) (post next : Post) (asker : ℕ) (one : Who) (opener : Op
   turn-seen (has_taken_over watched acts away table waits told) has = record {
     watching = λ r. absurd (not-both acts r);
     next = λ r is.
-        let next : standing before.core.receive wait.0 ≡ Next = rw (wait.3, wait.4) (subst (λ t. standing_at t opener.place n ≡ Next) table is) in (
+        let next : standing before.core.receive wait.0 ≡ Next =
+        rw (wait.3, wait.4) (subst (λ t. standing_at t opener.place n ≡ Next) table is) in (
           wait.0,
           subst (λ ws. IsAmong wait.0 ws) (sym waits)
-              (filter-in (λ request. is_waiting (standing before.core.receive request)) wait.0 before.waiting (rw next refl) wait.1),
+              (filter-in (λ request. is_waiting (standing before.core.receive request)) wait.0 before.waiting
+              (rw next refl) wait.1),
           wait.2,
           wait.3,
           wait.4,
         );
     kept = λ r words is.
-        let kept : standing before.core.receive wait.0 ≡ Kept words = rw (wait.3, wait.4) (subst (λ t. IsKeptIn t words) table is) in
+        let kept : standing before.core.receive wait.0 ≡ Kept words =
+        rw (wait.3, wait.4) (subst (λ t. IsKeptIn t words) table is) in
         moved words (leaves.told words (told (reply_of opener n words)
-        (among-given (repeated before.core.receive) wait.0 (reply_of opener n words) before.waiting wait.1 (rw (kept, wait.2, wait.3, wait.4) (inl refl)))));
+        (among-given (repeated before.core.receive) wait.0 (reply_of opener n words) before.waiting wait.1
+        (rw (kept, wait.2, wait.3, wait.4) (inl refl)))));
   }
     where
       wait : WaitsFor before.waiting opener n

@@ -1,5 +1,6 @@
 -- What a change makes of a copy of a process, so far as requests and replies go: said once for each rule.
-use Rattle.std.proofs.Common.{◌≡◌, ◌≢◌, inl, ℕ, ◌+◌, true, ℤ, List, [], ◌∷◌, ◌++◌, map, Some, None, slice_get, slice_set, refl, ap, sym, ◌∙◌, subst, arith}
+use Rattle.std.proofs.Common.{◌≡◌, ◌≢◌, inl, ℕ, ◌+◌, true, ℤ, List, [], ◌∷◌, ◌++◌, map, Some, None, slice_get}
+use Rattle.std.proofs.Common.{slice_set, refl, ap, sym, ◌∙◌, subst, arith}
 use Rattle.std.specs.Option.{unwrap_or}
 use Rattle.gd_words.specs.Members.{IsAmong}
 use Rattle.gd_words.specs.declared.message.Request.{Request}
@@ -12,7 +13,8 @@ use Rattle.process_semantics.specs.Process as process
 use Rattle.plain_semantics.specs.declared.slot.Opener.{Opener}
 use Rattle.plain_semantics.specs.Openers.{openers_of, opener_of}
 use Rattle.checkpoint_image.specs.declared.receive.OpenerBlock.{OpenerBlock}
-use Rattle.checkpoint_image.specs.Receive.{waits, came, repeated, still_waiting, all_repeated, after_taking, after_answering, Chosen, chosen}
+use Rattle.checkpoint_image.specs.Receive.{waits, came, repeated, still_waiting, all_repeated, after_taking}
+use Rattle.checkpoint_image.specs.Receive.{after_answering, Chosen, chosen}
 use Rattle.world_semantics.specs.declared.role.Role.TheVariants.{Acting, Watching}
 use Rattle.world_semantics.specs.declared.which.Which.{Which}
 use Rattle.world_semantics.specs.declared.which.Which.TheVariants.{First, Second}
@@ -20,11 +22,14 @@ use Rattle.world_semantics.specs.Core.{Core, Deed, Advances, goes, takes, asks, 
 use Rattle.world_semantics.specs.World.{Copy, Pair, World, copy_of, other_of, with_copy}
 use Rattle.world_semantics.specs.Kept.{Enters, holds_on, repeats, begins, keeps, own_acts}
 use Rattle.world_semantics.specs.Messages.{Message, Asking, Replying, Sending, sent_at, Cause, Handing}
-use Rattle.world_semantics.specs.Own.{Around, around, Causes, by_inner, by_take, by_ask, by_answer, by_device, by_write, by_reply, asked_on}
-use Rattle.world_semantics.specs.Passes.{Passes, by_send, by_pass_again, by_pass, by_apply, by_acknowledge, checkpoint_of, taken_of, after_sending, copy_at_checkpoint, kept_at_checkpoint}
+use Rattle.world_semantics.specs.Own.{Around, around, Causes, by_inner, by_take, by_ask, by_answer, by_device, by_write}
+use Rattle.world_semantics.specs.Own.{by_reply, asked_on}
+use Rattle.world_semantics.specs.Passes.{Passes, by_send, by_pass_again, by_pass, by_apply, by_acknowledge}
+use Rattle.world_semantics.specs.Passes.{checkpoint_of, taken_of, after_sending, copy_at_checkpoint, kept_at_checkpoint}
 use Rattle.world_semantics.proofs.Lists.{some-same}
 use Rattle.process_histories.proofs.Counts.{take-free}
-use Rattle.process_histories.proofs.Steady.{IsSteady, IsCalm, done-steady, calm-away, inner-calm, took-calm, asked-same, got-calm, answered-calm, marked-calm, device-calm}
+use Rattle.process_histories.proofs.Steady.{IsSteady, IsCalm, done-steady, calm-away, inner-calm, took-calm, asked-same}
+use Rattle.process_histories.proofs.Steady.{got-calm, answered-calm, marked-calm, device-calm}
 use Rattle.takeover_laws.specs.Fit.{IsFit}
 use Rattle.takeover_laws.proofs.Kept.{IsGood}
 use Rattle.awaited_requests.specs.Served.{request_of}
@@ -32,8 +37,8 @@ use Rattle.letter_laws.specs.Known.{WatchersAreCalm}
 use Rattle.letter_laws.proofs.Awaited.{acting-done, asked-next}
 use Rattle.letter_laws.proofs.Calm.{not-both}
 
--- a change bears on no request at a copy: if that watches afterwards, it did before; if it acts it did, with the same table, and as the same core if it awaits;
--- and the same requests wait
+-- a change bears on no request at a copy: if that watches afterwards, it did before; if it acts it did, with the same
+-- table, and as the same core if it awaits; and the same requests wait
 pub record IsQuiet (before after : Copy) : Type 0 where
   pub watches : after.role ≡ Watching → before.role ≡ Watching
   pub acts : after.role ≡ Acting → before.role ≡ Acting
@@ -41,15 +46,18 @@ pub record IsQuiet (before after : Copy) : Type 0 where
   pub awaits : after.role ≡ Acting → process.point after.core.state ≡ point.Await → after.core ≡ before.core
   pub waits : after.waiting ≡ before.waiting
 
--- what a change makes of a copy of the process of a number, and what it sends of that: it is quiet; it has asked; it has taken, or answered; a request came, or
--- came early; or it took over
+-- what a change makes of a copy of the process of a number, and what it sends of that: it is quiet; it has asked; it
+-- has taken, or answered; a request came, or came early; or it took over
 pub data Turns (site : Site) (number : ℕ) (cause : Cause) (sendings : List Sending) (before after : Copy) : Type 0 where
   is_quiet : IsQuiet before after → Turns site number cause sendings before after
-  has_asked : (words : List ℤ) → before.role ≡ Acting → after.role ≡ Acting → after.core.receive ≡ before.core.receive → after.waiting ≡ before.waiting
-      → ((file n : ℕ) (opener : Opener) → process.asked_file after.core.state ≡ file → next_on after.core file ≡ n + 1 → opener_of site (who.File number file) ≡ Some opener
+  has_asked : (words : List ℤ) → before.role ≡ Acting → after.role ≡ Acting → after.core.receive ≡ before.core.receive
+      → after.waiting ≡ before.waiting
+      → ((file n : ℕ) (opener : Opener) → process.asked_file after.core.state ≡ file → next_on after.core file ≡ n + 1
+      → opener_of site (who.File number file) ≡ Some opener
       → IsAmong (record { node = before.processor; message = Asking (request_of opener n words) }) sendings)
       → Turns site number cause sendings before after
-  has_taken : (found : Chosen) (block : OpenerBlock) → before.role ≡ Acting → after.role ≡ Acting → process.point after.core.state ≢ point.Await
+  has_taken : (found : Chosen) (block : OpenerBlock) → before.role ≡ Acting → after.role ≡ Acting
+      → process.point after.core.state ≢ point.Await
       → before.core.receive.in_hand ≡ None → chosen before.core.receive before.waiting ≡ Some found
       → slice_get before.core.receive.openers found.request.opener ≡ Some block
       → after.core.receive ≡ after_taking found.request.opener block before.core.receive → after.waiting ≡ found.rest
@@ -57,17 +65,24 @@ pub data Turns (site : Site) (number : ℕ) (cause : Cause) (sendings : List Sen
   has_answered : (place depth : ℕ) (words : List ℤ) (block : OpenerBlock) → before.role ≡ Acting → after.role ≡ Acting
       → process.point after.core.state ≢ point.Await
       → before.core.receive.in_hand ≡ Some place → slice_get before.core.receive.openers place ≡ Some block
-      → after.core.receive ≡ after_answering depth place block words before.core.receive → after.waiting ≡ before.waiting
-      → IsAmong (record { node = before.processor; message = Replying (record { process = number; opener = place; number = block.taken; words = words }) }) sendings
+      → after.core.receive ≡ after_answering depth place block words before.core.receive
+      → after.waiting ≡ before.waiting
+      → IsAmong (record {
+        node = before.processor;
+        message = Replying (record { process = number; opener = place; number = block.taken; words = words });
+      }) sendings
       → Turns site number cause sendings before after
-  has_heard : (request : Request) → before.role ≡ Acting → after.role ≡ Acting → after.core ≡ before.core → request.process ≡ number
+  has_heard : (request : Request) → before.role ≡ Acting → after.role ≡ Acting → after.core ≡ before.core
+      → request.process ≡ number
       → after.waiting ≡ came before.core.receive before.waiting request
-      → ((reply : Reply) → IsAmong reply (repeated before.core.receive request) → IsAmong (record { node = before.processor; message = Replying reply }) sendings)
+      → ((reply : Reply) → IsAmong reply (repeated before.core.receive request)
+      → IsAmong (record { node = before.processor; message = Replying reply }) sendings)
       → cause ≡ Handing before.processor (Asking request) → Turns site number cause sendings before after
   has_heard_early : (request : Request) → before.role ≡ Watching → after.role ≡ Watching → request.process ≡ number
       → after.waiting ≡ waits before.waiting request
       → cause ≡ Handing before.processor (Asking request) → Turns site number cause sendings before after
-  has_taken_over : before.role ≡ Watching → after.role ≡ Acting → process.point after.core.state ≢ point.Await → after.core.receive ≡ before.core.receive
+  has_taken_over : before.role ≡ Watching → after.role ≡ Acting → process.point after.core.state ≢ point.Await
+      → after.core.receive ≡ before.core.receive
       → after.waiting ≡ still_waiting before.core.receive before.waiting
       → ((reply : Reply) → IsAmong reply (all_repeated before.core.receive before.waiting)
       → IsAmong (record { node = before.processor; message = Replying reply }) sendings)
@@ -75,11 +90,13 @@ pub data Turns (site : Site) (number : ℕ) (cause : Cause) (sendings : List Sen
 
 -- a copy in its place, after what a change makes of it
 abbrev pub Goes : Site → ℕ → Cause → List Sending → Pair → Which → Copy → Type 0
-Goes site number cause sendings pair k after = (after.processor ≡ (copy_of k pair).processor) × Turns site number cause sendings (copy_of k pair) after
+Goes site number cause sendings pair k after =
+    (after.processor ≡ (copy_of k pair).processor) × Turns site number cause sendings (copy_of k pair) after
 
 -- One copy changes
 
-pub like : (before after : Copy) → after.role ≡ before.role → after.core ≡ before.core → after.waiting ≡ before.waiting → IsQuiet before after
+pub like : (before after : Copy) → after.role ≡ before.role → after.core ≡ before.core → after.waiting ≡ before.waiting
+    → IsQuiet before after
 like before after role core waiting = record {
   watches = λ r. sym role ∙ r;
   acts = λ r. sym role ∙ r;
@@ -88,31 +105,39 @@ like before after role core waiting = record {
   waits = waiting;
 }
 
-pub each : (P : Which → Copy → Type 0) (k : Which) (copy : Copy) (pair : Pair) → P k copy → P First pair.first → P Second pair.second → (j : Which)
+pub each : (P : Which → Copy → Type 0) (k : Which) (copy : Copy) (pair : Pair) → P k copy → P First pair.first
+    → P Second pair.second → (j : Which)
     → P j (copy_of j (with_copy k copy pair))
 each P First copy pair new first second First = new
 each P First copy pair new first second Second = second
 each P Second copy pair new first second First = first
 each P Second copy pair new first second Second = new
 
-pub enters-seat : {number : ℕ} {act : Act} {kept after : List Act} {copy entered : Copy} → Enters number act kept copy entered after
+pub enters-seat : {number : ℕ} {act : Act} {kept after : List Act} {copy entered : Copy}
+    → Enters number act kept copy entered after
     → entered.processor ≡ copy.processor
 enters-seat (holds_on held) = refl
 enters-seat (repeats empty less) = refl
 enters-seat (begins empty most take) = refl
 enters-seat (keeps empty most step) = refl
 
-module _ (site : Site) (fit : IsFit site) (events : ℕ) (w : World) (good : IsGood site events w) (calm : WatchersAreCalm w) where
-  pub steady : (number : ℕ) (pair : Pair) (k : Which) → slice_get w.processes number ≡ Some pair → (copy_of k pair).role ≡ Acting
+module _ (site : Site) (fit : IsFit site) (events : ℕ) (w : World) (good : IsGood site events w)
+    (calm : WatchersAreCalm w) where
+  pub steady : (number : ℕ) (pair : Pair) (k : Which) → slice_get w.processes number ≡ Some pair
+      → (copy_of k pair).role ≡ Acting
       → IsSteady (copy_of k pair).core.state
-  steady number pair k there role = let is = acting-done site events w good number pair k there role in done-steady (fit.regular number is.spec is.there) is.done
+  steady number pair k there role = let is = acting-done site events w good number pair k there role in
+      done-steady (fit.regular number is.spec is.there) is.done
 
   -- A deed
 
-  module _ (number : ℕ) (pair : Pair) (k : Which) (there : slice_get w.processes number ≡ Some pair) (role : (copy_of k pair).role ≡ Acting)
+  module _ (number : ℕ) (pair : Pair) (k : Which) (there : slice_get w.processes number ≡ Some pair)
+      (role : (copy_of k pair).role ≡ Acting)
       (entered : Copy) (acting : entered.role ≡ Acting) where
-    rests : {cause : Cause} {sendings : List Sending} (core : Core) → core.receive ≡ (copy_of k pair).core.receive → IsCalm core.state
-        → Turns site number cause sendings (copy_of k pair) (record entered { core = core; waiting = (copy_of k pair).waiting })
+    rests : {cause : Cause} {sendings : List Sending} (core : Core) → core.receive ≡ (copy_of k pair).core.receive
+        → IsCalm core.state
+        → Turns site number cause sendings (copy_of k pair)
+        (record entered { core = core; waiting = (copy_of k pair).waiting })
     rests core same away = is_quiet (record {
       watches = λ r. absurd (not-both acting r);
       acts = λ r. role;
@@ -122,18 +147,25 @@ module _ (site : Site) (fit : IsFit site) (events : ℕ) (w : World) (good : IsG
     })
 
     pub own-turns : {cause : Cause} {deed : Deed} {done : Act} {messages : List Message} {after : Around} {core : Core}
-        → Causes site number (copy_of k pair).processor (copy_of k pair).core (around (copy_of k pair) pair w) cause deed done messages after
+        → Causes site number (copy_of k pair).processor (copy_of k pair).core (around (copy_of k pair) pair w) cause
+        deed done messages after
         → Advances (openers_of site number) (copy_of k pair).core deed core
-        → Turns site number cause (sent_at (copy_of k pair).processor messages) (copy_of k pair) (record entered { core = core; waiting = after.waiting })
-    own-turns by_inner (goes at) = rests _ refl (inner-calm (copy_of k pair).core.state (steady number pair k there role))
-    own-turns (by_device old) (acts {found = found} at call) = rests _ refl (device-calm (copy_of k pair).core.state found (steady number pair k there role) at)
-    own-turns (by_write new) (acts {found = found} at call) = rests _ refl (device-calm (copy_of k pair).core.state found (steady number pair k there role) at)
+        → Turns site number cause (sent_at (copy_of k pair).processor messages) (copy_of k pair)
+        (record entered { core = core; waiting = after.waiting })
+    own-turns by_inner (goes at) =
+        rests _ refl (inner-calm (copy_of k pair).core.state (steady number pair k there role))
+    own-turns (by_device old) (acts {found = found} at call) =
+        rests _ refl (device-calm (copy_of k pair).core.state found (steady number pair k there role) at)
+    own-turns (by_write new) (acts {found = found} at call) =
+        rests _ refl (device-calm (copy_of k pair).core.state found (steady number pair k there role) at)
     own-turns (by_reply {words = words} among is last said) (gets at file) =
         rests _ refl (got-calm (copy_of k pair).core.state words (steady number pair k there role) at)
     own-turns (by_take {found = found} is) (takes block at known) =
-        has_taken found block role acting (calm-away _ (took-calm (copy_of k pair).core.state found.request.words (steady number pair k there role) at))
+        has_taken found block role acting (calm-away _
+        (took-calm (copy_of k pair).core.state found.request.words (steady number pair k there role) at))
         (take-free (acting-done site events w good number pair k there role).done at) is known refl refl
-    own-turns (by_answer {place = place} {words = words} {block = block} known) (answers opener old at hand is stood said) =
+    own-turns (by_answer {place = place} {words = words} {block = block} known)
+        (answers opener old at hand is stood said) =
         let same : old ≡ block = some-same (sym stood ∙ known) in
         has_answered place opener.depth words block role acting
         (calm-away _ (answered-calm (copy_of k pair).core.state (steady number pair k there role) at)) hand known
@@ -150,10 +182,12 @@ module _ (site : Site) (fit : IsFit site) (events : ℕ) (w : World) (good : IsG
             (sent_at (copy_of k pair).processor (map Asking (asked_on site number (copy_of k pair).core asked words)))
         sent file n opener on next opens =
             let here : asked ≡ file = named ∙ sym (asked-same core.state) ∙ on in
-            let more = asked-next site fit.regular number core _ (acting-done site events w good number pair k there role) asked words opener (asks at named said)
+            let more = asked-next site fit.regular number core _
+            (acting-done site events w good number pair k there role) asked words opener (asks at named said)
             (subst (λ f. opener_of site (who.File number f) ≡ Some opener) (sym here) opens) in
             let count : unwrap_or (slice_get (slice_set core.next asked (next_on core asked + 1)) asked) 1 ≡ n + 1 =
-            subst (λ f. unwrap_or (slice_get (slice_set core.next asked (next_on core asked + 1)) f) 1 ≡ n + 1) (sym here) next in
+            subst (λ f. unwrap_or (slice_get (slice_set core.next asked (next_on core asked + 1)) f) 1 ≡ n + 1)
+            (sym here) next in
             let number_is : next_on core file ≡ n = subst (λ f. next_on core f ≡ n) here (omega (arith, count, more)) in
             rw (here, opens, number_is) (inl refl)
 
@@ -161,45 +195,61 @@ module _ (site : Site) (fit : IsFit site) (events : ℕ) (w : World) (good : IsG
 
   pub passes-turn : (number : ℕ) (pair : Pair) → slice_get w.processes number ≡ Some pair
       → {next : Pair} {kept : List Act} {cause : Cause} {sendings : List Sending}
-      → Passes number w.marks w.kept pair cause sendings next kept → (k : Which) → Goes site number cause sendings pair k (copy_of k next)
+      → Passes number w.marks w.kept pair cause sendings next kept → (k : Which)
+      → Goes site number cause sendings pair k (copy_of k next)
   passes-turn number pair there = go
     where
-      still : {cause : Cause} {sendings : List Sending} (j : Which) → Goes site number cause sendings pair j (copy_of j pair)
+      still : {cause : Cause} {sendings : List Sending} (j : Which)
+          → Goes site number cause sendings pair j (copy_of j pair)
       still j = (refl, is_quiet (like (copy_of j pair) (copy_of j pair) refl refl refl))
 
-      marked : {cause : Cause} {sendings : List Sending} (k : Which) (position : ℕ) (held : List Act) → (copy_of k pair).role ≡ Acting
+      marked : {cause : Cause} {sendings : List Sending} (k : Which) (position : ℕ) (held : List Act)
+          → (copy_of k pair).role ≡ Acting
           → process.point (copy_of k pair).core.state ≡ point.AtCheckpoint
-          → Goes site number cause sendings pair k (record (copy_at_checkpoint (copy_of k pair)) { position = position; held = held })
+          → Goes site number cause sendings pair k
+          (record (copy_at_checkpoint (copy_of k pair)) { position = position; held = held })
       marked k position held role at = (
         refl,
         is_quiet (record {
           watches = λ r. r;
           acts = λ r. r;
           table = λ r. refl;
-          awaits = λ r awaits. absurd (calm-away _ (marked-calm (copy_of k pair).core.state (steady number pair k there role) at) awaits);
+          awaits = λ r awaits. absurd (calm-away _
+              (marked-calm (copy_of k pair).core.state (steady number pair k there role) at) awaits);
           waits = refl;
         }),
       )
 
-      go : {next : Pair} {kept : List Act} {cause : Cause} {sendings : List Sending} → Passes number w.marks w.kept pair cause sendings next kept
+      go : {next : Pair} {kept : List Act} {cause : Cause} {sendings : List Sending}
+          → Passes number w.marks w.kept pair cause sendings next kept
           → (k : Which) → Goes site number cause sendings pair k (copy_of k next)
       go {cause = cause} {sendings = sendings} (by_send k role at unsent unmarked) =
           each (Goes site number cause sendings pair) k (after_sending (copy_of k pair))
           (record pair { checkpoints = checkpoint_of number (copy_of k pair) ∷ pair.checkpoints })
-          (refl, is_quiet (like (copy_of k pair) (after_sending (copy_of k pair)) refl refl refl)) (still First) (still Second)
+          (refl, is_quiet (like (copy_of k pair) (after_sending (copy_of k pair)) refl refl refl)) (still First)
+          (still Second)
       go {cause = cause} {sendings = sendings} (by_pass_again k role at may less) =
-          each (Goes site number cause sendings pair) k (record (copy_at_checkpoint (copy_of k pair)) { position = (copy_of k pair).position + 1 }) pair
+          each (Goes site number cause sendings pair) k
+          (record (copy_at_checkpoint (copy_of k pair)) { position = (copy_of k pair).position + 1 }) pair
           (marked k _ _ role at) (still First) (still Second)
       go {cause = cause} {sendings = sendings} (by_pass k role at may most) =
           each (Goes site number cause sendings pair) k
-          (record (copy_at_checkpoint (copy_of k pair)) { position = own_acts number (kept_at_checkpoint number (copy_of k pair) w.kept); held = [] }) pair
+          (record (copy_at_checkpoint (copy_of k pair))
+          { position = own_acts number (kept_at_checkpoint number (copy_of k pair) w.kept); held = [] }) pair
           (marked k _ _ role at) (still First) (still Second)
       go {cause = cause} {sendings = sendings} (by_apply k message applied role among era is put) =
-          let base : Pair = record pair { base = own_acts number (kept_at_checkpoint number (copy_of (other_of k) pair) w.kept); takens = taken_of message ∷ pair.takens } in
-          let freed : Copy = record (copy_of (other_of k) pair) { position = own_acts number ((copy_of (other_of k) pair).held ++ w.kept); held = [] } in
+          let base : Pair = record pair {
+            base = own_acts number
+                (kept_at_checkpoint number (copy_of (other_of k) pair) w.kept);
+            takens =
+                taken_of message ∷ pair.takens;
+          } in
+          let freed : Copy = record (copy_of (other_of k) pair)
+          { position = own_acts number ((copy_of (other_of k) pair).held ++ w.kept); held = [] } in
           let others = each (Goes site number cause sendings pair) (other_of k) freed base
           (refl, is_quiet (like (copy_of (other_of k) pair) freed refl refl refl)) (still First) (still Second) in
-          each (Goes site number cause sendings pair) k (record (copy_of k pair) { core = applied; number = message.number }) (with_copy (other_of k) freed base) (
+          each (Goes site number cause sendings pair) k
+          (record (copy_of k pair) { core = applied; number = message.number }) (with_copy (other_of k) freed base) (
             refl,
             is_quiet (record {
               watches = λ r. r;
@@ -211,4 +261,5 @@ module _ (site : Site) (fit : IsFit site) (events : ℕ) (w : World) (good : IsG
           ) (others First) (others Second)
       go {cause = cause} {sendings = sendings} (by_acknowledge k taken role sent among era is) =
           each (Goes site number cause sendings pair) k (record (copy_of k pair) { acknowledged = true }) pair
-          (refl, is_quiet (like (copy_of k pair) (record (copy_of k pair) { acknowledged = true }) refl refl refl)) (still First) (still Second)
+          (refl, is_quiet (like (copy_of k pair) (record (copy_of k pair) { acknowledged = true }) refl refl refl))
+          (still First) (still Second)

@@ -10,10 +10,12 @@ ghost use Rattle.awaited_requests.specs.Seats.{IsLaidOut};
 ghost use Rattle.awaited_requests.specs.Served.{AreServed};
 ghost use Rattle.letter_laws.specs.Known.{IsKnown};
 
-/// Nothing is awaited at the beginning; and where awaited requests are served and a machine of letters plays an event, they are served after it as well, while
-/// at most one processor has stopped.
+/// Nothing is awaited at the beginning; and where awaited requests are served and a machine of letters plays an event,
+/// they are served after it as well, while at most one processor has stopped.
 pub fn awaited_requests_stay_served()
     ensures beginning { (site : Site) → AreServed site (post_at_boot site) }
-    ensures event { (site : Site) (events : List Event) (post next : Post) (event : Event) → IsFit site → IsLaidOut site → length events < 4294967295
-        → IsRun site events post.world → IsKnown site post → AreServed site post → PlaysEvent site post event next → OneStops next.world → AreServed site next }
+    ensures event { (site : Site) (events : List Event) (post next : Post) (event : Event) → IsFit site
+        → IsLaidOut site → length events < 4294967295
+        → IsRun site events post.world → IsKnown site post → AreServed site post → PlaysEvent site post event next
+        → OneStops next.world → AreServed site next }
 {}

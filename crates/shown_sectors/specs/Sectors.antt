@@ -42,8 +42,10 @@ sector_count (kind.Pair program) = 0
 -- those of processes, from a place in the deck on
 abbrev pub sectors_of : List Shown → ℕ → List ProcessSpec → List SectorWords
 sectors_of shown number [] = []
-sectors_of shown number (spec ∷ specs) = sectors_from number shown 0 (sector_count spec.what) ++ sectors_of shown (number + 1) specs
+sectors_of shown number (spec ∷ specs) =
+    sectors_from number shown 0 (sector_count spec.what) ++ sectors_of shown (number + 1) specs
 
--- each sector of a disc of the site that a shown write names, with the words of the last such write, discs in deck order and sectors rising
+-- each sector of a disc of the site that a shown write names, with the words of the last such write, discs in deck
+-- order and sectors rising
 abbrev pub sectors_after : Site → List Shown → List SectorWords
 sectors_after site shown = sectors_of shown 0 site.processes

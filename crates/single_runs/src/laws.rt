@@ -5,8 +5,8 @@ ghost use Rattle.player.specs.declared.stop.ProcessorStop.{ProcessorStop};
 ghost use Rattle.schedule_runs.specs.Ends.{IsRunOf};
 ghost use Rattle.schedule_runs.specs.declared.ran.Ran.{Ran};
 
-/// Two runs of a schedule with a stop on a site are the same: they played the same events, which led to the same state, ended in the same way after as many
-/// events, and left the same machine.
+/// Two runs of a schedule with a stop on a site are the same: they played the same events, which led to the same state,
+/// ended in the same way after as many events, and left the same machine.
 pub fn a_schedule_has_one_run()
     ensures run { (site : Site) (lines : List Line) (stop : Option ProcessorStop) (ran other : Ran)
         → IsRunOf site lines stop ran → IsRunOf site lines stop other → ran ≡ other }

@@ -1,5 +1,6 @@
 -- Each event that comes is paid from the stops that a schedule still asks for.
-use Rattle.std.proofs.Common.{◌≡◌, ◌≤◌, ℕ, ◌+◌, ◌-◌, ◌&&◌, ◌==◌, Bool, true, false, if◌then◌else◌, List, [], ◌∷◌, Option, Some, None, refl, ap, arith}
+use Rattle.std.proofs.Common.{◌≡◌, ◌≤◌, ℕ, ◌+◌, ◌-◌, ◌&&◌, ◌==◌, Bool, true, false, if◌then◌else◌, List, [], ◌∷◌}
+use Rattle.std.proofs.Common.{Option, Some, None, refl, ap, arith}
 use Rattle.std.specs.Prelude.{nat_lt}
 use Rattle.std.specs.Option.{option_map}
 use Rattle.std.proofs.lemmas.Bool.{ltb-true}
@@ -14,7 +15,8 @@ use Rattle.player.specs.declared.standing.Sizes.{Sizes}
 use Rattle.player.specs.declared.standing.LinePlace.{LinePlace}
 use Rattle.player.specs.declared.standing.LinePlace.TheVariants as standing
 use Rattle.player.specs.declared.stop.ProcessorStop.{ProcessorStop}
-use Rattle.player.specs.Lines.{begun, decided, decided_move, is_before, is_before_mixed, is_over, moved, moved_mixed, muted, next_event, proposed, spared}
+use Rattle.player.specs.Lines.{begun, decided, decided_move, is_before, is_before_mixed, is_over, moved, moved_mixed}
+use Rattle.player.specs.Lines.{muted, next_event, proposed, spared}
 use Rattle.player.specs.Rounds.{next_turn}
 use Rattle.player.specs.Mixes.{next_mixed}
 use Rattle.schedule_runs.specs.Runs.{Agenda, Plan, coming, planned_by, stopped_by, upcoming, upcoming_after}
@@ -41,7 +43,8 @@ held_stops (Some event) = stops_in event 1
 
 -- the stops that a schedule still asks for
 abbrev pub to_come : Agenda → ℕ
-to_come agenda = stops_left agenda.standing + stops_of_lines agenda.lines + stops_of_words agenda.stop + held_stops agenda.held_back
+to_come agenda =
+    stops_left agenda.standing + stops_of_lines agenda.lines + stops_of_words agenda.stop + held_stops agenda.held_back
 
 -- Lines
 
@@ -76,7 +79,8 @@ spared-stops counts (event.Repeat y k) = refl
 spared-stops counts (event.Tick node) = refl
 spared-stops counts (event.Fail processor) = refl
 
-decided-stops : (at : LinePlace) (counts : Counts) (event : Event) → stops_in (decided at counts event) 1 ≡ stops_in event 1
+decided-stops : (at : LinePlace) (counts : Counts) (event : Event)
+    → stops_in (decided at counts event) 1 ≡ stops_in event 1
 decided-stops (standing.Rounds (rule.Mute node) left place) counts event = muted-stops node counts event
 decided-stops (standing.Mixed left place draws) counts event = spared-stops counts event
 decided-stops (standing.Rounds rule.Drain left place) counts event = refl
@@ -93,14 +97,16 @@ one-less (event.Lose y k) left some = omega arith
 one-less (event.Repeat y k) left some = omega arith
 one-less (event.Tick node) left some = omega arith
 
-paid-where : (most : ℕ) (test : Bool) (move : Move) → (test ≡ true → IsPaidMove most (Some move)) → IsPaidMove most (if test then Some move else None)
+paid-where : (most : ℕ) (test : Bool) (move : Move) → (test ≡ true → IsPaidMove most (Some move))
+    → IsPaidMove most (if test then Some move else None)
 paid-where most true move paid = paid refl
 paid-where most false move paid = tt
 
 proposed-paid : (sizes : Sizes) (x y : ℕ) (at : LinePlace) → IsPaidMove (stops_left at) (proposed sizes x y at)
 proposed-paid sizes x y standing.Ended = tt
 proposed-paid sizes x y (standing.Event event left) =
-    paid-where (stops_in event left) (nat_lt 0 left) (record { event = event; standing = standing.Event event (left - 1) })
+    paid-where (stops_in event left) (nat_lt 0 left)
+    (record { event = event; standing = standing.Event event (left - 1) })
     (λ some. one-less event left (ltb-true 0 left some))
 proposed-paid sizes x y (standing.Rounds rule left place) = by (is_before place)
   where
@@ -108,7 +114,8 @@ proposed-paid sizes x y (standing.Rounds rule left place) = by (is_before place)
     none more = let calm = turn-calm sizes x y place in omega (arith, calm)
 
     by : (before : Bool) → IsPaidMove 0
-        (if before then (if nat_lt 0 left then Some (moved rule (left - 1) (next_turn sizes x y place)) else None) else Some (moved rule left (next_turn sizes x y place)))
+        (if before then (if nat_lt 0 left then Some (moved rule (left - 1) (next_turn sizes x y place)) else None) else
+        Some (moved rule left (next_turn sizes x y place)))
     by true = paid-where 0 (nat_lt 0 left) (moved rule (left - 1) (next_turn sizes x y place)) (λ some. none (left - 1))
     by false = none left
 proposed-paid sizes x y (standing.Mixed left place draws) = by (is_before_mixed place)
@@ -117,20 +124,26 @@ proposed-paid sizes x y (standing.Mixed left place draws) = by (is_before_mixed 
     none more = let calm = mixed-calm sizes x y place draws in omega (arith, calm)
 
     by : (before : Bool) → IsPaidMove 0
-        (if before then (if nat_lt 0 left then Some (moved_mixed (left - 1) (next_mixed sizes x y place draws)) else None) else Some (moved_mixed left (next_mixed sizes x y place draws)))
-    by true = paid-where 0 (nat_lt 0 left) (moved_mixed (left - 1) (next_mixed sizes x y place draws)) (λ some. none (left - 1))
+        (if before then (if nat_lt 0 left then Some (moved_mixed (left - 1) (next_mixed sizes x y place draws)) else
+        None) else Some (moved_mixed left (next_mixed sizes x y place draws)))
+    by true = paid-where 0 (nat_lt 0 left) (moved_mixed (left - 1) (next_mixed sizes x y place draws))
+        (λ some. none (left - 1))
     by false = none left
 
-decided-paid : (most : ℕ) (at : LinePlace) (counts : Counts) (move : Option Move) → IsPaidMove most move → IsPaidMove most (option_map (decided_move at counts) move)
+decided-paid : (most : ℕ) (at : LinePlace) (counts : Counts) (move : Option Move) → IsPaidMove most move
+    → IsPaidMove most (option_map (decided_move at counts) move)
 decided-paid most at counts None paid = tt
-decided-paid most at counts (Some move) paid = let same = decided-stops at counts move.event in omega (arith, same, paid)
+decided-paid most at counts (Some move) paid =
+    let same = decided-stops at counts move.event in omega (arith, same, paid)
 
 next-paid : (sizes : Sizes) (at : LinePlace) (counts : Counts) → IsPaidMove (stops_left at) (next_event sizes at counts)
 next-paid sizes at counts = by (is_over at counts)
   where
-    by : (over : Bool) → IsPaidMove (stops_left at) (if over then None else option_map (decided_move at counts) (proposed sizes counts.x counts.y at))
+    by : (over : Bool) → IsPaidMove (stops_left at)
+        (if over then None else option_map (decided_move at counts) (proposed sizes counts.x counts.y at))
     by true = tt
-    by false = decided-paid (stops_left at) at counts (proposed sizes counts.x counts.y at) (proposed-paid sizes counts.x counts.y at)
+    by false = decided-paid (stops_left at) at counts (proposed sizes counts.x counts.y at)
+        (proposed-paid sizes counts.x counts.y at)
 
 -- Schedules
 
@@ -139,26 +152,31 @@ abbrev IsPaidPlan : ℕ → Option ProcessorStop → Option Plan → Type 0
 IsPaidPlan most stop None = Unit {0}
 IsPaidPlan most stop (Some plan) = (stops_in plan.event 1 + to_come plan.agenda ≤ most) × (plan.agenda.stop ≡ stop)
 
-paid-more : (few most : ℕ) (stop : Option ProcessorStop) (plan : Option Plan) → few ≤ most → IsPaidPlan few stop plan → IsPaidPlan most stop plan
+paid-more : (few most : ℕ) (stop : Option ProcessorStop) (plan : Option Plan) → few ≤ most → IsPaidPlan few stop plan
+    → IsPaidPlan most stop plan
 paid-more few most stop None more paid = tt
 paid-more few most stop (Some plan) more paid = let within = paid.0 in (omega (arith, within, more), paid.1)
 
-planned-paid : (sizes : Sizes) (counts : Counts) (stop : Option ProcessorStop) (most : ℕ) (lines : List Line) (move : Option Move) → IsPaidMove most move
+planned-paid : (sizes : Sizes) (counts : Counts) (stop : Option ProcessorStop) (most : ℕ) (lines : List Line)
+    (move : Option Move) → IsPaidMove most move
     → IsPaidPlan (most + stops_of_lines lines + stops_of_words stop) stop (planned_by sizes counts stop lines move)
 planned-paid sizes counts stop most lines (Some move) paid = (omega (arith, paid), refl)
 planned-paid sizes counts stop most [] None paid = tt
 planned-paid sizes counts stop most (line ∷ lines) None paid =
     let same = begun-stops line in
-    paid-more (stops_left (begun line) + stops_of_lines lines + stops_of_words stop) (most + (stops_of line + stops_of_lines lines) + stops_of_words stop) stop
+    paid-more (stops_left (begun line) + stops_of_lines lines + stops_of_words stop)
+    (most + (stops_of line + stops_of_lines lines) + stops_of_words stop) stop
     (planned_by sizes counts stop lines (next_event sizes (begun line) counts)) (omega (arith, same))
-    (planned-paid sizes counts stop (stops_left (begun line)) lines (next_event sizes (begun line) counts) (next-paid sizes (begun line) counts))
+    (planned-paid sizes counts stop (stops_left (begun line)) lines (next_event sizes (begun line) counts)
+    (next-paid sizes (begun line) counts))
 
 -- the same of a plan that a stop may come before
 abbrev pub IsPaid : ℕ → Option Plan → Type 0
 IsPaid most None = Unit {0}
 IsPaid most (Some plan) = stops_in plan.event 1 + to_come plan.agenda ≤ most
 
-stopped-paid : (most before : ℕ) (stop : Option ProcessorStop) (plan : Option Plan) → IsPaidPlan most stop plan → IsPaid most (option_map (stopped_by (coming stop before)) plan)
+stopped-paid : (most before : ℕ) (stop : Option ProcessorStop) (plan : Option Plan) → IsPaidPlan most stop plan
+    → IsPaid most (option_map (stopped_by (coming stop before)) plan)
 stopped-paid most before stop None paid = tt
 stopped-paid most before None (Some plan) paid = paid.0
 stopped-paid most before (Some stop) (Some plan) paid = by (stop.after == before)
@@ -167,13 +185,17 @@ stopped-paid most before (Some stop) (Some plan) paid = by (stop.after == before
     by true = let within = paid.0 in let one = ap stops_of_words paid.1 in omega (arith, within, one)
     by false = paid.0
 
-pub upcoming-paid : (sizes : Sizes) (before : ℕ) (counts : Counts) (agenda : Agenda) → IsPaid (to_come agenda) (upcoming sizes before counts agenda)
+pub upcoming-paid : (sizes : Sizes) (before : ℕ) (counts : Counts) (agenda : Agenda)
+    → IsPaid (to_come agenda) (upcoming sizes before counts agenda)
 upcoming-paid sizes before counts agenda = by agenda.held_back refl
   where
-    by : (held : Option Event) → agenda.held_back ≡ held → IsPaid (to_come agenda) (upcoming_after sizes before counts agenda held)
+    by : (held : Option Event) → agenda.held_back ≡ held
+        → IsPaid (to_come agenda) (upcoming_after sizes before counts agenda held)
     by (Some event) is = let one = ap held_stops is in omega (arith, one)
     by None is =
         stopped-paid (to_come agenda) before agenda.stop _
-        (paid-more (stops_left agenda.standing + stops_of_lines agenda.lines + stops_of_words agenda.stop) (to_come agenda) agenda.stop _ (omega arith)
-        (planned-paid sizes counts agenda.stop (stops_left agenda.standing) agenda.lines (next_event sizes agenda.standing counts)
+        (paid-more (stops_left agenda.standing + stops_of_lines agenda.lines + stops_of_words agenda.stop)
+        (to_come agenda) agenda.stop _ (omega arith)
+        (planned-paid sizes counts agenda.stop (stops_left agenda.standing) agenda.lines
+        (next_event sizes agenda.standing counts)
         (next-paid sizes agenda.standing counts)))

@@ -1,5 +1,6 @@
 -- Where a schedule asks for one stop at most, none is still to come once a processor has stopped.
-use Rattle.std.proofs.Common.{◌≡◌, ◌≤◌, ◌⊎◌, inl, inr, ℕ, zero, suc, Bool, true, false, List, length, replicate, Option, Some, refl, subst, arith}
+use Rattle.std.proofs.Common.{◌≡◌, ◌≤◌, ◌⊎◌, inl, inr, ℕ, zero, suc, Bool, true, false, List, length, replicate, Option}
+use Rattle.std.proofs.Common.{Some, refl, subst, arith}
 use Rattle.tal_tree.specs.declared.site.Site.{Site}
 use Rattle.schedule.specs.declared.event.Event.{Event}
 use Rattle.schedule.specs.declared.event.Event.TheVariants as event
@@ -7,7 +8,8 @@ use Rattle.schedule.specs.declared.line.Line.{Line}
 use Rattle.player.specs.declared.stop.ProcessorStop.{ProcessorStop}
 use Rattle.message_wires.specs.Play.{MachineState, has_stopped}
 use Rattle.schedule_runs.specs.Ends.{EndsAs, IsRunOf}
-use Rattle.schedule_runs.specs.Runs.{Agenda, IsPlay, Plan, PlaysSchedule, RunsToStop, counts_of, plays_none, plays_on, sizes_of}
+use Rattle.schedule_runs.specs.Runs.{Agenda, IsPlay, Plan, PlaysSchedule, RunsToStop, counts_of, plays_none, plays_on}
+use Rattle.schedule_runs.specs.Runs.{sizes_of}
 use Rattle.schedule_runs.specs.declared.ran.Ending.{Ending}
 use Rattle.schedule_runs.specs.declared.ran.Ending.TheVariants.{Second}
 use Rattle.schedule_runs.specs.declared.ran.Ran.{Ran}
@@ -37,41 +39,50 @@ stop-or-calm (event.Repeat y k) = inl refl
 stop-or-calm (event.Tick node) = inl refl
 
 -- after an event that is paid
-single-on : (agenda : Agenda) (s next : MachineState) (plan : Plan) → IsSingle agenda s → IsPaid (to_come agenda) (Some plan) → IsPlay s plan.event next
+single-on : (agenda : Agenda) (s next : MachineState) (plan : Plan) → IsSingle agenda s
+    → IsPaid (to_come agenda) (Some plan) → IsPlay s plan.event next
     → IsSingle plan.agenda next
 single-on agenda s next plan single paid play = by (stop-or-calm plan.event)
   where
     by : (stops_in plan.event 1 ≡ 0) ⊎ (stops_in plan.event 1 ≡ 1) → IsSingle plan.agenda next
-    by (inr stop) = let few = single.few in record { few = omega (arith, few, paid, stop); none = λ stopped. omega (arith, few, paid, stop) }
+    by (inr stop) = let few = single.few in
+        record { few = omega (arith, few, paid, stop); none = λ stopped. omega (arith, few, paid, stop) }
     by (inl calm) =
         let few = single.few in
         record {
           few = omega (arith, few, paid);
           none = λ stopped.
-              let none = single.none (subst (λ (all : List Bool). has_stopped all ≡ true) (calm-kept s plan.event next calm play) stopped) in
+              let none = single.none (subst (λ (all : List Bool). has_stopped all ≡ true)
+              (calm-kept s plan.event next calm play) stopped) in
               omega (arith, none, paid);
         }
 
-played-single : (site : Site) (lines : List Line) (stop : Option ProcessorStop) → stops_asked lines stop ≤ 1 → (events : List Event) (agenda : Agenda) (s : MachineState)
+played-single : (site : Site) (lines : List Line) (stop : Option ProcessorStop) → stops_asked lines stop ≤ 1
+    → (events : List Event) (agenda : Agenda) (s : MachineState)
     → PlaysSchedule site lines stop events agenda s → IsSingle agenda s
 played-single site lines stop few _ _ _ plays_none =
     record { few = omega (arith, few); none = λ stopped. absurd (not-both _ (none-at-first site.processors) stopped) }
-played-single site lines stop few _ _ _ (plays_on {events = events} {agenda = agenda} {s = s} {next = next} plan before comes play) =
+played-single site lines stop few _ _ _
+    (plays_on {events = events} {agenda = agenda} {s = s} {next = next} plan before comes play) =
     single-on agenda s next plan (played-single site lines stop few events agenda s before)
     (subst (IsPaid (to_come agenda)) comes (upcoming-paid (sizes_of site) (length events) (counts_of s) agenda)) play
 
-no-second : (site : Site) (lines : List Line) (stop : Option ProcessorStop) → stops_asked lines stop ≤ 1 → (events : List Event) (s : MachineState) (processor : ℕ)
+no-second : (site : Site) (lines : List Line) (stop : Option ProcessorStop) → stops_asked lines stop ≤ 1
+    → (events : List Event) (s : MachineState) (processor : ℕ)
     → RunsToStop site lines stop events s processor → ⊥
 no-second site lines stop few events s processor runs =
     let single = played-single site lines stop few events runs.agenda s runs.played in
     let would = would-stop s runs.plan.event processor runs.would in
     let none = single.none would.1 in
     let one = would.0 in
-    let paid = subst (IsPaid (to_come runs.agenda)) runs.comes (upcoming-paid (sizes_of site) (length events) (counts_of s) runs.agenda) in
+    let paid = subst (IsPaid (to_come runs.agenda)) runs.comes
+    (upcoming-paid (sizes_of site) (length events) (counts_of s) runs.agenda) in
     omega (arith, none, one, paid)
 
-pub never-second : (site : Site) (lines : List Line) (stop : Option ProcessorStop) (ran : Ran) (processor : ℕ) → stops_asked lines stop ≤ 1
+pub never-second : (site : Site) (lines : List Line) (stop : Option ProcessorStop) (ran : Ran) (processor : ℕ)
+    → stops_asked lines stop ≤ 1
     → IsRunOf site lines stop ran → ran.ending ≡ Second processor → ⊥
 never-second site lines stop ran processor few run ended =
-    let ends = subst (λ (ending : Ending). EndsAs site lines stop run.events run.state ran.machine.state ran.asked ending) ended run.ends in
+    let ends = subst (λ (ending : Ending). EndsAs site lines stop run.events run.state ran.machine.state ran.asked
+    ending) ended run.ends in
     no-second site lines stop few run.events run.state processor ends.0

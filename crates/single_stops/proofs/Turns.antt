@@ -48,7 +48,8 @@ turn-calm sizes x y (place.Ticks node) = ticks sizes node
 abbrev IsCalmMixed : MixedTurn → Type 0
 IsCalmMixed turn = stops_in turn.event 1 ≡ 0
 
-either-mixed : (test : Bool) (one other : MixedTurn) → IsCalmMixed one → IsCalmMixed other → IsCalmMixed (if test then one else other)
+either-mixed : (test : Bool) (one other : MixedTurn) → IsCalmMixed one → IsCalmMixed other
+    → IsCalmMixed (if test then one else other)
 either-mixed true one other calm calm_other = calm
 either-mixed false one other calm calm_other = calm_other
 
@@ -60,11 +61,13 @@ handled y k choice left draws = either-mixed (choice == 0) _ _ refl (either-mixe
 
 delivers-y-mixed : (sizes : Sizes) (left draws : ℕ) → IsCalmMixed (m.delivers_y sizes left draws)
 delivers-y-mixed sizes left draws =
-    either-mixed (nat_lt 0 left) _ _ (handled true (m.word draws / 8 % left) (m.word draws % 8) (left - 1) (m.drawn draws)) (ticks-mixed sizes 0 draws)
+    either-mixed (nat_lt 0 left) _ _ (handled true (m.word draws / 8 % left) (m.word draws % 8) (left - 1)
+    (m.drawn draws)) (ticks-mixed sizes 0 draws)
 
 delivers-x-mixed : (sizes : Sizes) (y left draws : ℕ) → IsCalmMixed (m.delivers_x sizes y left draws)
 delivers-x-mixed sizes y left draws =
-    either-mixed (nat_lt 0 left) _ _ (handled false (m.word draws / 8 % left) (m.word draws % 8) (left - 1) (m.drawn draws)) (delivers-y-mixed sizes y draws)
+    either-mixed (nat_lt 0 left) _ _ (handled false (m.word draws / 8 % left) (m.word draws % 8) (left - 1)
+    (m.drawn draws)) (delivers-y-mixed sizes y draws)
 
 drawn-runs : (sizes : Sizes) (x y more process draws : ℕ) → IsCalmMixed (m.drawn_runs sizes x y more process draws)
 drawn-runs sizes x y zero process draws = delivers-x-mixed sizes y x draws
@@ -74,10 +77,13 @@ drawn-runs sizes x y (suc more) process draws =
 runs-from : (sizes : Sizes) (x y process draws : ℕ) → IsCalmMixed (m.runs_from sizes x y process draws)
 runs-from sizes x y process draws = drawn-runs sizes x y (sizes.processes - process) process draws
 
-pub mixed-calm : (sizes : Sizes) (x y : ℕ) (at : MixedPlace) (draws : ℕ) → stops_in (m.next_mixed sizes x y at draws).event 1 ≡ 0
+pub mixed-calm : (sizes : Sizes) (x y : ℕ) (at : MixedPlace) (draws : ℕ)
+    → stops_in (m.next_mixed sizes x y at draws).event 1 ≡ 0
 mixed-calm sizes x y mixed.Before draws = either-mixed (nat_lt 0 sizes.terminals) _ _ refl (runs-from sizes x y 0 draws)
-mixed-calm sizes x y (mixed.Enters terminal) draws = either-mixed (nat_lt terminal sizes.terminals) _ _ refl (runs-from sizes x y 0 draws)
-mixed-calm sizes x y (mixed.Runs next left) draws = either-mixed (nat_lt 0 left) _ _ refl (runs-from sizes x y next draws)
+mixed-calm sizes x y (mixed.Enters terminal) draws =
+    either-mixed (nat_lt terminal sizes.terminals) _ _ refl (runs-from sizes x y 0 draws)
+mixed-calm sizes x y (mixed.Runs next left) draws =
+    either-mixed (nat_lt 0 left) _ _ refl (runs-from sizes x y next draws)
 mixed-calm sizes x y (mixed.Delivers false left) draws = delivers-x-mixed sizes y left draws
 mixed-calm sizes x y (mixed.Delivers true left) draws = delivers-y-mixed sizes left draws
 mixed-calm sizes x y (mixed.Repeated bus k left) draws = refl

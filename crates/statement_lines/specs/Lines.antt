@@ -4,15 +4,19 @@ use Rattle.std.specs.Option.{unwrap_or}
 use Rattle.tal_tree.specs.Rows.{rows}
 use Rattle.tal_tree.specs.declared.program.Program.{Program}
 use Rattle.tal_tree.specs.declared.statement.Statement.{Statement}
-use Rattle.tal_tree.specs.declared.statement.What.{What, Assign, AssignCall, If', While', For', Call, Return, ReadUpdate, Reply, WriteRead, Checkpoint, CheckMonitor, Open, Stop, Row_of-Statement, end_of-Statement, more_of-Statement}
+use Rattle.tal_tree.specs.declared.statement.What.{What, Assign, AssignCall, If', While', For', Call, Return}
+use Rattle.tal_tree.specs.declared.statement.What.{ReadUpdate, Reply, WriteRead, Checkpoint, CheckMonitor, Open, Stop}
+use Rattle.tal_tree.specs.declared.statement.What.{Row_of-Statement, end_of-Statement, more_of-Statement}
 
 abbrev mutual
-  -- a line for each number of a list of statements, in the order of the text: each statement's own, then those within it
+  -- a line for each number of a list of statements, in the order of the text: each statement's own, then those within
+  -- it
   pub lines_row : {n : _} → Row_of-Statement n → List ℕ
   lines_row end_of-Statement = []
   lines_row (more_of-Statement number line what rest) = line ∷ lines_within line what ++ lines_row rest
 
-  -- the lines within a statement on this line: a FOR's test and its last assignment, which stands behind its body, are on the FOR's own
+  -- the lines within a statement on this line: a FOR's test and its last assignment, which stands behind its body, are
+  -- on the FOR's own
   pub lines_within : ℕ → What → List ℕ
   lines_within line (If' test _ first _ second) = lines_row first ++ lines_row second
   lines_within line (While' test _ body) = lines_row body

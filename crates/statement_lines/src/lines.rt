@@ -6,8 +6,8 @@ use gd_words::{List, NoMemory};
 use std::alloc::Global;
 use tal_tree::{Program, Statement, What};
 
-/// The lines of a program's statements by their numbers: the line of number 1 first. A FOR's line stands there for each of its
-/// three numbers.
+/// The lines of a program's statements by their numbers: the line of number 1 first. A FOR's line stands there for each
+/// of its three numbers.
 pub fn lines_of(alloc: Global, program: &Program) -> Result<List<u32>, NoMemory>
     ensures { IfOk result (λ lines. lines ≡ spec.lines_of program.now) }
 {

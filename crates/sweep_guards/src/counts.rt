@@ -7,7 +7,8 @@ ghost use Rattle.schedule_sweeps.specs.Sweeps.{kind_of};
 /// A row counts all runs, and those of each kind.
 pub fn a_row_counts_each_kind()
     ensures none { row_of [] ≡ record { runs = 0; idle = 0; cut = 0; second = 0 } }
-    ensures all { row_of (kind.Second ∷ kind.Idle ∷ kind.Cut ∷ kind.Second ∷ kind.Idle ∷ kind.Second ∷ []) ≡ record { runs = 6; idle = 2; cut = 1; second = 3 } }
+    ensures all { row_of (kind.Second ∷ kind.Idle ∷ kind.Cut ∷ kind.Second ∷ kind.Idle ∷ kind.Second ∷ [])
+        ≡ record { runs = 6; idle = 2; cut = 1; second = 3 } }
 {}
 
 /// The kind of a run is how it ended, whichever second processor would have stopped.

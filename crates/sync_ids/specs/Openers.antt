@@ -23,4 +23,5 @@ untaken_of depth = record { taken = 0; kept = buffer [] depth }
 
 -- what is remembered of these openers
 abbrev pub remembered : List Opener → Option ℕ → Remembered
-remembered openers in_hand = record { table = record { openers = map block_of openers; in_hand = in_hand }; depths = map depth_of openers }
+remembered openers in_hand =
+    record { table = record { openers = map block_of openers; in_hand = in_hand }; depths = map depth_of openers }

@@ -1,6 +1,7 @@
--- What a process remembers of its openers, so that it does no request twice: its receive table, how many replies it keeps of each opener, and which tables
--- it may take over from its other copy.
-use Rattle.std.specs.Prelude.{◌≡◌, ℕ, ◌<◌, ◌≤◌, ◌&&◌, Bool, true, false, List, [], ◌∷◌, All, length, map, nat_le, nat_lt, slice_get, Option, Some, None}
+-- What a process remembers of its openers, so that it does no request twice: its receive table, how many replies it
+-- keeps of each opener, and which tables it may take over from its other copy.
+use Rattle.std.specs.Prelude.{◌≡◌, ℕ, ◌<◌, ◌≤◌, ◌&&◌, Bool, true, false, List, [], ◌∷◌, All, length, map, nat_le}
+use Rattle.std.specs.Prelude.{nat_lt, slice_get, Option, Some, None}
 use Rattle.checkpoint_image.specs.declared.receive.OpenerBlock.{OpenerBlock}
 use Rattle.checkpoint_image.specs.declared.receive.ReceiveBlock.{ReceiveBlock}
 
@@ -21,7 +22,8 @@ untaken = record { taken = 0; kept = [] }
 
 -- what is remembered at first of openers of these depths: nothing is taken, kept or in hand
 abbrev pub nothing_taken : List ℕ → Remembered
-nothing_taken depths = record { table = record { openers = map (λ _. untaken) depths; in_hand = None }; depths = depths }
+nothing_taken depths =
+    record { table = record { openers = map (λ _. untaken) depths; in_hand = None }; depths = depths }
 
 -- Of one opener
 
@@ -60,7 +62,8 @@ can_hold openers (Some place) = is_unanswered (slice_get openers place)
 abbrev pub fits : Remembered → ReceiveBlock → Bool
 fits remembered block = are_of_depths block.openers remembered.depths && can_hold block.openers block.in_hand
 
--- what holds of all that is remembered: there are fewer than 4096 openers, each has a depth of 1 to 4, and the table fits
+-- what holds of all that is remembered: there are fewer than 4096 openers, each has a depth of 1 to 4, and the table
+-- fits
 pub record IsSound (remembered : Remembered) : Type 0 where
   pub few : length remembered.depths < 4096
   pub depths : All IsDepth remembered.depths

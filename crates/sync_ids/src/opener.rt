@@ -80,7 +80,8 @@ impl Opener {
 
     /// Keeps a reply; the oldest one goes where more than the depth would be kept.
     pub fn keep(&mut self, words: &Words)
-        ensures block { block_of self.new ≡ record (block_of self.old) { kept = last_ones (depth_of self.old) (self.old.kept.items ++ words.now ∷ []) } }
+        ensures block { block_of self.new ≡ record (block_of self.old)
+            { kept = last_ones (depth_of self.old) (self.old.kept.items ++ words.now ∷ []) } }
         ensures depth { depth_of self.new ≡ depth_of self.old }
     {
         let _oldest = self.kept.push_back(words.copy());

@@ -1,4 +1,5 @@
-ghost use Rattle.std.specs.Prelude.{◌≡◌, ℕ, ◌<◌, ◌≤◌, IsTrue, All, if◌then◌else◌, length, map, slice_get, Some, None, IfOk, IsSome};
+ghost use Rattle.std.specs.Prelude.{◌≡◌, ℕ, ◌<◌, ◌≤◌, IsTrue, All, if◌then◌else◌, length, map, slice_get, Some, None};
+ghost use Rattle.std.specs.Prelude.{IfOk, IsSome};
 ghost use Rattle.gd_words.specs.Ranges.{HasNext};
 ghost use Rattle.checkpoint_image.specs.Receive.{after_answering, after_taking, holds, standing_at};
 ghost use Rattle.checkpoint_image.specs.declared.receive.OpenerBlock.{OpenerBlock};
@@ -12,7 +13,8 @@ use std::alloc::Global;
 use std::marker::Model;
 use tal_tree::OpenerSpec;
 
-/// What a process remembers of its openers: of each the number last taken and the latest replies, and whose request is in hand.
+/// What a process remembers of its openers: of each the number last taken and the latest replies, and whose request is
+/// in hand.
 #[derive(Drop)]
 pub struct Receive {
     openers: Vec<Opener>,
@@ -82,7 +84,8 @@ impl Receive {
     pub fn take(&mut self, opener: u16)
         requires there { opener < length self.old.depths }
         requires room { HasNext (last_taken self.old.table opener) }
-        ensures table { (block : OpenerBlock) → slice_get self.old.table.openers opener ≡ Some block → self.new.table ≡ after_taking opener block self.old.table }
+        ensures table { (block : OpenerBlock) → slice_get self.old.table.openers opener ≡ Some block
+            → self.new.table ≡ after_taking opener block self.old.table }
         ensures held { self.new.table.in_hand ≡ Some opener }
         ensures depths { self.new.depths ≡ self.old.depths }
         ensures sound { IsSound self.new }
@@ -97,7 +100,9 @@ impl Receive {
         ensures whose { self.old.table.in_hand ≡ Some result }
         ensures there { result < length self.old.depths }
         ensures free { self.new.table.in_hand ≡ None }
-        ensures table { (block : OpenerBlock) (depth : ℕ) → slice_get self.old.table.openers result ≡ Some block → slice_get self.old.depths result ≡ Some depth → self.new.table ≡ after_answering depth result block words.now self.old.table }
+        ensures table { (block : OpenerBlock) (depth : ℕ) → slice_get self.old.table.openers result ≡ Some block
+            → slice_get self.old.depths result ≡ Some depth
+            → self.new.table ≡ after_answering depth result block words.now self.old.table }
         ensures depths { self.new.depths ≡ self.old.depths }
         ensures sound { IsSound self.new }
     {

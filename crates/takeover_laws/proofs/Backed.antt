@@ -1,5 +1,6 @@
 -- What lets a deed happen and what it sends, told by a ledger.
-use Rattle.std.proofs.Common.{◌≡◌, ◌≢◌, ℕ, ◌+◌, ℤ, true, false, not, List, [], ◌∷◌, ◌++◌, length, Option, Some, None, slice_get, refl, ap, sym, ◌∙◌, subst, arith, eq-eqb, filter_map, zero, suc}
+use Rattle.std.proofs.Common.{◌≡◌, ◌≢◌, ℕ, ◌+◌, ℤ, true, false, not, List, [], ◌∷◌, ◌++◌, length, Option, Some, None}
+use Rattle.std.proofs.Common.{slice_get, refl, ap, sym, ◌∙◌, subst, arith, eq-eqb, filter_map, zero, suc}
 use Rattle.std.specs.List.{cons_option}
 use Rattle.std.specs.Option.{unwrap_or}
 use Rattle.gd_words.specs.declared.device.DeviceCall.{DeviceCall}
@@ -16,12 +17,14 @@ use Rattle.plain_semantics.specs.declared.slot.Opener.{Opener}
 use Rattle.disc_device.specs.declared.stored.Stored.{Stored}
 use Rattle.checkpoint_image.specs.Receive.{is_place}
 use Rattle.checkpoint_image.specs.declared.receive.OpenerBlock.{OpenerBlock}
-use Rattle.world_semantics.specs.Core.{Core, Deed, Went, Checkpointed, Took, Asked, Got, Answered, Acted, Advances, goes, marks, takes, asks, gets, answers, acts, next_on}
+use Rattle.world_semantics.specs.Core.{Core, Deed, Went, Checkpointed, Took, Asked, Got, Answered, Acted, Advances}
+use Rattle.world_semantics.specs.Core.{goes, marks, takes, asks, gets, answers, acts, next_on}
 use Rattle.world_semantics.specs.Own.{found_on, is_new_write}
 use Rattle.world_semantics.proofs.Lists.{some-same}
 use Rattle.process_histories.specs.Devices.{after_call, sectors_after, FoundWhatStood}
 use Rattle.process_histories.specs.Histories.{HasDone, one_more}
-use Rattle.process_histories.specs.Words.{ask_on, get_on, answer_to, requests_on, replies_on, answered_to, taken_from, awaits_on, one_if}
+use Rattle.process_histories.specs.Words.{ask_on, get_on, answer_to, requests_on, replies_on, answered_to, taken_from}
+use Rattle.process_histories.specs.Words.{awaits_on, one_if}
 use Rattle.process_histories.proofs.Counts.{if-same, asked-count, taken-count, taken-number, next-number, one-awaited}
 use Rattle.process_histories.proofs.OneKind.{files-same}
 use Rattle.process_histories.proofs.Deeds.{point_of, stands-there}
@@ -31,28 +34,33 @@ use Rattle.plain_histories.specs.Agreeing.{AreRegular}
 use Rattle.plain_histories.specs.Booking.{AreBooked, IsAllowed}
 use Rattle.plain_histories.specs.Ledgers.{Ledger, requests_of, answered_of, replies_of}
 use Rattle.plain_histories.specs.Slots.{IsEntry, is_newest}
-use Rattle.plain_histories.proofs.Entries.{entry-longer, entry-one, entry-stays, waits-next, answered-next, replies-answered}
+use Rattle.plain_histories.proofs.Entries.{entry-longer, entry-one, entry-stays, waits-next, answered-next}
+use Rattle.plain_histories.proofs.Entries.{replies-answered}
 use Rattle.plain_histories.proofs.Openers.{opener-opened}
 use Rattle.plain_histories.proofs.Possible.{HasRun, booked-ran}
 use Rattle.takeover_laws.specs.Invariant.{IsRepeatable}
 
--- what lets a deed happen: a take an entry of its opener with the number after the last that was taken, a reply an entry of its server with the number of the
--- request that is awaited, and a call of the device what stands there
+-- what lets a deed happen: a take an entry of its opener with the number after the last that was taken, a reply an
+-- entry of its server with the number of the request that is awaited, and a call of the device what stands there
 abbrev pub IsBacked : Site → Ledger → ℕ → ProcessSpec → Core → Deed → Type 0
 IsBacked site ledger number spec core (Took place words) =
     (one : Who) × (block : OpenerBlock) × (opener_of site one ≡ Some (record { server = number; place = place }))
     × (slice_get core.receive.openers place ≡ Some block) × IsEntry (block.taken + 1) words (requests_of ledger one)
 IsBacked site ledger number spec core (Got file words) =
-    (opener : Opener) × (n : ℕ) × (opener_of site (who.File number file) ≡ Some opener) × (n + 1 ≡ next_on core file) × IsEntry n words (answered_of ledger opener)
-IsBacked site ledger number spec core (Acted call found) = found ≡ found_on (sectors_after spec.what (ledger.deeds number)) call
+    (opener : Opener) × (n : ℕ) × (opener_of site (who.File number file) ≡ Some opener) × (n + 1 ≡ next_on core file)
+    × IsEntry n words (answered_of ledger opener)
+IsBacked site ledger number spec core (Acted call found) =
+    found ≡ found_on (sectors_after spec.what (ledger.deeds number)) call
 IsBacked site ledger number spec core _ = Unit {0}
 
 -- what a deed sends is an entry of the ledger
 abbrev pub IsSentBy : Site → Ledger → ℕ → Core → Deed → Type 0
 IsSentBy site ledger number core (Answered place words) =
-    (block : OpenerBlock) → slice_get core.receive.openers place ≡ Some block → IsEntry block.taken words (answered_of ledger (record { server = number; place = place }))
+    (block : OpenerBlock) → slice_get core.receive.openers place ≡ Some block
+    → IsEntry block.taken words (answered_of ledger (record { server = number; place = place }))
 IsSentBy site ledger number core (Asked file words) =
-    (opener : Opener) → opener_of site (who.File number file) ≡ Some opener → IsEntry (next_on core file) words (requests_of ledger (who.File number file))
+    (opener : Opener) → opener_of site (who.File number file) ≡ Some opener
+    → IsEntry (next_on core file) words (requests_of ledger (who.File number file))
 IsSentBy site ledger number core _ = Unit {0}
 
 -- a write stands on its sector
@@ -72,13 +80,16 @@ IsNew ledger number spec _ = Unit {0}
 -- Deeds of one core
 
 -- two deeds of one core, of which one can be done anew, are the same where what they got or found is
-pub same-deed : {openers : List OpenerSpec} {x y z : Core} {deed other : Deed} → Advances openers x deed y → Advances openers x other z → IsRepeatable other
+pub same-deed : {openers : List OpenerSpec} {x y z : Core} {deed other : Deed} → Advances openers x deed y
+    → Advances openers x other z → IsRepeatable other
     → ((file : ℕ) (said words : List ℤ) → deed ≡ Got file said → other ≡ Got file words → said ≡ words)
     → ((c : DeviceCall) (found old : List ℤ) → deed ≡ Acted c found → other ≡ Acted c old → found ≡ old) → deed ≡ other
 same-deed (goes at) (goes here) again got did = refl
-same-deed (answers {place = one} {words = said} opener block at hand known there is) (answers {place = other} {words = words} opener' block' here held known' there' same) again got did =
+same-deed (answers {place = one} {words = said} opener block at hand known there is)
+    (answers {place = other} {words = words} opener' block' here held known' there' same) again got did =
     let place : one ≡ other = some-same (sym hand ∙ held) in let all : said ≡ words = is ∙ sym same in cc
-same-deed (asks {file = one} {words = said} at named is) (asks {file = other} {words = words} here named' same) again got did =
+same-deed (asks {file = one} {words = said} at named is) (asks {file = other} {words = words} here named' same) again
+    got did =
     let file : one ≡ other = named ∙ sym named' in let all : said ≡ words = is ∙ sym same in cc
 same-deed (gets {file = one} {words = said} at named) (gets {file = other} {words = words} here named') again got did =
     let file : one ≡ other = named ∙ sym named' in
@@ -100,13 +111,15 @@ marked-only (Answered place words) at = absurd (cc)
 marked-only (Acted call found) at = absurd (cc)
 
 -- a deed that is no checkpoint isn't done at a checkpoint
-pub not-at-mark : {openers : List OpenerSpec} {core next : Core} {deed : Deed} → Advances openers core deed next → deed ≢ Checkpointed → process.point core.state ≡ point.AtCheckpoint → ⊥
+pub not-at-mark : {openers : List OpenerSpec} {core next : Core} {deed : Deed} → Advances openers core deed next
+    → deed ≢ Checkpointed → process.point core.state ≡ point.AtCheckpoint → ⊥
 not-at-mark {deed = deed} advances other at = other (marked-only deed (sym (stands-there advances) ∙ at))
 
 -- The device
 
 -- where no call was made the sectors stay
-pub idle-sectors : (what : _) (more deeds : List Deed) → AreIdle more → sectors_after what (more ++ deeds) ≡ sectors_after what deeds
+pub idle-sectors : (what : _) (more deeds : List Deed) → AreIdle more
+    → sectors_after what (more ++ deeds) ≡ sectors_after what deeds
 idle-sectors what [] deeds idle = refl
 idle-sectors what (Went ∷ more) deeds idle = idle-sectors what more deeds idle.1
 idle-sectors what (Checkpointed ∷ more) deeds idle = idle-sectors what more deeds idle.1
@@ -116,7 +129,8 @@ idle-sectors what (Got file words ∷ more) deeds idle = idle-sectors what more 
 idle-sectors what (Answered place words ∷ more) deeds idle = idle-sectors what more deeds idle.1
 idle-sectors what (Acted call found ∷ more) deeds idle = absurd (idle.0 tt)
 
-found-before : (what : _) (since : List Deed) (c : DeviceCall) (found : List ℤ) (before : List Deed) → FoundWhatStood what (since ++ Acted c found ∷ before)
+found-before : (what : _) (since : List Deed) (c : DeviceCall) (found : List ℤ) (before : List Deed)
+    → FoundWhatStood what (since ++ Acted c found ∷ before)
     → found ≡ found_on (sectors_after what before) c
 found-before what [] c found before all = all.0
 found-before what (Acted other old ∷ since) c found before all = found-before what since c found before all.1
@@ -133,7 +147,8 @@ found-after sectors call.Nothing = refl
 found-after sectors (call.Read sector) = refl
 found-after sectors (call.Write sector words write) = refl
 
-picked-append : (f : Deed → Option (List ℤ)) (more deeds : List Deed) → filter_map f (more ++ deeds) ≡ filter_map f more ++ filter_map f deeds
+picked-append : (f : Deed → Option (List ℤ)) (more deeds : List Deed)
+    → filter_map f (more ++ deeds) ≡ filter_map f more ++ filter_map f deeds
 picked-append f [] deeds = refl
 picked-append f (deed ∷ more) deeds = by (f deed) (picked-append f more deeds)
   where
@@ -142,15 +157,18 @@ picked-append f (deed ∷ more) deeds = by (f deed) (picked-append f more deeds)
     by None same = same
     by (Some words) same = ap (λ all. words ∷ all) same
 
-module _ (site : Site) (regular : AreRegular site) (number : ℕ) (spec : ProcessSpec) (there : slice_get site.processes number ≡ Some spec) where
-  next-there : {A : Type 0} (xs : List ℕ) (ys : List A) (k : ℕ) (y : A) → length xs ≡ length ys → slice_get ys k ≡ Some y → (x : ℕ) × (slice_get xs k ≡ Some x)
+module _ (site : Site) (regular : AreRegular site) (number : ℕ) (spec : ProcessSpec)
+    (there : slice_get site.processes number ≡ Some spec) where
+  next-there : {A : Type 0} (xs : List ℕ) (ys : List A) (k : ℕ) (y : A) → length xs ≡ length ys
+      → slice_get ys k ≡ Some y → (x : ℕ) × (slice_get xs k ≡ Some x)
   next-there [] [] k y same at = absurd (cc)
   next-there (x ∷ xs) [] k y same at = absurd (cc)
   next-there [] (z ∷ ys) k y same at = absurd (omega (arith, same))
   next-there (x ∷ xs) (z ∷ ys) zero y same at = (x, refl)
   next-there (x ∷ xs) (z ∷ ys) (suc k) y same at = next-there xs ys k y (omega (arith, same)) at
 
-  pub next-is : (deeds : List Deed) (file : ℕ) (opener : Opener) {core : Core} → opener_of site (who.File number file) ≡ Some opener → HasDone site number spec deeds core
+  pub next-is : (deeds : List Deed) (file : ℕ) (opener : Opener) {core : Core}
+      → opener_of site (who.File number file) ≡ Some opener → HasDone site number spec deeds core
       → next_on core file ≡ length (requests_on file deeds) + 1
   next-is deeds file opener {core = core} is done =
       let open_as = opener-opened site number file opener is in
@@ -160,14 +178,17 @@ module _ (site : Site) (regular : AreRegular site) (number : ℕ) (spec : Proces
       ap (λ x. unwrap_or x 1) next.1 ∙ next-number done file next.0 next.1
 
   -- what a copy sends at a deed of the ledger is an entry there
-  pub sent-by : (ledger : Ledger) (since before : List Deed) {deed : Deed} {core next : Core} → ledger.deeds number ≡ since ++ deed ∷ before
-      → HasDone site number spec before core → Advances (openers_of site number) core deed next → IsSentBy site ledger number core deed
+  pub sent-by : (ledger : Ledger) (since before : List Deed) {deed : Deed} {core next : Core}
+      → ledger.deeds number ≡ since ++ deed ∷ before
+      → HasDone site number spec before core → Advances (openers_of site number) core deed next
+      → IsSentBy site ledger number core deed
   sent-by ledger since before split done (goes at) = tt
   sent-by ledger since before split done (marks at) = tt
   sent-by ledger since before split done (takes block at known) = tt
   sent-by ledger since before split done (gets at named) = tt
   sent-by ledger since before split done (acts at is) = tt
-  sent-by ledger since before {core = core} split done (answers {place = place} {words = words} opener block at hand known stood said) = λ other at_place.
+  sent-by ledger since before {core = core} split done
+      (answers {place = place} {words = words} opener block at hand known stood said) = λ other at_place.
       (let same : other ≡ block = some-same (sym at_place ∙ stood) in
       let one : one_if (is_place core.receive.in_hand place) ≡ 1 = rw (hand, eq-eqb place place refl) refl in
       let taken = taken-number done place block stood in
@@ -176,11 +197,17 @@ module _ (site : Site) (regular : AreRegular site) (number : ℕ) (spec : Proces
       rw (is, split, picked-append (answer_to place) since (Answered place words ∷ before), if-same place words)
       (entry-longer (filter_map (answer_to place) since) (is_newest refl)))
   sent-by ledger since before split done (asks {file = file} {words = words} at named said) = λ opener is.
-      rw (next-is before file opener is done, split, picked-append (ask_on file) since (Asked file words ∷ before), if-same file words)
+      rw (
+        next-is before file opener is done,
+        split,
+        picked-append (ask_on file) since (Asked file words ∷ before),
+        if-same file words,
+      )
       (entry-longer (filter_map (ask_on file) since) (is_newest refl))
 
   -- a write that is made for the first time doesn't stand on its sector
-  pub new-call : (ledger : Ledger) {deed : Deed} {core next : Core} → HasDone site number spec (ledger.deeds number) core → Advances (openers_of site number) core deed next
+  pub new-call : (ledger : Ledger) {deed : Deed} {core next : Core}
+      → HasDone site number spec (ledger.deeds number) core → Advances (openers_of site number) core deed next
       → IsNew ledger number spec deed
   new-call ledger done (goes at) = tt
   new-call ledger done (marks at) = tt
@@ -190,10 +217,12 @@ module _ (site : Site) (regular : AreRegular site) (number : ℕ) (spec : Proces
   new-call ledger done (answers opener block at hand known stood said) = tt
   new-call ledger done (acts {call = call.Nothing} at is) = tt
   new-call ledger done (acts {call = call.Read sector} at is) = tt
-  new-call ledger done (acts {call = call.Write sector words write} {found = found} at is) = ap not (write-new {found = found} (one_more done (acts at is)))
+  new-call ledger done (acts {call = call.Write sector words write} {found = found} at is) =
+      ap not (write-new {found = found} (one_more done (acts at is)))
 
   -- one that was made does, where no call was made since
-  pub old-call : (ledger : Ledger) (since before : List Deed) {deed : Deed} {core next : Core} → ledger.deeds number ≡ since ++ deed ∷ before
+  pub old-call : (ledger : Ledger) (since before : List Deed) {deed : Deed} {core next : Core}
+      → ledger.deeds number ≡ since ++ deed ∷ before
       → HasDone site number spec before core → Advances (openers_of site number) core deed next
       → ((c : DeviceCall) (found : List ℤ) → deed ≡ Acted c found → AreIdle since) → IsOld ledger number spec deed
   old-call ledger since before split done (goes at) idle = tt
@@ -205,21 +234,29 @@ module _ (site : Site) (regular : AreRegular site) (number : ℕ) (spec : Proces
   old-call ledger since before split done (acts {call = call.Nothing} at is) idle = refl
   old-call ledger since before split done (acts {call = call.Read sector} at is) idle = refl
   old-call ledger since before split done (acts {call = call.Write sector words write} {found = found} at is) idle =
-      rw (split, idle-sectors spec.what since (Acted (call.Write sector words write) found ∷ before) (idle (call.Write sector words write) found refl))
+      rw (
+        split,
+        idle-sectors spec.what since (Acted (call.Write sector words write) found ∷ before)
+            (idle (call.Write sector words write) found refl),
+      )
       (ap not (write-done {found = found} (one_more done (acts at is))))
 
-  module _ {acts_kept : List _} {shown : List _} (ledger : Ledger) (booked : AreBooked site acts_kept shown ledger) where
+  module _ {acts_kept : List _} {shown : List _} (ledger : Ledger)
+      (booked : AreBooked site acts_kept shown ledger) where
     abbrev ran : HasRun site acts_kept shown ledger
     ran = booked-ran regular booked
 
     -- a reply that is awaited has the number of the last request
-    awaited-count : (deeds : List Deed) (file : ℕ) {core : Core} → HasDone site number spec deeds core → process.point core.state ≡ point.Await → file ≡ process.asked_file core.state
+    awaited-count : (deeds : List Deed) (file : ℕ) {core : Core} → HasDone site number spec deeds core
+        → process.point core.state ≡ point.Await → file ≡ process.asked_file core.state
         → length (requests_on file deeds) ≡ length (replies_on file deeds) + 1
     awaited-count deeds file {core = core} done at named =
-        let one : one_if (awaits_on core.state file) ≡ 1 = rw (one-awaited core.state file at, ← named, eq-eqb file file refl) refl in
+        let one : one_if (awaits_on core.state file) ≡ 1 =
+        rw (one-awaited core.state file at, ← named, eq-eqb file file refl) refl in
         let count = asked-count (regular number spec there) done file in omega (arith, count, one)
 
-    pub allowed-by : {deed : Deed} {core next : Core} → HasDone site number spec (ledger.deeds number) core → Advances (openers_of site number) core deed next
+    pub allowed-by : {deed : Deed} {core next : Core} → HasDone site number spec (ledger.deeds number) core
+        → Advances (openers_of site number) core deed next
         → IsBacked site ledger number spec core deed → IsAllowed site ledger number spec deed
     allowed-by done (goes at) back = tt
     allowed-by done (marks at) back = tt
@@ -228,32 +265,44 @@ module _ (site : Site) (regular : AreRegular site) (number : ℕ) (spec : Proces
     allowed-by done (acts at is) back = back
     allowed-by done (takes {place = place} {words = words} block at known) (one, other, is, stood, entry) =
         let slot = ran.agrees.slots one (record { server = number; place = place }) is in
-        let count : other.taken ≡ length (taken_from place (ledger.deeds number)) = taken-number done place other stood in
+        let count : other.taken ≡ length (taken_from place (ledger.deeds number)) =
+        taken-number done place other stood in
         (one, is, (waits-next slot.2 (subst (λ k. IsEntry (k + 1) words (requests_of ledger one)) count entry)).1)
     allowed-by done (gets {file = file} {words = words} at named) (opener, n, is, last, entry) =
         let slot = ran.agrees.slots (who.File number file) opener is in
         let next = next-is (ledger.deeds number) file opener is done in
-        let same : n ≡ length (requests_of ledger (who.File number file)) = omega (arith, last, next) in
-        (opener, is, (answered-next slot.2 (awaited-count (ledger.deeds number) file done at named) (subst (λ k. IsEntry k words (answered_of ledger opener)) same entry)).1)
+        let same : n ≡ length (requests_of ledger (who.File number file)) = omega (arith, last, next) in (
+          opener,
+          is,
+          (answered-next slot.2 (awaited-count (ledger.deeds number) file done at named)
+              (subst (λ k. IsEntry k words (answered_of ledger opener)) same entry)).1,
+        )
 
     -- a reply that comes again is the one that was got
-    pub got-same : (since before : List Deed) (file : ℕ) (said words : List ℤ) {core next : Core} → ledger.deeds number ≡ since ++ Got file words ∷ before
-        → HasDone site number spec before core → Advances (openers_of site number) core (Got file said) next → IsBacked site ledger number spec core (Got file said) → said ≡ words
+    pub got-same : (since before : List Deed) (file : ℕ) (said words : List ℤ) {core next : Core}
+        → ledger.deeds number ≡ since ++ Got file words ∷ before
+        → HasDone site number spec before core → Advances (openers_of site number) core (Got file said) next
+        → IsBacked site ledger number spec core (Got file said) → said ≡ words
     got-same since before file said words split done (gets at named) (opener, n, is, last, entry) =
         let next = next-is before file opener is done in
         let count = awaited-count before file done at named in
         let same : n ≡ length (replies_on file before) + 1 = omega (arith, last, next, count) in
-        let all : replies_of ledger (who.File number file) ≡ filter_map (get_on file) since ++ words ∷ replies_on file before =
+        let all : replies_of ledger (who.File number file)
+        ≡ filter_map (get_on file) since ++ words ∷ replies_on file before =
         rw (split, picked-append (get_on file) since (Got file words ∷ before), if-same file words) refl in
         let was : IsEntry (length (replies_on file before) + 1) words (replies_of ledger (who.File number file)) =
         rw all (entry-longer (filter_map (get_on file) since) (is_newest refl)) in
         let slot = ran.agrees.slots (who.File number file) opener is in
-        entry-one (subst (λ k. IsEntry k said (answered_of ledger opener)) same entry) (entry-stays (replies-answered slot.2) was)
+        entry-one (subst (λ k. IsEntry k said (answered_of ledger opener)) same entry)
+        (entry-stays (replies-answered slot.2) was)
 
     -- a call that is made again finds what it found
-    pub call-same : (since before : List Deed) (c : DeviceCall) (found old : List ℤ) → ledger.deeds number ≡ since ++ Acted c old ∷ before → AreIdle since
+    pub call-same : (since before : List Deed) (c : DeviceCall) (found old : List ℤ)
+        → ledger.deeds number ≡ since ++ Acted c old ∷ before → AreIdle since
         → found ≡ found_on (sectors_after spec.what (ledger.deeds number)) c → found ≡ old
     call-same since before c found old split idle back =
         let stands = (ran.agrees.processes number spec there).2 in
-        let was : old ≡ found_on (sectors_after spec.what before) c = found-before spec.what since c old before (subst (FoundWhatStood spec.what) split stands.found) in
-        back ∙ rw split (rw (idle-sectors spec.what since (Acted c old ∷ before) idle) (found-after (sectors_after spec.what before) c)) ∙ sym was
+        let was : old ≡ found_on (sectors_after spec.what before) c =
+        found-before spec.what since c old before (subst (FoundWhatStood spec.what) split stands.found) in
+        back ∙ rw split (rw (idle-sectors spec.what since (Acted c old ∷ before) idle)
+        (found-after (sectors_after spec.what before) c)) ∙ sym was

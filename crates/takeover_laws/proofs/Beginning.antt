@@ -12,19 +12,25 @@ use Rattle.world_semantics.proofs.Lists.{some-same, mapped}
 use Rattle.process_histories.specs.Histories.{nothing_done}
 use Rattle.plain_histories.specs.Booking.{none_booked, none_held}
 use Rattle.plain_histories.specs.Ledgers.{empty_ledger}
-use Rattle.takeover_laws.specs.Invariant.{is_level, is_even, with_other, by_first, IsAsked, IsSound, IsSoundTerminal, Invariant}
+use Rattle.takeover_laws.specs.Invariant.{is_level, is_even, with_other, by_first, IsAsked, IsSound, IsSoundTerminal}
+use Rattle.takeover_laws.specs.Invariant.{Invariant}
 
-pub first-pair : (site : Site) (from : ℕ) (specs : List ProcessSpec) (k : ℕ) (pair : Pair) → slice_get (pairs_at_boot site from specs) k ≡ Some pair
+pub first-pair : (site : Site) (from : ℕ) (specs : List ProcessSpec) (k : ℕ) (pair : Pair)
+    → slice_get (pairs_at_boot site from specs) k ≡ Some pair
     → (spec : ProcessSpec) × (slice_get specs k ≡ Some spec) × (pair ≡ pair_at_boot site (from + k) spec)
 first-pair site from [] k pair at = absurd (cc)
-first-pair site from (spec ∷ specs) zero pair at = (spec, refl, sym (some-same at) ∙ ap (λ n. pair_at_boot site n spec) (omega arith))
+first-pair site from (spec ∷ specs) zero pair at =
+    (spec, refl, sym (some-same at) ∙ ap (λ n. pair_at_boot site n spec) (omega arith))
 first-pair site from (spec ∷ specs) (suc k) pair at =
-    let rest = first-pair site (from + 1) specs k pair at in (rest.0, rest.1, rest.2 ∙ ap (λ n. pair_at_boot site n rest.0) (omega arith))
+    let rest = first-pair site (from + 1) specs k pair at in
+    (rest.0, rest.1, rest.2 ∙ ap (λ n. pair_at_boot site n rest.0) (omega arith))
 
 -- at its beginning the first copy leads, and no checkpoint is due
-pub first-sound : (site : Site) (number : ℕ) (spec : ProcessSpec) → IsSound site [] empty_ledger 0 number spec (pair_at_boot site number spec)
+pub first-sound : (site : Site) (number : ℕ) (spec : ProcessSpec)
+    → IsSound site [] empty_ledger 0 number spec (pair_at_boot site number spec)
 first-sound site number spec = record {
-  led = by_first (with_other (λ e. absurd (cc)) (is_level {more = []} refl none_held refl nothing_done (λ sent. absurd (cc))) (λ e. absurd (cc))
+  led = by_first (with_other (λ e. absurd (cc))
+      (is_level {more = []} refl none_held refl nothing_done (λ sent. absurd (cc))) (λ e. absurd (cc))
       (is_even (record {
         since = [];
         before = [];
@@ -42,7 +48,8 @@ first-sound site number spec = record {
   count = omega arith;
 }
   where
-    none-waits : (k : Which) (request : Request) → IsAmong request (copy_of k (pair_at_boot site number spec)).waiting → (request.process ≡ number) × IsAsked site empty_ledger request
+    none-waits : (k : Which) (request : Request) → IsAmong request (copy_of k (pair_at_boot site number spec)).waiting
+        → (request.process ≡ number) × IsAsked site empty_ledger request
     none-waits First request among = absurd among
     none-waits Second request among = absurd among
 
@@ -57,13 +64,21 @@ beginning-keeps site = record {
 }
   where
     processes : (number : ℕ) (pair : Pair) → slice_get (boot site).processes number ≡ Some pair
-        → (spec : ProcessSpec) × (slice_get site.processes number ≡ Some spec) × IsSound site [] empty_ledger 0 number spec pair
+        → (spec : ProcessSpec) × (slice_get site.processes number ≡ Some spec)
+        × IsSound site [] empty_ledger 0 number spec pair
     processes number pair at =
         let first = first-pair site 0 site.processes number pair at in
-        let is : pair ≡ pair_at_boot site number first.0 = first.2 ∙ ap (λ n. pair_at_boot site n first.0) (omega arith) in
-        (first.0, first.1, subst (λ p. IsSound site [] empty_ledger 0 number first.0 p) (sym is) (first-sound site number first.0))
+        let is : pair ≡ pair_at_boot site number first.0 =
+        first.2 ∙ ap (λ n. pair_at_boot site n first.0) (omega arith) in (
+          first.0,
+          first.1,
+          subst (λ p. IsSound site [] empty_ledger 0 number first.0 p) (sym is)
+              (first-sound site number first.0),
+        )
 
-    terminals : (number : ℕ) (terminal : Terminal) → slice_get (boot site).terminals number ≡ Some terminal → IsSoundTerminal empty_ledger number terminal
+    terminals : (number : ℕ) (terminal : Terminal) → slice_get (boot site).terminals number ≡ Some terminal
+        → IsSoundTerminal empty_ledger number terminal
     terminals number terminal at =
-        let from = mapped (λ (t : TerminalSpec). record { entered = 0; printed = 0 }) site.terminals number terminal at in
+        let from = mapped (λ (t : TerminalSpec). record { entered = 0; printed = 0 }) site.terminals number terminal
+        at in
         record { entered = ap (λ (t : Terminal). t.entered) from.2; printed = ap (λ (t : Terminal). t.printed) from.2 }

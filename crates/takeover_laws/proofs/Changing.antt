@@ -1,5 +1,6 @@
 -- What changes leave of held acts, sectors and waiting requests.
-use Rattle.std.proofs.Common.{◌≡◌, ◌≤◌, ℕ, ◌+◌, Bool, true, false, if◌then◌else◌, List, [], ◌∷◌, ◌++◌, length, Option, Some, None, refl, arith}
+use Rattle.std.proofs.Common.{◌≡◌, ◌≤◌, ℕ, ◌+◌, Bool, true, false, if◌then◌else◌, List, [], ◌∷◌, ◌++◌, length, Option}
+use Rattle.std.proofs.Common.{Some, None, refl, arith}
 use Rattle.gd_words.specs.Members.{IsAmong}
 use Rattle.gd_words.specs.declared.message.Request.{Request}
 use Rattle.tal_tree.specs.declared.act.Act.{Act}
@@ -8,8 +9,10 @@ use Rattle.tal_tree.specs.declared.site.Site.{Site}
 use Rattle.world_semantics.specs.Core.{Core, Deed}
 use Rattle.world_semantics.specs.Kept.{is_own, own_acts}
 use Rattle.world_semantics.specs.Messages.{Message, Sending, Cause, Stopping, NotingDown}
-use Rattle.world_semantics.specs.Own.{Around, Causes, by_inner, by_take, by_ask, by_answer, by_device, by_write, by_reply}
-use Rattle.world_semantics.specs.Passes.{Passes, by_send, by_pass_again, by_pass, by_apply, by_acknowledge, kept_at_checkpoint}
+use Rattle.world_semantics.specs.Own.{Around, Causes, by_inner, by_take, by_ask, by_answer, by_device, by_write}
+use Rattle.world_semantics.specs.Own.{by_reply}
+use Rattle.world_semantics.specs.Passes.{Passes, by_send, by_pass_again, by_pass, by_apply, by_acknowledge}
+use Rattle.world_semantics.specs.Passes.{kept_at_checkpoint}
 use Rattle.world_semantics.specs.Rules.{stopped_pair, pair_after_down}
 use Rattle.world_semantics.specs.declared.which.Which.{Which}
 use Rattle.world_semantics.specs.declared.which.Which.TheVariants.{First, Second}
@@ -23,7 +26,8 @@ acts_by (Stopping processor) = 0
 acts_by (NotingDown node processor) = 0
 acts_by _ = 1
 
-pub causes-one : {site : Site} {number node : ℕ} {core : Core} {before after : Around} {cause : Cause} {deed : Deed} {act : Act} {messages : List Message}
+pub causes-one : {site : Site} {number node : ℕ} {core : Core} {before after : Around} {cause : Cause} {deed : Deed}
+    {act : Act} {messages : List Message}
     → Causes site number node core before cause deed act messages after → acts_by cause ≡ 1
 causes-one by_inner = refl
 causes-one (by_take is) = refl
@@ -33,7 +37,8 @@ causes-one (by_device stood) = refl
 causes-one (by_write new) = refl
 causes-one (by_reply among is last said) = refl
 
-pub passes-one : {number : ℕ} {marks : List Down} {kept after : List Act} {pair next : Pair} {cause : Cause} {sendings : List Sending}
+pub passes-one : {number : ℕ} {marks : List Down} {kept after : List Act} {pair next : Pair} {cause : Cause}
+    {sendings : List Sending}
     → Passes number marks kept pair cause sendings next after → acts_by cause ≡ 1
 passes-one (by_send k role at sent unmarked) = refl
 passes-one (by_pass_again k role at may less) = refl
@@ -49,28 +54,38 @@ one-most false = omega arith
 
 own-most : (number : ℕ) (acts : List Act) → own_acts number acts ≤ length acts
 own-most number [] = omega arith
-own-most number (act ∷ acts) = let one = one-most (is_own number act) in let rest = own-most number acts in omega (arith, one, rest)
+own-most number (act ∷ acts) =
+    let one = one-most (is_own number act) in let rest = own-most number acts in omega (arith, one, rest)
 
-kept-most : (number : ℕ) (copy : Copy) (kept : List Act) → own_acts number (kept_at_checkpoint number copy kept) ≤ length copy.held + own_acts number kept + 1
+kept-most : (number : ℕ) (copy : Copy) (kept : List Act)
+    → own_acts number (kept_at_checkpoint number copy kept) ≤ length copy.held + own_acts number kept + 1
 kept-most number copy kept =
     let held = own-most number copy.held in
-    rw (own-one number (Step number) (copy.held ++ kept) (own-step number), own-append number copy.held kept) (omega (arith, held))
+    rw (own-one number (Step number) (copy.held ++ kept) (own-step number), own-append number copy.held kept)
+    (omega (arith, held))
 
-pub passes-held : {number : ℕ} {marks : List Down} {kept after : List Act} {pair next : Pair} {cause : Cause} {sendings : List Sending}
+pub passes-held : {number : ℕ} {marks : List Down} {kept after : List Act} {pair next : Pair} {cause : Cause}
+    {sendings : List Sending}
     → Passes number marks kept pair cause sendings next after
-    → length next.first.held + length next.second.held + own_acts number after ≤ length pair.first.held + length pair.second.held + own_acts number kept + 1
+    → length next.first.held + length next.second.held + own_acts number after
+    ≤ length pair.first.held + length pair.second.held + own_acts number kept + 1
 passes-held (by_send First role at sent unmarked) = omega arith
 passes-held (by_send Second role at sent unmarked) = omega arith
 passes-held (by_pass_again First role at may less) = omega arith
 passes-held (by_pass_again Second role at may less) = omega arith
-passes-held {number = n} {kept = kept} {pair = pair} (by_pass First role at may most) = let few = kept-most n pair.first kept in omega (arith, few)
-passes-held {number = n} {kept = kept} {pair = pair} (by_pass Second role at may most) = let few = kept-most n pair.second kept in omega (arith, few)
-passes-held {number = n} {kept = kept} {pair = pair} (by_apply First message applied role sent era is put) = let few = kept-most n pair.second kept in omega (arith, few)
-passes-held {number = n} {kept = kept} {pair = pair} (by_apply Second message applied role sent era is put) = let few = kept-most n pair.first kept in omega (arith, few)
+passes-held {number = n} {kept = kept} {pair = pair} (by_pass First role at may most) =
+    let few = kept-most n pair.first kept in omega (arith, few)
+passes-held {number = n} {kept = kept} {pair = pair} (by_pass Second role at may most) =
+    let few = kept-most n pair.second kept in omega (arith, few)
+passes-held {number = n} {kept = kept} {pair = pair} (by_apply First message applied role sent era is put) =
+    let few = kept-most n pair.second kept in omega (arith, few)
+passes-held {number = n} {kept = kept} {pair = pair} (by_apply Second message applied role sent era is put) =
+    let few = kept-most n pair.first kept in omega (arith, few)
 passes-held (by_acknowledge First taken role sent among era is) = omega arith
 passes-held (by_acknowledge Second taken role sent among era is) = omega arith
 
-pub passes-sectors : {number : ℕ} {marks : List Down} {kept after : List Act} {pair next : Pair} {cause : Cause} {sendings : List Sending}
+pub passes-sectors : {number : ℕ} {marks : List Down} {kept after : List Act} {pair next : Pair} {cause : Cause}
+    {sendings : List Sending}
     → Passes number marks kept pair cause sendings next after → next.sectors ≡ pair.sectors
 passes-sectors (by_send First role at sent unmarked) = refl
 passes-sectors (by_send Second role at sent unmarked) = refl
@@ -83,8 +98,10 @@ passes-sectors (by_apply Second message applied role sent era is put) = refl
 passes-sectors (by_acknowledge First taken role sent among era is) = refl
 passes-sectors (by_acknowledge Second taken role sent among era is) = refl
 
-pub passes-waiting : {number : ℕ} {marks : List Down} {kept after : List Act} {pair next : Pair} {cause : Cause} {sendings : List Sending}
-    → Passes number marks kept pair cause sendings next after → (k : Which) → (copy_of k next).waiting ≡ (copy_of k pair).waiting
+pub passes-waiting : {number : ℕ} {marks : List Down} {kept after : List Act} {pair next : Pair} {cause : Cause}
+    {sendings : List Sending}
+    → Passes number marks kept pair cause sendings next after → (k : Which)
+    → (copy_of k next).waiting ≡ (copy_of k pair).waiting
 passes-waiting (by_send First role at sent unmarked) First = refl
 passes-waiting (by_send First role at sent unmarked) Second = refl
 passes-waiting (by_send Second role at sent unmarked) First = refl
@@ -107,7 +124,8 @@ passes-waiting (by_acknowledge Second taken role sent among era is) First = refl
 passes-waiting (by_acknowledge Second taken role sent among era is) Second = refl
 
 -- what holds of both copies after one changed
-pub each-copy : (P : Copy → Type 0) (k : Which) (copy : Copy) (pair : Pair) → P copy → ((other : Which) → P (copy_of other pair)) → (which : Which) → P (copy_of which (with_copy k copy pair))
+pub each-copy : (P : Copy → Type 0) (k : Which) (copy : Copy) (pair : Pair) → P copy
+    → ((other : Which) → P (copy_of other pair)) → (which : Which) → P (copy_of which (with_copy k copy pair))
 each-copy P First copy pair new old First = new
 each-copy P First copy pair new old Second = old Second
 each-copy P Second copy pair new old First = old First
@@ -125,7 +143,8 @@ marked-sectors (Some First) pair = refl
 marked-sectors (Some Second) pair = refl
 
 pub marked-held : (k : Option Which) (pair : Pair)
-    → length (pair_after_down k pair).first.held + length (pair_after_down k pair).second.held ≤ length pair.first.held + length pair.second.held
+    → length (pair_after_down k pair).first.held + length (pair_after_down k pair).second.held
+    ≤ length pair.first.held + length pair.second.held
 marked-held None pair = omega arith
 marked-held (Some First) pair = omega arith
 marked-held (Some Second) pair = omega arith
@@ -134,13 +153,15 @@ marked-held (Some Second) pair = omega arith
 abbrev pub AllWait : (Request → Type 0) → Pair → Type 0
 AllWait P pair = (k : Which) (request : Request) → IsAmong request (copy_of k pair).waiting → P request
 
-pub marked-waiting : (P : Request → Type 0) (k : Option Which) (pair : Pair) → AllWait P pair → AllWait P (pair_after_down k pair)
+pub marked-waiting : (P : Request → Type 0) (k : Option Which) (pair : Pair) → AllWait P pair
+    → AllWait P (pair_after_down k pair)
 marked-waiting P None pair all which = all which
 marked-waiting P (Some First) pair all First = still-all P pair.first.core.receive pair.first.waiting (all First)
 marked-waiting P (Some First) pair all Second = all Second
 marked-waiting P (Some Second) pair all First = all First
 marked-waiting P (Some Second) pair all Second = still-all P pair.second.core.receive pair.second.waiting (all Second)
 
-pub stopped-waiting : (P : Request → Type 0) (processor : ℕ) (pair : Pair) → AllWait P pair → AllWait P (stopped_pair processor pair)
+pub stopped-waiting : (P : Request → Type 0) (processor : ℕ) (pair : Pair) → AllWait P pair
+    → AllWait P (stopped_pair processor pair)
 stopped-waiting P processor pair all First = all First
 stopped-waiting P processor pair all Second = all Second

@@ -10,31 +10,42 @@ use Rattle.world_semantics.specs.World.{Copy, Pair, Down}
 use Rattle.world_semantics.specs.Kept.{Enters, holds_on, repeats, begins, keeps}
 use Rattle.plain_histories.specs.Ledgers.{Ledger}
 use Rattle.plain_histories.proofs.Held.{held-stays}
-use Rattle.takeover_laws.specs.Invariant.{Stage, IsLead, is_level, is_applied, is_behind, FirstLeads, with_other, alone, IsLed, by_first, by_second, IsAsked, IsAnswered, IsSound}
+use Rattle.takeover_laws.specs.Invariant.{Stage, IsLead, is_level, is_applied, is_behind, FirstLeads, with_other, alone}
+use Rattle.takeover_laws.specs.Invariant.{IsLed, by_first, by_second, IsAsked, IsAnswered, IsSound}
 use Rattle.takeover_laws.proofs.Settled.{IsLeft, Keeps}
 
-module _ {site : Site} {ledger more : Ledger} {number : ℕ} {spec : ProcessSpec} (left : IsLeft site ledger more number) where
-  lead-frame : {deeds : List Deed} {copy : Copy} {stage : Stage} → IsLead site ledger number spec deeds copy stage → IsLead site more number spec deeds copy stage
+module _ {site : Site} {ledger more : Ledger} {number : ℕ} {spec : ProcessSpec}
+    (left : IsLeft site ledger more number) where
+  lead-frame : {deeds : List Deed} {copy : Copy} {stage : Stage} → IsLead site ledger number spec deeds copy stage
+      → IsLead site more number spec deeds copy stage
   lead-frame (is_level is held pos done sent) = is_level is (held-stays left.waits held) pos done sent
   lead-frame (is_applied before is split pos done sent) = is_applied before is split pos done sent
-  lead-frame (is_behind since next before is split one all pos done unsent) = is_behind since next before is split one all pos done unsent
+  lead-frame (is_behind since next before is split one all pos done unsent) =
+      is_behind since next before is split one all pos done unsent
 
-  leads-frame : {marks : List Down} {deeds : List Deed} {pair : Pair} → FirstLeads site marks ledger number spec deeds pair → FirstLeads site marks more number spec deeds pair
+  leads-frame : {marks : List Down} {deeds : List Deed} {pair : Pair}
+      → FirstLeads site marks ledger number spec deeds pair → FirstLeads site marks more number spec deeds pair
   leads-frame (with_other role lead stage other) = with_other role (lead-frame lead) stage other
   leads-frame (alone role lead stage unsent gone marked) = alone role (lead-frame lead) stage unsent gone marked
 
-  led-frame : {marks : List Down} {pair : Pair} → IsLed site marks ledger number spec (ledger.deeds number) pair → IsLed site marks more number spec (more.deeds number) pair
+  led-frame : {marks : List Down} {pair : Pair} → IsLed site marks ledger number spec (ledger.deeds number) pair
+      → IsLed site marks more number spec (more.deeds number) pair
   led-frame (by_first leads) = rw left.deeds (by_first (leads-frame leads))
   led-frame (by_second leads) = rw left.deeds (by_second (leads-frame leads))
 
-pub asked-more : (site : Site) {ledger more : Ledger} → Keeps ledger more → (request : Request) → IsAsked site ledger request → IsAsked site more request
+pub asked-more : (site : Site) {ledger more : Ledger} → Keeps ledger more → (request : Request)
+    → IsAsked site ledger request → IsAsked site more request
 asked-more site stay request asked = (asked.0, asked.1, stay.asked asked.0 request.number request.words asked.2)
 
-pub answered-more : {ledger more : Ledger} → Keeps ledger more → (reply : Reply) → IsAnswered ledger reply → IsAnswered more reply
-answered-more stay reply answered = stay.answered (record { server = reply.process; place = reply.opener }) reply.number reply.words answered
+pub answered-more : {ledger more : Ledger} → Keeps ledger more → (reply : Reply) → IsAnswered ledger reply
+    → IsAnswered more reply
+answered-more stay reply answered =
+    stay.answered (record { server = reply.process; place = reply.opener }) reply.number reply.words answered
 
-pub process-frame : {site : Site} {marks : List Down} {ledger more : Ledger} {events number : ℕ} {spec : ProcessSpec} {pair : Pair} (later : ℕ) → events ≤ later
-    → IsLeft site ledger more number → Keeps ledger more → IsSound site marks ledger events number spec pair → IsSound site marks more later number spec pair
+pub process-frame : {site : Site} {marks : List Down} {ledger more : Ledger} {events number : ℕ} {spec : ProcessSpec}
+    {pair : Pair} (later : ℕ) → events ≤ later
+    → IsLeft site ledger more number → Keeps ledger more → IsSound site marks ledger events number spec pair
+    → IsSound site marks more later number spec pair
 process-frame {site = site} later few left stay sound = record {
   led = led-frame left sound.led;
   sectors = rw left.deeds sound.sectors;
@@ -43,7 +54,8 @@ process-frame {site = site} later few left stay sound = record {
 }
 
 -- an act that enters the kept acts, or is held
-pub enters-held : {number : ℕ} {act : Act} {kept after : List Act} {copy entered : Copy} → Enters number act kept copy entered after
+pub enters-held : {number : ℕ} {act : Act} {kept after : List Act} {copy entered : Copy}
+    → Enters number act kept copy entered after
     → length entered.held + length after ≤ length copy.held + length kept + 1
 enters-held (holds_on e) = omega arith
 enters-held (repeats e less) = omega arith

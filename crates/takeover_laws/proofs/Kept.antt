@@ -3,7 +3,9 @@ use Rattle.std.proofs.Common.{◌≡◌, ◌<◌, ◌≤◌, ℕ, ◌+◌, List,
 use Rattle.tal_tree.specs.declared.site.Site.{Site}
 use Rattle.schedule.specs.declared.event.Event.{Event}
 use Rattle.plain_semantics.specs.Machine.{IsPossible, shown_by}
-use Rattle.world_semantics.specs.Follows.{Follows, runs, cannot_run, enters, cannot_enter, delivers_none, delivers, delivers_mark, loses, doubles, ticks_none, ticks, ticks_stop, fails, cannot_fail, NotesDowns, marks_none, marks_one, Leads, stays, goes_on, IsRun}
+use Rattle.world_semantics.specs.Follows.{Follows, runs, cannot_run, enters, cannot_enter, delivers_none, delivers}
+use Rattle.world_semantics.specs.Follows.{delivers_mark, loses, doubles, ticks_none, ticks, ticks_stop, fails}
+use Rattle.world_semantics.specs.Follows.{cannot_fail, NotesDowns, marks_none, marks_one, Leads, stays, goes_on, IsRun}
 use Rattle.world_semantics.specs.Kept.{acts_of}
 use Rattle.world_semantics.specs.Messages.{Sending, Cause}
 use Rattle.world_semantics.specs.Rules.{Change}
@@ -23,13 +25,22 @@ pub record IsGood (site : Site) (events : ℕ) (w : World) : Type 0 where
   pub stopped : AreStopped w
   pub invariant : Invariant site events w
 
-more-events : {site : Site} {events : ℕ} (more : ℕ) {w : World} → events ≤ more → Invariant site events w → Invariant site more w
+more-events : {site : Site} {events : ℕ} (more : ℕ) {w : World} → events ≤ more → Invariant site events w
+    → Invariant site more w
 more-events more few inv = record {
   ledger = inv.ledger;
   booked = inv.booked;
   processes = λ number pair at. (let was = inv.processes number pair at in
-      let count = was.2.count in
-      (was.0, was.1, record { led = was.2.led; sectors = was.2.sectors; waiting = was.2.waiting; count = omega (arith, few, count) }));
+      let count = was.2.count in (
+        was.0,
+        was.1,
+        record {
+          led = was.2.led;
+          sectors = was.2.sectors;
+          waiting = was.2.waiting;
+          count = omega (arith, few, count);
+        },
+      ));
   requests = inv.requests;
   replies = inv.replies;
   terminals = inv.terminals;
@@ -37,9 +48,11 @@ more-events more few inv = record {
 
 module _ (site : Site) (fit : IsFit site) where
   more-good : {events : ℕ} (more : ℕ) {w : World} → events ≤ more → IsGood site events w → IsGood site more w
-  more-good more few good = record { roles = good.roles; stopped = good.stopped; invariant = more-events more few good.invariant }
+  more-good more few good =
+      record { roles = good.roles; stopped = good.stopped; invariant = more-events more few good.invariant }
 
-  pub change-good : (events : ℕ) (w next : World) (cause : Cause) (sendings : List Sending) → events < 4294967295 → IsGood site events w → Change site w cause sendings next
+  pub change-good : (events : ℕ) (w next : World) (cause : Cause) (sendings : List Sending) → events < 4294967295
+      → IsGood site events w → Change site w cause sendings next
       → IsGood site (events + acts_by cause) next
   change-good events w next cause sendings few good change = record {
     roles = change-roles w next cause sendings change good.roles;
@@ -47,43 +60,56 @@ module _ (site : Site) (fit : IsFit site) where
     invariant = change-keeps site fit events w next cause sendings few good.roles good.stopped good.invariant change;
   }
 
-  marks-good : (events : ℕ) {node : ℕ} {w end : World} {sendings : List Sending} → events < 4294967295 → IsGood site events w → NotesDowns site node w sendings end → IsGood site events end
+  marks-good : (events : ℕ) {node : ℕ} {w end : World} {sendings : List Sending} → events < 4294967295
+      → IsGood site events w → NotesDowns site node w sendings end → IsGood site events end
   marks-good events few good marks_none = good
   marks-good events few good (marks_one {w = w} {next = next} processor change more) =
       marks-good events few (more-good events (omega arith) (change-good events w next _ _ few good change)) more
 
-  follows-good : (events : ℕ) {event : Event} (w next : World) (sendings : List Sending) → events < 4294967295 → IsGood site events w → Follows site w event sendings next
+  follows-good : (events : ℕ) {event : Event} (w next : World) (sendings : List Sending) → events < 4294967295
+      → IsGood site events w → Follows site w event sendings next
       → IsGood site (events + 1) next
   follows-good events w next sendings few good (runs change) = change-good events w next _ _ few good change
   follows-good events w next sendings few good (cannot_run idle) = more-good (events + 1) (omega arith) good
   follows-good events w next sendings few good (enters change) = change-good events w next _ _ few good change
   follows-good events w next sendings few good (cannot_enter idle) = more-good (events + 1) (omega arith) good
   follows-good events w next sendings few good delivers_none = more-good (events + 1) (omega arith) good
-  follows-good events w next sendings few good (delivers node message change) = change-good events w next _ _ few good change
-  follows-good events w next sendings few good (delivers_mark node processor change) = more-good (events + 1) (omega arith) (change-good events w next _ _ few good change)
+  follows-good events w next sendings few good (delivers node message change) =
+      change-good events w next _ _ few good change
+  follows-good events w next sendings few good (delivers_mark node processor change) =
+      more-good (events + 1) (omega arith) (change-good events w next _ _ few good change)
   follows-good events w next sendings few good loses = more-good (events + 1) (omega arith) good
   follows-good events w next sendings few good doubles = more-good (events + 1) (omega arith) good
   follows-good events w next sendings few good ticks_none = more-good (events + 1) (omega arith) good
-  follows-good events w next sendings few good (ticks running marked) = more-good (events + 1) (omega arith) (marks-good events few good marked)
+  follows-good events w next sendings few good (ticks running marked) =
+      more-good (events + 1) (omega arith) (marks-good events few good marked)
   follows-good events w next sendings few good (ticks_stop {between = between} processor running other change marked) =
-      more-good (events + 1) (omega arith) (marks-good events few (more-good events (omega arith) (change-good events w between _ _ few good change)) marked)
-  follows-good events w next sendings few good (fails change) = more-good (events + 1) (omega arith) (change-good events w next _ _ few good change)
+      more-good (events + 1) (omega arith) (marks-good events few
+      (more-good events (omega arith) (change-good events w between _ _ few good change)) marked)
+  follows-good events w next sendings few good (fails change) =
+      more-good (events + 1) (omega arith) (change-good events w next _ _ few good change)
   follows-good events w next sendings few good (cannot_fail idle) = more-good (events + 1) (omega arith) good
 
-  leads-good : (before : ℕ) {w end : World} (events : List Event) → before + length events < 4294967296 → IsGood site before w → Leads site w events end
+  leads-good : (before : ℕ) {w end : World} (events : List Event) → before + length events < 4294967296
+      → IsGood site before w → Leads site w events end
       → IsGood site (before + length events) end
   leads-good before [] few good stays = more-good (before + 0) (omega arith) good
-  leads-good before (event ∷ events) few good (goes_on {w = w} {next = next} {end = end} {sendings = sendings} follows leads) =
+  leads-good before (event ∷ events) few good
+      (goes_on {w = w} {next = next} {end = end} {sendings = sendings} follows leads) =
       let after = follows-good before w next sendings (omega (arith, few)) good follows in
       subst (λ n. IsGood site n end) (omega arith) (leads-good (before + 1) events (omega (arith, few)) after leads)
 
-  pub run-keeps : (events : List Event) (w : World) → length events < 4294967296 → IsRun site events w → Invariant site (length events) w
+  pub run-keeps : (events : List Event) (w : World) → length events < 4294967296 → IsRun site events w
+      → Invariant site (length events) w
   run-keeps events w few run =
-      let first : IsGood site 0 (boot site) = record { roles = roles-begin site; stopped = λ mark among. absurd among; invariant = beginning-keeps site } in
+      let first : IsGood site 0 (boot site) =
+      record { roles = roles-begin site; stopped = λ mark among. absurd among; invariant = beginning-keeps site } in
       (subst (λ n. IsGood site n w) (omega arith) (leads-good 0 events (omega (arith, few)) first run)).invariant
 
-  pub kept-possible : (events : List Event) (w : World) → length events < 4294967296 → IsRun site events w → IsPossible site (acts_of w)
+  pub kept-possible : (events : List Event) (w : World) → length events < 4294967296 → IsRun site events w
+      → IsPossible site (acts_of w)
   kept-possible events w few run = ap is_some (booked-ran fit.regular (run-keeps events w few run).booked).ran
 
-  pub kept-shown : (events : List Event) (w : World) → length events < 4294967296 → IsRun site events w → shown_by site (acts_of w) ≡ reverse w.shown
+  pub kept-shown : (events : List Event) (w : World) → length events < 4294967296 → IsRun site events w
+      → shown_by site (acts_of w) ≡ reverse w.shown
   kept-shown events w few run = rw (booked-ran fit.regular (run-keeps events w few run).booked).ran refl

@@ -1,5 +1,6 @@
 -- Deeds that are held, and deeds that can be done anew.
-use Rattle.std.proofs.Common.{◌≡◌, ◌≢◌, ◌⊎◌, inl, inr, ℕ, List, [], ◌∷◌, ◌++◌, length, refl, ap, sym, ◌∙◌, subst, arith, append_assoc}
+use Rattle.std.proofs.Common.{◌≡◌, ◌≢◌, ◌⊎◌, inl, inr, ℕ, List, [], ◌∷◌, ◌++◌, length, refl, ap, sym, ◌∙◌, subst, arith}
+use Rattle.std.proofs.Common.{append_assoc}
 use Rattle.tal_tree.specs.declared.act.Act.{Act}
 use Rattle.tal_tree.specs.declared.site.Site.{Site}
 use Rattle.gd_words.specs.Members.{IsAmong}
@@ -13,7 +14,8 @@ use Rattle.takeover_laws.specs.Invariant.{IsRepeatable, AreRepeatable}
 
 -- Lists of deeds
 
-pub unmarked-join : (more deeds : List Deed) → AreUncheckpointed more → AreUncheckpointed deeds → AreUncheckpointed (more ++ deeds)
+pub unmarked-join : (more deeds : List Deed) → AreUncheckpointed more → AreUncheckpointed deeds
+    → AreUncheckpointed (more ++ deeds)
 unmarked-join [] deeds first last = last
 unmarked-join (deed ∷ more) deeds first last = (first.0, unmarked-join more deeds first.1 last)
 
@@ -21,7 +23,8 @@ pub short-join : (more deeds : List Deed) → AreShort more → AreShort deeds �
 short-join [] deeds first last = last
 short-join (deed ∷ more) deeds first last = (first.0, short-join more deeds first.1 last)
 
-pub repeatable-join : (more deeds : List Deed) → AreRepeatable more → AreRepeatable deeds → AreRepeatable (more ++ deeds)
+pub repeatable-join : (more deeds : List Deed) → AreRepeatable more → AreRepeatable deeds
+    → AreRepeatable (more ++ deeds)
 repeatable-join [] deeds first last = last
 repeatable-join (deed ∷ more) deeds first last = (first.0, repeatable-join more deeds first.1 last)
 
@@ -68,7 +71,8 @@ repeatable-last since before rest last is all =
 -- Held deeds
 
 module _ {site : Site} {ledger : Ledger} {number : ℕ} where
-  pub held-unmarked : {acts : List Act} {deeds : List Deed} → AreHeld site ledger number acts deeds → AreUncheckpointed deeds
+  pub held-unmarked : {acts : List Act} {deeds : List Deed} → AreHeld site ledger number acts deeds
+      → AreUncheckpointed deeds
   held-unmarked none_held = tt
   held-unmarked (take_held awaits) = (λ mark. mark, tt)
   held-unmarked (step_held held) = (λ mark. mark, held-unmarked held)
@@ -78,12 +82,14 @@ module _ {site : Site} {ledger : Ledger} {number : ℕ} where
   held-idle (take_held awaits) = (λ call. call, tt)
   held-idle (step_held held) = (λ call. call, held-idle held)
 
-  pub held-length : {acts : List Act} {deeds : List Deed} → AreHeld site ledger number acts deeds → length deeds ≡ length acts
+  pub held-length : {acts : List Act} {deeds : List Deed} → AreHeld site ledger number acts deeds
+      → length deeds ≡ length acts
   held-length none_held = refl
   held-length (take_held awaits) = refl
   held-length (step_held held) = let rest = held-length held in omega (arith, rest)
 
-  pub held-short : {acts : List Act} {deeds : List Deed} → IsShortLedger ledger → AreHeld site ledger number acts deeds → AreShort deeds
+  pub held-short : {acts : List Act} {deeds : List Deed} → IsShortLedger ledger → AreHeld site ledger number acts deeds
+      → AreShort deeds
   held-short short none_held = tt
   held-short short (take_held {words = words} (one, opens, waits)) =
       (short.requests one words (subst (λ all. IsAmong words all) (sym waits) (inl refl)), tt)

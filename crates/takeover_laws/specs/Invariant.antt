@@ -1,4 +1,5 @@
--- What is so of each world that a run reaches: its kept acts are booked in a ledger, and each process stands to its deeds there as its copies may.
+-- What is so of each world that a run reaches: its kept acts are booked in a ledger, and each process stands to its
+-- deeds there as its copies may.
 use Rattle.std.specs.Prelude.{◌≡◌, ◌≢◌, ◌≤◌, ℕ, ◌+◌, true, false, List, [], ◌∷◌, ◌++◌, length, slice_get, Some}
 use Rattle.gd_words.specs.Members.{IsAmong}
 use Rattle.gd_words.specs.declared.message.Request.{Request}
@@ -36,28 +37,36 @@ AreRepeatable (deed ∷ deeds) = IsRepeatable deed × AreRepeatable deeds
 
 -- The copy that leads: it acted last, or it took over
 
--- how far it is with the kept deeds of its process: level with them; still at a checkpoint that is kept already, since the other copy applied its checkpoint; or
--- behind, where it does anew what a lost copy did
+-- how far it is with the kept deeds of its process: level with them; still at a checkpoint that is kept already, since
+-- the other copy applied its checkpoint; or behind, where it does anew what a lost copy did
 pub data Stage : Type 0 where
   Level : Stage
   Applied : Stage
   Behind : Stage
 
--- a copy that leads stands at a stage to the kept deeds of its process. What it did beyond them it holds, and it sends one at its checkpoints alone
-pub data IsLead (site : Site) (ledger : Ledger) (number : ℕ) (spec : ProcessSpec) (deeds : List Deed) (copy : Copy) : Stage → Type 0 where
-  is_level : {held : List Act} {more : List Deed} → copy.held ≡ held → AreHeld site ledger number held more → copy.position ≡ length deeds
-      → HasDone site number spec (more ++ deeds) copy.core → (copy.sent ≡ true → process.point copy.core.state ≡ point.AtCheckpoint)
+-- a copy that leads stands at a stage to the kept deeds of its process. What it did beyond them it holds, and it sends
+-- one at its checkpoints alone
+pub data IsLead (site : Site) (ledger : Ledger) (number : ℕ) (spec : ProcessSpec) (deeds : List Deed) (copy : Copy) :
+    Stage → Type 0 where
+  is_level : {held : List Act} {more : List Deed} → copy.held ≡ held → AreHeld site ledger number held more
+      → copy.position ≡ length deeds
+      → HasDone site number spec (more ++ deeds) copy.core
+      → (copy.sent ≡ true → process.point copy.core.state ≡ point.AtCheckpoint)
       → IsLead site ledger number spec deeds copy Level
-  is_applied : (before : List Deed) → copy.held ≡ [] → deeds ≡ Checkpointed ∷ before → copy.position ≡ length before → HasDone site number spec before copy.core
+  is_applied : (before : List Deed) → copy.held ≡ [] → deeds ≡ Checkpointed ∷ before → copy.position ≡ length before
+      → HasDone site number spec before copy.core
       → copy.sent ≡ true → IsLead site ledger number spec deeds copy Applied
-  is_behind : (since : List Deed) (next : Deed) (before : List Deed) → copy.held ≡ [] → deeds ≡ since ++ next ∷ before → IsRepeatable next
-      → AreRepeatable since → copy.position ≡ length before → HasDone site number spec before copy.core → copy.sent ≡ false
+  is_behind : (since : List Deed) (next : Deed) (before : List Deed) → copy.held ≡ [] → deeds ≡ since ++ next ∷ before
+      → IsRepeatable next
+      → AreRepeatable since → copy.position ≡ length before → HasDone site number spec before copy.core
+      → copy.sent ≡ false
       → IsLead site ledger number spec deeds copy Behind
 
 -- The other copy
 
--- the second copy of a process watches: it has what the process had at the base, since which no checkpoint and no take are kept, and no checkpoint of a later
--- number than the first copy's, nor any message that one of a later number than its own was taken, was ever sent
+-- the second copy of a process watches: it has what the process had at the base, since which no checkpoint and no take
+-- are kept, and no checkpoint of a later number than the first copy's, nor any message that one of a later number than
+-- its own was taken, was ever sent
 pub record Watches (site : Site) (number : ℕ) (spec : ProcessSpec) (deeds : List Deed) (pair : Pair) : Type 0 where
   pub since : List Deed
   pub before : List Deed
@@ -70,32 +79,44 @@ pub record Watches (site : Site) (number : ℕ) (spec : ProcessSpec) (deeds : Li
   pub checkpoints : (message : ImageMessage) → IsAmong message pair.checkpoints → message.number ≤ pair.first.number
   pub takens : (taken : TakenMessage) → IsAmong taken pair.takens → taken.number ≤ pair.second.number
 
--- how the second copy stands to the first one, which leads: it is gone; a checkpoint of what the first one has may be on its way; none is; or it applied that
--- of the one at which the first one still stands
-pub data IsOther (site : Site) (number : ℕ) (spec : ProcessSpec) (deeds : List Deed) (pair : Pair) : Stage → Type 0 where
+-- how the second copy stands to the first one, which leads: it is gone; a checkpoint of what the first one has may be
+-- on its way; none is; or it applied that of the one at which the first one still stands
+pub data IsOther (site : Site) (number : ℕ) (spec : ProcessSpec) (deeds : List Deed) (pair : Pair) : Stage
+    → Type 0 where
   is_lost : {stage : Stage} → pair.second.role ≡ Gone → IsOther site number spec deeds pair stage
-  is_due : Watches site number spec deeds pair → pair.first.sent ≡ true → pair.first.acknowledged ≡ false → pair.first.number ≡ pair.second.number + 1
-      → ((message : ImageMessage) → IsAmong message pair.checkpoints → message.number ≡ pair.first.number → message.image ≡ carried pair.first.core)
+  is_due : Watches site number spec deeds pair → pair.first.sent ≡ true → pair.first.acknowledged ≡ false
+      → pair.first.number ≡ pair.second.number + 1
+      → ((message : ImageMessage) → IsAmong message pair.checkpoints → message.number ≡ pair.first.number
+      → message.image ≡ carried pair.first.core)
       → IsOther site number spec deeds pair Level
-  is_even : Watches site number spec deeds pair → pair.first.number ≡ pair.second.number → pair.first.sent ≡ false → pair.first.acknowledged ≡ false
+  is_even : Watches site number spec deeds pair → pair.first.number ≡ pair.second.number → pair.first.sent ≡ false
+      → pair.first.acknowledged ≡ false
       → IsOther site number spec deeds pair Level
-  has_applied : Watches site number spec deeds pair → pair.first.number ≡ pair.second.number → IsOther site number spec deeds pair Applied
+  has_applied : Watches site number spec deeds pair → pair.first.number ≡ pair.second.number
+      → IsOther site number spec deeds pair Applied
 
--- the first copy of a process leads: with the other one, so far as that isn't lost; or alone, after it took over and its node marked the other's processor
-pub data FirstLeads (site : Site) (marks : List Down) (ledger : Ledger) (number : ℕ) (spec : ProcessSpec) (deeds : List Deed) (pair : Pair) : Type 0 where
-  with_other : {stage : Stage} → pair.first.role ≢ Watching → IsLead site ledger number spec deeds pair.first stage → stage ≢ Behind
+-- the first copy of a process leads: with the other one, so far as that isn't lost; or alone, after it took over and
+-- its node marked the other's processor
+pub data FirstLeads (site : Site) (marks : List Down) (ledger : Ledger) (number : ℕ) (spec : ProcessSpec)
+    (deeds : List Deed) (pair : Pair) : Type 0 where
+  with_other : {stage : Stage} → pair.first.role ≢ Watching → IsLead site ledger number spec deeds pair.first stage
+      → stage ≢ Behind
       → IsOther site number spec deeds pair stage → FirstLeads site marks ledger number spec deeds pair
-  alone : {stage : Stage} → pair.first.role ≢ Watching → IsLead site ledger number spec deeds pair.first stage → stage ≢ Applied → pair.first.sent ≡ false
-      → pair.second.role ≡ Gone → has_noted marks pair.first.processor pair.second.processor ≡ true → FirstLeads site marks ledger number spec deeds pair
+  alone : {stage : Stage} → pair.first.role ≢ Watching → IsLead site ledger number spec deeds pair.first stage
+      → stage ≢ Applied → pair.first.sent ≡ false
+      → pair.second.role ≡ Gone → has_noted marks pair.first.processor pair.second.processor ≡ true
+      → FirstLeads site marks ledger number spec deeds pair
 
 -- a process with its copies exchanged
 abbrev pub exchanged : Pair → Pair
 exchanged pair = record pair { first = pair.second; second = pair.first }
 
 -- one of the two copies leads, whichever it is
-pub data IsLed (site : Site) (marks : List Down) (ledger : Ledger) (number : ℕ) (spec : ProcessSpec) (deeds : List Deed) (pair : Pair) : Type 0 where
+pub data IsLed (site : Site) (marks : List Down) (ledger : Ledger) (number : ℕ) (spec : ProcessSpec)
+    (deeds : List Deed) (pair : Pair) : Type 0 where
   by_first : FirstLeads site marks ledger number spec deeds pair → IsLed site marks ledger number spec deeds pair
-  by_second : FirstLeads site marks ledger number spec deeds (exchanged pair) → IsLed site marks ledger number spec deeds pair
+  by_second : FirstLeads site marks ledger number spec deeds (exchanged pair)
+      → IsLed site marks ledger number spec deeds pair
 
 -- Messages
 
@@ -107,16 +128,19 @@ IsAsked site ledger request =
 
 -- a reply is an entry of what its process answered to the opener
 abbrev pub IsAnswered : Ledger → Reply → Type 0
-IsAnswered ledger reply = IsEntry reply.number reply.words (answered_of ledger (record { server = reply.process; place = reply.opener }))
+IsAnswered ledger reply =
+    IsEntry reply.number reply.words (answered_of ledger (record { server = reply.process; place = reply.opener }))
 
 -- Worlds
 
--- a process is led by one of its copies, its device has what its deeds left there, all that waits is to it and was asked, and its deeds with the held acts
--- are no more than the events
-pub record IsSound (site : Site) (marks : List Down) (ledger : Ledger) (events number : ℕ) (spec : ProcessSpec) (pair : Pair) : Type 0 where
+-- a process is led by one of its copies, its device has what its deeds left there, all that waits is to it and was
+-- asked, and its deeds with the held acts are no more than the events
+pub record IsSound (site : Site) (marks : List Down) (ledger : Ledger) (events number : ℕ) (spec : ProcessSpec)
+    (pair : Pair) : Type 0 where
   pub led : IsLed site marks ledger number spec (ledger.deeds number) pair
   pub sectors : pair.sectors ≡ sectors_after spec.what (ledger.deeds number)
-  pub waiting : (k : Which) (request : Request) → IsAmong request (copy_of k pair).waiting → (request.process ≡ number) × IsAsked site ledger request
+  pub waiting : (k : Which) (request : Request) → IsAmong request (copy_of k pair).waiting
+      → (request.process ≡ number) × IsAsked site ledger request
   pub count : length pair.first.held + length pair.second.held + length (ledger.deeds number) ≤ events
 
 -- a terminal has entered and printed as often as the ledger says
@@ -124,12 +148,15 @@ pub record IsSoundTerminal (ledger : Ledger) (number : ℕ) (terminal : Terminal
   pub entered : terminal.entered ≡ length (ledger.entered number)
   pub printed : terminal.printed ≡ length (ledger.printed number)
 
--- after so many events the kept acts are booked with what was shown, and processes, messages and terminals are as the ledger says
+-- after so many events the kept acts are booked with what was shown, and processes, messages and terminals are as the
+-- ledger says
 pub record Invariant (site : Site) (events : ℕ) (w : World) : Type 0 where
   pub ledger : Ledger
   pub booked : AreBooked site w.kept w.shown ledger
   pub processes : (number : ℕ) (pair : Pair) → slice_get w.processes number ≡ Some pair
-      → (spec : ProcessSpec) × (slice_get site.processes number ≡ Some spec) × IsSound site w.marks ledger events number spec pair
+      → (spec : ProcessSpec) × (slice_get site.processes number ≡ Some spec)
+      × IsSound site w.marks ledger events number spec pair
   pub requests : (request : Request) → IsAmong request w.requests → IsAsked site ledger request
   pub replies : (reply : Reply) → IsAmong reply w.replies → IsAnswered ledger reply
-  pub terminals : (number : ℕ) (terminal : Terminal) → slice_get w.terminals number ≡ Some terminal → IsSoundTerminal ledger number terminal
+  pub terminals : (number : ℕ) (terminal : Terminal) → slice_get w.terminals number ≡ Some terminal
+      → IsSoundTerminal ledger number terminal

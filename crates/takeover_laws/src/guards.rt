@@ -10,15 +10,18 @@ ghost use Rattle.takeover_laws.specs.Invariant.{AreRepeatable, IsLed, IsSound, I
 
 /// At the beginning each process is sound, led by its first copy, and the world keeps the invariant.
 pub fn the_beginning_is_sound()
-    ensures process { (site : Site) (number : ℕ) (spec : ProcessSpec) → IsSound site [] empty_ledger 0 number spec (pair_at_boot site number spec) }
+    ensures process { (site : Site) (number : ℕ) (spec : ProcessSpec)
+        → IsSound site [] empty_ledger 0 number spec (pair_at_boot site number spec) }
     ensures world { (site : Site) → Invariant site 0 (boot site) }
 {}
 
 /// A copy that watches doesn't lead, whichever of the two it is: the other one does.
 pub fn a_copy_that_watches_does_not_lead()
-    ensures neither { (site : Site) (marks : List Down) (ledger : Ledger) (number : ℕ) (spec : ProcessSpec) (deeds : List Deed) (pair : Pair) → pair.first.role ≡ Watching
+    ensures neither { (site : Site) (marks : List Down) (ledger : Ledger) (number : ℕ) (spec : ProcessSpec)
+        (deeds : List Deed) (pair : Pair) → pair.first.role ≡ Watching
         → pair.second.role ≡ Watching → IsLed site marks ledger number spec deeds pair → ⊥ }
-    ensures either { (site : Site) (marks : List Down) (ledger : Ledger) (number : ℕ) (spec : ProcessSpec) (deeds : List Deed) (pair : Pair)
+    ensures either { (site : Site) (marks : List Down) (ledger : Ledger) (number : ℕ) (spec : ProcessSpec)
+        (deeds : List Deed) (pair : Pair)
         → IsLed site marks ledger number spec deeds pair → IsLed site marks ledger number spec deeds (exchanged pair) }
 {}
 

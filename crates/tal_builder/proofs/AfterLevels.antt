@@ -2,7 +2,10 @@
 use Rattle.std.proofs.Common.{ℕ, suc, List, ◌∷◌}
 use Rattle.tal_syntax.specs.Grammar as g
 use Rattle.tal_syntax.specs.Expected.{AllAtMost}
-use Rattle.tal_syntax.specs.Nesting.{nest_expr, nest_ors, nest_both, nest_ands, nest_neg, nest_compared, nest_sum, nest_terms, nest_product, nest_factors, nest_factor, nest_spot, nest_index, nest_argument, nest_further, nest_arguments, nest_values, nest_answer, nest_statement, nest_otherwise, nest_row}
+use Rattle.tal_syntax.specs.Nesting.{nest_expr, nest_ors, nest_both, nest_ands, nest_neg, nest_compared, nest_sum}
+use Rattle.tal_syntax.specs.Nesting.{nest_terms, nest_product, nest_factors, nest_factor, nest_spot, nest_index}
+use Rattle.tal_syntax.specs.Nesting.{nest_argument, nest_further, nest_arguments, nest_values, nest_answer}
+use Rattle.tal_syntax.specs.Nesting.{nest_statement, nest_otherwise, nest_row}
 
 mutual
   pub after_expr : (x : g.Expr) (n m : ℕ) (ls : List ℕ) → AllAtMost m (nest_expr n x ls) → AllAtMost m ls
@@ -39,7 +42,8 @@ mutual
 
   after_factors : (x : g.Factors) (n m : ℕ) (ls : List ℕ) → AllAtMost m (nest_factors n x ls) → AllAtMost m ls
   after_factors g.no_factors n m ls a = a
-  after_factors (g.more_factors s f fs) n m ls a = after_factors fs n m ls (after_factor f n m (nest_factors n fs ls) a.1)
+  after_factors (g.more_factors s f fs) n m ls a =
+      after_factors fs n m ls (after_factor f n m (nest_factors n fs ls) a.1)
 
   pub after_factor : (x : g.Factor) (n m : ℕ) (ls : List ℕ) → AllAtMost m (nest_factor n x ls) → AllAtMost m ls
   after_factor (g.minus at f) n m ls a = after_factor f (suc n) m ls a.1
@@ -62,12 +66,14 @@ after_argument (g.quoted at) n m ls a = a.1
 
 after_further : (x : g.Further) (n m : ℕ) (ls : List ℕ) → AllAtMost m (nest_further n x ls) → AllAtMost m ls
 after_further g.no_further n m ls a = a
-after_further (g.more_further comma x r) n m ls a = after_further r n m ls (after_argument x n m (nest_further n r ls) a.1)
+after_further (g.more_further comma x r) n m ls a =
+    after_further r n m ls (after_argument x n m (nest_further n r ls) a.1)
 
 after_arguments : (x : g.Arguments) (n m : ℕ) (ls : List ℕ) → AllAtMost m (nest_arguments n x ls) → AllAtMost m ls
 after_arguments g.unlisted n m ls a = a
 after_arguments (g.listed start first more close) n m ls a =
-    (after_further more (suc n) m (suc n ∷ ls) (after_argument first (suc n) m (nest_further (suc n) more (suc n ∷ ls)) a.1)).1
+    (after_further more (suc n) m (suc n ∷ ls)
+    (after_argument first (suc n) m (nest_further (suc n) more (suc n ∷ ls)) a.1)).1
 
 after_values : (x : g.Values) (n m : ℕ) (ls : List ℕ) → AllAtMost m (nest_values n x ls) → AllAtMost m ls
 after_values g.no_values n m ls a = a
@@ -81,20 +87,25 @@ mutual
   pub after_statement : (x : g.Statement) (n m : ℕ) (ls : List ℕ) → AllAtMost m (nest_statement n x ls) → AllAtMost m ls
   after_statement g.nothing n m ls a = a
   after_statement (g.block begin first more end) n m ls a =
-      (after_row more (suc n) m (suc n ∷ ls) (after_statement first (suc n) m (nest_row (suc n) more (suc n ∷ ls)) a.1)).1
+      (after_row more (suc n) m (suc n ∷ ls) (after_statement first (suc n) m (nest_row (suc n) more (suc n ∷ ls))
+      a.1)).1
   after_statement (g.if_then head test then_at s o) n m ls a =
       after_otherwise o (suc n) m ls (after_statement s (suc n) m (nest_otherwise (suc n) o ls)
       (after_expr test (suc n) m (suc n ∷ nest_statement (suc n) s (nest_otherwise (suc n) o ls)) a.1).1)
-  after_statement (g.while_do head test do_at s) n m ls a = after_statement s (suc n) m ls (after_expr test (suc n) m (suc n ∷ nest_statement (suc n) s ls) a.1).1
+  after_statement (g.while_do head test do_at s) n m ls a =
+      after_statement s (suc n) m ls (after_expr test (suc n) m (suc n ∷ nest_statement (suc n) s ls) a.1).1
   after_statement (g.for_do head at name set_at from to_at to do_at s) n m ls a =
       after_statement s (suc n) m ls (after_expr to (suc n) m (suc n ∷ nest_statement (suc n) s ls)
       (after_expr from (suc n) m (suc n ∷ nest_expr (suc n) to (suc n ∷ nest_statement (suc n) s ls)) a.1.1.1).1).1
   after_statement (g.call head at name x) n m ls a = after_arguments x (suc n) m ls a.1.1
   after_statement (g.return head x) n m ls a = after_answer x (suc n) m ls a.1
-  after_statement (g.assign target at e) n m ls a = after_expr e (suc n) m ls (after_spot target (suc n) m (suc n ∷ nest_expr (suc n) e ls) a).1
+  after_statement (g.assign target at e) n m ls a =
+      after_expr e (suc n) m ls (after_spot target (suc n) m (suc n ∷ nest_expr (suc n) e ls) a).1
   after_statement (g.assign_call target at name_at name start first more close) n m ls a =
-      (after_values more (suc (suc n)) m (suc (suc n) ∷ ls) (after_expr first (suc (suc n)) m (nest_values (suc (suc n)) more (suc (suc n) ∷ ls))
-      (after_spot target (suc n) m (suc n ∷ suc n ∷ suc (suc n) ∷ nest_expr (suc (suc n)) first (nest_values (suc (suc n)) more (suc (suc n) ∷ ls))) a).1.1.1)).1
+      (after_values more (suc (suc n)) m (suc (suc n) ∷ ls)
+      (after_expr first (suc (suc n)) m (nest_values (suc (suc n)) more (suc (suc n) ∷ ls))
+      (after_spot target (suc n) m (suc n ∷ suc n ∷ suc (suc n)
+      ∷ nest_expr (suc (suc n)) first (nest_values (suc (suc n)) more (suc (suc n) ∷ ls))) a).1.1.1)).1
 
   pub after_otherwise : (x : g.Otherwise) (n m : ℕ) (ls : List ℕ) → AllAtMost m (nest_otherwise n x ls) → AllAtMost m ls
   after_otherwise g.no_else n m ls a = a

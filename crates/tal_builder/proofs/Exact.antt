@@ -18,7 +18,9 @@ syntax_found ks t h = sym (ap text_at h.1) ∙ found_text t h.0 h.2
 
 pub built : (ks : List Token) (r : Result Text BuildFault) → Tells seen_text r (text_at ks) → Built ks r
 built ks (Ok t) h = told_of (text_at ks) (seen_text t) (text_is ks) h
-built ks (Err e) h = λ ne t s. let none : text_at ks ≡ None = h ne in let some : text_at ks ≡ Some t = syntax_found ks t s in cc
+built ks (Err e) h =
+    λ ne t s. let none : text_at ks ≡ None = h ne in let some : text_at ks ≡ Some t = syntax_found ks t s in cc
 
 pub one_syntax : (ks : List Token) (t u : g.Text) → IsSyntax ks t → IsSyntax ks u → t ≡ u
-one_syntax ks t u p q = let a : text_at ks ≡ Some t = syntax_found ks t p in let b : text_at ks ≡ Some u = syntax_found ks u q in cc
+one_syntax ks t u p q =
+    let a : text_at ks ≡ Some t = syntax_found ks t p in let b : text_at ks ≡ Some u = syntax_found ks u q in cc

@@ -1,8 +1,11 @@
--- The tokens of declarations open no level: what is said of their levels says the same of what follows, and the other way round.
+-- The tokens of declarations open no level: what is said of their levels says the same of what follows, and the other
+-- way round.
 use Rattle.std.proofs.Common.{ℕ, ◌≤◌, List, ◌∷◌}
 use Rattle.tal_syntax.specs.Grammar as g
 use Rattle.tal_syntax.specs.Expected.{AllAtMost}
-use Rattle.tal_syntax.specs.Nesting.{nest_atom, nest_constant, nest_bounds, nest_item, nest_items, nest_literal, nest_literals, nest_globals, nest_lines, nest_names, nest_parameters, nest_local, nest_locals, nest_gives, nest_main, nest_heading}
+use Rattle.tal_syntax.specs.Nesting.{nest_atom, nest_constant, nest_bounds, nest_item, nest_items, nest_literal}
+use Rattle.tal_syntax.specs.Nesting.{nest_literals, nest_globals, nest_lines, nest_names, nest_parameters, nest_local}
+use Rattle.tal_syntax.specs.Nesting.{nest_locals, nest_gives, nest_main, nest_heading}
 
 -- tokens at an allowed level before allowed ones
 abbrev Flat : {X : Type 0} → (ℕ → X → List ℕ → List ℕ) → Type 0
@@ -33,11 +36,14 @@ flat_literal (g.literal at name equal c) n m ls l a = (l, (l, flat_constant c n 
 
 flat_literals : Flat nest_literals
 flat_literals g.no_literals n m ls l a = a
-flat_literals (g.more_literals comma i r) n m ls l a = (l, flat_literal i n m (nest_literals n r ls) l (flat_literals r n m ls l a))
+flat_literals (g.more_literals comma i r) n m ls l a =
+    (l, flat_literal i n m (nest_literals n r ls) l (flat_literals r n m ls l a))
 
 flat_globals : Flat nest_globals
-flat_globals (g.int_line int first more end) n m ls l a = (l, flat_item first n m (nest_items n more (n ∷ ls)) l (flat_items more n m (n ∷ ls) l (l, a)))
-flat_globals (g.literal_line word first more end) n m ls l a = (l, flat_literal first n m (nest_literals n more (n ∷ ls)) l (flat_literals more n m (n ∷ ls) l (l, a)))
+flat_globals (g.int_line int first more end) n m ls l a =
+    (l, flat_item first n m (nest_items n more (n ∷ ls)) l (flat_items more n m (n ∷ ls) l (l, a)))
+flat_globals (g.literal_line word first more end) n m ls l a =
+    (l, flat_literal first n m (nest_literals n more (n ∷ ls)) l (flat_literals more n m (n ∷ ls) l (l, a)))
 
 pub flat_lines : Flat nest_lines
 flat_lines g.no_lines n m ls l a = a
@@ -85,7 +91,8 @@ after_constant (g.negative sign x) n m ls a = after_atom x n m ls a.1
 
 after_bounds : After nest_bounds
 after_bounds g.unbounded n m ls a = a
-after_bounds (g.bounded start low colon high close) n m ls a = (after_constant high n m (n ∷ ls) (after_constant low n m (n ∷ nest_constant n high (n ∷ ls)) a.1).1).1
+after_bounds (g.bounded start low colon high close) n m ls a =
+    (after_constant high n m (n ∷ ls) (after_constant low n m (n ∷ nest_constant n high (n ∷ ls)) a.1).1).1
 
 after_item : After nest_item
 after_item (g.item at name b) n m ls a = after_bounds b n m ls a.1
@@ -99,11 +106,14 @@ after_literal (g.literal at name equal c) n m ls a = after_constant c n m ls a.1
 
 after_literals : After nest_literals
 after_literals g.no_literals n m ls a = a
-after_literals (g.more_literals comma i r) n m ls a = after_literals r n m ls (after_literal i n m (nest_literals n r ls) a.1)
+after_literals (g.more_literals comma i r) n m ls a =
+    after_literals r n m ls (after_literal i n m (nest_literals n r ls) a.1)
 
 after_globals : After nest_globals
-after_globals (g.int_line int first more end) n m ls a = (after_items more n m (n ∷ ls) (after_item first n m (nest_items n more (n ∷ ls)) a.1)).1
-after_globals (g.literal_line word first more end) n m ls a = (after_literals more n m (n ∷ ls) (after_literal first n m (nest_literals n more (n ∷ ls)) a.1)).1
+after_globals (g.int_line int first more end) n m ls a =
+    (after_items more n m (n ∷ ls) (after_item first n m (nest_items n more (n ∷ ls)) a.1)).1
+after_globals (g.literal_line word first more end) n m ls a =
+    (after_literals more n m (n ∷ ls) (after_literal first n m (nest_literals n more (n ∷ ls)) a.1)).1
 
 pub after_lines : After nest_lines
 after_lines g.no_lines n m ls a = a
@@ -134,4 +144,5 @@ after_main (g.is_main at) n m ls a = a.1
 
 pub after_heading : After nest_heading
 after_heading (g.heading gives proc at name p main end) n m ls a =
-    (after_main main n m (n ∷ ls) (after_parameters p n m (nest_main n main (n ∷ ls)) (after_gives gives n m (n ∷ n ∷ nest_parameters n p (nest_main n main (n ∷ ls))) a).1.1)).1
+    (after_main main n m (n ∷ ls) (after_parameters p n m (nest_main n main (n ∷ ls))
+    (after_gives gives n m (n ∷ n ∷ nest_parameters n p (nest_main n main (n ∷ ls))) a).1.1)).1

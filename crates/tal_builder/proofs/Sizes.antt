@@ -18,7 +18,11 @@ grows_constant (g.negative sign x) ks = omega (arith, grows_atom x ks)
 grows_bounds : Grows g.of_bounds
 grows_bounds g.unbounded ks = omega arith
 grows_bounds (g.bounded start low colon high close) ks =
-    omega (arith, grows_constant low (tok.Colon colon ∷ g.of_constant high (tok.CloseIndex close ∷ ks)), grows_constant high (tok.CloseIndex close ∷ ks))
+    omega (
+      arith,
+      grows_constant low (tok.Colon colon ∷ g.of_constant high (tok.CloseIndex close ∷ ks)),
+      grows_constant high (tok.CloseIndex close ∷ ks),
+    )
 
 pub grows_item : Grows g.of_item
 grows_item (g.item at name b) ks = omega (arith, grows_bounds b ks)
@@ -36,9 +40,17 @@ grows_literals (g.more_literals comma i r) ks = omega (arith, grows_literal i (g
 
 pub grows_globals : (l : g.Globals) (ks : List Token) → suc (length ks) ≤ length (g.of_globals l ks)
 grows_globals (g.int_line int first more end) ks =
-    omega (arith, grows_item first (g.of_items more (tok.Semicolon end ∷ ks)), grows_items more (tok.Semicolon end ∷ ks))
+    omega (
+      arith,
+      grows_item first (g.of_items more (tok.Semicolon end ∷ ks)),
+      grows_items more (tok.Semicolon end ∷ ks),
+    )
 grows_globals (g.literal_line word first more end) ks =
-    omega (arith, grows_literal first (g.of_literals more (tok.Semicolon end ∷ ks)), grows_literals more (tok.Semicolon end ∷ ks))
+    omega (
+      arith,
+      grows_literal first (g.of_literals more (tok.Semicolon end ∷ ks)),
+      grows_literals more (tok.Semicolon end ∷ ks),
+    )
 
 grows_names : Grows g.of_names
 grows_names g.no_names ks = omega arith
@@ -60,8 +72,10 @@ grows_main g.not_main ks = omega arith
 grows_main (g.is_main at) ks = omega arith
 
 grows_heading : (h : g.Heading) (ks : List Token) → suc (length ks) ≤ length (g.of_heading h ks)
-grows_heading (g.heading g.gives_nothing proc at name p m end) ks = omega (arith, grows_parameters p (g.of_main m (tok.Semicolon end ∷ ks)), grows_main m (tok.Semicolon end ∷ ks))
-grows_heading (g.heading (g.gives_int int) proc at name p m end) ks = omega (arith, grows_parameters p (g.of_main m (tok.Semicolon end ∷ ks)), grows_main m (tok.Semicolon end ∷ ks))
+grows_heading (g.heading g.gives_nothing proc at name p m end) ks =
+    omega (arith, grows_parameters p (g.of_main m (tok.Semicolon end ∷ ks)), grows_main m (tok.Semicolon end ∷ ks))
+grows_heading (g.heading (g.gives_int int) proc at name p m end) ks =
+    omega (arith, grows_parameters p (g.of_main m (tok.Semicolon end ∷ ks)), grows_main m (tok.Semicolon end ∷ ks))
 
 mutual
   pub grows_expr : (e : g.Expr) (ks : List Token) → length ks ≤ length (g.of_expr e ks)
@@ -126,7 +140,11 @@ grows_further (g.more_further comma x r) ks = omega (arith, grows_argument x (g.
 grows_arguments : Grows g.of_arguments
 grows_arguments g.unlisted ks = omega arith
 grows_arguments (g.listed start first more close) ks =
-    omega (arith, grows_argument first (g.of_further more (tok.Close close ∷ ks)), grows_further more (tok.Close close ∷ ks))
+    omega (
+      arith,
+      grows_argument first (g.of_further more (tok.Close close ∷ ks)),
+      grows_further more (tok.Close close ∷ ks),
+    )
 
 grows_values : Grows g.of_values
 grows_values g.no_values ks = omega arith
@@ -139,19 +157,33 @@ grows_answer (g.answer e) ks = grows_expr e ks
 mutual
   pub grows_statement : (s : g.Statement) (ks : List Token) → length ks ≤ length (g.of_statement s ks)
   grows_statement g.nothing ks = omega arith
-  grows_statement (g.block begin first more end) ks = omega (arith, grows_statement first (g.of_row more (tok.End end ∷ ks)), grows_row more (tok.End end ∷ ks))
+  grows_statement (g.block begin first more end) ks =
+      omega (arith, grows_statement first (g.of_row more (tok.End end ∷ ks)), grows_row more (tok.End end ∷ ks))
   grows_statement (g.if_then head test then_at s o) ks =
-      omega (arith, grows_expr test (tok.Then then_at ∷ g.of_statement s (g.of_otherwise o ks)), grows_statement s (g.of_otherwise o ks), grows_otherwise o ks)
-  grows_statement (g.while_do head test do_at s) ks = omega (arith, grows_expr test (tok.Do do_at ∷ g.of_statement s ks), grows_statement s ks)
+      omega (
+        arith,
+        grows_expr test (tok.Then then_at ∷ g.of_statement s (g.of_otherwise o ks)),
+        grows_statement s (g.of_otherwise o ks),
+        grows_otherwise o ks,
+      )
+  grows_statement (g.while_do head test do_at s) ks =
+      omega (arith, grows_expr test (tok.Do do_at ∷ g.of_statement s ks), grows_statement s ks)
   grows_statement (g.for_do head at name set_at from to_at to do_at s) ks =
-      omega (arith, grows_expr from (tok.To to_at ∷ g.of_expr to (tok.Do do_at ∷ g.of_statement s ks)), grows_expr to (tok.Do do_at ∷ g.of_statement s ks), grows_statement s ks)
+      omega (
+        arith,
+        grows_expr from (tok.To to_at ∷ g.of_expr to (tok.Do do_at ∷ g.of_statement s ks)),
+        grows_expr to (tok.Do do_at ∷ g.of_statement s ks),
+        grows_statement s ks,
+      )
   grows_statement (g.call head at name a) ks = omega (arith, grows_arguments a ks)
   grows_statement (g.return head a) ks = omega (arith, grows_answer a ks)
-  grows_statement (g.assign target at e) ks = omega (arith, grows_spot target (tok.Assign at ∷ g.of_expr e ks), grows_expr e ks)
+  grows_statement (g.assign target at e) ks =
+      omega (arith, grows_spot target (tok.Assign at ∷ g.of_expr e ks), grows_expr e ks)
   grows_statement (g.assign_call target at name_at name start first more close) ks =
       omega (
         arith,
-        grows_spot target (tok.Assign at ∷ tok.Name name_at name ∷ tok.Open start ∷ g.of_expr first (g.of_values more (tok.Close close ∷ ks))),
+        grows_spot target (tok.Assign at ∷ tok.Name name_at name ∷ tok.Open start
+            ∷ g.of_expr first (g.of_values more (tok.Close close ∷ ks))),
         grows_expr first (g.of_values more (tok.Close close ∷ ks)),
         grows_values more (tok.Close close ∷ ks),
       )

@@ -1,5 +1,5 @@
--- The parts of the grammar with which tokens begin, with the tokens after them: as far as the tokens go on to be of the part.
--- Where a part may open levels, `n` of them are left.
+-- The parts of the grammar with which tokens begin, with the tokens after them: as far as the tokens go on to be of the
+-- part. Where a part may open levels, `n` of them are left.
 pub mod Chains
 pub mod Declarations
 pub mod Expressions

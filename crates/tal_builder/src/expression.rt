@@ -1,7 +1,10 @@
 ghost use Rattle.std.specs.Prelude.{◌≡◌};
 ghost use Rattle.tal_builder.specs.Outcome.{Tells};
-ghost use Rattle.tal_builder.specs.Parse.{ors_by, ands_by, compared_to, relation_by, terms_by, factors_by, index_by, parens_by, minus_by, negated_by, expr_at, both_at, neg_at, sum_at, product_at, factor_at, spot_at, expr_in, neg_in, factor_in};
-ghost use Rattle.tal_syntax.specs.Seen.{seen_expr, seen_ors, seen_both, seen_ands, seen_neg, seen_sum, seen_terms, seen_product, seen_factors, seen_factor, seen_spot, seen_index};
+ghost use Rattle.tal_builder.specs.Parse.{ors_by, ands_by, compared_to, relation_by, terms_by, factors_by, index_by};
+ghost use Rattle.tal_builder.specs.Parse.{parens_by, minus_by, negated_by, expr_at, both_at, neg_at, sum_at};
+ghost use Rattle.tal_builder.specs.Parse.{product_at, factor_at, spot_at, expr_in, neg_in, factor_in};
+ghost use Rattle.tal_syntax.specs.Seen.{seen_expr, seen_ors, seen_both, seen_ands, seen_neg, seen_sum, seen_terms};
+ghost use Rattle.tal_syntax.specs.Seen.{seen_product, seen_factors, seen_factor, seen_spot, seen_index};
 
 use crate::expression_parts::{
     add_both, add_factor, add_neg, add_term, alone_of, both_of, compared_of, expr_of, minus_of,
@@ -19,7 +22,11 @@ use tal_tokens::{At, Token};
 
 /// `both { OR both }`, in which so many levels may be opened.
 #[cycle(expression)]
-pub fn expr(alloc: Global, room: u8, tokens: &[Token]) -> Result<(Boxed<Expr>, &[Token]), BuildFault>
+pub fn expr(
+    alloc: Global,
+    room: u8,
+    tokens: &[Token],
+) -> Result<(Boxed<Expr>, &[Token]), BuildFault>
     ensures { Tells (λ r. (seen_expr r.0, r.1.now)) result (expr_at room tokens.now) }
 {
     let (first, after) = both(alloc, room, tokens)?;
@@ -30,7 +37,11 @@ pub fn expr(alloc: Global, room: u8, tokens: &[Token]) -> Result<(Boxed<Expr>, &
 
 /// `{ OR both }`
 #[cycle(expression)]
-fn more_boths(alloc: Global, room: u8, tokens: &[Token]) -> Result<(List<NextBoth>, &[Token]), BuildFault>
+fn more_boths(
+    alloc: Global,
+    room: u8,
+    tokens: &[Token],
+) -> Result<(List<NextBoth>, &[Token]), BuildFault>
     ensures { Tells (λ r. (seen_ors r.0, r.1.now)) result (ors_by (both_at room) tokens.now) }
 {
     let mut all = List::new(alloc);
@@ -59,7 +70,11 @@ fn both(alloc: Global, room: u8, tokens: &[Token]) -> Result<(Boxed<Both>, &[Tok
 
 /// `{ AND neg }`
 #[cycle(expression)]
-fn more_negs(alloc: Global, room: u8, tokens: &[Token]) -> Result<(List<NextNeg>, &[Token]), BuildFault>
+fn more_negs(
+    alloc: Global,
+    room: u8,
+    tokens: &[Token],
+) -> Result<(List<NextNeg>, &[Token]), BuildFault>
     ensures { Tells (λ r. (seen_ands r.0, r.1.now)) result (ands_by (neg_at room) tokens.now) }
 {
     let mut all = List::new(alloc);
@@ -142,7 +157,11 @@ fn sum(alloc: Global, room: u8, tokens: &[Token]) -> Result<(Boxed<Sum>, &[Token
 
 /// `{ sign product }`
 #[cycle(expression)]
-fn more_terms(alloc: Global, room: u8, tokens: &[Token]) -> Result<(List<Term>, &[Token]), BuildFault>
+fn more_terms(
+    alloc: Global,
+    room: u8,
+    tokens: &[Token],
+) -> Result<(List<Term>, &[Token]), BuildFault>
     ensures { Tells (λ r. (seen_terms r.0, r.1.now)) result (terms_by (product_at room) tokens.now) }
 {
     let mut all = List::new(alloc);
@@ -160,7 +179,11 @@ fn more_terms(alloc: Global, room: u8, tokens: &[Token]) -> Result<(List<Term>, 
 
 /// `factor { scale factor }`
 #[cycle(expression)]
-fn product(alloc: Global, room: u8, tokens: &[Token]) -> Result<(Boxed<Product>, &[Token]), BuildFault>
+fn product(
+    alloc: Global,
+    room: u8,
+    tokens: &[Token],
+) -> Result<(Boxed<Product>, &[Token]), BuildFault>
     ensures { Tells (λ r. (seen_product r.0, r.1.now)) result (product_at room tokens.now) }
 {
     let (first, after) = factor(alloc, room, tokens)?;
@@ -193,7 +216,11 @@ fn more_factors(
 
 /// `"-" factor | number | spot | "(" expr ")"`
 #[cycle(expression)]
-fn factor(alloc: Global, room: u8, tokens: &[Token]) -> Result<(Boxed<Factor>, &[Token]), BuildFault>
+fn factor(
+    alloc: Global,
+    room: u8,
+    tokens: &[Token],
+) -> Result<(Boxed<Factor>, &[Token]), BuildFault>
     ensures { Tells (λ r. (seen_factor r.0, r.1.now)) result (factor_at room tokens.now) }
 {
     match tokens {
@@ -244,7 +271,11 @@ fn parens(
 
 /// `name index`
 #[cycle(expression)]
-pub fn spot(alloc: Global, room: u8, tokens: &[Token]) -> Result<(Boxed<Spot>, &[Token]), BuildFault>
+pub fn spot(
+    alloc: Global,
+    room: u8,
+    tokens: &[Token],
+) -> Result<(Boxed<Spot>, &[Token]), BuildFault>
     ensures { Tells (λ r. (seen_spot r.0, r.1.now)) result (spot_at room tokens.now) }
 {
     let Some((named, after)) = name_first(tokens) else {
@@ -270,7 +301,11 @@ fn index(alloc: Global, room: u8, tokens: &[Token]) -> Result<(Index, &[Token]),
 
 /// An expression that opens the first of so many levels.
 #[cycle(expression)]
-fn expr_within(alloc: Global, room: u8, tokens: &[Token]) -> Result<(Boxed<Expr>, &[Token]), BuildFault>
+fn expr_within(
+    alloc: Global,
+    room: u8,
+    tokens: &[Token],
+) -> Result<(Boxed<Expr>, &[Token]), BuildFault>
     ensures { Tells (λ r. (seen_expr r.0, r.1.now)) result (expr_in room tokens.now) }
 {
     if room == 0 {
@@ -281,7 +316,11 @@ fn expr_within(alloc: Global, room: u8, tokens: &[Token]) -> Result<(Boxed<Expr>
 
 /// The operand of a NOT that opens the first of so many levels.
 #[cycle(expression)]
-fn neg_within(alloc: Global, room: u8, tokens: &[Token]) -> Result<(Boxed<Neg>, &[Token]), BuildFault>
+fn neg_within(
+    alloc: Global,
+    room: u8,
+    tokens: &[Token],
+) -> Result<(Boxed<Neg>, &[Token]), BuildFault>
     ensures { Tells (λ r. (seen_neg r.0, r.1.now)) result (neg_in room tokens.now) }
 {
     if room == 0 {

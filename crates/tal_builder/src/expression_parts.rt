@@ -1,10 +1,11 @@
-//! Parts of expressions put together from what was found. Parts stand in memory of their own, and none of these functions is
-//! on the stack while a part is looked for, so that a level of nesting takes little of the stack.
+//! Parts of expressions put together from what was found. Parts stand in memory of their own, and none of these
+//! functions is on the stack while a part is looked for, so that a level of nesting takes little of the stack.
 #![tactic(auto, using(tal_syntax::proofs::SeenSteps::seen_expressions))]
 
 ghost use Rattle.std.specs.Prelude.{◌≡◌, [], ◌∷◌, ◌++◌, IfOk, OnOk};
 ghost use Rattle.tal_syntax.specs.Grammar as g;
-ghost use Rattle.tal_syntax.specs.Seen.{seen_expr, seen_ors, seen_both, seen_ands, seen_neg, seen_rel, seen_sum, seen_terms, seen_product, seen_factors, seen_factor, seen_spot, seen_index};
+ghost use Rattle.tal_syntax.specs.Seen.{seen_expr, seen_ors, seen_both, seen_ands, seen_neg, seen_rel, seen_sum};
+ghost use Rattle.tal_syntax.specs.Seen.{seen_terms, seen_product, seen_factors, seen_factor, seen_spot, seen_index};
 ghost use Rattle.tal_syntax.specs.declared.expression.NextBoth.{roll-NextBoth};
 ghost use Rattle.tal_syntax.specs.declared.expression.Term.{roll-Term};
 

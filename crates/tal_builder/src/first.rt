@@ -1,5 +1,6 @@
 ghost use Rattle.std.specs.Prelude.{◌≡◌};
-ghost use Rattle.tal_builder.specs.First.{name_of, called_of, rel_of, sign_of, scale_of, string_of, is_value, is_begun, is_line, is_heading, is_local};
+ghost use Rattle.tal_builder.specs.First.{name_of, called_of, rel_of, sign_of, scale_of, string_of, is_value, is_begun};
+ghost use Rattle.tal_builder.specs.First.{is_line, is_heading, is_local};
 ghost use Rattle.tal_builder.specs.Outcome.{Gives};
 ghost use Rattle.tal_syntax.specs.Seen.{seen_rel, seen_sign, seen_scale, seen_argument};
 

@@ -1,7 +1,9 @@
 ghost use Rattle.std.specs.Prelude.{◌≡◌};
 ghost use Rattle.tal_builder.specs.Outcome.{Gives, Tells};
-ghost use Rattle.tal_builder.specs.Parse.{atom_at, constant_at, bounds_at, item_at, items_at, literal_at, literals_at, int_line_at, literal_line_at, line_at, lines_at};
-ghost use Rattle.tal_syntax.specs.Seen.{seen_atom, seen_constant, seen_bounds, seen_item, seen_items, seen_literal, seen_literals, seen_globals, seen_lines};
+ghost use Rattle.tal_builder.specs.Parse.{atom_at, constant_at, bounds_at, item_at, items_at, literal_at, literals_at};
+ghost use Rattle.tal_builder.specs.Parse.{int_line_at, literal_line_at, line_at, lines_at};
+ghost use Rattle.tal_syntax.specs.Seen.{seen_atom, seen_constant, seen_bounds, seen_item, seen_items, seen_literal};
+ghost use Rattle.tal_syntax.specs.Seen.{seen_literals, seen_globals, seen_lines};
 
 use crate::first::{is_line, name_first};
 use crate::plain_token::{PlainToken, expect, optional};
@@ -124,7 +126,10 @@ fn literal(tokens: &[Token]) -> Option<(Literal, &[Token])>
 }
 
 /// `{ "," literal }`
-fn more_literals(alloc: Global, tokens: &[Token]) -> Result<(List<NextLiteral>, &[Token]), BuildFault>
+fn more_literals(
+    alloc: Global,
+    tokens: &[Token],
+) -> Result<(List<NextLiteral>, &[Token]), BuildFault>
     ensures { Tells (λ r. (seen_literals r.0, r.1.now)) result (literals_at tokens.now) }
 {
     let mut all = List::new(alloc);
@@ -161,7 +166,11 @@ fn int_line(alloc: Global, int: At, tokens: &[Token]) -> Result<(Globals, &[Toke
 }
 
 /// `literal { "," literal } ";"`, after LITERAL
-fn literal_line(alloc: Global, word: At, tokens: &[Token]) -> Result<(Globals, &[Token]), BuildFault>
+fn literal_line(
+    alloc: Global,
+    word: At,
+    tokens: &[Token],
+) -> Result<(Globals, &[Token]), BuildFault>
     ensures { Tells (λ r. (seen_globals r.0, r.1.now)) result (literal_line_at word tokens.now) }
 {
     let Some((first, after)) = literal(tokens) else {

@@ -1,7 +1,8 @@
 ghost use Rattle.std.specs.Prelude.{◌≡◌, Some};
 ghost use Rattle.tal_builder.specs.Outcome.{Tells};
 ghost use Rattle.tal_builder.specs.Parse.{names_at, parameters_at, local_at, locals_at, gives_at, main_at, heading_at};
-ghost use Rattle.tal_syntax.specs.Seen.{seen_names, seen_parameters, seen_local, seen_locals, seen_gives, seen_main, seen_heading};
+ghost use Rattle.tal_syntax.specs.Seen.{seen_names, seen_parameters, seen_local, seen_locals, seen_gives, seen_main};
+ghost use Rattle.tal_syntax.specs.Seen.{seen_heading};
 
 use crate::first::{is_local, name_first};
 use crate::plain_token::{PlainToken, expect, optional};

@@ -1,7 +1,7 @@
 //! The builder of syntax: from the tokens of a program text to its parts, where the text is of the grammar.
 //!
-//! Below stand `tal_tokens` for the tokens and `tal_syntax` for the grammar, as data and as the types that are built here.
-//! The reader above uses the one clause of `build`.
+//! Below stand `tal_tokens` for the tokens and `tal_syntax` for the grammar, as data and as the types that are built
+//! here. The reader above uses the one clause of `build`.
 #![tactic(auto)]
 
 mod expression;

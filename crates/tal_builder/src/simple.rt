@@ -1,8 +1,10 @@
 ghost use Rattle.std.specs.Prelude.{◌≡◌, IfOk};
 ghost use Rattle.tal_builder.specs.Outcome.{Tells};
-ghost use Rattle.tal_builder.specs.Parse.{argument_at, further_at, listed_at, arguments_at, call_at, answer_at, return_at, values_at, value_list_at, value_list_in, right_at, assign_at};
+ghost use Rattle.tal_builder.specs.Parse.{argument_at, further_at, listed_at, arguments_at, call_at, answer_at};
+ghost use Rattle.tal_builder.specs.Parse.{return_at, values_at, value_list_at, value_list_in, right_at, assign_at};
 ghost use Rattle.tal_syntax.specs.Grammar as g;
-ghost use Rattle.tal_syntax.specs.Seen.{seen_argument, seen_further, seen_arguments, seen_statement, seen_answer, seen_values, seen_expr, seen_spot};
+ghost use Rattle.tal_syntax.specs.Seen.{seen_argument, seen_further, seen_arguments, seen_statement, seen_answer};
+ghost use Rattle.tal_syntax.specs.Seen.{seen_values, seen_expr, seen_spot};
 
 use crate::expression::{expr, spot};
 use crate::first::{called_first, is_value, name_first, string_first};
@@ -168,8 +170,13 @@ fn more_values(
 }
 
 /// `expr { "," expr } ")"`, after `(`
-fn value_list(alloc: Global, room: u8, tokens: &[Token]) -> Result<(ValueList, &[Token]), BuildFault>
-    ensures { Tells (λ r. ((seen_expr r.0.first, seen_values r.0.more, r.0.close), r.1.now)) result (value_list_at room tokens.now) }
+fn value_list(
+    alloc: Global,
+    room: u8,
+    tokens: &[Token],
+) -> Result<(ValueList, &[Token]), BuildFault>
+    ensures { Tells (λ r. ((seen_expr r.0.first, seen_values r.0.more, r.0.close), r.1.now)) result
+        (value_list_at room tokens.now) }
 {
     let (first, after) = expr(alloc, room, tokens)?;
     let (more, after) = more_values(alloc, room, after)?;
@@ -183,7 +190,8 @@ fn value_list_within(
     room: u8,
     tokens: &[Token],
 ) -> Result<(ValueList, &[Token]), BuildFault>
-    ensures { Tells (λ r. ((seen_expr r.0.first, seen_values r.0.more, r.0.close), r.1.now)) result (value_list_in room tokens.now) }
+    ensures { Tells (λ r. ((seen_expr r.0.first, seen_values r.0.more, r.0.close), r.1.now)) result
+        (value_list_in room tokens.now) }
 {
     if room == 0 {
         return Err(BuildFault::NoSyntax);
@@ -219,7 +227,9 @@ fn assign_call_of(
     start: At,
     values: ValueList,
 ) -> Result<Boxed<Statement>, NoMemory>
-    ensures { IfOk result (λ s. seen_statement s ≡ g.assign_call (seen_spot target) at name_at name start (seen_expr values.first) (seen_values values.more) values.close) }
+    ensures { IfOk result (λ s. seen_statement s
+        ≡ g.assign_call (seen_spot target) at name_at name start (seen_expr values.first) (seen_values values.more)
+        values.close) }
 {
     let target = target.into_inner();
     let ValueList { first, more, close } = values;

@@ -1,6 +1,7 @@
 ghost use Rattle.std.specs.Prelude.{◌≡◌};
 ghost use Rattle.tal_builder.specs.Outcome.{Tells};
-ghost use Rattle.tal_builder.specs.Parse.{row_at, block_by, otherwise_by, if_by, while_by, for_by, begun_by, statement_at};
+ghost use Rattle.tal_builder.specs.Parse.{row_at, block_by, otherwise_by, if_by, while_by, for_by, begun_by};
+ghost use Rattle.tal_builder.specs.Parse.{statement_at};
 ghost use Rattle.tal_syntax.specs.Seen.{seen_statement, seen_otherwise, seen_row};
 
 use crate::expression::expr;
@@ -55,7 +56,11 @@ pub fn row(alloc: Global, room: u8, tokens: &[Token]) -> Result<(List<Next>, &[T
 
 /// A statement that isn't empty, in which so many levels may be opened.
 #[cycle(statement)]
-fn begun(alloc: Global, room: u8, tokens: &[Token]) -> Result<(Boxed<Statement>, &[Token]), BuildFault>
+fn begun(
+    alloc: Global,
+    room: u8,
+    tokens: &[Token],
+) -> Result<(Boxed<Statement>, &[Token]), BuildFault>
     ensures { Tells (λ r. (seen_statement r.0, r.1.now)) result (begun_by (statement_at room) room tokens.now) }
 {
     match tokens {

@@ -69,7 +69,8 @@ pub fn if_of(
     inner: Boxed<Statement>,
     otherwise: Otherwise,
 ) -> Result<Boxed<Statement>, NoMemory>
-    ensures { IfOk result (λ s. seen_statement s ≡ g.if_then test.head (seen_expr test.test) test.end (seen_statement inner) (seen_otherwise otherwise)) }
+    ensures { IfOk result (λ s. seen_statement s
+        ≡ g.if_then test.head (seen_expr test.test) test.end (seen_statement inner) (seen_otherwise otherwise)) }
 {
     let statement = Boxed::new(alloc, Statement::If(test, inner, otherwise))?;
     Ok(statement)
@@ -82,7 +83,8 @@ pub fn while_of(
     test: Boxed<Test>,
     inner: Boxed<Statement>,
 ) -> Result<Boxed<Statement>, NoMemory>
-    ensures { IfOk result (λ s. seen_statement s ≡ g.while_do test.head (seen_expr test.test) test.end (seen_statement inner)) }
+    ensures { IfOk result (λ s. seen_statement s
+        ≡ g.while_do test.head (seen_expr test.test) test.end (seen_statement inner)) }
 {
     let statement = Boxed::new(alloc, Statement::While(test, inner))?;
     Ok(statement)
@@ -100,7 +102,16 @@ pub fn for_head_of(
     to: Boxed<Expr>,
     do_at: At,
 ) -> Result<Boxed<ForHead>, NoMemory>
-    ensures { IfOk result (λ f. f ≡ record { head = head; at = named.at; name = named.name; set_at = set_at; from = from; to_at = to_at; to = to; do_at = do_at }) }
+    ensures { IfOk result (λ f. f ≡ record {
+      head = head;
+      at = named.at;
+      name = named.name;
+      set_at = set_at;
+      from = from;
+      to_at = to_at;
+      to = to;
+      do_at = do_at;
+    }) }
 {
     let from = from.into_inner();
     let to = to.into_inner();
@@ -125,7 +136,9 @@ pub fn for_of(
     counted: Boxed<ForHead>,
     inner: Boxed<Statement>,
 ) -> Result<Boxed<Statement>, NoMemory>
-    ensures { IfOk result (λ s. seen_statement s ≡ g.for_do counted.head counted.at counted.name counted.set_at (seen_expr counted.from) counted.to_at (seen_expr counted.to) counted.do_at (seen_statement inner)) }
+    ensures { IfOk result (λ s. seen_statement s
+        ≡ g.for_do counted.head counted.at counted.name counted.set_at (seen_expr counted.from) counted.to_at
+        (seen_expr counted.to) counted.do_at (seen_statement inner)) }
 {
     let statement = Boxed::new(alloc, Statement::For(counted, inner))?;
     Ok(statement)

@@ -21,16 +21,19 @@ pub record Grows (old code : PartStack) (tails : List Tail) (whole : Expr) : Typ
   pub chain : chained below tails ≡ whole
 
 -- the next operator taken from those that are left
-next-chain : {old code : PartStack} {whole : Expr} {items : List Tail} (tails : List Tail) (tail : Tail) → items ≡ tails ++ tail ∷ []
+next-chain : {old code : PartStack} {whole : Expr} {items : List Tail} (tails : List Tail) (tail : Tail)
+    → items ≡ tails ++ tail ∷ []
     → (so_far : Grows old code items whole) → chained (Two tail.op so_far.below tail.right.now) tails ≡ whole
-next-chain tails tail popped so_far = sym (chained-push so_far.below tails tail) ∙ ap (chained so_far.below) (sym popped) ∙ so_far.chain
+next-chain tails tail popped so_far =
+    sym (chained-push so_far.below tails tail) ∙ ap (chained so_far.below) (sym popped) ∙ so_far.chain
 
 pub grows-on : {old code new : PartStack} {whole : Expr} {items : List Tail} (tails : List Tail) (tail : Tail)
     → items ≡ tails ++ tail ∷ [] → new ≡ record code { top = two_part tail.op code.top (Valued tail.right.now) }
     → Grows old code items whole → Grows old new tails whole
 grows-on {old} {code} {new} {whole} {items} tails tail popped put so_far = record {
   below = Two tail.op so_far.below tail.right.now;
-  code_is = put ∙ ap (λ (c : PartStack). record c { top = two_part tail.op c.top (Valued tail.right.now) }) so_far.code_is;
+  code_is = put ∙ ap (λ (c : PartStack). record c { top = two_part tail.op c.top (Valued tail.right.now) })
+      so_far.code_is;
   chain = next-chain tails tail popped so_far;
 }
 
@@ -46,7 +49,8 @@ tail-within {old} {code} {whole} {items} tails tail popped so_far =
 
 -- for the right side of the next operator no more wait than for the whole
 pub tail-waits : {old code : PartStack} {whole : Expr} {items : List Tail} (tails : List Tail) (tail : Tail)
-    → items ≡ tails ++ tail ∷ [] → length old.below + waiting_of whole < 80 → Grows old code items whole → length code.below + waiting_for tail.right.now ≤ 80
+    → items ≡ tails ++ tail ∷ [] → length old.below + waiting_of whole < 80 → Grows old code items whole
+    → length code.below + waiting_for tail.right.now ≤ 80
 tail-waits {old} {code} {whole} {items} tails tail popped low so_far =
     omega (
       arith,
@@ -63,20 +67,25 @@ pub record Joins (old code : PartStack) (links : List Link) (whole : Cond) : Typ
   pub code_is : code ≡ with_part (Tested below) old
   pub chain : linked below links ≡ whole
 
-joined-part : (j : Junction) (left right : Cond) → joined_part j (Tested left) (Tested right) ≡ Tested (joined j left right)
+joined-part : (j : Junction) (left right : Cond)
+    → joined_part j (Tested left) (Tested right) ≡ Tested (joined j left right)
 joined-part junction.And left right = refl
 joined-part junction.Or left right = refl
 
-next-link : {old code : PartStack} {whole : Cond} {items : List Link} (links : List Link) (link : Link) → items ≡ links ++ link ∷ []
+next-link : {old code : PartStack} {whole : Cond} {items : List Link} (links : List Link) (link : Link)
+    → items ≡ links ++ link ∷ []
     → (so_far : Joins old code items whole) → linked (joined link.junction so_far.below link.right.now) links ≡ whole
-next-link links link popped so_far = sym (linked-push so_far.below links link) ∙ ap (linked so_far.below) (sym popped) ∙ so_far.chain
+next-link links link popped so_far =
+    sym (linked-push so_far.below links link) ∙ ap (linked so_far.below) (sym popped) ∙ so_far.chain
 
 pub joins-on : {old code new : PartStack} {whole : Cond} {items : List Link} (links : List Link) (link : Link)
-    → items ≡ links ++ link ∷ [] → new ≡ record code { top = joined_part link.junction code.top (Tested link.right.now) }
+    → items ≡ links ++ link ∷ [] → new ≡ record code
+    { top = joined_part link.junction code.top (Tested link.right.now) }
     → Joins old code items whole → Joins old new links whole
 joins-on {old} {code} {new} {whole} {items} links link popped put so_far = record {
   below = joined link.junction so_far.below link.right.now;
-  code_is = put ∙ ap (λ (c : PartStack). record c { top = joined_part link.junction c.top (Tested link.right.now) }) so_far.code_is
+  code_is = put ∙ ap (λ (c : PartStack). record c { top = joined_part link.junction c.top (Tested link.right.now) })
+      so_far.code_is
       ∙ ap (λ part. with_part part old) (joined-part link.junction so_far.below link.right.now);
   chain = next-link links link popped so_far;
 }

@@ -19,19 +19,23 @@ waiting-read spot = ap waiting_of (read-is spot)
 pub waiting-minus : (inner : Expr) → waiting_of (Minus inner) ≡ waiting_of inner
 waiting-minus inner = ap waiting_of (minus-is inner)
 
-pub waiting-two : (op : Op) (left right : Expr) → waiting_of (Two op left right) ≡ max (waiting_of left) (waiting_for right)
+pub waiting-two : (op : Op) (left right : Expr)
+    → waiting_of (Two op left right) ≡ max (waiting_of left) (waiting_for right)
 waiting-two op left right = ap waiting_of (two-is op left right)
 
 pub waiting-not : (inner : Cond) → waiting_of_test (Not inner) ≡ waiting_of_test inner
 waiting-not inner = ap waiting_of_test (not-is inner)
 
-pub waiting-and : (left right : Cond) → waiting_of_test (And left right) ≡ max (waiting_of_test left) (waiting_of_test right + 1)
+pub waiting-and : (left right : Cond) → waiting_of_test (And left right)
+    ≡ max (waiting_of_test left) (waiting_of_test right + 1)
 waiting-and left right = ap waiting_of_test (and-is left right)
 
-pub waiting-or : (left right : Cond) → waiting_of_test (Or left right) ≡ max (waiting_of_test left) (waiting_of_test right + 1)
+pub waiting-or : (left right : Cond) → waiting_of_test (Or left right)
+    ≡ max (waiting_of_test left) (waiting_of_test right + 1)
 waiting-or left right = ap waiting_of_test (or-is left right)
 
-pub waiting-joined : (j : Junction) (left right : Cond) → waiting_of_test (joined j left right) ≡ max (waiting_of_test left) (waiting_of_test right + 1)
+pub waiting-joined : (j : Junction) (left right : Cond)
+    → waiting_of_test (joined j left right) ≡ max (waiting_of_test left) (waiting_of_test right + 1)
 waiting-joined junction.And left right = waiting-and left right
 waiting-joined junction.Or left right = waiting-or left right
 
@@ -41,13 +45,16 @@ for-read spot = ap waiting_for (read-is spot)
 pub for-minus : (inner : Expr) → waiting_for (Minus inner) ≡ waiting_of inner + 1
 for-minus inner = ap waiting_for (minus-is inner)
 
-pub for-two : (op : Op) (left right : Expr) → waiting_for (Two op left right) ≡ max (waiting_of left) (waiting_for right) + 1
+pub for-two : (op : Op) (left right : Expr)
+    → waiting_for (Two op left right) ≡ max (waiting_of left) (waiting_for right) + 1
 for-two op left right = ap waiting_for (two-is op left right)
 
 pub first_waits : (first : Expr) (tails : List Tail) → waiting_of first ≤ waiting_of (chained first tails)
 first_waits first [] = omega arith
-first_waits first (tail ∷ tails) = omega (arith, first_waits first tails, waiting-two tail.op (chained first tails) tail.right.now)
+first_waits first (tail ∷ tails) =
+    omega (arith, first_waits first tails, waiting-two tail.op (chained first tails) tail.right.now)
 
 pub first_test_waits : (first : Cond) (links : List Link) → waiting_of_test first ≤ waiting_of_test (linked first links)
 first_test_waits first [] = omega arith
-first_test_waits first (link ∷ links) = omega (arith, first_test_waits first links, waiting-joined link.junction (linked first links) link.right.now)
+first_test_waits first (link ∷ links) =
+    omega (arith, first_test_waits first links, waiting-joined link.junction (linked first links) link.right.now)

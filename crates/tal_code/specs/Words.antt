@@ -1,5 +1,7 @@
--- What the steps of flat code make of a stack of words. A word that is none is a trap: steps go on, and it is lost where none looks at it.
-use Rattle.std.specs.Prelude.{ℕ, ℤ, pos, neg_ℤ, Bool, true, false, not, if◌then◌else◌, List, [], ◌∷◌, drop, Option, Some, None, option_map, option_and_then}
+-- What the steps of flat code make of a stack of words. A word that is none is a trap: steps go on, and it is lost
+-- where none looks at it.
+use Rattle.std.specs.Prelude.{ℕ, ℤ, pos, neg_ℤ, Bool, true, false, not, if◌then◌else◌, List, [], ◌∷◌, drop, Option}
+use Rattle.std.specs.Prelude.{Some, None, option_map, option_and_then}
 use Rattle.std.specs.Ordering.{int_eq}
 use Rattle.gd_words.specs.Arithmetic.{wrap}
 use Rattle.tal_tree.specs.declared.expression.Rel.{Rel}
@@ -44,7 +46,8 @@ operand_expr (operand.Simple k) = expr.Read (spot.Simple k)
 
 -- the word of the element of an item at an index
 abbrev pub element_word : Memory → ℕ → Option ℤ → Option ℤ
-element_word m item index = option_and_then (word_at m) (option_map (cell.Global item) (option_and_then (place_of m item) index))
+element_word m item index =
+    option_and_then (word_at m) (option_map (cell.Global item) (option_and_then (place_of m item) index))
 
 -- whether a word isn't 0
 abbrev pub truth_word : Option ℤ → Option ℤ
@@ -77,7 +80,8 @@ words_after m step.Minus s = record s { top = option_map (λ x. wrap (neg_ℤ x)
 words_after m (step.Element item) s = record s { top = element_word m item s.top }
 words_after m step.Truth s = record s { top = truth_word s.top }
 words_after m (step.CompareWith rel o) s = record s { top = compared_word rel s.top (value_of m (operand_expr o)) }
-words_after m (step.Compare rel) s = record { top = compared_word rel (first_word s.below) s.top; below = drop 1 s.below }
+words_after m (step.Compare rel) s =
+    record { top = compared_word rel (first_word s.below) s.top; below = drop 1 s.below }
 words_after m step.Not s = record s { top = not_word s.top }
 words_after m step.And s = record { top = and_word (first_word s.below) s.top; below = drop 1 s.below }
 words_after m step.Or s = record { top = or_word (first_word s.below) s.top; below = drop 1 s.below }

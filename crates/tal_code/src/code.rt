@@ -26,7 +26,8 @@ impl Model for Code {
 
     ghost view = { λ code. parts.expr_in (parts.built code.steps).top };
 
-    ghost invariant = { λ code. room.IsLow code.steps × ((parts.built code.steps).top ≡ parts.Valued (parts.expr_in (parts.built code.steps).top)) };
+    ghost invariant = { λ code. room.IsLow code.steps
+        × ((parts.built code.steps).top ≡ parts.Valued (parts.expr_in (parts.built code.steps).top)) };
 }
 
 impl Code {
@@ -57,7 +58,8 @@ impl Model for TestCode {
 
     ghost view = { λ code. parts.cond_in (parts.built code.steps).top };
 
-    ghost invariant = { λ code. room.IsLow code.steps × ((parts.built code.steps).top ≡ parts.Tested (parts.cond_in (parts.built code.steps).top)) };
+    ghost invariant = { λ code. room.IsLow code.steps
+        × ((parts.built code.steps).top ≡ parts.Tested (parts.cond_in (parts.built code.steps).top)) };
 }
 
 impl TestCode {

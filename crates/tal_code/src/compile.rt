@@ -9,16 +9,16 @@ ghost use Rattle.tal_code.specs.Parts.{Valued, Tested, with_part, two_part, comp
 
 use crate::code::{Code, Draft, TestCode};
 use crate::spot::{Aim, SpotCode};
-use crate::step::{Operand, Instruction};
+use crate::step::{Instruction, Operand};
 use gd_words::NoMemory;
 use std::alloc::Global;
 use tal_tree::{Cond, Expr, Op, Rel, Spot, Variable};
 use tal_values::chain::{Junction, Link, Operand as First, Tail, Test, cond_chain, expr_chain};
 
-/// The code of an expression. This call and those below require that fewer than 80 left sides wait at one time for right
-/// sides that are no numbers and no simple variables: a stack has room for 80 words below the top, of which one stands
-/// there from the beginning. So it counts how deep right sides stand in one another, those of AND and OR among them, and
-/// neither how long a chain is nor how deep its left sides stand.
+/// The code of an expression. This call and those below require that fewer than 80 left sides wait at one time for
+/// right sides that are no numbers and no simple variables: a stack has room for 80 words below the top, of which one
+/// stands there from the beginning. So it counts how deep right sides stand in one another, those of AND and OR among
+/// them, and neither how long a chain is nor how deep its left sides stand.
 pub fn code_of(alloc: Global, expr: &Expr) -> Result<Code, NoMemory>
     requires { waiting_of expr.now < 80 }
     ensures { IfOk result (λ code. code ≡ expr.now) }
@@ -124,7 +124,8 @@ fn put_spot(alloc: Global, draft: &mut Draft, spot: &Spot) -> Result<(), NoMemor
 #[cycle(put)]
 fn put_tail(alloc: Global, draft: &mut Draft, tail: Tail<'_>) -> Result<(), NoMemory>
     requires { length draft.old.below + waiting_for tail.right.now ≤ 80 }
-    ensures { OnOk result (draft.new ≡ record draft.old { top = two_part tail.entry.op draft.old.top (Valued tail.entry.right.now) }) }
+    ensures { OnOk result (draft.new ≡ record draft.old
+        { top = two_part tail.entry.op draft.old.top (Valued tail.entry.right.now) }) }
 {
     match simple(tail.right) {
         Some(operand) => draft.push(Instruction::With(tail.op, operand))?,
@@ -222,7 +223,8 @@ fn put_compared(alloc: Global, draft: &mut Draft, rel: Rel, right: &Expr) -> Res
 #[cycle(put_cond)]
 fn put_link(alloc: Global, draft: &mut Draft, link: Link<'_>) -> Result<(), NoMemory>
     requires { length draft.old.below + (waiting_of_test link.right.now + 1) ≤ 80 }
-    ensures { OnOk result (draft.new ≡ record draft.old { top = joined_part link.entry.junction draft.old.top (Tested link.entry.right.now) }) }
+    ensures { OnOk result (draft.new ≡ record draft.old
+        { top = joined_part link.entry.junction draft.old.top (Tested link.entry.right.now) }) }
 {
     put_cond(alloc, draft, link.right)?;
     match link.junction {

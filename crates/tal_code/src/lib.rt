@@ -1,9 +1,10 @@
 //! Expressions and conditions as flat code: lists of steps over a stack of words, made once and run often.
 //!
-//! Below stand `gd_words` with its wrapped arithmetic, `tal_tree` with the trees, and `tal_values` with what they mean. To
-//! the layer above a `Code` is the `Expr` that it computes, a `TestCode` the `Cond` and a `SpotCode` the `Spot`: what
-//! `code_of`, `test_code_of` and `spot_code_of` make of a tree is that tree again. `value`, `truth` and `cell` then give just
-//! `value_of`, `truth_of` and `cell_of` of `tal_values/specs/Value.antt`, take no memory and recurse nowhere.
+//! Below stand `gd_words` with its wrapped arithmetic, `tal_tree` with the trees, and `tal_values` with what they mean.
+//! To the layer above a `Code` is the `Expr` that it computes, a `TestCode` the `Cond` and a `SpotCode` the `Spot`:
+//! what `code_of`, `test_code_of` and `spot_code_of` make of a tree is that tree again. `value`, `truth` and `cell`
+//! then give just `value_of`, `truth_of` and `cell_of` of `tal_values/specs/Value.antt`, take no memory and recurse
+//! nowhere.
 #![tactic(auto)]
 
 pub mod code;

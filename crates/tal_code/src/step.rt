@@ -8,8 +8,8 @@ pub enum Operand {
     Simple(u16),
 }
 
-/// A step of code. It changes the word on top of a stack, and may put one there or take the one below it away. A truth is
-/// the word 1 or 0.
+/// A step of code. It changes the word on top of a stack, and may put one there or take the one below it away. A truth
+/// is the word 1 or 0.
 #[derive(Clone, Copy)]
 pub enum Instruction {
     Load(Operand),

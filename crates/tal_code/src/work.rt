@@ -1,11 +1,12 @@
 ghost use Rattle.std.specs.Prelude.{◌≡◌, length};
 ghost use Rattle.tal_values.specs.Seen.{seen};
 ghost use Rattle.tal_values.specs.Value.{value_of};
-ghost use Rattle.tal_code.specs.Words.{operand_expr, element_word, truth_word, compared_word, not_word, and_word, or_word, as_word, words_after, light_word};
+ghost use Rattle.tal_code.specs.Words.{operand_expr, element_word, truth_word, compared_word, not_word, and_word};
+ghost use Rattle.tal_code.specs.Words.{or_word, as_word, words_after, light_word};
 ghost use Rattle.tal_code.specs.Room.{IsRoom};
 
 use crate::stack::Stack;
-use crate::step::{Operand, Instruction};
+use crate::step::{Instruction, Operand};
 use tal_tree::Rel;
 use tal_values::operators::{applied, element, holds, negated};
 use tal_values::{Cell, Memory};
@@ -17,7 +18,11 @@ pub fn work(memory: Memory<'_>, step: Instruction, stack: &mut Stack)
 {
     match step {
         Instruction::Load(operand) => stack.push(word(memory, operand)),
-        Instruction::With(op, operand) => stack.set_top(applied(op, stack.top(), word(memory, operand))),
+        Instruction::With(op, operand) => stack.set_top(applied(
+            op,
+            stack.top(),
+            word(memory, operand),
+        )),
         Instruction::Two(op) => {
             let left = stack.take_below();
             stack.set_top(applied(op, left, stack.top()));

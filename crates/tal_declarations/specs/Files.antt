@@ -1,5 +1,6 @@
 -- The variables of files: the simple globals that an OPEN names.
-use Rattle.std.specs.Prelude.{ℕ, ℤ, pos, min, ◌&&◌, int_le, nat_le, Bool, true, false, List, [], ◌∷◌, ◌++◌, length, Option, Some, None, if◌then◌else◌}
+use Rattle.std.specs.Prelude.{ℕ, ℤ, pos, min, ◌&&◌, int_le, nat_le, Bool, true, false, List, [], ◌∷◌, ◌++◌, length}
+use Rattle.std.specs.Prelude.{Option, Some, None, if◌then◌else◌}
 use Rattle.std.specs.Int.{cast_unsigned, w16}
 use Rattle.std.specs.Option.{option_and_then}
 use Rattle.tal_syntax.specs.Grammar as g
@@ -11,7 +12,8 @@ use Rattle.tal_declarations.specs.declared.table.Files.{Files}
 use Rattle.tal_names.specs.declared.scope.Named.{Named}
 use Rattle.tal_names.specs.declared.scope.Scope.{Scope}
 use Rattle.tal_names.specs.declared.system.System.{System}
-use Rattle.tal_names.specs.declared.system.System.TheVariants.{CheckMonitor, Checkpoint, Open, ReadUpdate, Reply, Stop, WriteRead}
+use Rattle.tal_names.specs.declared.system.System.TheVariants.{CheckMonitor, Checkpoint, Open, ReadUpdate, Reply, Stop}
+use Rattle.tal_names.specs.declared.system.System.TheVariants.{WriteRead}
 use Rattle.tal_declarations.specs.Globals.{atom_of, constant_value}
 use Rattle.tal_names.specs.Names.{is_declared, meaning_in, with_name}
 use Rattle.tal_names.specs.Places.{constant_of, name_of_argument, arguments_of}

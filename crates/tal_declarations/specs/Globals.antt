@@ -1,5 +1,6 @@
 -- The lines of globals: what they declare, and their faults.
-use Rattle.std.specs.Prelude.{ℕ, ◌+◌, ◌||◌, min, nat_lt, nat_le, Bool, false, ℤ, pos, zero, neg_ℤ, int_lt, List, [], ◌∷◌, ◌++◌, length, Option, Some, None, option_map, is_some, unwrap_or, if◌then◌else◌}
+use Rattle.std.specs.Prelude.{ℕ, ◌+◌, ◌||◌, min, nat_lt, nat_le, Bool, false, ℤ, pos, zero, neg_ℤ, int_lt, List, []}
+use Rattle.std.specs.Prelude.{◌∷◌, ◌++◌, length, Option, Some, None, option_map, is_some, unwrap_or, if◌then◌else◌}
 use Rattle.gd_words.specs.Arithmetic.{wrap}
 use Rattle.tal_tokens.specs.declared.token.At.{At}
 use Rattle.tal_syntax.specs.Grammar as g
@@ -92,9 +93,11 @@ abbrev pub bounds_faults : Declarations → g.Bounds → List RuleFault
 bounds_faults names g.unbounded = []
 bounds_faults names (g.bounded start low colon high close) =
     constant_faults low (constant_meaning names low) ++ constant_faults high (constant_meaning names high)
-    ++ if_so (is_reversed (constant_value low (constant_meaning names low)) (constant_value high (constant_meaning names high))) (fault_at (first_of_constant high) WrongKind)
+    ++ if_so (is_reversed (constant_value low (constant_meaning names low))
+    (constant_value high (constant_meaning names high))) (fault_at (first_of_constant high) WrongKind)
 
--- the shape of an item and how many words it takes; one whose bounds have a fault takes none, and its shape plays no part
+-- the shape of an item and how many words it takes; one whose bounds have a fault takes none, and its shape plays no
+-- part
 abbrev pub array_by : Option (ℤ × ℤ) → Extent
 array_by None = record { shape = shape.Simple; words = 0 }
 array_by (Some (low, high)) = record { shape = shape.Array low high; words = width (shape.Array low high) }
@@ -102,7 +105,8 @@ array_by (Some (low, high)) = record { shape = shape.Array low high; words = wid
 abbrev pub extent_of : Declarations → g.Bounds → Extent
 extent_of names g.unbounded = record { shape = shape.Simple; words = 1 }
 extent_of names (g.bounded start low colon high close) =
-    array_by (bounds_by (constant_value low (constant_meaning names low)) (constant_value high (constant_meaning names high)))
+    array_by (bounds_by (constant_value low (constant_meaning names low))
+    (constant_value high (constant_meaning names high)))
 
 -- at most 64 global names, 512 words, and 256 words an array
 abbrev pub item_limits : Declared → At → ℕ → List RuleFault
@@ -134,11 +138,18 @@ with_item d (g.item at name bounds) = with_extent d name (extent_of d.names boun
 
 -- LITERAL declares a name after its own constant
 abbrev pub literal_line_faults : Declared → g.Literal → List RuleFault
-literal_line_faults d (g.literal at name equal c) = taken_faults d.names at name ++ constant_faults c (constant_meaning d.names c)
+literal_line_faults d (g.literal at name equal c) =
+    taken_faults d.names at name ++ constant_faults c (constant_meaning d.names c)
 
 abbrev pub with_literal : Declared → g.Literal → Declared
 with_literal d (g.literal at name equal c) =
-    record { names = with_name d.names name (m.Literal (unwrap_or (constant_value c (constant_meaning d.names c)) (pos zero))); items = d.items; words = d.words }
+    record {
+      names = with_name d.names name
+          (m.Literal (unwrap_or (constant_value c (constant_meaning d.names c)) (pos zero)));
+      items =
+          d.items;
+      words = d.words;
+    }
 
 abbrev pub items_faults : Declared → g.Items → List RuleFault
 items_faults d g.no_items = []
@@ -158,7 +169,8 @@ with_literals d (g.more_literals comma l rest) = with_literals (with_literal d l
 
 abbrev pub line_faults : Declared → g.Globals → List RuleFault
 line_faults d (g.int_line int first more end) = item_faults d first ++ items_faults (with_item d first) more
-line_faults d (g.literal_line word first more end) = literal_line_faults d first ++ literals_faults (with_literal d first) more
+line_faults d (g.literal_line word first more end) =
+    literal_line_faults d first ++ literals_faults (with_literal d first) more
 
 abbrev pub with_line : Declared → g.Globals → Declared
 with_line d (g.int_line int first more end) = with_items (with_item d first) more

@@ -1,5 +1,6 @@
 -- The headings of procedures, their parameters and their locals.
-use Rattle.std.specs.Prelude.{ℕ, ◌+◌, ◌||◌, ◌&&◌, ◌==◌, not, min, nat_le, Bool, true, false, List, [], ◌∷◌, ◌++◌, length, Option, Some, None, is_some, if◌then◌else◌}
+use Rattle.std.specs.Prelude.{ℕ, ◌+◌, ◌||◌, ◌&&◌, ◌==◌, not, min, nat_le, Bool, true, false, List, [], ◌∷◌, ◌++◌}
+use Rattle.std.specs.Prelude.{length, Option, Some, None, is_some, if◌then◌else◌}
 use Rattle.tal_tokens.specs.declared.token.At.{At}
 use Rattle.tal_syntax.specs.Grammar as g
 use Rattle.tal_names.specs.declared.fault.Rule.TheVariants.{Unknown, Twice, Prologue, Limit}
@@ -44,23 +45,28 @@ count_faults before at = if_so (nat_le 12 (length before)) (fault_at at (Limit 6
 -- a parameter stands among the locals before BEGIN, and once in its list
 abbrev pub parameter_faults : Declarations → Declarations → Named → List RuleFault
 parameter_faults outer before n =
-    taken_faults before n.at n.name ++ if_so (not (is_declared n.name outer)) (fault_at n.at Unknown) ++ count_faults before n.at
+    taken_faults before n.at n.name ++ if_so (not (is_declared n.name outer)) (fault_at n.at Unknown)
+    ++ count_faults before n.at
 
 abbrev pub parameters_faults : Declarations → Declarations → List Named → List RuleFault
 parameters_faults outer before [] = []
-parameters_faults outer before (n ∷ ns) = parameter_faults outer before n ++ parameters_faults outer (with_local before n.name) ns
+parameters_faults outer before (n ∷ ns) =
+    parameter_faults outer before n ++ parameters_faults outer (with_local before n.name) ns
 
 -- a local before BEGIN is a parameter, and stands there once
 abbrev pub one_outer_faults : Declarations → Declarations → Named → List RuleFault
-one_outer_faults parameters before n = taken_faults before n.at n.name ++ if_so (not (is_declared n.name parameters)) (fault_at n.at Unknown)
+one_outer_faults parameters before n =
+    taken_faults before n.at n.name ++ if_so (not (is_declared n.name parameters)) (fault_at n.at Unknown)
 
 abbrev pub outer_faults : Declarations → Declarations → List Named → List RuleFault
 outer_faults parameters before [] = []
-outer_faults parameters before (n ∷ ns) = one_outer_faults parameters before n ++ outer_faults parameters (with_local before n.name) ns
+outer_faults parameters before (n ∷ ns) =
+    one_outer_faults parameters before n ++ outer_faults parameters (with_local before n.name) ns
 
 -- a local after BEGIN is no parameter and no other local
 abbrev pub one_inner_faults : Declarations → Declarations → Named → List RuleFault
-one_inner_faults outer before n = if_so (is_taken before n.name || is_declared n.name outer) (fault_at n.at Twice) ++ count_faults before n.at
+one_inner_faults outer before n =
+    if_so (is_taken before n.name || is_declared n.name outer) (fault_at n.at Twice) ++ count_faults before n.at
 
 abbrev pub inner_faults : Declarations → Declarations → List Named → List RuleFault
 inner_faults outer before [] = []
@@ -111,7 +117,8 @@ heading_of (g.procedure h outer begin inner first more end last) = h
 
 abbrev pub headings_faults : Headed → g.Procedures → List RuleFault
 headings_faults h g.no_procedures = []
-headings_faults h (g.more_procedures p rest) = heading_faults h (heading_of p) ++ headings_faults (with_heading h (heading_of p)) rest
+headings_faults h (g.more_procedures p rest) =
+    heading_faults h (heading_of p) ++ headings_faults (with_heading h (heading_of p)) rest
 
 abbrev pub with_headings : Headed → g.Procedures → Headed
 with_headings h g.no_procedures = h

@@ -1,9 +1,12 @@
 ghost use Rattle.std.specs.Prelude.{◌≡◌, OnOk, IfOk, option_map};
 ghost use Rattle.std.specs.Option.{option_copied};
-ghost use Rattle.tal_declarations.specs.Files.{named_in, declared_before, is_receive, target_of, file_by, depth_of, with_file, simple_by, simple_global, depth_value, opened_as, opened_by, opened, call_files, statement_files, else_files, row_files};
+ghost use Rattle.tal_declarations.specs.Files.{named_in, declared_before, is_receive, target_of, file_by, depth_of};
+ghost use Rattle.tal_declarations.specs.Files.{with_file, simple_by, simple_global, depth_value, opened_as, opened_by};
+ghost use Rattle.tal_declarations.specs.Files.{opened, call_files, statement_files, else_files, row_files};
 ghost use Rattle.tal_names.specs.Places.{arguments_of};
 ghost use Rattle.tal_names.specs.Systems.{system_of};
-ghost use Rattle.tal_syntax.specs.Seen.{seen_atom, seen_argument, seen_arguments, seen_statement, seen_otherwise, seen_row};
+ghost use Rattle.tal_syntax.specs.Seen.{seen_atom, seen_argument, seen_arguments, seen_statement, seen_otherwise};
+ghost use Rattle.tal_syntax.specs.Seen.{seen_row};
 
 use crate::globals::{atom_of, constant_value};
 use crate::table::Files;
@@ -177,7 +180,8 @@ fn open_file(
     variable: &Argument,
     depth: &Argument,
 ) -> Result<(), NoMemory>
-    ensures { OnOk result (files.new ≡ opened_by scope.now files.old (seen_argument string.now) (seen_argument variable.now) (seen_argument depth.now)) }
+    ensures { OnOk result (files.new ≡ opened_by scope.now files.old (seen_argument string.now)
+        (seen_argument variable.now) (seen_argument depth.now)) }
 {
     match name_of_argument(variable) {
         None => Ok(()),
@@ -192,7 +196,8 @@ fn open_named(
     name: Ident,
     depth: &Argument,
 ) -> Result<(), NoMemory>
-    ensures { OnOk result (files.new ≡ opened_as scope.now files.old (seen_argument string.now) (seen_argument depth.now) name (simple_global scope.now name)) }
+    ensures { OnOk result (files.new ≡ opened_as scope.now files.old (seen_argument string.now)
+        (seen_argument depth.now) name (simple_global scope.now name)) }
 {
     match simple_global(scope, name) {
         None => Ok(()),
@@ -262,7 +267,8 @@ fn call_files(
     name: Ident,
     arguments: &Arguments,
 ) -> Result<(), NoMemory>
-    ensures { OnOk result (files.new ≡ call_files scope.now files.old (arguments_of (seen_arguments arguments.now)) (system_of name)) }
+    ensures { OnOk result (files.new ≡ call_files scope.now files.old (arguments_of (seen_arguments arguments.now))
+        (system_of name)) }
 {
     match system_of(name) {
         Some(System::Open) => open(scope, files, arguments),

@@ -1,7 +1,15 @@
 ghost use Rattle.std.specs.Prelude.{◌≡◌, OnOk, IfOk, None};
 ghost use Rattle.tal_names.specs.Faults.{least};
-ghost use Rattle.tal_declarations.specs.Globals.{is_taken, taken_faults, atom_of, constant_meaning, first_of_atom, first_of_constant, literal_faults, constant_faults, literal_value, constant_value, atom_value, negated, bounds_by, is_reversed, bounds_faults, array_by, extent_of, item_limits, item_faults, item_meaning, with_extent, with_item, literal_line_faults, with_literal, items_faults, with_items, literals_faults, with_literals, line_faults, with_line, lines_faults, with_lines, nothing_declared};
-ghost use Rattle.tal_syntax.specs.Seen.{seen_atom, seen_constant, seen_bounds, seen_item, seen_items, seen_literal, seen_literals, seen_globals, seen_lines};
+ghost use Rattle.tal_declarations.specs.Globals.{is_taken, taken_faults, atom_of, constant_meaning, first_of_atom};
+ghost use Rattle.tal_declarations.specs.Globals.{first_of_constant, literal_faults, constant_faults, literal_value};
+ghost use Rattle.tal_declarations.specs.Globals.{constant_value, atom_value, negated, bounds_by, is_reversed};
+ghost use Rattle.tal_declarations.specs.Globals.{bounds_faults, array_by, extent_of, item_limits, item_faults};
+ghost use Rattle.tal_declarations.specs.Globals.{item_meaning, with_extent, with_item, literal_line_faults};
+ghost use Rattle.tal_declarations.specs.Globals.{with_literal, items_faults, with_items, literals_faults};
+ghost use Rattle.tal_declarations.specs.Globals.{with_literals, line_faults, with_line, lines_faults, with_lines};
+ghost use Rattle.tal_declarations.specs.Globals.{nothing_declared};
+ghost use Rattle.tal_syntax.specs.Seen.{seen_atom, seen_constant, seen_bounds, seen_item, seen_items, seen_literal};
+ghost use Rattle.tal_syntax.specs.Seen.{seen_literals, seen_globals, seen_lines};
 
 use crate::table::{Declared, Extent};
 use gd_words::{Ident, List, NoMemory, wrap_neg};

@@ -1,7 +1,12 @@
 ghost use Rattle.std.specs.Prelude.{◌≡◌, ◌++◌, OnOk, IfOk, None, length};
 ghost use Rattle.tal_names.specs.Faults.{least};
-ghost use Rattle.tal_declarations.specs.Headings.{names_of, parameters_of, local_names, locals_of, with_local, with_locals, count_faults, parameter_faults, parameters_faults, one_outer_faults, outer_faults, one_inner_faults, inner_faults, locals_faults, does_give, main_faults, heading_faults, main_number, with_procedure, with_heading, headings_faults, with_headings};
-ghost use Rattle.tal_syntax.specs.Seen.{seen_names, seen_parameters, seen_local, seen_locals, seen_gives, seen_main, seen_heading, seen_procedures};
+ghost use Rattle.tal_declarations.specs.Headings.{names_of, parameters_of, local_names, locals_of, with_local};
+ghost use Rattle.tal_declarations.specs.Headings.{with_locals, count_faults, parameter_faults, parameters_faults};
+ghost use Rattle.tal_declarations.specs.Headings.{one_outer_faults, outer_faults, one_inner_faults, inner_faults};
+ghost use Rattle.tal_declarations.specs.Headings.{locals_faults, does_give, main_faults, heading_faults, main_number};
+ghost use Rattle.tal_declarations.specs.Headings.{with_procedure, with_heading, headings_faults, with_headings};
+ghost use Rattle.tal_syntax.specs.Seen.{seen_names, seen_parameters, seen_local, seen_locals, seen_gives, seen_main};
+ghost use Rattle.tal_syntax.specs.Seen.{seen_heading, seen_procedures};
 
 use crate::globals::{is_taken, judge_taken};
 use crate::table::Headed;

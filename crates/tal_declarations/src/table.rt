@@ -17,7 +17,8 @@ pub struct Declared {
     pub words: u32,
 }
 
-/// What the headings of procedures declare after the globals: names, how many procedures there are, and which one is MAIN.
+/// What the headings of procedures declare after the globals: names, how many procedures there are, and which one is
+/// MAIN.
 #[derive(Drop)]
 pub struct Headed {
     pub names: Names,

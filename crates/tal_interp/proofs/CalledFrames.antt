@@ -1,5 +1,7 @@
 -- Frames that are read from words, each of the procedure that the one before it has called.
-use Rattle.std.proofs.Common.{◌≡◌, ◌<◌, inl, ℕ, zero, suc, ◌+◌, ℤ, Bool, true, false, ◌&&◌, if◌then◌else◌, List, [], ◌∷◌, ◌++◌, length, Option, Some, None, refl, ap, sym, subst, ◌∙◌, arith, append_assoc, option_and_then}
+use Rattle.std.proofs.Common.{◌≡◌, ◌<◌, inl, ℕ, zero, suc, ◌+◌, ℤ, Bool, true, false, ◌&&◌, if◌then◌else◌, List, []}
+use Rattle.std.proofs.Common.{◌∷◌, ◌++◌, length, Option, Some, None, refl, ap, sym, subst, ◌∙◌, arith, append_assoc}
+use Rattle.std.proofs.Common.{option_and_then}
 use Rattle.std.specs.Option.{option_map}
 use Rattle.std.proofs.lemmas.Bool.{eqb-true}
 use Rattle.std.proofs.lemmas.Option.{same_Some}
@@ -31,7 +33,8 @@ module _ (program : Program) where
 
   -- a frame before those that follow it
   abbrev before_frames : (Frame → List ℤ → Front (List Frame)) → Front Frame → Front (List Frame)
-  before_frames more f = option_and_then (λ (frame, left). option_map (λ (frames, rest). (frame ∷ frames, rest)) (more frame left)) f
+  before_frames more f =
+      option_and_then (λ (frame, left). option_map (λ (frames, rest). (frame ∷ frames, rest)) (more frame left)) f
 
 module _ (program : Program) {A : Type 0} where
   abbrev pub if_called : (List Frame → List ℤ → Option A) → Option ℕ → List Frame × List ℤ → Option A
@@ -41,35 +44,45 @@ module _ (program : Program) {A : Type 0} where
   gone go (frames, left) = go frames left
 
   by-test : (go : List Frame → List ℤ → Option A) (n : ℕ) (frame : Frame) (left : List ℤ)
-      → option_and_then (if_called (λ frames rest. go (frame ∷ frames) rest) (called_by frame.rest)) (frames_in program n left)
-      ≡ option_and_then (gone (λ frames rest. go (frame ∷ frames) rest)) (called_frames program (called_by frame.rest) n left)
+      → option_and_then (if_called (λ frames rest. go (frame ∷ frames) rest) (called_by frame.rest))
+      (frames_in program n left)
+      ≡ option_and_then (gone (λ frames rest. go (frame ∷ frames) rest))
+      (called_frames program (called_by frame.rest) n left)
       → (b : Bool)
-      → option_and_then (λ (frames, rest). if b && are_called (called_by frame.rest) frames then go (frame ∷ frames) rest else None)
+      → option_and_then (λ (frames, rest). if b
+      && are_called (called_by frame.rest) frames then go (frame ∷ frames) rest else None)
       (frames_in program n left)
       ≡ option_and_then (gone go)
-      (before_frames program (λ one more. called_frames program (called_by one.rest) n more) (if b then Some (frame, left) else None))
+      (before_frames program (λ one more. called_frames program (called_by one.rest) n more)
+      (if b then Some (frame, left) else None))
   by-test go n frame left same false = never None refl (frames_in program n left)
   by-test go n frame left same true =
-      same ∙ sym (mapped-then (gone go) (λ (frames, rest). (frame ∷ frames, rest)) (called_frames program (called_by frame.rest) n left))
+      same ∙ sym (mapped-then (gone go) (λ (frames, rest). (frame ∷ frames, rest))
+      (called_frames program (called_by frame.rest) n left))
 
   by-frame : (go : List Frame → List ℤ → Option A) (called : Option ℕ) (n : ℕ)
       → ((frame : Frame) (left : List ℤ)
-      → option_and_then (if_called (λ frames rest. go (frame ∷ frames) rest) (called_by frame.rest)) (frames_in program n left)
-      ≡ option_and_then (gone (λ frames rest. go (frame ∷ frames) rest)) (called_frames program (called_by frame.rest) n left))
+      → option_and_then (if_called (λ frames rest. go (frame ∷ frames) rest) (called_by frame.rest))
+      (frames_in program n left)
+      ≡ option_and_then (gone (λ frames rest. go (frame ∷ frames) rest))
+      (called_frames program (called_by frame.rest) n left))
       → (f : Front Frame)
       → option_and_then (if_called go called) (before_frames program (λ frame left. frames_in program n left) f)
       ≡ option_and_then (gone go)
-      (before_frames program (λ one more. called_frames program (called_by one.rest) n more) (option_and_then (if_one program called) f))
+      (before_frames program (λ one more. called_frames program (called_by one.rest) n more)
+      (option_and_then (if_one program called) f))
   by-frame go called n same None = refl
   by-frame go called n same (Some (frame, left)) =
       mapped-then (if_called go called) (λ (frames, rest). (frame ∷ frames, rest)) (frames_in program n left)
       ∙ by-test go n frame left (same frame left) (is_called called frame.procedure)
 
   pub frames-called : (go : List Frame → List ℤ → Option A) (called : Option ℕ) (n : ℕ) (words : List ℤ)
-      → option_and_then (if_called go called) (frames_in program n words) ≡ option_and_then (gone go) (called_frames program called n words)
+      → option_and_then (if_called go called) (frames_in program n words)
+      ≡ option_and_then (gone go) (called_frames program called n words)
   frames-called go called zero words = refl
   frames-called go called (suc n) words =
-      by-frame go called n (λ frame left. frames-called (λ frames rest. go (frame ∷ frames) rest) (called_by frame.rest) n left) (frame_in program words)
+      by-frame go called n (λ frame left. frames-called (λ frames rest. go (frame ∷ frames) rest)
+      (called_by frame.rest) n left) (frame_in program words)
 
 -- frames that are read, with these before them
 abbrev pub onto : List Frame → Front (List Frame) → Front (List Frame)
@@ -78,15 +91,19 @@ onto frames more = option_map (λ (others, left). (frames ++ others, left)) more
 onto-one : (frames : List Frame) (frame : Frame) (more : Front (List Frame))
     → onto frames (option_map (λ (others, left). (frame ∷ others, left)) more) ≡ onto (frames ++ frame ∷ []) more
 onto-one frames frame None = refl
-onto-one frames frame (Some (others, left)) = ap (λ (fs : List Frame). Some (fs, left)) (sym (append_assoc frames (frame ∷ []) others))
+onto-one frames frame (Some (others, left)) =
+    ap (λ (fs : List Frame). Some (fs, left)) (sym (append_assoc frames (frame ∷ []) others))
 
-pub frames-turn : (program : Program) (called : Option ℕ) (frames : List Frame) (m n : ℕ) (words left : List ℤ) (frame : Frame) → m ≡ suc n
+pub frames-turn : (program : Program) (called : Option ℕ) (frames : List Frame) (m n : ℕ) (words left : List ℤ)
+    (frame : Frame) → m ≡ suc n
     → called_frame program called words ≡ Some (frame, left)
-    → onto frames (called_frames program called m words) ≡ onto (frames ++ frame ∷ []) (called_frames program (called_by frame.rest) n left)
+    → onto frames (called_frames program called m words)
+    ≡ onto (frames ++ frame ∷ []) (called_frames program (called_by frame.rest) n left)
 frames-turn program called frames m n words left frame count is =
     ap (λ (k : ℕ). onto frames (called_frames program called k words)) count
     ∙ ap (λ (f : Front Frame). onto frames
-    (option_and_then (λ (one, more). option_map (λ (others, rest). (one ∷ others, rest)) (called_frames program (called_by one.rest) n more)) f)) is
+    (option_and_then (λ (one, more). option_map (λ (others, rest). (one ∷ others, rest))
+    (called_frames program (called_by one.rest) n more)) f)) is
     ∙ onto-one frames frame (called_frames program (called_by frame.rest) n left)
 
 -- Room for frames
@@ -114,18 +131,24 @@ called-is program called (Some (one, more)) frame left is = tested called (is_ca
     tested o true called is = (is-one o called ∙ ap (λ (p : Frame × List ℤ). Some p.0.procedure) (same_Some _ _ is), is)
     tested o false called is = absurd (cc)
 
-pub room-more : (program : Program) (called : Option ℕ) (frames more : ℕ) (frame : Frame) (words left : List ℤ) → IsOrdered program
-    → called_frame program called words ≡ Some (frame, left) → more ≡ suc frames → HasRoom (length program.procedures) called frames
+pub room-more : (program : Program) (called : Option ℕ) (frames more : ℕ) (frame : Frame) (words left : List ℤ)
+    → IsOrdered program
+    → called_frame program called words ≡ Some (frame, left) → more ≡ suc frames
+    → HasRoom (length program.procedures) called frames
     → HasRoom (length program.procedures) (called_by frame.rest) more
 room-more program called frames more frame words left ordered is count room =
     let both = called-is program called (frame_in program words) frame left is in
     let read : frames_in program 1 words ≡ Some (frame ∷ [], left) =
-    ap (option_and_then (λ (one, more). option_map (λ (others, rest). (one ∷ others, rest)) (frames_in program 0 more))) both.1 in
+    ap (option_and_then (λ (one, more). option_map (λ (others, rest). (one ∷ others, rest))
+    (frames_in program 0 more))) both.1 in
     let stands : IsFrame program frame = (frames-stood program 1 words (frame ∷ []) left read).all frame (inl refl) in
-    next (called_by frame.rest) refl stands (subst (λ (o : Option ℕ). HasRoom (length program.procedures) o frames) both.0 room)
+    next (called_by frame.rest) refl stands
+    (subst (λ (o : Option ℕ). HasRoom (length program.procedures) o frames) both.0 room)
   where
-    next : (o : Option ℕ) → called_by frame.rest ≡ o → IsFrame program frame → frames + frame.procedure < length program.procedures
+    next : (o : Option ℕ) → called_by frame.rest ≡ o → IsFrame program frame
+        → frames + frame.procedure < length program.procedures
         → HasRoom (length program.procedures) o more
     next None calls stands room = tt
     next (Some number) calls stands room =
-        let before = called-before program ordered frame number frame.rest stands calls in omega (arith, before, room, count)
+        let before =
+        called-before program ordered frame number frame.rest stands calls in omega (arith, before, room, count)

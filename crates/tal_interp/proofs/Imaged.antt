@@ -1,5 +1,7 @@
 -- The words of an image, and that its numbers are words.
-use Rattle.std.proofs.Common.{◌≡◌, ◌≤◌, ◌<◌, inl, inr, ℕ, suc, ◌+◌, ℤ, pos, Bool, true, false, if◌then◌else◌, List, [], ◌∷◌, ◌++◌, length, map, reverse, flat_map, Option, Some, None, refl, ap, ap₂, sym, subst, ◌∙◌, arith, append_assoc, append-nil}
+use Rattle.std.proofs.Common.{◌≡◌, ◌≤◌, ◌<◌, inl, inr, ℕ, suc, ◌+◌, ℤ, pos, Bool, true, false, if◌then◌else◌, List, []}
+use Rattle.std.proofs.Common.{◌∷◌, ◌++◌, length, map, reverse, flat_map, Option, Some, None, refl, ap, ap₂, sym, subst}
+use Rattle.std.proofs.Common.{◌∙◌, arith, append_assoc, append-nil}
 use Rattle.std.specs.List.{All}
 use Rattle.std.proofs.lemmas.Grind.{reverse_onto, flat_map-append}
 use Rattle.std.proofs.lemmas.List.{length-reverse, reverse-reverse, length-map, map-append}
@@ -12,14 +14,16 @@ use Rattle.gd_words.proofs.Distinct.{distinct-few}
 use Rattle.tal_tree.specs.Limits.{IsWithinLimits}
 use Rattle.tal_tree.specs.Regular.{AreListed}
 use Rattle.tal_tree.specs.declared.program.Program.{Program}
-use Rattle.process_semantics.specs.Image.{frame_words, image_of, imaged_at, is_empty, item_words, program_words, state_words}
+use Rattle.process_semantics.specs.Image.{frame_words, image_of, imaged_at, is_empty, item_words, program_words}
+use Rattle.process_semantics.specs.Image.{state_words}
 use Rattle.process_semantics.specs.Points.{where_good, where_both_good}
 use Rattle.process_semantics.specs.Process.{Runs}
 use Rattle.process_semantics.specs.Rests.{next_number}
 use Rattle.process_semantics.specs.State.{Entry, Frame, ProgramState, count_of}
 use Rattle.process_semantics.specs.declared.point.Point.{Point}
 use Rattle.process_semantics.specs.declared.point.Point.TheVariants as point
-use Rattle.program_deeds.specs.Deed.{Deed, Assigns, Tests, Enters, Returns, Passes, Stops, Takes, Asks, Answers, Checkpoints, deed_of}
+use Rattle.program_deeds.specs.Deed.{Deed, Assigns, Tests, Enters, Returns, Passes, Stops, Takes, Asks, Answers}
+use Rattle.program_deeds.specs.Deed.{Checkpoints, deed_of}
 use Rattle.program_deeds.specs.Doing.{point_by}
 use Rattle.program_deeds.proofs.Calls.{point-is}
 use Rattle.whole_states.specs.Whole.{AreFrames}
@@ -57,14 +61,17 @@ module _ (program : Program) (items : List ℕ) (globals : List (List ℤ)) (in_
   by-deed frame callers (Checkpoints named files) = refl
   by-deed frame callers (Takes buffer most got) =
       either (HasWords (frame ∷ callers) (frame ∷ callers)) in_hand _ _ refl
-      (good (HasWords (frame ∷ callers) (frame ∷ callers)) point.Take (count_of program (state (frame ∷ callers) false) buffer most) refl refl)
+      (good (HasWords (frame ∷ callers) (frame ∷ callers)) point.Take
+      (count_of program (state (frame ∷ callers) false) buffer most) refl refl)
   by-deed frame callers (Asks file buffer send room got) =
       either (HasWords (frame ∷ callers) (frame ∷ callers)) awaits _ _ refl
-      (both-good (HasWords (frame ∷ callers) (frame ∷ callers)) point.Ask (count_of program (state (frame ∷ callers) false) buffer send)
+      (both-good (HasWords (frame ∷ callers) (frame ∷ callers)) point.Ask
+      (count_of program (state (frame ∷ callers) false) buffer send)
       (count_of program (state (frame ∷ callers) false) buffer room) refl refl)
   by-deed frame callers (Answers buffer count) =
       either (HasWords (frame ∷ callers) (frame ∷ callers)) in_hand _ _
-      (good (HasWords (frame ∷ callers) (frame ∷ callers)) point.Answer (count_of program (state (frame ∷ callers) false) buffer count) refl refl) refl
+      (good (HasWords (frame ∷ callers) (frame ∷ callers)) point.Answer
+      (count_of program (state (frame ∷ callers) false) buffer count) refl refl) refl
   by-deed frame callers (Assigns to value rest) = refl
   by-deed frame callers (Tests test first second) = refl
   by-deed frame callers (Enters procedure arguments to) = refl
@@ -78,7 +85,8 @@ module _ (program : Program) (items : List ℕ) (globals : List (List ℤ)) (in_
   by-frames [] false is = refl
   by-frames (frame ∷ callers) true is = absurd (cc)
   by-frames (frame ∷ callers) false is =
-      ap (λ (p : Point). state_words items (imaged_at (Runs program (state (frame ∷ callers) false)) p)) (point-is program (state (frame ∷ callers) false))
+      ap (λ (p : Point). state_words items (imaged_at (Runs program (state (frame ∷ callers) false)) p))
+      (point-is program (state (frame ∷ callers) false))
       ∙ by-deed frame callers (deed_of frame.rest)
 
 pub image-words : (program : Program) (s : ProgramState) (items : List ℕ) → s.ended ≡ is_empty s.frames
@@ -89,13 +97,15 @@ length-imaged : (frames : List Frame) → length (imaged_frames frames) ≡ leng
 length-imaged [] = refl
 length-imaged (frame ∷ frames) = refl
 
-pub image-parts : (program : Program) (s : ProgramState) (items : List ℕ) (frames all : List ℤ) → s.ended ≡ is_empty s.frames
+pub image-parts : (program : Program) (s : ProgramState) (items : List ℕ) (frames all : List ℤ)
+    → s.ended ≡ is_empty s.frames
     → frames ≡ [] ++ pos (length s.frames) ∷ flat_map frame_words (reverse (imaged_frames s.frames))
     → all ≡ frames ++ pos (length items) ∷ flat_map (item_words s) items
     → all ≡ image_of items (Runs program s)
 image-parts program s items frames all ended first second =
     second ∙ ap (λ (words : List ℤ). words ++ pos (length items) ∷ flat_map (item_words s) items) first
-    ∙ ap (λ (n : ℕ). pos n ∷ (flat_map frame_words (reverse (imaged_frames s.frames)) ++ pos (length items) ∷ flat_map (item_words s) items))
+    ∙ ap (λ (n : ℕ). pos n ∷ (flat_map frame_words (reverse (imaged_frames s.frames))
+    ++ pos (length items) ∷ flat_map (item_words s) items))
     (sym (length-imaged s.frames))
     ∙ sym (image-words program s items ended)
 
@@ -106,12 +116,14 @@ turned x xs = reverse_onto xs x []
 
 pub last-first : {A : Type 0} (xs : List A) (x : A) → reverse (xs ++ x ∷ []) ≡ x ∷ reverse xs
 last-first [] x = refl
-last-first (y ∷ xs) x = turned y (xs ++ x ∷ []) ∙ ap (λ ys. ys ++ y ∷ []) (last-first xs x) ∙ ap (λ ys. x ∷ ys) (sym (turned y xs))
+last-first (y ∷ xs) x =
+    turned y (xs ++ x ∷ []) ∙ ap (λ ys. ys ++ y ∷ []) (last-first xs x) ∙ ap (λ ys. x ∷ ys) (sym (turned y xs))
 
 pub map-turned : {A B : Type 0} (f : A → B) (xs : List A) → map f (reverse xs) ≡ reverse (map f xs)
 map-turned f [] = refl
 map-turned f (x ∷ xs) =
-    ap (map f) (turned x xs) ∙ map-append f (reverse xs) (x ∷ []) ∙ ap (λ ys. ys ++ f x ∷ []) (map-turned f xs) ∙ sym (turned (f x) (map f xs))
+    ap (map f) (turned x xs) ∙ map-append f (reverse xs) (x ∷ []) ∙ ap (λ ys. ys ++ f x ∷ []) (map-turned f xs)
+    ∙ sym (turned (f x) (map f xs))
 
 map-back : {A B : Type 0} (f : A → B) (xs : List A) → reverse (map f (reverse xs)) ≡ map f xs
 map-back f xs = ap reverse (map-turned f xs) ∙ reverse-reverse (map f xs)
@@ -129,9 +141,11 @@ module _ (places : List (List Entry)) (running : Kept) (callers : List Kept) whe
   stack-words : flat_map frame_words (reverse (top ∷ map seen (reverse callers)))
       ≡ flat_map (λ caller. frame_words (seen caller)) callers ++ frame_words top
   stack-words =
-      ap (flat_map frame_words) (turned top (map seen (reverse callers)) ∙ ap (λ (frames : List Frame). frames ++ top ∷ []) (map-back seen callers))
+      ap (flat_map frame_words) (turned top (map seen (reverse callers))
+      ∙ ap (λ (frames : List Frame). frames ++ top ∷ []) (map-back seen callers))
       ∙ flat_map-append frame_words (map seen callers) (top ∷ [])
-      ∙ ap₂ (λ (first second : List ℤ). first ++ second) (flat_map-map frame_words seen callers) (append-nil (frame_words top))
+      ∙ ap₂ (λ (first second : List ℤ). first ++ second) (flat_map-map frame_words seen callers)
+      (append-nil (frame_words top))
 
   pub frames-put : (next : ℕ) (words : List ℤ) → next ≡ next_number top.rest
       → ((words ++ pos (length callers + 1) ∷ []) ++ flat_map (λ caller. frame_words (seen caller)) callers)
@@ -141,9 +155,11 @@ module _ (places : List (List Entry)) (running : Kept) (callers : List Kept) whe
   frames-put next words is =
       let count : length callers + 1 ≡ suc (length (map seen (reverse callers))) =
       omega (arith, length-map (reverse callers) seen, length-reverse callers) in
-      ap (λ (n : ℕ). ((words ++ pos (length callers + 1) ∷ []) ++ flat_map (λ caller. frame_words (seen caller)) callers)
+      ap (λ (n : ℕ). ((words ++ pos (length callers + 1) ∷ [])
+      ++ flat_map (λ caller. frame_words (seen caller)) callers)
       ++ pos running.procedure ∷ pos n ∷ running.locals) is
-      ∙ parts words (flat_map (λ caller. frame_words (seen caller)) callers) (frame_words top) (pos (length callers + 1))
+      ∙ parts words (flat_map (λ caller. frame_words (seen caller)) callers) (frame_words top)
+      (pos (length callers + 1))
       ∙ ap₂ (λ (n : ℕ) (ws : List ℤ). words ++ pos n ∷ ws) count (sym stack-words)
 
 -- Numbers that are words
@@ -157,14 +173,16 @@ given-all P x (y ∷ ys) all (inl same) = subst P (sym same) (All-head P y ys al
 given-all P x (y ∷ ys) all (inr among) = given-all P x ys (All-tail P y ys all) among
 given-all P x [] all among = absurd among
 
-pub items-below : (program : Program) (items files : List ℕ) → IsWithinLimits program → AreListed program items files → All (λ item. item < 64) items
+pub items-below : (program : Program) (items files : List ℕ) → IsWithinLimits program → AreListed program items files
+    → All (λ item. item < 64) items
 items-below program items files limits listed =
     all-given (λ n. n < 64) items (λ k among.
     let may = listed.items_there k among in
     let within = slice_get_within program.items k may.item may.there in
     let most = limits.items in omega (arith, within, most))
 
-pub items-few : (program : Program) (items files : List ℕ) → IsWithinLimits program → AreListed program items files → length items ≤ 64
+pub items-few : (program : Program) (items files : List ℕ) → IsWithinLimits program → AreListed program items files
+    → length items ≤ 64
 items-few program items files limits listed =
     let few = distinct-few items (length program.items) listed.distinct_items
     (λ k among. let may = listed.items_there k among in slice_get_within program.items k may.item may.there) in
@@ -173,7 +191,8 @@ items-few program items files limits listed =
 abbrev IsBelow : Frame → Type 0
 IsBelow frame = frame.procedure < 64
 
-pub frames-below : (program : Program) (frames : List Frame) → IsWithinLimits program → AreFrames program frames → All IsBelow frames
+pub frames-below : (program : Program) (frames : List Frame) → IsWithinLimits program → AreFrames program frames
+    → All IsBelow frames
 frames-below program [] limits are = All-nil IsBelow
 frames-below program (frame ∷ frames) limits are =
     let there = slice_get_within program.procedures frame.procedure are.0.procedure are.0.there in
@@ -190,16 +209,22 @@ all-back P xs all =
     all-given P xs (λ x among. given-all P x (reverse xs) all
     (among-reverse x (reverse xs) (subst (λ ys. IsAmong x ys) (sym (reverse-reverse xs)) among)))
 
-pub callers-few : (places : List (List Entry)) (running : Kept) (callers : List Kept) → length (frames_seen places (Some running) callers) ≤ 64
+pub callers-few : (places : List (List Entry)) (running : Kept) (callers : List Kept)
+    → length (frames_seen places (Some running) callers) ≤ 64
     → length callers + 1 ≤ 64
-callers-few places running callers few = omega (arith, few, length-map (reverse callers) (frame_seen places), length-reverse callers)
+callers-few places running callers few =
+    omega (arith, few, length-map (reverse callers) (frame_seen places), length-reverse callers)
 
-pub running-below : (places : List (List Entry)) (running : Kept) (callers : List Kept) → All IsBelow (frames_seen places (Some running) callers)
+pub running-below : (places : List (List Entry)) (running : Kept) (callers : List Kept)
+    → All IsBelow (frames_seen places (Some running) callers)
     → running.procedure < 64
-running-below places running callers all = All-head IsBelow (frame_seen places running) (map (frame_seen places) (reverse callers)) all
+running-below places running callers all =
+    All-head IsBelow (frame_seen places running) (map (frame_seen places) (reverse callers)) all
 
-pub callers-below : (places : List (List Entry)) (running : Kept) (callers : List Kept) → All IsBelow (frames_seen places (Some running) callers)
+pub callers-below : (places : List (List Entry)) (running : Kept) (callers : List Kept)
+    → All IsBelow (frames_seen places (Some running) callers)
     → All (λ caller. caller.procedure < 64) callers
 callers-below places running callers all =
-    all-back (λ (caller : Kept). caller.procedure < 64) callers (all-mapped IsBelow (frame_seen places) (reverse callers)
+    all-back (λ (caller : Kept). caller.procedure < 64) callers
+    (all-mapped IsBelow (frame_seen places) (reverse callers)
     (All-tail IsBelow (frame_seen places running) (map (frame_seen places) (reverse callers)) all))

@@ -13,12 +13,14 @@ use Rattle.process_semantics.specs.declared.point.Point.TheVariants.{Take, Await
 use Rattle.whole_states.specs.Processes.{IsWholeProcess}
 use Rattle.whole_states.specs.Whole.{IsWhole}
 use Rattle.whole_states.proofs.Calls.{took-awake}
-use Rattle.whole_states.proofs.Processes.{stays-whole, start-process, inner-process, got-process, answered-process, marked-process}
+use Rattle.whole_states.proofs.Processes.{stays-whole, start-process, inner-process, got-process, answered-process}
+use Rattle.whole_states.proofs.Processes.{marked-process}
 use Rattle.process_images.proofs.Programs.{program-stood}
 use Rattle.tal_interp.specs.Sound.{IsLoadable, IsSound}
 use Rattle.process_images.proofs.FewFrames.{frames-few}
 
-pub start-sound : (program : Program) → IsLoadable program → IsSound (record { program = program; state = start program })
+pub start-sound : (program : Program) → IsLoadable program
+    → IsSound (record { program = program; state = start program })
 start-sound program loadable = record {
   loaded = loadable;
   whole = (stays-whole (Runs program (start program)) (start-process (Pair program) loadable.regular)).1;
@@ -32,28 +34,37 @@ module _ (e : Execution) (sound : IsSound e) where
   keeps s is = record { loaded = sound.loaded; whole = is.1 }
 
   pub inner-sound : IsSound (record e { state = inner e.program e.state })
-  inner-sound = keeps _ (stays-whole (Runs e.program (inner e.program e.state)) (inner-process (Runs e.program e.state) whole))
+  inner-sound =
+      keeps _ (stays-whole (Runs e.program (inner e.program e.state)) (inner-process (Runs e.program e.state) whole))
 
-  pub took-sound : (words : List ℤ) → point_of e.program e.state ≡ Take → IsSound (record e { state = after_took e.program e.state words })
+  pub took-sound : (words : List ℤ) → point_of e.program e.state ≡ Take
+      → IsSound (record e { state = after_took e.program e.state words })
   took-sound words at =
-      keeps _ (stays-whole (Runs e.program (after_took e.program e.state words)) (sound.loaded.regular, took-awake e.program e.state words at sound.whole))
+      keeps _ (stays-whole (Runs e.program (after_took e.program e.state words))
+      (sound.loaded.regular, took-awake e.program e.state words at sound.whole))
 
-  pub got-sound : (words : List ℤ) → point_of e.program e.state ≡ Await → IsSound (record e { state = after_got e.program e.state words })
+  pub got-sound : (words : List ℤ) → point_of e.program e.state ≡ Await
+      → IsSound (record e { state = after_got e.program e.state words })
   got-sound words at =
-      keeps _ (stays-whole (Runs e.program (after_got e.program e.state words)) (got-process (Runs e.program e.state) words at whole))
+      keeps _ (stays-whole (Runs e.program (after_got e.program e.state words))
+      (got-process (Runs e.program e.state) words at whole))
 
   pub answered-sound : point_of e.program e.state ≡ Answer → IsSound (record e { state = after_answered e.state })
-  answered-sound at = keeps _ (stays-whole (Runs e.program (after_answered e.state)) (answered-process (Runs e.program e.state) at whole))
+  answered-sound at = keeps _ (stays-whole (Runs e.program (after_answered e.state))
+      (answered-process (Runs e.program e.state) at whole))
 
   pub marked-sound : point_of e.program e.state ≡ AtCheckpoint → IsSound (record e { state = after_checkpoint e.state })
-  marked-sound at = keeps _ (stays-whole (Runs e.program (after_checkpoint e.state)) (marked-process (Runs e.program e.state) at whole))
+  marked-sound at = keeps _ (stays-whole (Runs e.program (after_checkpoint e.state))
+      (marked-process (Runs e.program e.state) at whole))
 
   pub few-frames : length e.state.frames ≤ length e.program.procedures
   few-frames = frames-few e.program sound.loaded.ordered e.state.frames sound.whole.frames
 
 -- an image that was put into a program, or wasn't
-pub applied-sound : (applied : Bool) (e new : Execution) (hand : Bool) (words : List ℤ) → IsSound e → new.program ≡ e.program
-    → OnTrue applied (restored_program e.program e.state hand words ≡ Some new.state) → OnFalse applied (new ≡ e) → IsSound new
+pub applied-sound : (applied : Bool) (e new : Execution) (hand : Bool) (words : List ℤ) → IsSound e
+    → new.program ≡ e.program
+    → OnTrue applied (restored_program e.program e.state hand words ≡ Some new.state) → OnFalse applied (new ≡ e)
+    → IsSound new
 applied-sound true e new hand words sound same restored unchanged = record {
   loaded = subst IsLoadable (sym same) sound.loaded;
   whole = subst (λ (program : Program). IsWhole program new.state) (sym same)

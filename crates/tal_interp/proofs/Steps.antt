@@ -12,11 +12,14 @@ use Rattle.program_deeds.specs.Deed.{Deed, Assigns, Tests, deed_of}
 use Rattle.program_deeds.specs.Doing.{chosen, deed_inner, stored}
 use Rattle.program_deeds.proofs.Inner.{inner-is}
 
-inner-by : (program : Program) (s : ProgramState) (deed : Deed) → deed ≡ deed_of (rest_of s.frames) → or_ends s (deed_inner program s deed) ≡ inner program s
+inner-by : (program : Program) (s : ProgramState) (deed : Deed) → deed ≡ deed_of (rest_of s.frames)
+    → or_ends s (deed_inner program s deed) ≡ inner program s
 inner-by program s deed told = ap (λ d. or_ends s (deed_inner program s d)) told ∙ sym (inner-is program s)
 
-pub assign-by : (program : Program) (s : ProgramState) (to : Spot) (value : Expr) (rest : List Entry) (place : Option Cell) (word : Option ℤ)
-    → place ≡ cell_of (memory_of program s) to → word ≡ value_of (memory_of program s) value → Assigns to value rest ≡ deed_of (rest_of s.frames)
+pub assign-by : (program : Program) (s : ProgramState) (to : Spot) (value : Expr) (rest : List Entry)
+    (place : Option Cell) (word : Option ℤ)
+    → place ≡ cell_of (memory_of program s) to → word ≡ value_of (memory_of program s) value
+    → Assigns to value rest ≡ deed_of (rest_of s.frames)
     → or_ends s (stored rest s place word) ≡ inner program s
 assign-by program s to value rest place word at is told =
     ap (λ p. or_ends s (stored rest s p word)) at

@@ -7,7 +7,8 @@ use Rattle.process_semantics.specs.State.{Execution}
 use Rattle.tal_code.specs.Waiting.{WaitsBelow}
 use Rattle.whole_states.specs.Whole.{IsWhole}
 
--- a program that can be loaded is numbered and ordered as texts are, keeps the limits, is regular, and has room for the code of what it computes
+-- a program that can be loaded is numbered and ordered as texts are, keeps the limits, is regular, and has room for the
+-- code of what it computes
 pub record IsLoadable (program : Program) : Type 0 where
   pub numbered : IsNumbered program
   pub ordered : IsOrdered program

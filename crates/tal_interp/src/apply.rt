@@ -1,5 +1,6 @@
 ghost use Rattle.std.specs.Bool.{OnTrue, OnFalse};
-ghost use Rattle.std.specs.Prelude.{◌≡◌, ◌≤◌, ◌<◌, ℤ, List as Items, [], length, map, is_some, IfSome, Some, None, vec_capacity};
+ghost use Rattle.std.specs.Prelude.{◌≡◌, ◌≤◌, ◌<◌, ℤ, List as Items, [], length, map, is_some, IfSome, Some, None};
+ghost use Rattle.std.specs.Prelude.{vec_capacity};
 ghost use Rattle.process_semantics.specs.Image.{frame_in, items_in, restored_program};
 ghost use Rattle.process_semantics.specs.State.{called_by};
 ghost use Rattle.process_semantics.specs.Words.{count_in, words_in, whole};
@@ -20,10 +21,12 @@ use tal_table::{Table, Work};
 use tal_tree::{Item, Shape};
 
 impl Interpreter {
-    /// Puts an image into it, with a request in hand or none; false where the words are no image of it, and then nothing changes.
+    /// Puts an image into it, with a request in hand or none; false where the words are no image of it, and then
+    /// nothing changes.
     pub(crate) fn apply(&mut self, words: &[i16], in_hand: bool) -> bool
         requires { IsSound self.old }
-        ensures applied { OnTrue result (restored_program self.old.program self.old.state in_hand words.now ≡ Some self.new.state) }
+        ensures applied { OnTrue result (restored_program self.old.program self.old.state in_hand words.now
+            ≡ Some self.new.state) }
         ensures program { self.new.program ≡ self.old.program }
         ensures refused { OnFalse result (restored_program self.old.program self.old.state in_hand words.now ≡ None) }
         ensures unchanged { OnFalse result (self.new ≡ self.old) }
@@ -107,7 +110,8 @@ fn called_frame<'a>(
     called: Option<u16>,
     words: &'a [i16],
 ) -> Option<(Frame, &'a [i16])>
-    ensures { Gives (λ r. (frame_seen (places table.now) r.0, r.1.now)) result (called_frame table.now called words.now) }
+    ensures { Gives (λ r. (frame_seen (places table.now) r.0, r.1.now)) result
+        (called_frame table.now called words.now) }
 {
     let (frame, left) = frame_in(table, words)?;
     if called == Some(frame.procedure) {
@@ -156,7 +160,8 @@ fn called_frames<'a>(
 fn frames_of<'a>(table: &Table, words: &'a [i16], frames: &mut Vec<Frame>) -> Option<&'a [i16]>
     requires loadable { IsLoadable table.now }
     requires room { length table.now.procedures ≤ vec_capacity frames.old }
-    ensures read { Gives (λ left. (map (frame_seen (places table.now)) frames.new.items, left.now)) result (frames_of table.now words.now) }
+    ensures read { Gives (λ left. (map (frame_seen (places table.now)) frames.new.items, left.now)) result
+        (frames_of table.now words.now) }
     ensures room { vec_capacity frames.new ≡ vec_capacity frames.old }
 {
     frames.clear();

@@ -1,6 +1,7 @@
 ghost use Rattle.std.specs.Prelude.{◌≡◌, ◌≤◌, drop, length, IfSome};
 ghost use Rattle.process_semantics.specs.declared.point.Point.TheVariants.{AtCheckpoint};
-ghost use Rattle.process_semantics.specs.Calls.{after_answered, after_asked, after_got, after_checkpoint, after_took, answer_of, asked_file, asked_words, first_words, received};
+ghost use Rattle.process_semantics.specs.Calls.{after_answered, after_asked, after_got, after_checkpoint, after_took};
+ghost use Rattle.process_semantics.specs.Calls.{answer_of, asked_file, asked_words, first_words, received};
 ghost use Rattle.process_semantics.specs.Changes.{variable_cell};
 ghost use Rattle.process_semantics.specs.Image.{listed_files, listed_items};
 ghost use Rattle.process_semantics.specs.Points.{point_of};
@@ -203,7 +204,8 @@ impl Interpreter {
 
     /// The words at the start of an array that a count names.
     fn first_words(&self, buffer: u16, count: &Code) -> Words
-        ensures { result ≡ first_words (words_of self.now.state.globals buffer) (count_of self.now.program self.now.state buffer count.now) }
+        ensures { result ≡ first_words (words_of self.now.state.globals buffer)
+            (count_of self.now.program self.now.state buffer count.now) }
     {
         match tal_code::value(self.memory(), count) {
             None => Words::new(),

@@ -68,7 +68,8 @@ impl Interpreter {
     fn put_items(&self, items: &[u16], out: &mut List<i16>) -> Result<(), NoMemory>
         requires few { length items.now ≤ 64 }
         requires numbers { All (λ item. item < 64) items.now }
-        ensures { OnOk result (out.new ≡ out.old ++ pos (length items.now) ∷ flat_map (item_words self.now.state) items.now) }
+        ensures { OnOk result (out.new ≡ out.old
+            ++ pos (length items.now) ∷ flat_map (item_words self.now.state) items.now) }
     {
         out.push(items.len() as i16)?;
         for item in items {
@@ -81,7 +82,8 @@ impl Interpreter {
 
 /// The number that comes next in an image, for the procedure that runs: at a checkpoint the one after it.
 fn imaged_next(table: &Table, at: u16) -> u16
-    ensures next { result ≡ next_number (imaged_rest (deed_of (rest_at (places table.now) at)) (rest_at (places table.now) at)) }
+    ensures next { result ≡ next_number (imaged_rest (deed_of (rest_at (places table.now) at))
+        (rest_at (places table.now) at)) }
     ensures few { result ≤ 2000 }
 {
     match table.node(at) {
@@ -106,7 +108,8 @@ fn put_frame(frame: &Frame, next: u16, out: &mut List<i16>) -> Result<(), NoMemo
 
 fn put_callers(table: &Table, callers: &[Frame], out: &mut List<i16>) -> Result<(), NoMemory>
     requires { All (λ caller. caller.procedure < 64) callers.now }
-    ensures { OnOk result (out.new ≡ out.old ++ flat_map (λ caller. frame_words (frame_seen (places table.now) caller)) callers.now) }
+    ensures { OnOk result (out.new ≡ out.old
+        ++ flat_map (λ caller. frame_words (frame_seen (places table.now) caller)) callers.now) }
 {
     for caller in callers {
         put_frame(caller, table.next_number(caller.at), out)?;

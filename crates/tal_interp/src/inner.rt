@@ -61,7 +61,10 @@ impl Interpreter {
 
     /// Puts a word into a cell and goes on at a number, where neither traps.
     fn store(&mut self, to: Option<Cell>, word: Option<i16>, next: u16)
-        ensures { self.new ≡ record self.old { state = or_ends self.old.state (stored (rest_at (places self.old.program) next) self.old.state to word) } }
+        ensures { self.new ≡ record self.old {
+          state =
+              or_ends self.old.state (stored (rest_at (places self.old.program) next) self.old.state to word);
+        } }
     {
         match word {
             None => self.end(),
@@ -77,7 +80,11 @@ impl Interpreter {
 
     /// Goes on at one number where a test is true, at the other where it is false.
     fn choose(&mut self, holds: Option<bool>, yes: u16, no: u16)
-        ensures { self.new ≡ record self.old { state = or_ends self.old.state (chosen (rest_at (places self.old.program) yes) (rest_at (places self.old.program) no) self.old.state holds) } }
+        ensures { self.new ≡ record self.old {
+          state =
+              or_ends self.old.state (chosen (rest_at (places self.old.program) yes)
+              (rest_at (places self.old.program) no) self.old.state holds);
+        } }
     {
         match holds {
             None => self.end(),
@@ -91,7 +98,10 @@ impl Interpreter {
         requires runs { self.old.state.ended ≡ false }
         requires frames { length self.old.state.frames ≤ length self.old.program.procedures }
         requires few { IfSome arguments (λ words. length words ≤ 12) }
-        ensures { self.new ≡ record self.old { state = or_ends self.old.state (entered self.old.program self.old.state procedure arguments) } }
+        ensures { self.new ≡ record self.old {
+          state =
+              or_ends self.old.state (entered self.old.program self.old.state procedure arguments);
+        } }
     {
         match arguments {
             None => self.end(),
@@ -109,7 +119,14 @@ impl Interpreter {
     fn enter(&mut self, procedure: u16, first: u16, locals: Locals)
         requires runs { self.old.state.ended ≡ false }
         requires frames { length self.old.state.frames ≤ length self.old.program.procedures }
-        ensures { self.new ≡ record self.old { state = record self.old.state { frames = record { procedure = procedure; locals = locals; rest = rest_at (places self.old.program) first } ∷ self.old.state.frames } } }
+        ensures { self.new ≡ record self.old {
+          state =
+              record self.old.state {
+                frames = record
+                    { procedure = procedure; locals = locals; rest = rest_at (places self.old.program) first }
+                    ∷ self.old.state.frames;
+              };
+        } }
     {
         let entered = Frame {
             procedure,
@@ -123,7 +140,10 @@ impl Interpreter {
 
     /// Gives a word back to the caller. Where there is none, the program ends.
     fn give_back(&mut self, word: Option<i16>)
-        ensures { self.new ≡ record self.old { state = or_ends self.old.state (gives_back self.old.program self.old.state word) } }
+        ensures { self.new ≡ record self.old {
+          state =
+              or_ends self.old.state (gives_back self.old.program self.old.state word);
+        } }
     {
         match word {
             None => self.end(),
@@ -159,7 +179,10 @@ impl Interpreter {
     /// A call gets its word: an assignment keeps it.
     fn give(&mut self, word: i16)
         requires { 1 ≤ length self.old.state.frames }
-        ensures { self.new ≡ record self.old { state = or_ends self.old.state (caller_given self.old.program word self.old.state self.old.state.frames) } }
+        ensures { self.new ≡ record self.old {
+          state =
+              or_ends self.old.state (caller_given self.old.program word self.old.state self.old.state.frames);
+        } }
     {
         if let Some(node) = self.node() {
             let after = node.after;

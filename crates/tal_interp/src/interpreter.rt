@@ -18,8 +18,9 @@ use tal_table::{Node, Table};
 use tal_tree::Program;
 use tal_values::{Cell, Memory};
 
-/// A program that runs by its table: the words of its globals, the procedure that runs, none where the program has ended, and its
-/// callers, MAIN first. `restored` is the room for the frames of an image, and what stands in it between calls means nothing.
+/// A program that runs by its table: the words of its globals, the procedure that runs, none where the program has
+/// ended, and its callers, MAIN first. `restored` is the room for the frames of an image, and what stands in it between
+/// calls means nothing.
 #[derive(Drop)]
 pub(crate) struct Interpreter {
     pub(crate) table: Table,
@@ -54,11 +55,13 @@ impl Model for Interpreter {
       };
     } };
 
-    ghost invariant = { λ it. (length it.table.procedures ≤ vec_capacity it.callers) × (length it.table.procedures ≤ vec_capacity it.restored) };
+    ghost invariant = { λ it. (length it.table.procedures ≤ vec_capacity it.callers)
+        × (length it.table.procedures ≤ vec_capacity it.restored) };
 }
 
 impl Interpreter {
-    /// A program at its beginning. All memory that its steps and images need is taken here, and what an image is written to.
+    /// A program at its beginning. All memory that its steps and images need is taken here, and what an image is
+    /// written to.
     pub(crate) fn load(alloc: Global, program: &Program) -> Result<Interpreter, NoMemory>
         requires { IsLoadable program.now }
         ensures { IfOk result (λ it. it ≡ record { program = program.now; state = start program.now }) }
@@ -108,7 +111,10 @@ impl Interpreter {
 
     /// Goes on at a number.
     pub(crate) fn go(&mut self, next: u16)
-        ensures { self.new ≡ record self.old { state = going_on (rest_at (places self.old.program) next) self.old.state } }
+        ensures { self.new ≡ record self.old {
+          state =
+              going_on (rest_at (places self.old.program) next) self.old.state;
+        } }
     {
         if let Some(frame) = &mut self.running {
             frame.at = next;

@@ -6,7 +6,8 @@ use Rattle.process_semantics.specs.State.{Execution}
 use Rattle.process_images.specs.Images.{listable_from}
 use Rattle.process_images.proofs.Everything.{everything-listed}
 
-pub all-are-listed : (execution : Execution) (items files : List ℕ) → items ≡ listable_from 0 execution.program.items → files ≡ []
+pub all-are-listed : (execution : Execution) (items files : List ℕ) → items ≡ listable_from 0 execution.program.items
+    → files ≡ []
     → AreListed execution.program items files
 all-are-listed execution items files are none =
     subst (λ (others : List ℕ). AreListed execution.program items others) (sym none)

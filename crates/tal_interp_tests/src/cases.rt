@@ -14,8 +14,8 @@ CALL OPEN(\"$RECEIVE\", rcv, 1); CALL OPEN(\"$DATA\", disk, 1); WHILE 1 DO BEGIN
 
 const EPILOGUE: &[u8] = b"; CALL REPLY(buf, 4) END END;";
 
-/// A program that takes requests of up to four words into `buf`, goes through a body with each, and replies with the four words of
-/// `buf`: what it declares, its body, the requests and replies that come, and what is told.
+/// A program that takes requests of up to four words into `buf`, goes through a body with each, and replies with the
+/// four words of `buf`: what it declares, its body, the requests and replies that come, and what is told.
 type Case = (
     &'static [u8],
     &'static [u8],
@@ -71,8 +71,8 @@ const PAIRS: &[u8] = b"
 INT PROC pairs(n); INT n; BEGIN INT a, b, sum;
 FOR a := 1 TO n DO BEGIN b := a; WHILE b <= n DO BEGIN sum := sum + 1; b := b + 1 END END; RETURN sum END;";
 
-/// Fifteen procedures: each adds its number to its argument, gives that to the one before, and adds its number to what comes back: of 5
-/// come 5, twice the sum of 2 to 15, and 1.
+/// Fifteen procedures: each adds its number to its argument, gives that to the one before, and adds its number to what
+/// comes back: of 5 come 5, twice the sum of 2 to 15, and 1.
 const CHAIN: &[u8] = b"
 INT PROC p1(a); INT a; BEGIN INT b; b := 1; RETURN a + b END;
 INT PROC p2(a); INT a; BEGIN INT b; b := 2; a := p1(a + b); RETURN a + b END;

@@ -1,4 +1,5 @@
-//! Tests of programs that run by their tables: each makes the steps of the plain program, and its images go into a second process.
+//! Tests of programs that run by their tables: each makes the steps of the plain program, and its images go into a
+//! second process.
 //!
 //! Below stand the crates that are tested; nothing stands above.
 #![tactic(auto)]

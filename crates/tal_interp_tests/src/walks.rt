@@ -21,11 +21,12 @@ pub const ENDS: i16 = 20_003;
 /// What stands last where a program waits for a request or a reply, and nothing is left to come.
 pub const WAITS: i16 = 20_004;
 
-/// What a walk tells: the words that are asked and answered, each time behind which of the two they are, and how it ends.
+/// What a walk tells: the words that are asked and answered, each time behind which of the two they are, and how it
+/// ends.
 pub type Told = List<i16>;
 
-/// A program that runs by its table, the plain program beside it, and, where its images are looked at, a second process into which
-/// they are put.
+/// A program that runs by its table, the plain program beside it, and, where its images are looked at, a second process
+/// into which they are put.
 #[derive(Drop)]
 struct Sides<'a> {
     process: TalProcess,
@@ -56,8 +57,9 @@ impl<'a> Sides<'a> {
         Ok(are_same(words.as_slice(), image))
     }
 
-    /// Puts an image into the second process: each of its words changed in turn, a word too many and a word too few, which are
-    /// refused, and as it is. Says whether the second then stands where the first does; at a checkpoint, after it.
+    /// Puts an image into the second process: each of its words changed in turn, a word too many and a word too few,
+    /// which are refused, and as it is. Says whether the second then stands where the first does; at a checkpoint,
+    /// after it.
     fn goes_on(&mut self, alloc: Global, image: &[i16]) -> Result<bool, NoMemory> {
         let in_hand = self.process.in_hand();
         let mut words = List::new(alloc);
@@ -77,7 +79,8 @@ impl<'a> Sides<'a> {
             && !self.second.apply(shorter, in_hand);
         let taken = self.second.apply(image, in_hand);
         let restored = image_of(alloc, &self.second)?;
-        let stands = self.process.at() == Point::AtCheckpoint || self.second.at() == self.process.at();
+        let stands = self.process.at() == Point::AtCheckpoint
+            || self.second.at() == self.process.at();
         Ok(refused && taken && stands && restored.as_slice() == image)
     }
 
@@ -170,8 +173,8 @@ fn given(point: Point, coming: &[&[i16]], come: &mut usize) -> Option<Words> {
     }
 }
 
-/// Runs a program and the plain program side by side, until it ends or nothing is left to come of the requests and replies, and puts
-/// down what it tells. Says whether both agree at each turn.
+/// Runs a program and the plain program side by side, until it ends or nothing is left to come of the requests and
+/// replies, and puts down what it tells. Says whether both agree at each turn.
 pub fn walk(
     alloc: Global,
     program: &Program,

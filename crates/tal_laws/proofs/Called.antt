@@ -1,5 +1,6 @@
 -- The statements of a text without faults are regular.
-use Rattle.std.proofs.Common.{◌≡◌, ℕ, ◌+◌, arith, not, ◌==◌, ◌&&◌, ◌||◌, Bool, true, false, List, [], ◌∷◌, length, slice_get, Option, Some, None, refl, sym, ◌∙◌, eqb-true, is_some}
+use Rattle.std.proofs.Common.{◌≡◌, ℕ, ◌+◌, arith, not, ◌==◌, ◌&&◌, ◌||◌, Bool, true, false, List, [], ◌∷◌, length}
+use Rattle.std.proofs.Common.{slice_get, Option, Some, None, refl, sym, ◌∙◌, eqb-true, is_some}
 use Rattle.std.proofs.lemmas.Bool.{not-false, or_parts}
 use Rattle.tal_tokens.specs.declared.token.At.{At}
 use Rattle.tal_syntax.specs.Grammar as g
@@ -9,7 +10,10 @@ use Rattle.tal_tree.specs.declared.program.Program.{Program}
 use Rattle.tal_tree.specs.declared.statement.Statement.{Statement}
 use Rattle.tal_tree.specs.declared.statement.What.{What, What-F}
 use Rattle.tal_tree.specs.declared.statement.What.TheVariants as what
-use Rattle.tal_tree.specs.declared.statement.What.TheViews.{rolls-Assign, rolls-AssignCall, rolls-If, rolls-While, rolls-For, rolls-Call, rolls-Return, rolls-ReadUpdate, rolls-Reply, rolls-WriteRead, rolls-Checkpoint, rolls-CheckMonitor, rolls-Open, rolls-Stop}
+use Rattle.tal_tree.specs.declared.statement.What.TheViews.{rolls-Assign, rolls-AssignCall, rolls-If, rolls-While}
+use Rattle.tal_tree.specs.declared.statement.What.TheViews.{rolls-For, rolls-Call, rolls-Return, rolls-ReadUpdate}
+use Rattle.tal_tree.specs.declared.statement.What.TheViews.{rolls-Reply, rolls-WriteRead, rolls-Checkpoint}
+use Rattle.tal_tree.specs.declared.statement.What.TheViews.{rolls-CheckMonitor, rolls-Open, rolls-Stop}
 use Rattle.tal_names.specs.declared.fault.Rule.TheVariants.{WrongKind}
 use Rattle.tal_names.specs.declared.meaning.Meaning.{Meaning}
 use Rattle.tal_names.specs.declared.meaning.Meaning.TheVariants as m
@@ -24,9 +28,11 @@ use Rattle.tal_rules.specs.Expressions.{spot_faults}
 use Rattle.tal_names.specs.Places.{first_of_spot, name_of_expr, arguments_of}
 use Rattle.tal_names.specs.Scopes.{meaning_of}
 use Rattle.tal_names.specs.Systems.{system_of}
-use Rattle.tal_rules.specs.Statements.{stepped, after, statement_faults, else_faults, row_faults, return_faults, right_by, right_named}
+use Rattle.tal_rules.specs.Statements.{stepped, after, statement_faults, else_faults, row_faults, return_faults}
+use Rattle.tal_rules.specs.Statements.{right_by, right_named}
 use Rattle.tal_rules.specs.Texts.{body_faults}
-use Rattle.tal_meaning.specs.Calls.{procedure_by, meaning_by, call_what, item_by, file_by, value_at, meaning_at, variable_by, items_named, files_named, values_of, values_of_arguments, system_what}
+use Rattle.tal_meaning.specs.Calls.{procedure_by, meaning_by, call_what, item_by, file_by, value_at, meaning_at}
+use Rattle.tal_meaning.specs.Calls.{variable_by, items_named, files_named, values_of, values_of_arguments, system_what}
 use Rattle.tal_meaning.specs.Expressions.{value_of_expr, cond_of_expr, target_of_spot}
 use Rattle.tal_meaning.specs.Programs.{body_statements}
 use Rattle.tal_meaning.specs.Statements.{answer_of, assign_by, statements_of, else_statements, row_statements}
@@ -38,7 +44,8 @@ use Rattle.tal_laws.proofs.Everywhere.{Everywhere, everywhere_append, among_appe
 use Rattle.tal_laws.proofs.Known.{HasRoom}
 use Rattle.tal_laws.proofs.Meant.{AreThere}
 use Rattle.tal_laws.proofs.Mentioned.{mentioned}
-use Rattle.tal_laws.proofs.There.{named_expr, test_expr, value_at_there, arguments_there, values_there, answer_there, variable_named, variable_at, array_at, process_at, file_at, target_there}
+use Rattle.tal_laws.proofs.There.{named_expr, test_expr, value_at_there, arguments_there, values_there, answer_there}
+use Rattle.tal_laws.proofs.There.{variable_named, variable_at, array_at, process_at, file_at, target_there}
 
 wanted_gives : (wants gives : Bool) → wants ≡ true → (wants && not gives) ≡ false → gives ≡ true
 wanted_gives true true wanted free = refl
@@ -54,8 +61,10 @@ module _ (program : Program) (locals : ℕ) (s : Scope) (meant : AreThere progra
   AreRight xs = Everywhere IsRight xs
 
   -- a procedure is called with as many values as it has parameters
-  is_called : (wants : Bool) (at : At) (count : ℕ) (name : List ℕ) (found : Option Meaning) → meaning_of s name ≡ found → called_faults s wants at count found ≡ []
-      → (values : List Expr) → length values ≡ count → AllThere program locals values → IsCalled program locals wants (procedure_by found) values
+  is_called : (wants : Bool) (at : At) (count : ℕ) (name : List ℕ) (found : Option Meaning) → meaning_of s name ≡ found
+      → called_faults s wants at count found ≡ []
+      → (values : List Expr) → length values ≡ count → AllThere program locals values
+      → IsCalled program locals wants (procedure_by found) values
   is_called wants at count name None is fine values long named = no_fault fine
   is_called wants at count name (Some (m.Procedure number gives parameters)) is fine values long named =
       let free : (not (count == parameters) || (wants && not gives)) ≡ false =
@@ -78,36 +87,58 @@ module _ (program : Program) (locals : ℕ) (s : Scope) (meant : AreThere progra
     Lone it = Everywhere IsRight (record { number = n; line = line; what = it } ∷ [])
 
     -- assignments
-    assigned : (target : g.Spot) (e : g.Expr) (at : At) (name : List ℕ) (found : Option Meaning) → spot_faults s need.Variable target ≡ [] → meaning_of s name ≡ found → right_by s e at found ≡ []
+    assigned : (target : g.Spot) (e : g.Expr) (at : At) (name : List ℕ) (found : Option Meaning)
+        → spot_faults s need.Variable target ≡ [] → meaning_of s name ≡ found → right_by s e at found ≡ []
         → Lone (assign_by s target e found)
     assigned target e at name (Some (m.Procedure number gives parameters)) spot_fine is fine =
-        everywhere_one IsRight n line (what.AssignCall (target_of_spot s target) number []) (What-F.AssignCall (target_of_spot s target) number [])
-        (rolls-AssignCall (target_of_spot s target) number [])
-        (target_there program locals s meant target spot_fine, is_called true at 0 name (Some (m.Procedure number gives parameters)) is fine [] refl tt) (λ x none. absurd none)
+        everywhere_one IsRight n line (what.AssignCall (target_of_spot s target) number [])
+        (What-F.AssignCall (target_of_spot s target) number [])
+        (rolls-AssignCall (target_of_spot s target) number []) (
+          target_there program locals s meant target spot_fine,
+          is_called true at 0 name (Some (m.Procedure number gives parameters)) is fine [] refl tt,
+        )
+        (λ x none. absurd none)
     assigned target e at name None spot_fine is fine =
-        everywhere_one IsRight n line (what.Assign (target_of_spot s target) (value_of_expr s e)) (What-F.Assign (target_of_spot s target) (value_of_expr s e))
-        (rolls-Assign (target_of_spot s target) (value_of_expr s e)) (target_there program locals s meant target spot_fine, named_expr program locals s meant e) (λ x none. absurd none)
+        everywhere_one IsRight n line (what.Assign (target_of_spot s target) (value_of_expr s e))
+        (What-F.Assign (target_of_spot s target) (value_of_expr s e))
+        (rolls-Assign (target_of_spot s target) (value_of_expr s e))
+        (target_there program locals s meant target spot_fine, named_expr program locals s meant e)
+        (λ x none. absurd none)
     assigned target e at name (Some other) spot_fine is fine =
-        everywhere_one IsRight n line (what.Assign (target_of_spot s target) (value_of_expr s e)) (What-F.Assign (target_of_spot s target) (value_of_expr s e))
-        (rolls-Assign (target_of_spot s target) (value_of_expr s e)) (target_there program locals s meant target spot_fine, named_expr program locals s meant e) (λ x none. absurd none)
+        everywhere_one IsRight n line (what.Assign (target_of_spot s target) (value_of_expr s e))
+        (What-F.Assign (target_of_spot s target) (value_of_expr s e))
+        (rolls-Assign (target_of_spot s target) (value_of_expr s e))
+        (target_there program locals s meant target spot_fine, named_expr program locals s meant e)
+        (λ x none. absurd none)
 
-    assigned_named : (target : g.Spot) (e : g.Expr) (found : Option Named) → spot_faults s need.Variable target ≡ [] → right_named s e found ≡ [] → Lone (assign_by s target e (meaning_by s found))
+    assigned_named : (target : g.Spot) (e : g.Expr) (found : Option Named) → spot_faults s need.Variable target ≡ []
+        → right_named s e found ≡ [] → Lone (assign_by s target e (meaning_by s found))
     assigned_named target e None spot_fine fine =
-        everywhere_one IsRight n line (what.Assign (target_of_spot s target) (value_of_expr s e)) (What-F.Assign (target_of_spot s target) (value_of_expr s e))
-        (rolls-Assign (target_of_spot s target) (value_of_expr s e)) (target_there program locals s meant target spot_fine, named_expr program locals s meant e) (λ x none. absurd none)
-    assigned_named target e (Some x) spot_fine fine = assigned target e x.at x.name (meaning_of s x.name) spot_fine refl fine
+        everywhere_one IsRight n line (what.Assign (target_of_spot s target) (value_of_expr s e))
+        (What-F.Assign (target_of_spot s target) (value_of_expr s e))
+        (rolls-Assign (target_of_spot s target) (value_of_expr s e))
+        (target_there program locals s meant target spot_fine, named_expr program locals s meant e)
+        (λ x none. absurd none)
+    assigned_named target e (Some x) spot_fine fine =
+        assigned target e x.at x.name (meaning_of s x.name) spot_fine refl fine
 
     -- how many arguments there are
-    counted : (at : At) (count : ℕ) (arguments : List g.Argument) → count_faults at count arguments ≡ [] → length arguments ≡ count
-    counted at count arguments fine = eqb-true (length arguments) count (not-false (length arguments == count) (refuted (not (length arguments == count)) at WrongKind fine))
+    counted : (at : At) (count : ℕ) (arguments : List g.Argument) → count_faults at count arguments ≡ []
+        → length arguments ≡ count
+    counted at count arguments fine = eqb-true (length arguments) count
+        (not-false (length arguments == count) (refuted (not (length arguments == count)) at WrongKind fine))
 
     -- calls
-    system_right : (w : Walk) (at : At) (name : List ℕ) (arguments : List g.Argument) (x : System) → call_faults s w at name arguments (Some x) ≡ [] → Lone (system_what s arguments x)
-    system_right w at name arguments system.CheckMonitor fine = everywhere_one IsRight n line what.CheckMonitor What-F.CheckMonitor rolls-CheckMonitor tt (λ x none. absurd none)
+    system_right : (w : Walk) (at : At) (name : List ℕ) (arguments : List g.Argument) (x : System)
+        → call_faults s w at name arguments (Some x) ≡ [] → Lone (system_what s arguments x)
+    system_right w at name arguments system.CheckMonitor fine =
+        everywhere_one IsRight n line what.CheckMonitor What-F.CheckMonitor rolls-CheckMonitor tt
+        (λ x none. absurd none)
     system_right w at name arguments system.Checkpoint fine =
         let items = items_named s arguments in
         let files = files_named s arguments in
-        everywhere_one IsRight n line (what.Checkpoint items files) (What-F.Checkpoint items files) (rolls-Checkpoint items files)
+        everywhere_one IsRight n line (what.Checkpoint items files) (What-F.Checkpoint items files)
+        (rolls-Checkpoint items files)
         (mentioned program locals s meant arguments fine) (λ x none. absurd none)
     system_right w at name arguments system.Open fine =
         let file = file_by (meaning_at s (slice_get arguments 1)) in
@@ -129,9 +160,13 @@ module _ (program : Program) (locals : ℕ) (s : Scope) (meant : AreThere progra
         let three = split four.0 in
         let two = split three.0 in
         let many : length arguments ≡ 4 = counted at 4 arguments two.0 in
-        everywhere_one IsRight n line (what.ReadUpdate buffer most got) (What-F.ReadUpdate buffer most got) (rolls-ReadUpdate buffer most got) (
+        everywhere_one IsRight n line (what.ReadUpdate buffer most got) (What-F.ReadUpdate buffer most got)
+        (rolls-ReadUpdate buffer most got) (
           array_at program locals s meant arguments 1 (omega (arith, many)) three.1,
-          (value_at_there program locals s meant (slice_get arguments 2), variable_at program locals s meant arguments 3 (omega (arith, many)) five.1),
+          (
+            value_at_there program locals s meant (slice_get arguments 2),
+            variable_at program locals s meant arguments 3 (omega (arith, many)) five.1,
+          ),
         ) (λ x none. absurd none)
     system_right w at name arguments system.Reply fine =
         let buffer = item_by (meaning_at s (slice_get arguments 0)) in
@@ -139,9 +174,12 @@ module _ (program : Program) (locals : ℕ) (s : Scope) (meant : AreThere progra
         let three = split fine in
         let two = split three.0 in
         let many : length arguments ≡ 2 = counted at 2 arguments two.0 in
-        everywhere_one IsRight n line (what.Reply buffer count) (What-F.Reply buffer count) (rolls-Reply buffer count)
-        (array_at program locals s meant arguments 0 (omega (arith, many)) two.1, value_at_there program locals s meant (slice_get arguments 1)) (λ x none. absurd none)
-    system_right w at name arguments system.Stop fine = everywhere_one IsRight n line what.Stop What-F.Stop rolls-Stop tt (λ x none. absurd none)
+        everywhere_one IsRight n line (what.Reply buffer count) (What-F.Reply buffer count) (rolls-Reply buffer count) (
+          array_at program locals s meant arguments 0 (omega (arith, many)) two.1,
+          value_at_there program locals s meant (slice_get arguments 1),
+        ) (λ x none. absurd none)
+    system_right w at name arguments system.Stop fine =
+        everywhere_one IsRight n line what.Stop What-F.Stop rolls-Stop tt (λ x none. absurd none)
     system_right w at name arguments system.WriteRead fine =
         let file = file_by (meaning_at s (slice_get arguments 0)) in
         let buffer = item_by (meaning_at s (slice_get arguments 1)) in
@@ -154,34 +192,45 @@ module _ (program : Program) (locals : ℕ) (s : Scope) (meant : AreThere progra
         let three = split four.0 in
         let two = split three.0 in
         let many : length arguments ≡ 5 = counted at 5 arguments two.0 in
-        everywhere_one IsRight n line (what.WriteRead file buffer send room got) (What-F.WriteRead file buffer send room got) (rolls-WriteRead file buffer send room got) (
+        everywhere_one IsRight n line (what.WriteRead file buffer send room got)
+        (What-F.WriteRead file buffer send room got) (rolls-WriteRead file buffer send room got) (
           process_at program locals s meant arguments 0 (omega (arith, many)) two.1,
           (
             array_at program locals s meant arguments 1 (omega (arith, many)) three.1,
             (
               value_at_there program locals s meant (slice_get arguments 2),
-              (value_at_there program locals s meant (slice_get arguments 3), variable_at program locals s meant arguments 4 (omega (arith, many)) six.1),
+              (
+                value_at_there program locals s meant (slice_get arguments 3),
+                variable_at program locals s meant arguments 4 (omega (arith, many)) six.1,
+              ),
             ),
           ),
         ) (λ x none. absurd none)
 
-    called_right : (w : Walk) (at : At) (name : List ℕ) (arguments : List g.Argument) (found : Option System) → call_faults s w at name arguments found ≡ []
+    called_right : (w : Walk) (at : At) (name : List ℕ) (arguments : List g.Argument) (found : Option System)
+        → call_faults s w at name arguments found ≡ []
         → Lone (call_what s name arguments found)
     called_right w at name arguments (Some x) fine = system_right w at name arguments x fine
     called_right w at name arguments None fine =
         everywhere_one IsRight n line (what.Call (procedure_by (meaning_of s name)) (values_of_arguments s arguments))
-        (What-F.Call (procedure_by (meaning_of s name)) (values_of_arguments s arguments)) (rolls-Call (procedure_by (meaning_of s name)) (values_of_arguments s arguments))
+        (What-F.Call (procedure_by (meaning_of s name)) (values_of_arguments s arguments))
+        (rolls-Call (procedure_by (meaning_of s name)) (values_of_arguments s arguments))
         (is_called false at (length arguments) name (meaning_of s name) refl
-        (first_nil (called_faults s false at (length arguments) (meaning_of s name)) (arguments_faults s arguments) fine)
-        (values_of_arguments s arguments) (arguments_count s arguments) (arguments_there program locals s meant arguments))
+        (first_nil (called_faults s false at (length arguments) (meaning_of s name)) (arguments_faults s arguments)
+        fine)
+        (values_of_arguments s arguments) (arguments_count s arguments)
+        (arguments_there program locals s meant arguments))
         (λ x none. absurd none)
 
-    assigned_call_right : (to : Spot) → IsSpotThere program locals to → (first : g.Expr) (more : g.Values) (at : At) (name : List ℕ) → called_faults s true at (values_count more + 1) (meaning_of s name) ≡ []
+    assigned_call_right : (to : Spot) → IsSpotThere program locals to
+        → (first : g.Expr) (more : g.Values) (at : At) (name : List ℕ)
+        → called_faults s true at (values_count more + 1) (meaning_of s name) ≡ []
         → Lone (what.AssignCall to (procedure_by (meaning_of s name)) (value_of_expr s first ∷ values_of s more))
     assigned_call_right to there first more at name fine =
         let values = value_of_expr s first ∷ values_of s more in
         let long : length values ≡ values_count more + 1 = omega (arith, values_length s more) in
-        everywhere_one IsRight n line (what.AssignCall to (procedure_by (meaning_of s name)) values) (What-F.AssignCall to (procedure_by (meaning_of s name)) values)
+        everywhere_one IsRight n line (what.AssignCall to (procedure_by (meaning_of s name)) values)
+        (What-F.AssignCall to (procedure_by (meaning_of s name)) values)
         (rolls-AssignCall to (procedure_by (meaning_of s name)) values) (
           there,
           is_called true at (values_count more + 1) name (meaning_of s name) refl fine values long
@@ -198,18 +247,24 @@ module _ (program : Program) (locals : ℕ) (s : Scope) (meant : AreThere progra
     statement_right w g.nothing fine = λ x none. absurd none
     statement_right w (g.block begin first more end) fine =
         let parts = split fine in
-        everywhere_append IsRight (statements_of s w first) (row_statements s (after s w first) more) (statement_right w first parts.0) (row_right (after s w first) more parts.1)
+        everywhere_append IsRight (statements_of s w first) (row_statements s (after s w first) more)
+        (statement_right w first parts.0) (row_right (after s w first) more parts.1)
     statement_right w (g.if_then head test then_at t o) fine =
         let parts = split fine in
         let heads = split parts.0 in
         let xs = statements_of s (stepped w) t in
         let ys = else_statements s (after s (stepped w) t) o in
-        everywhere_one IsRight w.number head.place.line (what.If (cond_of_expr s test) xs ys) (What-F.If (cond_of_expr s test) xs ys) (rolls-If (cond_of_expr s test) xs ys) (test_expr program locals s meant test)
-        (among_append IsRight _ _ (statement_right (stepped w) t heads.1) (else_right (after s (stepped w) t) o parts.1))
+        everywhere_one IsRight w.number head.place.line (what.If (cond_of_expr s test) xs ys)
+        (What-F.If (cond_of_expr s test) xs ys) (rolls-If (cond_of_expr s test) xs ys)
+        (test_expr program locals s meant test)
+        (among_append IsRight _ _ (statement_right (stepped w) t heads.1)
+        (else_right (after s (stepped w) t) o parts.1))
     statement_right w (g.while_do head test do_at t) fine =
         let parts = split fine in
         let xs = statements_of s (stepped w) t in
-        everywhere_one IsRight w.number head.place.line (what.While (cond_of_expr s test) xs) (What-F.While (cond_of_expr s test) xs) (rolls-While (cond_of_expr s test) xs) (test_expr program locals s meant test)
+        everywhere_one IsRight w.number head.place.line (what.While (cond_of_expr s test) xs)
+        (What-F.While (cond_of_expr s test) xs) (rolls-While (cond_of_expr s test) xs)
+        (test_expr program locals s meant test)
         (statement_right (stepped w) t parts.1)
     statement_right w (g.for_do head at name set_at from to_at to do_at t) fine =
         let parts = split fine in
@@ -219,16 +274,21 @@ module _ (program : Program) (locals : ℕ) (s : Scope) (meant : AreThere progra
         let variable = variable_by (meaning_of s name) in
         let front = split heads.0 in
         let named_fine = split front.0 in
-        everywhere_one IsRight w.number head.place.line (what.For variable (value_of_expr s from) (value_of_expr s to) xs last)
-        (What-F.For variable (value_of_expr s from) (value_of_expr s to) xs last) (rolls-For variable (value_of_expr s from) (value_of_expr s to) xs last)
-        (variable_named program locals s meant at name (meaning_of s name) refl named_fine.0, (named_expr program locals s meant from, named_expr program locals s meant to))
+        everywhere_one IsRight w.number head.place.line
+        (what.For variable (value_of_expr s from) (value_of_expr s to) xs last)
+        (What-F.For variable (value_of_expr s from) (value_of_expr s to) xs last)
+        (rolls-For variable (value_of_expr s from) (value_of_expr s to) xs last) (
+          variable_named program locals s meant at name (meaning_of s name) refl named_fine.0,
+          (named_expr program locals s meant from, named_expr program locals s meant to),
+        )
         (statement_right (stepped (stepped w)) t heads.1)
     statement_right w (g.call head at name a) fine =
         let parts = split fine in
         called_right w.number head.place.line w at name (arguments_of a) (system_of name) parts.1
     statement_right w (g.return head a) fine =
         let parts = split fine in
-        everywhere_one IsRight w.number head.place.line (what.Return (answer_of s a)) (What-F.Return (answer_of s a)) (rolls-Return (answer_of s a))
+        everywhere_one IsRight w.number head.place.line (what.Return (answer_of s a)) (What-F.Return (answer_of s a))
+        (rolls-Return (answer_of s a))
         (answered head a parts.1, answer_there program locals s meant a) (λ x none. absurd none)
     statement_right w (g.assign target at e) fine =
         let parts = split fine in
@@ -239,7 +299,8 @@ module _ (program : Program) (locals : ℕ) (s : Scope) (meant : AreThere progra
         let front = split parts.0 in
         let called = split front.0 in
         let own = split called.0 in
-        assigned_call_right w.number (first_of_spot target).place.line (target_of_spot s target) (target_there program locals s meant target own.1) first more name_at name called.1
+        assigned_call_right w.number (first_of_spot target).place.line (target_of_spot s target)
+        (target_there program locals s meant target own.1) first more name_at name called.1
 
     else_right : (w : Walk) (x : g.Otherwise) → else_faults s w x ≡ [] → AreRight (else_statements s w x)
     else_right w g.no_else fine = λ x none. absurd none
@@ -249,10 +310,13 @@ module _ (program : Program) (locals : ℕ) (s : Scope) (meant : AreThere progra
     row_right w g.no_row fine = λ x none. absurd none
     row_right w (g.more_row semicolon t rest) fine =
         let parts = split fine in
-        everywhere_append IsRight (statements_of s w t) (row_statements s (after s w t) rest) (statement_right w t parts.0) (row_right (after s w t) rest parts.1)
+        everywhere_append IsRight (statements_of s w t) (row_statements s (after s w t) rest)
+        (statement_right w t parts.0) (row_right (after s w t) rest parts.1)
 
   -- the statements of a procedure
-  pub body_right : (w : Walk) (first : g.Statement) (more : g.Row) → body_faults s w first more ≡ [] → AreRight (body_statements s w first more)
+  pub body_right : (w : Walk) (first : g.Statement) (more : g.Row) → body_faults s w first more ≡ []
+      → AreRight (body_statements s w first more)
   body_right w first more fine =
       let parts = split fine in
-      everywhere_append IsRight (statements_of s w first) (row_statements s (after s w first) more) (statement_right w first parts.0) (row_right (after s w first) more parts.1)
+      everywhere_append IsRight (statements_of s w first) (row_statements s (after s w first) more)
+      (statement_right w first parts.0) (row_right (after s w first) more parts.1)

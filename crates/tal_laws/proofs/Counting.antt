@@ -9,7 +9,8 @@ CountUp from ns = (k n : ℕ) → slice_get ns k ≡ Some n → n ≡ k + from
 later : (from m : ℕ) (ns : List ℕ) → CountUp from (m ∷ ns) → CountUp (from + 1) ns
 later from m ns up k n there = omega (arith, up (suc k) n there)
 
-pub counted-within : (from : ℕ) (ns : List ℕ) → CountUp from ns → (n : ℕ) → IsAmong n ns → (from ≤ n) × (n < from + length ns)
+pub counted-within : (from : ℕ) (ns : List ℕ) → CountUp from ns → (n : ℕ) → IsAmong n ns
+    → (from ≤ n) × (n < from + length ns)
 counted-within from [] up n among = absurd among
 counted-within from (m ∷ ns) up n (inl same) = (omega (arith, up 0 m refl, same), omega (arith, up 0 m refl, same))
 counted-within from (m ∷ ns) up n (inr among) =

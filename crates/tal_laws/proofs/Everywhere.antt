@@ -18,15 +18,19 @@ module _ (P : What-F What Statement → Type 0) where
   Everywhere xs = Among (all_of xs)
 
   pub among_append : (xs ys : List Statement) → Among xs → Among ys → Among (xs ++ ys)
-  among_append xs ys x y statement among = elim (among-either statement xs ys among) [ inl left ↦ x statement left | inr right ↦ y statement right ]
+  among_append xs ys x y statement among =
+      elim (among-either statement xs ys among) [ inl left ↦ x statement left | inr right ↦ y statement right ]
 
   pub everywhere_append : (xs ys : List Statement) → Everywhere xs → Everywhere ys → Everywhere (xs ++ ys)
-  everywhere_append xs ys x y = subst Among (sym (flat_map-append all_in xs ys)) (among_append (all_of xs) (all_of ys) x y)
+  everywhere_append xs ys x y =
+      subst Among (sym (flat_map-append all_in xs ys)) (among_append (all_of xs) (all_of ys) x y)
 
   -- one statement
-  pub everywhere_one : (n line : ℕ) (it : What) (layer : What-F What Statement) → roll-What layer ≡ it → P layer → Among (within_of layer)
+  pub everywhere_one : (n line : ℕ) (it : What) (layer : What-F What Statement) → roll-What layer ≡ it → P layer
+      → Among (within_of layer)
       → Everywhere (record { number = n; line = line; what = it } ∷ [])
-  everywhere_one n line it layer rolls own inner statement among = by (subst (IsAmong statement) (append-nil (all_in this)) among)
+  everywhere_one n line it layer rolls own inner statement among =
+      by (subst (IsAmong statement) (append-nil (all_in this)) among)
     where
       this : Statement
       this = record { number = n; line = line; what = it }

@@ -17,7 +17,8 @@ use Rattle.tal_laws.proofs.Procedures.{procedures_numbers, procedures_calls}
 pub text_goes_on : (lines : g.Lines) (ps : g.Procedures) (finish : At) → faults (g.text lines ps finish) ≡ []
     → (to : ℕ) × GoOn 1 (numbers_in_all (tree_of (g.text lines ps finish)).procedures) to
 text_goes_on lines ps finish fine =
-    procedures_numbers (headed_text lines ps).names (files_by (headed_text lines ps) ps).names first_progress ps (faultless lines ps finish fine).bodies
+    procedures_numbers (headed_text lines ps).names (files_by (headed_text lines ps) ps).names first_progress ps
+    (faultless lines ps finish fine).bodies
 
 pub is_numbered : (t : g.Text) → faults t ≡ [] → IsNumbered (tree_of t)
 is_numbered (g.text lines ps finish) fine =
@@ -30,10 +31,12 @@ is_ordered (g.text lines ps finish) fine =
     let globals = (headed_text lines ps).names in
     let files = (files_by (headed_text lines ps) ps).names in
     record {
-      numbers = counted-distinct 1 (numbers_in_all (tree_of (g.text lines ps finish)).procedures) (is_numbered (g.text lines ps finish) fine);
+      numbers = counted-distinct 1 (numbers_in_all (tree_of (g.text lines ps finish)).procedures)
+          (is_numbered (g.text lines ps finish) fine);
       calls = λ k procedure found called among.
           let low : called < 0 + k =
-          procedures_calls globals files (headed_after (with_lines nothing_declared lines)) first_progress ps parts.headings parts.bodies refl k procedure found called among in
+          procedures_calls globals files (headed_after (with_lines nothing_declared lines)) first_progress ps
+          parts.headings parts.bodies refl k procedure found called among in
           omega (arith, low);
     }
 

@@ -10,7 +10,8 @@ pub fn what_is_read_is_numbered()
     ensures { (text : List ℕ) (program : Program) → Reads text program → IsNumbered program }
 {}
 
-/// Each number of a program that a text reads as is that of one statement alone, and its procedures call only earlier ones.
+/// Each number of a program that a text reads as is that of one statement alone, and its procedures call only earlier
+/// ones.
 pub fn what_is_read_is_ordered()
     ensures { (text : List ℕ) (program : Program) → Reads text program → IsOrdered program }
 {}
@@ -20,8 +21,8 @@ pub fn what_is_read_keeps_the_limits()
     ensures { (text : List ℕ) (program : Program) → Reads text program → IsWithinLimits program }
 {}
 
-/// A program that a text reads as is regular: its main procedure is there, each procedure's numbers are distinct and at least 1, and what its statements
-/// name is there and of its kind.
+/// A program that a text reads as is regular: its main procedure is there, each procedure's numbers are distinct and at
+/// least 1, and what its statements name is there and of its kind.
 pub fn what_is_read_is_regular()
     ensures { (text : List ℕ) (program : Program) → Reads text program → IsRegular program }
 {}

@@ -21,7 +21,8 @@ use Rattle.tal_meaning.specs.Programs.{texts_of, program_by, tree_of}
 use Rattle.tal_meaning.specs.Statements.{one, statements_of, else_statements, row_statements}
 
 module _ (s : Scope) (w inner : Walk) where
-  pub block-statements : (begin end : At) (t : g.Statement) (more : g.Row) (all mid new : List Statement) → inner ≡ after s w t → mid ≡ all ++ statements_of s w t
+  pub block-statements : (begin end : At) (t : g.Statement) (more : g.Row) (all mid new : List Statement)
+      → inner ≡ after s w t → mid ≡ all ++ statements_of s w t
       → new ≡ mid ++ row_statements s inner more → new ≡ all ++ statements_of s w (g.block begin t more end)
   block-statements begin end t more all mid new e f h =
       h
@@ -29,30 +30,41 @@ module _ (s : Scope) (w inner : Walk) where
       ∙ ap (λ (l : List Statement). l ++ row_statements s (after s w t) more) f
       ∙ append_assoc all (statements_of s w t) (row_statements s (after s w t) more)
 
-  pub if-statements : (head then_at : At) (test : g.Expr) (t : g.Statement) (o : g.Otherwise) (all first second new : List Statement) → inner ≡ after s (stepped w) t
-      → first ≡ statements_of s (stepped w) t → second ≡ else_statements s inner o → new ≡ all ++ one w head (what.If (cond_of_expr s test) first second)
+  pub if-statements : (head then_at : At) (test : g.Expr) (t : g.Statement) (o : g.Otherwise)
+      (all first second new : List Statement) → inner ≡ after s (stepped w) t
+      → first ≡ statements_of s (stepped w) t → second ≡ else_statements s inner o
+      → new ≡ all ++ one w head (what.If (cond_of_expr s test) first second)
       → new ≡ all ++ statements_of s w (g.if_then head test then_at t o)
   if-statements head then_at test t o all first second new e f h k =
       k
       ∙ ap (λ (l : List Statement). all ++ one w head (what.If (cond_of_expr s test) l second)) f
-      ∙ ap (λ (l : List Statement). all ++ one w head (what.If (cond_of_expr s test) (statements_of s (stepped w) t) l)) (h ∙ ap (λ (x : Walk). else_statements s x o) e)
+      ∙ ap (λ (l : List Statement). all ++ one w head
+      (what.If (cond_of_expr s test) (statements_of s (stepped w) t) l))
+      (h ∙ ap (λ (x : Walk). else_statements s x o) e)
 
-  pub for-statements : (head at set_at to_at do_at : At) (name : List ℕ) (from to : g.Expr) (t : g.Statement) (all body new : List Statement) → inner ≡ after s (stepped (stepped w)) t
+  pub for-statements : (head at set_at to_at do_at : At) (name : List ℕ) (from to : g.Expr) (t : g.Statement)
+      (all body new : List Statement) → inner ≡ after s (stepped (stepped w)) t
       → body ≡ statements_of s (stepped (stepped w)) t
-      → new ≡ all ++ one w head (what.For (variable_by (meaning_of s name)) (value_of_expr s from) (value_of_expr s to) body inner.number)
+      → new ≡ all ++ one w head (what.For (variable_by (meaning_of s name)) (value_of_expr s from) (value_of_expr s to)
+      body inner.number)
       → new ≡ all ++ statements_of s w (g.for_do head at name set_at from to_at to do_at t)
   for-statements head at set_at to_at do_at name from to t all body new e f h =
       h
-      ∙ ap (λ (l : List Statement). all ++ one w head (what.For (variable_by (meaning_of s name)) (value_of_expr s from) (value_of_expr s to) l inner.number)) f
-      ∙ ap (λ (x : Walk). all ++ one w head (what.For (variable_by (meaning_of s name)) (value_of_expr s from) (value_of_expr s to) (statements_of s (stepped (stepped w)) t) x.number)) e
+      ∙ ap (λ (l : List Statement). all ++ one w head
+      (what.For (variable_by (meaning_of s name)) (value_of_expr s from) (value_of_expr s to) l inner.number)) f
+      ∙ ap (λ (x : Walk). all ++ one w head (what.For (variable_by (meaning_of s name)) (value_of_expr s from)
+      (value_of_expr s to) (statements_of s (stepped (stepped w)) t) x.number)) e
 
 pub texts_append : (first second : List Named) → texts_of (first ++ second) ≡ texts_of first ++ texts_of second
 texts_append [] second = refl
 texts_append (n ∷ ns) second = ap (λ (l : List (List ℕ)). n.name ∷ l) (texts_append ns second)
 
 -- the program of a text by its tables
-pub program-is : (lines : g.Lines) (ps rest : g.Procedures) (finish : At) (items : List Item) (main : Option ℕ) (globals files : Declarations) (uses : List FileUse) (p : Program)
-    → items ≡ (with_lines nothing_declared lines).items → main ≡ (headed_text lines ps).main → globals ≡ (headed_text lines ps).names
+pub program-is : (lines : g.Lines) (ps rest : g.Procedures) (finish : At) (items : List Item) (main : Option ℕ)
+    (globals files : Declarations) (uses : List FileUse) (p : Program)
+    → items ≡ (with_lines nothing_declared lines).items → main ≡ (headed_text lines ps).main
+    → globals ≡ (headed_text lines ps).names
     → files ≡ (files_by (headed_text lines ps) ps).names → uses ≡ (files_by (headed_text lines ps) ps).uses → rest ≡ ps
-    → p ≡ program_by items main globals (record { names = files; uses = uses }) rest → p ≡ tree_of (g.text lines ps finish)
+    → p ≡ program_by items main globals (record { names = files; uses = uses }) rest
+    → p ≡ tree_of (g.text lines ps finish)
 program-is lines ps rest finish items main globals files uses p a b d e f h k = rw (k, a, b, d, e, f, h) refl

@@ -88,12 +88,15 @@ system_what s arguments system.CheckMonitor = what.CheckMonitor
 system_what s arguments system.Checkpoint = what.Checkpoint (items_named s arguments) (files_named s arguments)
 system_what s arguments system.Open = what.Open (file_by (meaning_at s (slice_get arguments 1)))
 system_what s arguments system.ReadUpdate =
-    what.ReadUpdate (item_by (meaning_at s (slice_get arguments 1))) (value_at s (slice_get arguments 2)) (variable_by (meaning_at s (slice_get arguments 3)))
-system_what s arguments system.Reply = what.Reply (item_by (meaning_at s (slice_get arguments 0))) (value_at s (slice_get arguments 1))
+    what.ReadUpdate (item_by (meaning_at s (slice_get arguments 1))) (value_at s (slice_get arguments 2))
+    (variable_by (meaning_at s (slice_get arguments 3)))
+system_what s arguments system.Reply =
+    what.Reply (item_by (meaning_at s (slice_get arguments 0))) (value_at s (slice_get arguments 1))
 system_what s arguments system.Stop = what.Stop
 system_what s arguments system.WriteRead =
     what.WriteRead (file_by (meaning_at s (slice_get arguments 0))) (item_by (meaning_at s (slice_get arguments 1)))
-    (value_at s (slice_get arguments 2)) (value_at s (slice_get arguments 3)) (variable_by (meaning_at s (slice_get arguments 4)))
+    (value_at s (slice_get arguments 2)) (value_at s (slice_get arguments 3))
+    (variable_by (meaning_at s (slice_get arguments 4)))
 
 abbrev pub call_what : Scope → List ℕ → List g.Argument → Option System → What
 call_what s name arguments (Some system) = system_what s arguments system

@@ -1,5 +1,5 @@
--- The values, conditions and targets that the expressions of a text without faults stand for. Where an expression has a fault,
--- what is said here plays no part.
+-- The values, conditions and targets that the expressions of a text without faults stand for. Where an expression has a
+-- fault, what is said here plays no part.
 use Rattle.std.specs.Prelude.{pos, zero, Option, Some, None}
 use Rattle.tal_syntax.specs.Grammar as g
 use Rattle.tal_tree.specs.declared.expression.Cond.{Cond}
@@ -66,14 +66,16 @@ module _ (s : Scope) where
 
     pub value_of_terms : Expr → g.Terms → Expr
     value_of_terms left g.no_terms = left
-    value_of_terms left (g.more_terms sign p ts) = value_of_terms (expr.Two (op_of_sign sign) left (value_of_product p)) ts
+    value_of_terms left (g.more_terms sign p ts) =
+        value_of_terms (expr.Two (op_of_sign sign) left (value_of_product p)) ts
 
     pub value_of_product : g.Product → Expr
     value_of_product (g.product f fs) = value_of_factors (value_of_factor f) fs
 
     pub value_of_factors : Expr → g.Factors → Expr
     value_of_factors left g.no_factors = left
-    value_of_factors left (g.more_factors scale f fs) = value_of_factors (expr.Two (op_of_scale scale) left (value_of_factor f)) fs
+    value_of_factors left (g.more_factors scale f fs) =
+        value_of_factors (expr.Two (op_of_scale scale) left (value_of_factor f)) fs
 
     pub value_of_factor : g.Factor → Expr
     value_of_factor (g.minus at f) = expr.Minus (value_of_factor f)
@@ -92,7 +94,8 @@ module _ (s : Scope) where
   abbrev pub target_of_spot : g.Spot → Spot
   target_of_spot (g.spot at name i) = target_by (meaning_of s name) (value_of_index i)
 
-  -- conditions; what stands without an operator in the place of a condition is a value, but for a condition in parentheses
+  -- conditions; what stands without an operator in the place of a condition is a value, but for a condition in
+  -- parentheses
   abbrev mutual
     pub cond_of_expr : g.Expr → Cond
     cond_of_expr (g.expr b os) = cond_of_ors (cond_of_both b) os
@@ -115,11 +118,13 @@ module _ (s : Scope) where
 
     pub cond_of_sum : g.Sum → Cond
     cond_of_sum (g.sum p g.no_terms) = cond_of_product p
-    cond_of_sum (g.sum p (g.more_terms sign q ts)) = cond.Truth (value_of_terms (value_of_product p) (g.more_terms sign q ts))
+    cond_of_sum (g.sum p (g.more_terms sign q ts)) =
+        cond.Truth (value_of_terms (value_of_product p) (g.more_terms sign q ts))
 
     pub cond_of_product : g.Product → Cond
     cond_of_product (g.product f g.no_factors) = cond_of_factor f
-    cond_of_product (g.product f (g.more_factors scale x fs)) = cond.Truth (value_of_factors (value_of_factor f) (g.more_factors scale x fs))
+    cond_of_product (g.product f (g.more_factors scale x fs)) =
+        cond.Truth (value_of_factors (value_of_factor f) (g.more_factors scale x fs))
 
     pub cond_of_factor : g.Factor → Cond
     cond_of_factor (g.minus at f) = cond.Truth (expr.Minus (value_of_factor f))

@@ -28,7 +28,8 @@ shape_by declared (Some number) = shape.File number
 -- the items in the order of the text
 abbrev pub items_with : Declarations → List Item → List Item
 items_with files [] = []
-items_with files (i ∷ rest) = record { name = i.name; shape = shape_by i.shape (file_number (meaning_in i.name files)) } ∷ items_with files rest
+items_with files (i ∷ rest) =
+    record { name = i.name; shape = shape_by i.shape (file_number (meaning_in i.name files)) } ∷ items_with files rest
 
 abbrev pub texts_of : List Named → List (List ℕ)
 texts_of [] = []
@@ -60,7 +61,8 @@ tree_of_procedure globals files p (g.procedure h outer begin inner first more en
 -- the procedures from one on, where so much stands before it
 abbrev pub trees_of : Declarations → Declarations → Progress → g.Procedures → List Procedure
 trees_of globals files p g.no_procedures = []
-trees_of globals files p (g.more_procedures q rest) = tree_of_procedure globals files p q ∷ trees_of globals files (after_procedure globals files p q) rest
+trees_of globals files p (g.more_procedures q rest) =
+    tree_of_procedure globals files p q ∷ trees_of globals files (after_procedure globals files p q) rest
 
 abbrev pub program_by : List Item → Option ℕ → Declarations → Files → g.Procedures → Program
 program_by items main globals f ps = record {
@@ -73,5 +75,6 @@ program_by items main globals f ps = record {
 -- the program of a text
 abbrev pub tree_of : g.Text → Program
 tree_of (g.text lines procedures finish) =
-    program_by (with_lines nothing_declared lines).items (headed_text lines procedures).main (headed_text lines procedures).names
+    program_by (with_lines nothing_declared lines).items (headed_text lines procedures).main
+    (headed_text lines procedures).names
     (files_by (headed_text lines procedures) procedures) procedures

@@ -37,17 +37,21 @@ module _ (s : Scope) where
     statements_of w g.nothing = []
     statements_of w (g.block begin first more end) = statements_of w first ++ row_statements (after s w first) more
     statements_of w (g.if_then head test then_at t o) =
-        one w head (what.If (cond_of_expr s test) (statements_of (stepped w) t) (else_statements (after s (stepped w) t) o))
-    statements_of w (g.while_do head test do_at t) = one w head (what.While (cond_of_expr s test) (statements_of (stepped w) t))
+        one w head (what.If (cond_of_expr s test) (statements_of (stepped w) t)
+        (else_statements (after s (stepped w) t) o))
+    statements_of w (g.while_do head test do_at t) =
+        one w head (what.While (cond_of_expr s test) (statements_of (stepped w) t))
     statements_of w (g.for_do head at name set_at from to_at to do_at t) =
         one w head (what.For (variable_by (meaning_of s name)) (value_of_expr s from) (value_of_expr s to)
         (statements_of (stepped (stepped w)) t) (after s (stepped (stepped w)) t).number)
     statements_of w (g.call head at name a) = one w head (call_what s name (arguments_of a) (system_of name))
     statements_of w (g.return head a) = one w head (what.Return (answer_of s a))
-    statements_of w (g.assign target at e) = one w (first_of_spot target) (assign_by s target e (meaning_by s (name_of_expr e)))
+    statements_of w (g.assign target at e) =
+        one w (first_of_spot target) (assign_by s target e (meaning_by s (name_of_expr e)))
     statements_of w (g.assign_call target at name_at name start first more close) =
         one w (first_of_spot target)
-        (what.AssignCall (target_of_spot s target) (procedure_by (meaning_of s name)) (value_of_expr s first ∷ values_of s more))
+        (what.AssignCall (target_of_spot s target) (procedure_by (meaning_of s name))
+        (value_of_expr s first ∷ values_of s more))
 
     pub else_statements : Walk → g.Otherwise → List Statement
     else_statements w g.no_else = []

@@ -2,7 +2,9 @@ ghost use Rattle.std.specs.Prelude.{◌≡◌, [], ◌++◌, OnOk, IfOk, option_
 ghost use Rattle.tal_names.specs.declared.system.System.TheVariants as system;
 ghost use Rattle.std.specs.Option.{option_copied};
 ghost use Rattle.tal_names.specs.Places.{name_of_argument, arguments_of, further_arguments};
-ghost use Rattle.tal_meaning.specs.Calls.{value_of_argument, values_of_arguments, values_of, value_at, meaning_by, meaning_at, item_by, variable_by, file_by, procedure_by, with_item, with_process, items_named, files_named, system_what, call_what};
+ghost use Rattle.tal_meaning.specs.Calls.{value_of_argument, values_of_arguments, values_of, value_at, meaning_by};
+ghost use Rattle.tal_meaning.specs.Calls.{meaning_at, item_by, variable_by, file_by, procedure_by, with_item};
+ghost use Rattle.tal_meaning.specs.Calls.{with_process, items_named, files_named, system_what, call_what};
 ghost use Rattle.tal_syntax.specs.Seen.{seen_argument, seen_further, seen_arguments, seen_values};
 
 use crate::expression::value_of_expr;
@@ -35,7 +37,8 @@ fn push_further(
     values: &mut List<Expr>,
     more: &[NextArgument],
 ) -> Result<(), NoMemory>
-    ensures { OnOk result (values.new ≡ values.old ++ values_of_arguments scope.now (further_arguments (seen_further more.now))) }
+    ensures { OnOk result (values.new ≡ values.old
+        ++ values_of_arguments scope.now (further_arguments (seen_further more.now))) }
 {
     for next in more {
         let value = value_of_argument(alloc, scope, &next.argument)?;
@@ -158,8 +161,10 @@ fn push_mention(
     files: &mut List<u8>,
     argument: &Argument,
 ) -> Result<(), NoMemory>
-    ensures items { OnOk result (items.new ≡ items.old ++ with_item (meaning_by scope.now (name_of_argument (seen_argument argument.now))) []) }
-    ensures files { OnOk result (files.new ≡ files.old ++ with_process (meaning_by scope.now (name_of_argument (seen_argument argument.now))) []) }
+    ensures items { OnOk result (items.new ≡ items.old
+        ++ with_item (meaning_by scope.now (name_of_argument (seen_argument argument.now))) []) }
+    ensures files { OnOk result (files.new ≡ files.old
+        ++ with_process (meaning_by scope.now (name_of_argument (seen_argument argument.now))) []) }
 {
     match meaning_by(scope, name_of_argument(argument)) {
         Some(Meaning::Simple(item)) => items.push(item),
@@ -175,8 +180,10 @@ fn push_mentions(
     files: &mut List<u8>,
     more: &[NextArgument],
 ) -> Result<(), NoMemory>
-    ensures items { OnOk result (items.new ≡ items.old ++ items_named scope.now (further_arguments (seen_further more.now))) }
-    ensures files { OnOk result (files.new ≡ files.old ++ files_named scope.now (further_arguments (seen_further more.now))) }
+    ensures items { OnOk result (items.new ≡ items.old
+        ++ items_named scope.now (further_arguments (seen_further more.now))) }
+    ensures files { OnOk result (files.new ≡ files.old
+        ++ files_named scope.now (further_arguments (seen_further more.now))) }
 {
     for next in more {
         push_mention(scope, items, files, &next.argument)?;
@@ -185,7 +192,8 @@ fn push_mentions(
 }
 
 fn checkpoint(alloc: Global, scope: &Scope, arguments: &Arguments) -> Result<What, NoMemory>
-    ensures { IfOk result (λ w. w ≡ system_what scope.now (arguments_of (seen_arguments arguments.now)) system.Checkpoint) }
+    ensures { IfOk result (λ w. w ≡ system_what scope.now (arguments_of (seen_arguments arguments.now))
+        system.Checkpoint) }
 {
     let mut items = List::new(alloc);
     let mut files = List::new(alloc);
@@ -220,7 +228,8 @@ fn system_what(
 }
 
 fn read_update(alloc: Global, scope: &Scope, arguments: &Arguments) -> Result<What, NoMemory>
-    ensures { IfOk result (λ w. w ≡ system_what scope.now (arguments_of (seen_arguments arguments.now)) system.ReadUpdate) }
+    ensures { IfOk result (λ w. w ≡ system_what scope.now (arguments_of (seen_arguments arguments.now))
+        system.ReadUpdate) }
 {
     let buffer = item_by(meaning_at(scope, argument(arguments, 1)));
     let most = value_at(alloc, scope, argument(arguments, 2))?;
@@ -237,7 +246,8 @@ fn reply(alloc: Global, scope: &Scope, arguments: &Arguments) -> Result<What, No
 }
 
 fn write_read(alloc: Global, scope: &Scope, arguments: &Arguments) -> Result<What, NoMemory>
-    ensures { IfOk result (λ w. w ≡ system_what scope.now (arguments_of (seen_arguments arguments.now)) system.WriteRead) }
+    ensures { IfOk result (λ w. w ≡ system_what scope.now (arguments_of (seen_arguments arguments.now))
+        system.WriteRead) }
 {
     let file = file_by(meaning_at(scope, argument(arguments, 0)));
     let buffer = item_by(meaning_at(scope, argument(arguments, 1)));

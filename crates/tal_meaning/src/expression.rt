@@ -1,6 +1,11 @@
 ghost use Rattle.std.specs.Prelude.{◌≡◌, IfOk};
-ghost use Rattle.tal_meaning.specs.Expressions.{op_of_sign, op_of_scale, rel_of, read_by, target_by, value_of_expr, value_of_both, value_of_neg, value_of_sum, value_of_product, value_of_factor, value_of_spot, value_of_index, target_of_spot, cond_of_expr, cond_of_both, cond_of_neg, cond_of_sum, cond_of_product, cond_of_factor};
-ghost use Rattle.tal_syntax.specs.Seen.{seen_rel, seen_sign, seen_scale, seen_spot, seen_index, seen_factor, seen_product, seen_sum, seen_neg, seen_both, seen_expr};
+ghost use Rattle.tal_meaning.specs.Expressions.{op_of_sign, op_of_scale, rel_of, read_by, target_by, value_of_expr};
+ghost use Rattle.tal_meaning.specs.Expressions.{value_of_both, value_of_neg, value_of_sum, value_of_product};
+ghost use Rattle.tal_meaning.specs.Expressions.{value_of_factor, value_of_spot, value_of_index, target_of_spot};
+ghost use Rattle.tal_meaning.specs.Expressions.{cond_of_expr, cond_of_both, cond_of_neg, cond_of_sum, cond_of_product};
+ghost use Rattle.tal_meaning.specs.Expressions.{cond_of_factor};
+ghost use Rattle.tal_syntax.specs.Seen.{seen_rel, seen_sign, seen_scale, seen_spot, seen_index, seen_factor};
+ghost use Rattle.tal_syntax.specs.Seen.{seen_product, seen_sum, seen_neg, seen_both, seen_expr};
 ghost use Rattle.tal_tree.specs.declared.expression.Cond.TheVariants.{And, Or};
 ghost use Rattle.tal_tree.specs.declared.expression.Expr.TheVariants.{Read, Two};
 

@@ -1,9 +1,11 @@
 ghost use Rattle.std.specs.Prelude.{◌≡◌, [], ◌∷◌, ◌++◌, min, length, OnOk, IfOk};
 ghost use Rattle.tal_declarations.specs.Headings.{locals_of};
 ghost use Rattle.tal_rules.specs.Texts.{body_after, after_procedure, first_progress};
-ghost use Rattle.tal_syntax.specs.Seen.{seen_heading, seen_locals, seen_statement, seen_row, seen_procedure, seen_procedures, seen_text};
+ghost use Rattle.tal_syntax.specs.Seen.{seen_heading, seen_locals, seen_statement, seen_row, seen_procedure};
+ghost use Rattle.tal_syntax.specs.Seen.{seen_procedures, seen_text};
 ghost use Rattle.tal_meaning.specs.Judged.{Judged};
-ghost use Rattle.tal_meaning.specs.Programs.{shape_by, items_with, texts_of, procedure_with, body_statements, tree_of_procedure, trees_of, program_by};
+ghost use Rattle.tal_meaning.specs.Programs.{shape_by, items_with, texts_of, procedure_with, body_statements};
+ghost use Rattle.tal_meaning.specs.Programs.{tree_of_procedure, trees_of, program_by};
 
 use crate::statement::{push_row, push_statement};
 use gd_words::{Ident, List, NoMemory};
@@ -79,7 +81,8 @@ fn procedure_with(
     procedure: &tal_syntax::Procedure,
     body: List<tal_tree::Statement>,
 ) -> Result<Procedure, NoMemory>
-    ensures { IfOk result (λ p. p ≡ procedure_with (seen_heading procedure.now.heading) (seen_locals procedure.now.inner) body) }
+    ensures { IfOk result (λ p. p ≡ procedure_with (seen_heading procedure.now.heading)
+        (seen_locals procedure.now.inner) body) }
 {
     let heading = &procedure.heading;
     let parameters = parameters_of(alloc, &heading.parameters)?;
@@ -104,7 +107,8 @@ fn push_body(
     all: &mut List<tal_tree::Statement>,
 ) -> Result<Walk, NoMemory>
     ensures walk { IfOk result (λ w. w ≡ body_after scope.now walk (seen_statement first.now) (seen_row more.now)) }
-    ensures statements { OnOk result (all.new ≡ all.old ++ body_statements scope.now walk (seen_statement first.now) (seen_row more.now)) }
+    ensures statements { OnOk result (all.new
+        ≡ all.old ++ body_statements scope.now walk (seen_statement first.now) (seen_row more.now)) }
 {
     let inside = push_statement(first, alloc, scope, walk, all)?;
     let next = push_row(more, alloc, scope, inside, all)?;
@@ -119,8 +123,10 @@ fn push_procedure(
     procedure: &tal_syntax::Procedure,
     all: &mut List<Procedure>,
 ) -> Result<Progress, NoMemory>
-    ensures progress { IfOk result (λ p. p ≡ after_procedure scope.old.globals scope.old.files progress (seen_procedure procedure.now)) }
-    ensures procedures { OnOk result (all.new ≡ all.old ++ tree_of_procedure scope.old.globals scope.old.files progress (seen_procedure procedure.now) ∷ []) }
+    ensures progress { IfOk result (λ p. p ≡ after_procedure scope.old.globals scope.old.files progress
+        (seen_procedure procedure.now)) }
+    ensures procedures { OnOk result (all.new
+        ≡ all.old ++ tree_of_procedure scope.old.globals scope.old.files progress (seen_procedure procedure.now) ∷ []) }
     ensures globals { OnOk result (scope.new.globals ≡ scope.old.globals) }
     ensures files { OnOk result (scope.new.files ≡ scope.old.files) }
 {
@@ -140,7 +146,8 @@ fn trees_of(
     scope: &mut Scope,
     procedures: &[tal_syntax::Procedure],
 ) -> Result<List<Procedure>, NoMemory>
-    ensures { IfOk result (λ all. all ≡ trees_of scope.old.globals scope.old.files first_progress (seen_procedures procedures.now)) }
+    ensures { IfOk result (λ all. all ≡ trees_of scope.old.globals scope.old.files first_progress
+        (seen_procedures procedures.now)) }
 {
     let mut all = List::new(alloc);
     let mut progress = first_progress();
@@ -156,7 +163,8 @@ fn program_of(
     tables: Tables,
     procedures: &[tal_syntax::Procedure],
 ) -> Result<Program, NoMemory>
-    ensures { IfOk result (λ p. p ≡ program_by tables.items tables.main tables.scope.globals (record { names = tables.scope.files; uses = tables.uses }) (seen_procedures procedures.now)) }
+    ensures { IfOk result (λ p. p ≡ program_by tables.items tables.main tables.scope.globals
+        (record { names = tables.scope.files; uses = tables.uses }) (seen_procedures procedures.now)) }
 {
     let Tables {
         least: _,

@@ -4,11 +4,13 @@ ghost use Rattle.tal_names.specs.Places.{arguments_of, first_of_spot, name_of_ex
 ghost use Rattle.tal_names.specs.Scopes.{meaning_of};
 ghost use Rattle.tal_rules.specs.Statements.{stepped, after_call, after, after_else, after_row};
 ghost use Rattle.tal_syntax.specs.Grammar as g;
-ghost use Rattle.tal_syntax.specs.Seen.{seen_spot, seen_expr, seen_answer, seen_arguments, seen_values, seen_statement, seen_otherwise, seen_row};
+ghost use Rattle.tal_syntax.specs.Seen.{seen_spot, seen_expr, seen_answer, seen_arguments, seen_values, seen_statement};
+ghost use Rattle.tal_syntax.specs.Seen.{seen_otherwise, seen_row};
 ghost use Rattle.tal_tree.specs.declared.statement.What.TheVariants as what;
 ghost use Rattle.tal_meaning.specs.Calls.{values_of, procedure_by, variable_by, call_what, meaning_by};
 ghost use Rattle.tal_meaning.specs.Expressions.{read_by, value_of_expr, cond_of_expr, target_of_spot};
-ghost use Rattle.tal_meaning.specs.Statements.{one, answer_of, assign_by, statements_of, else_statements, row_statements};
+ghost use Rattle.tal_meaning.specs.Statements.{one, answer_of, assign_by, statements_of, else_statements};
+ghost use Rattle.tal_meaning.specs.Statements.{row_statements};
 
 use crate::call::{call_what, procedure_by, push_values, variable_by};
 use crate::expression::{cond_of_expr, read_by, target_of_spot, value_of_expr};
@@ -63,21 +65,24 @@ fn answer_of(
 
 /// An assignment of a value.
 fn assign_value(alloc: Global, scope: &Scope, target: &Spot, value: &Expr) -> Result<What, NoMemory>
-    ensures { IfOk result (λ w. w ≡ what.Assign (target_of_spot scope.now (seen_spot target.now)) (value_of_expr scope.now (seen_expr value.now))) }
+    ensures { IfOk result (λ w. w ≡ what.Assign (target_of_spot scope.now (seen_spot target.now))
+        (value_of_expr scope.now (seen_expr value.now))) }
 {
     let to = target_of_spot(target, alloc, scope)?;
     let value = value_of_expr(value, alloc, scope)?;
     Ok(What::Assign { to, value })
 }
 
-/// An assignment of a right side that is a name alone, by what the name stands for. That of a procedure is a call of it.
+/// An assignment of a right side that is a name alone, by what the name stands for. That of a procedure is a call of
+/// it.
 fn assign_by(
     alloc: Global,
     scope: &Scope,
     target: &Spot,
     found: Option<Meaning>,
 ) -> Result<What, NoMemory>
-    ensures { (e : g.Expr) → value_of_expr scope.now e ≡ read_by found None → IfOk result (λ w. w ≡ assign_by scope.now (seen_spot target.now) e found) }
+    ensures { (e : g.Expr) → value_of_expr scope.now e ≡ read_by found None
+        → IfOk result (λ w. w ≡ assign_by scope.now (seen_spot target.now) e found) }
 {
     let to = target_of_spot(target, alloc, scope)?;
     match found {
@@ -101,7 +106,8 @@ fn assign_by(
 
 /// An assignment.
 fn assign(alloc: Global, scope: &Scope, target: &Spot, value: &Expr) -> Result<What, NoMemory>
-    ensures { IfOk result (λ w. w ≡ assign_by scope.now (seen_spot target.now) (seen_expr value.now) (meaning_by scope.now (name_of_expr (seen_expr value.now)))) }
+    ensures { IfOk result (λ w. w ≡ assign_by scope.now (seen_spot target.now) (seen_expr value.now)
+        (meaning_by scope.now (name_of_expr (seen_expr value.now)))) }
 {
     match name_of_expr(value) {
         None => assign_value(alloc, scope, target, value),
@@ -116,7 +122,8 @@ fn values_from(
     first: &Expr,
     more: &[NextValue],
 ) -> Result<List<tal_tree::Expr>, NoMemory>
-    ensures { IfOk result (λ v. v ≡ value_of_expr scope.now (seen_expr first.now) ∷ values_of scope.now (seen_values more.now)) }
+    ensures { IfOk result (λ v. v ≡ value_of_expr scope.now (seen_expr first.now)
+        ∷ values_of scope.now (seen_values more.now)) }
 {
     let mut values = List::new(alloc);
     let first = value_of_expr(first, alloc, scope)?;
@@ -133,7 +140,10 @@ fn push_assign(
     all: &mut List<tal_tree::Statement>,
 ) -> Result<Walk, NoMemory>
     ensures walk { IfOk result (λ w. w ≡ stepped walk) }
-    ensures statements { OnOk result (all.new ≡ all.old ++ one walk (first_of_spot (seen_spot said.now.target)) (assign_by scope.now (seen_spot said.now.target) (seen_expr said.now.value) (meaning_by scope.now (name_of_expr (seen_expr said.now.value))))) }
+    ensures statements { OnOk result (all.new
+        ≡ all.old ++ one walk (first_of_spot (seen_spot said.now.target))
+        (assign_by scope.now (seen_spot said.now.target) (seen_expr said.now.value)
+        (meaning_by scope.now (name_of_expr (seen_expr said.now.value))))) }
 {
     let what = assign(alloc, scope, &said.target, &said.value)?;
     push_one(all, walk, said.target.at, what)?;
@@ -148,7 +158,11 @@ fn push_assign_call(
     all: &mut List<tal_tree::Statement>,
 ) -> Result<Walk, NoMemory>
     ensures walk { IfOk result (λ w. w ≡ stepped walk) }
-    ensures statements { OnOk result (all.new ≡ all.old ++ one walk (first_of_spot (seen_spot said.now.target)) (what.AssignCall (target_of_spot scope.now (seen_spot said.now.target)) (procedure_by (meaning_of scope.now said.now.name)) (value_of_expr scope.now (seen_expr said.now.first) ∷ values_of scope.now (seen_values said.now.more)))) }
+    ensures statements { OnOk result (all.new
+        ≡ all.old ++ one walk (first_of_spot (seen_spot said.now.target))
+        (what.AssignCall (target_of_spot scope.now (seen_spot said.now.target))
+        (procedure_by (meaning_of scope.now said.now.name))
+        (value_of_expr scope.now (seen_expr said.now.first) ∷ values_of scope.now (seen_values said.now.more)))) }
 {
     let to = target_of_spot(&said.target, alloc, scope)?;
     let arguments = values_from(alloc, scope, &said.first, said.more.as_slice())?;
@@ -168,8 +182,11 @@ fn push_call(
     call: &Call,
     all: &mut List<tal_tree::Statement>,
 ) -> Result<Walk, NoMemory>
-    ensures walk { IfOk result (λ w. w ≡ after_call walk (arguments_of (seen_arguments call.now.arguments)) (system_of call.now.name)) }
-    ensures statements { OnOk result (all.new ≡ all.old ++ one walk call.now.head (call_what scope.now call.now.name (arguments_of (seen_arguments call.now.arguments)) (system_of call.now.name))) }
+    ensures walk { IfOk result (λ w. w ≡ after_call walk (arguments_of (seen_arguments call.now.arguments))
+        (system_of call.now.name)) }
+    ensures statements { OnOk result (all.new
+        ≡ all.old ++ one walk call.now.head (call_what scope.now call.now.name
+        (arguments_of (seen_arguments call.now.arguments)) (system_of call.now.name))) }
 {
     let system = system_of(call.name);
     let what = call_what(alloc, scope, call.name, &call.arguments, system)?;
@@ -185,7 +202,8 @@ fn push_return(
     all: &mut List<tal_tree::Statement>,
 ) -> Result<Walk, NoMemory>
     ensures walk { IfOk result (λ w. w ≡ stepped walk) }
-    ensures statements { OnOk result (all.new ≡ all.old ++ one walk said.now.head (what.Return (answer_of scope.now (seen_answer said.now.answer)))) }
+    ensures statements { OnOk result (all.new
+        ≡ all.old ++ one walk said.now.head (what.Return (answer_of scope.now (seen_answer said.now.answer)))) }
 {
     let answer = answer_of(alloc, scope, &said.answer)?;
     push_one(all, walk, said.head, What::Return(answer))?;
@@ -201,7 +219,8 @@ fn push_if(
     second: List<tal_tree::Statement>,
     all: &mut List<tal_tree::Statement>,
 ) -> Result<(), NoMemory>
-    ensures { OnOk result (all.new ≡ all.old ++ one walk test.now.head (what.If (cond_of_expr scope.now (seen_expr test.now.test)) first second)) }
+    ensures { OnOk result (all.new ≡ all.old
+        ++ one walk test.now.head (what.If (cond_of_expr scope.now (seen_expr test.now.test)) first second)) }
 {
     let head = test.head;
     let test = cond_of_expr(&test.test, alloc, scope)?;
@@ -221,7 +240,8 @@ fn push_while(
     body: List<tal_tree::Statement>,
     all: &mut List<tal_tree::Statement>,
 ) -> Result<(), NoMemory>
-    ensures { OnOk result (all.new ≡ all.old ++ one walk test.now.head (what.While (cond_of_expr scope.now (seen_expr test.now.test)) body)) }
+    ensures { OnOk result (all.new ≡ all.old
+        ++ one walk test.now.head (what.While (cond_of_expr scope.now (seen_expr test.now.test)) body)) }
 {
     let head = test.head;
     let test = cond_of_expr(&test.test, alloc, scope)?;
@@ -237,7 +257,10 @@ fn push_for(
     last: u16,
     all: &mut List<tal_tree::Statement>,
 ) -> Result<(), NoMemory>
-    ensures { OnOk result (all.new ≡ all.old ++ one walk head.now.head (what.For (variable_by (meaning_of scope.now head.now.name)) (value_of_expr scope.now (seen_expr head.now.from)) (value_of_expr scope.now (seen_expr head.now.to)) body last)) }
+    ensures { OnOk result (all.new ≡ all.old
+        ++ one walk head.now.head (what.For (variable_by (meaning_of scope.now head.now.name))
+        (value_of_expr scope.now (seen_expr head.now.from)) (value_of_expr scope.now (seen_expr head.now.to)) body
+        last)) }
 {
     let from = value_of_expr(&head.from, alloc, scope)?;
     let to = value_of_expr(&head.to, alloc, scope)?;
@@ -261,7 +284,8 @@ pub fn push_statement(
     all: &mut List<tal_tree::Statement>,
 ) -> Result<Walk, NoMemory>
     ensures walk { IfOk result (λ w. w ≡ after scope.now walk (seen_statement statement.now)) }
-    ensures statements { OnOk result (all.new ≡ all.old ++ statements_of scope.now walk (seen_statement statement.now)) }
+    ensures statements { OnOk result (all.new
+        ≡ all.old ++ statements_of scope.now walk (seen_statement statement.now)) }
 {
     match statement {
         Statement::Nothing => Ok(walk),
@@ -307,7 +331,8 @@ fn push_else(
     all: &mut List<tal_tree::Statement>,
 ) -> Result<Walk, NoMemory>
     ensures walk { IfOk result (λ w. w ≡ after_else scope.now walk (seen_otherwise otherwise.now)) }
-    ensures statements { OnOk result (all.new ≡ all.old ++ else_statements scope.now walk (seen_otherwise otherwise.now)) }
+    ensures statements { OnOk result (all.new
+        ≡ all.old ++ else_statements scope.now walk (seen_otherwise otherwise.now)) }
 {
     match otherwise {
         Otherwise::Absent => Ok(walk),

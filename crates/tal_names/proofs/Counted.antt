@@ -8,7 +8,9 @@ pub length-arguments : (ns : List NextArgument) → length (further_arguments (s
 length-arguments [] = refl
 length-arguments (n ∷ ns) = ap suc (length-arguments ns)
 
-pub argument-at : (ns : List NextArgument) (k : ℕ) → slice_get (further_arguments (seen_further ns)) k ≡ option_map (λ (n : NextArgument). seen_argument n.argument) (slice_get ns k)
+pub argument-at : (ns : List NextArgument) (k : ℕ)
+    → slice_get (further_arguments (seen_further ns)) k
+    ≡ option_map (λ (n : NextArgument). seen_argument n.argument) (slice_get ns k)
 argument-at [] k = refl
 argument-at (n ∷ ns) zero = refl
 argument-at (n ∷ ns) (suc k) = argument-at ns k

@@ -14,7 +14,8 @@ lt-trans a b c p q = grind (arith, nat_tests)
 lt-asym : (a b : ℕ) → nat_lt a b ≡ true → nat_lt b a ≡ false
 lt-asym a b p = grind (arith, nat_tests)
 
-below-trans : (a b c : ℕ) (cb ba ca : Bool) → (cb ≡ false → ba ≡ false → ca ≡ false) → below c b cb ≡ false → below b a ba ≡ false → below c a ca ≡ false
+below-trans : (a b c : ℕ) (cb ba ca : Bool) → (cb ≡ false → ba ≡ false → ca ≡ false) → below c b cb ≡ false
+    → below b a ba ≡ false → below c a ca ≡ false
 below-trans a b c cb ba ca rest p q = grind (arith, nat_tests, rest)
 
 below-asym : (a b : ℕ) (ab ba : Bool) → (ab ≡ true → ba ≡ false) → below a b ab ≡ true → below b a ba ≡ false
@@ -41,7 +42,8 @@ before-self f = by (is_before f f) refl
     by true p = before-asym f f p
     by false p = p
 
-all_cons : (f g : RuleFault) (gs : List RuleFault) → is_before g f ≡ false → All (λ h. is_before h f ≡ false) gs → All (λ h. is_before h f ≡ false) (g ∷ gs)
+all_cons : (f g : RuleFault) (gs : List RuleFault) → is_before g f ≡ false → All (λ h. is_before h f ≡ false) gs
+    → All (λ h. is_before h f ≡ false) (g ∷ gs)
 all_cons f g gs p ps zero d there = p
 all_cons f g gs p ps (suc k) d there = ps k d (omega (arith, there))
 
@@ -66,7 +68,8 @@ moved_false : (g h f : RuleFault) (gs : List RuleFault) → (f ≡ h) ⊎ Contai
 moved_false g h f gs (inl e) = inl e
 moved_false g h f gs (inr c) = inr (tail_of f g gs c)
 
-step_with : (g h f : RuleFault) (gs : List RuleFault) (b : Bool) → is_before g h ≡ b → ((k : RuleFault) → least (Some k) gs ≡ Some f → LeastWith k gs f)
+step_with : (g h f : RuleFault) (gs : List RuleFault) (b : Bool) → is_before g h ≡ b
+    → ((k : RuleFault) → least (Some k) gs ≡ Some f → LeastWith k gs f)
     → least (if b then Some g else Some h) gs ≡ Some f → LeastWith h (g ∷ gs) f
 step_with g h f gs true e rec p =
     let r : LeastWith g gs f = rec g p in
@@ -76,7 +79,11 @@ step_with g h f gs false e rec p =
     (moved_false g h f gs r.0, r.1, all_cons f g gs (before-trans f h g e r.1) r.2)
 
 least_with : (fs : List RuleFault) (h f : RuleFault) → least (Some h) fs ≡ Some f → LeastWith h fs f
-least_with [] h f p = (inl (some_one f h p), subst (λ k. is_before k f ≡ false) (some_one f h p) (before-self f), λ k d there. absurd (omega (arith, there)))
+least_with [] h f p = (
+  inl (some_one f h p),
+  subst (λ k. is_before k f ≡ false) (some_one f h p) (before-self f),
+  λ k d there. absurd (omega (arith, there)),
+)
 least_with (g ∷ gs) h f p = step_with g h f gs (is_before g h) refl (λ k q. least_with gs k f q) p
 
 -- the least of a list of faults
@@ -95,7 +102,8 @@ none_with : (fs : List RuleFault) (h : RuleFault) → least (Some h) fs ≡ None
 none_with [] h p = cc p
 none_with (g ∷ gs) h p = by (is_before g h) (λ k q. none_with gs k q) p
   where
-    by : (b : Bool) → ((k : RuleFault) → least (Some k) gs ≡ None → ⊥) → least (if b then Some g else Some h) gs ≡ None → ⊥
+    by : (b : Bool) → ((k : RuleFault) → least (Some k) gs ≡ None → ⊥) → least (if b then Some g else Some h) gs ≡ None
+        → ⊥
     by true rec p = rec g p
     by false rec p = rec h p
 

@@ -1,12 +1,14 @@
 -- The faults of a text, and which of them is the answer.
-use Rattle.std.specs.Prelude.{ℕ, ◌≡◌, ◌==◌, nat_lt, Bool, false, List, [], ◌∷◌, Option, Some, None, Contains, if◌then◌else◌}
+use Rattle.std.specs.Prelude.{ℕ, ◌≡◌, ◌==◌, nat_lt, Bool, false, List, [], ◌∷◌, Option, Some, None, Contains}
+use Rattle.std.specs.Prelude.{if◌then◌else◌}
 use Rattle.std.specs.List.{All}
 use Rattle.tal_tokens.specs.declared.token.At.{At}
 use Rattle.tal_tree.specs.declared.fault.TalFault.{TalFault}
 use Rattle.tal_tree.specs.declared.fault.TalFault.TheVariants as tal
 use Rattle.tal_tree.specs.declared.place.Place.{Place}
 use Rattle.tal_names.specs.declared.fault.Rule.{Rule}
-use Rattle.tal_names.specs.declared.fault.Rule.TheVariants.{Unknown, Twice, WrongKind, NotBefore, Prologue, Limit, NoMain}
+use Rattle.tal_names.specs.declared.fault.Rule.TheVariants.{Unknown, Twice, WrongKind, NotBefore, Prologue, Limit}
+use Rattle.tal_names.specs.declared.fault.Rule.TheVariants.{NoMain}
 use Rattle.tal_names.specs.declared.fault.RuleFault.{RuleFault}
 
 -- the fault as it is answered
@@ -41,7 +43,8 @@ which_of _ = 0
 abbrev pub below : ℕ → ℕ → Bool → Bool
 below a b rest = if a == b then rest else nat_lt a b
 
--- whether a fault goes before another: the one at the earlier place, there the one of the lower number, then of the lower limit
+-- whether a fault goes before another: the one at the earlier place, there the one of the lower number, then of the
+-- lower limit
 abbrev pub is_before : RuleFault → RuleFault → Bool
 is_before f h =
     below f.place.line h.place.line

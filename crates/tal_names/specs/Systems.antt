@@ -1,7 +1,8 @@
 -- The system's calls by their names.
 use Rattle.std.specs.Prelude.{ℕ, List, Option, Some, None, codes, if◌then◌else◌}
 use Rattle.tal_names.specs.declared.system.System.{System}
-use Rattle.tal_names.specs.declared.system.System.TheVariants.{CheckMonitor, Checkpoint, Open, ReadUpdate, Reply, Stop, WriteRead}
+use Rattle.tal_names.specs.declared.system.System.TheVariants.{CheckMonitor, Checkpoint, Open, ReadUpdate, Reply, Stop}
+use Rattle.tal_names.specs.declared.system.System.TheVariants.{WriteRead}
 use Rattle.tal_names.specs.Names.{same}
 
 -- the system's call that has a name: nothing that is declared hides it

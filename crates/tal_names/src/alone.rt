@@ -1,7 +1,12 @@
 ghost use Rattle.std.specs.Prelude.{◌≡◌, option_map, slice_get, length};
 ghost use Rattle.std.specs.Option.{option_copied, option_and_then};
-ghost use Rattle.tal_names.specs.Places.{factor_of_product, factor_of_sum, factor_of_neg, factor_of_both, factor_of_expr, name_of_factor, name_of_expr, name_of_argument, front_of_sum, front_of_neg, front_of_expr, front_name_of_factor, front_name_of_argument, atom_of_factor, arguments_of, constant_of_factor, constant_of_expr, constant_of};
-ghost use Rattle.tal_syntax.specs.Seen.{seen_atom, seen_constant, seen_factor, seen_product, seen_sum, seen_neg, seen_both, seen_expr, seen_argument, seen_arguments};
+ghost use Rattle.tal_names.specs.Places.{factor_of_product, factor_of_sum, factor_of_neg, factor_of_both};
+ghost use Rattle.tal_names.specs.Places.{factor_of_expr, name_of_factor, name_of_expr, name_of_argument, front_of_sum};
+ghost use Rattle.tal_names.specs.Places.{front_of_neg, front_of_expr, front_name_of_factor, front_name_of_argument};
+ghost use Rattle.tal_names.specs.Places.{atom_of_factor, arguments_of, constant_of_factor, constant_of_expr};
+ghost use Rattle.tal_names.specs.Places.{constant_of};
+ghost use Rattle.tal_syntax.specs.Seen.{seen_atom, seen_constant, seen_factor, seen_product, seen_sum, seen_neg};
+ghost use Rattle.tal_syntax.specs.Seen.{seen_both, seen_expr, seen_argument, seen_arguments};
 
 use crate::scope::Named;
 use tal_syntax::{
@@ -223,7 +228,8 @@ pub fn constant_of(argument: &Argument) -> Option<Constant>
 
 /// The argument at a place, counted from 0.
 pub fn argument(arguments: &Arguments, place: usize) -> Option<&Argument>
-    ensures { option_map seen_argument (option_copied result) ≡ slice_get (arguments_of (seen_arguments arguments.now)) place }
+    ensures { option_map seen_argument (option_copied result)
+        ≡ slice_get (arguments_of (seen_arguments arguments.now)) place }
 {
     match arguments {
         Arguments::Absent => None,

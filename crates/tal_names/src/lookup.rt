@@ -1,6 +1,7 @@
 ghost use Rattle.std.specs.Prelude.{◌≡◌};
 ghost use Rattle.tal_names.specs.Faults.{least};
-ghost use Rattle.tal_names.specs.Scopes.{or_else, meaning_of, is_file, is_variable, is_readable, is_array, is_receive_file, is_process_file, is_kept, suits, kind_faults, name_faults};
+ghost use Rattle.tal_names.specs.Scopes.{or_else, meaning_of, is_file, is_variable, is_readable, is_array};
+ghost use Rattle.tal_names.specs.Scopes.{is_receive_file, is_process_file, is_kept, suits, kind_faults, name_faults};
 
 use crate::fault::{Rule, RuleFault};
 use crate::least::{with_fault, with_fault_if};

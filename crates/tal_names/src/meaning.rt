@@ -6,8 +6,8 @@ pub enum Meaning {
     Local(u8),
     Simple(u16),
     Array(u16),
-    /// The variable of a file that is opened to `$RECEIVE`, to a process, or by a string that names neither: the number of
-    /// its item, and the file's own number in the order of the OPENs.
+    /// The variable of a file that is opened to `$RECEIVE`, to a process, or by a string that names neither: the number
+    /// of its item, and the file's own number in the order of the OPENs.
     ReceiveFile {
         item: u16,
         number: u8,

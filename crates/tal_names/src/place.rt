@@ -1,6 +1,8 @@
 ghost use Rattle.std.specs.Prelude.{◌≡◌};
-ghost use Rattle.tal_names.specs.Places.{first_of_spot, first_of_factor, first_of_product, first_of_sum, first_of_neg, first_of_both, first_of_expr, first_of_argument};
-ghost use Rattle.tal_syntax.specs.Seen.{seen_spot, seen_factor, seen_product, seen_sum, seen_neg, seen_both, seen_expr, seen_argument};
+ghost use Rattle.tal_names.specs.Places.{first_of_spot, first_of_factor, first_of_product, first_of_sum, first_of_neg};
+ghost use Rattle.tal_names.specs.Places.{first_of_both, first_of_expr, first_of_argument};
+ghost use Rattle.tal_syntax.specs.Seen.{seen_spot, seen_factor, seen_product, seen_sum, seen_neg, seen_both, seen_expr};
+ghost use Rattle.tal_syntax.specs.Seen.{seen_argument};
 
 use tal_syntax::{Argument, Both, Expr, Factor, Neg, Product, Sum};
 use tal_tokens::At;

@@ -9,8 +9,8 @@ pub struct Named {
     pub name: Ident,
 }
 
-/// What names stand for in the body of a procedure: the globals and procedures of the whole text, the variables of files,
-/// and the procedure's own parameters and locals; and the procedure's number, and whether it gives a value.
+/// What names stand for in the body of a procedure: the globals and procedures of the whole text, the variables of
+/// files, and the procedure's own parameters and locals; and the procedure's number, and whether it gives a value.
 #[derive(Drop)]
 pub struct Scope {
     pub globals: Names,

@@ -67,9 +67,11 @@ token_of at (piece.Process name) = tok.Process at name
 -- tokens that are these pieces in order, at some places, and then the end
 pub data AreTokens : List Piece → List Token → Type 0 where
   finished : (at : At) → AreTokens [] (tok.Finish at ∷ [])
-  followed : {ks : List Piece} {tokens : List Token} (at : At) (k : Piece) → AreTokens ks tokens → AreTokens (k ∷ ks) (token_of at k ∷ tokens)
+  followed : {ks : List Piece} {tokens : List Token} (at : At) (k : Piece) → AreTokens ks tokens
+      → AreTokens (k ∷ ks) (token_of at k ∷ tokens)
 
--- what can be spelled: a name that is kept as it is spelled and is no keyword, a number that is a word, the name of a process
+-- what can be spelled: a name that is kept as it is spelled and is no keyword, a number that is a word, the name of a
+-- process
 abbrev pub IsSpellable : Piece → Type 0
 IsSpellable (piece.Name name) = (ident_of name ≡ Some name) × ((at : At) → word_token at name ≡ tok.Name at name)
 IsSpellable (piece.Number n) = FitsSigned w16 n

@@ -1,5 +1,6 @@
 -- How the pieces of a printed text are spelled and laid out.
-use Rattle.std.specs.Prelude.{ℕ, ◌+◌, ◌-◌, ◌*◌, ◌/◌, ◌%◌, min, Bool, true, false, ◌||◌, ℤ, pos, int_lt, List, [], ◌∷◌, ◌++◌, replicate, codes, if◌then◌else◌}
+use Rattle.std.specs.Prelude.{ℕ, ◌+◌, ◌-◌, ◌*◌, ◌/◌, ◌%◌, min, Bool, true, false, ◌||◌, ℤ, pos, int_lt, List, [], ◌∷◌}
+use Rattle.std.specs.Prelude.{◌++◌, replicate, codes, if◌then◌else◌}
 use Rattle.std.specs.Fmt.{signed_decimal}
 use Rattle.std.specs.Int.{cast_unsigned, w16}
 use Rattle.tal_names.specs.declared.system.System.{System}
@@ -68,7 +69,8 @@ octal_digit pattern weight = 48 + pattern / weight % 8
 -- the six octal digits of a pattern of 16 bits
 abbrev pub octal_text : ℕ → List ℕ
 octal_text pattern =
-    octal_digit pattern 32768 ∷ octal_digit pattern 4096 ∷ octal_digit pattern 512 ∷ octal_digit pattern 64 ∷ octal_digit pattern 8 ∷ octal_digit pattern 1 ∷ []
+    octal_digit pattern 32768 ∷ octal_digit pattern 4096 ∷ octal_digit pattern 512 ∷ octal_digit pattern 64
+    ∷ octal_digit pattern 8 ∷ octal_digit pattern 1 ∷ []
 
 -- a word in decimal digits; a negative one as `%` and the octal number of its pattern, since a number has no sign
 abbrev pub number_text : ℤ → List ℕ
@@ -154,7 +156,11 @@ pub record Sheet : Type 0 where
 
 -- a sheet with one more piece
 abbrev pub laid : Sheet → Piece → Sheet
-laid s k = record { text = s.text ++ gap s.depth s.ending k ++ text_of k; depth = depth_after s.depth k; ending = ending_of k }
+laid s k = record {
+  text = s.text ++ gap s.depth s.ending k ++ text_of k;
+  depth = depth_after s.depth k;
+  ending = ending_of k;
+}
 
 -- a sheet with more pieces
 abbrev pub lay : Sheet → List Piece → Sheet

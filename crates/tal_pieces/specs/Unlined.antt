@@ -3,7 +3,8 @@ use Rattle.std.specs.Prelude.{◌≡◌, List, [], ◌∷◌, map}
 use Rattle.tal_tree.specs.declared.program.Procedure.{Procedure}
 use Rattle.tal_tree.specs.declared.program.Program.{Program}
 use Rattle.tal_tree.specs.declared.statement.Statement.{Statement}
-use Rattle.tal_tree.specs.declared.statement.What.{What, If', While', For', Row_of-Statement, end_of-Statement, more_of-Statement}
+use Rattle.tal_tree.specs.declared.statement.What.{What, If', While', For', Row_of-Statement, end_of-Statement}
+use Rattle.tal_tree.specs.declared.statement.What.{more_of-Statement}
 use Rattle.tal_tree.specs.declared.statement.What.TheVariants as what
 
 -- a statement with all lines taken as 0, its own and those of the statements in it
@@ -16,12 +17,14 @@ abbrev mutual
 
   pub unlined_row : {n : _} → Row_of-Statement n → List Statement
   unlined_row end_of-Statement = []
-  unlined_row (more_of-Statement number _ what rest) = record { number = number; line = 0; what = unlined_what what } ∷ unlined_row rest
+  unlined_row (more_of-Statement number _ what rest) =
+      record { number = number; line = 0; what = unlined_what what } ∷ unlined_row rest
 
 -- the same of the statements of a list
 abbrev pub unlined_statements : List Statement → List Statement
 unlined_statements [] = []
-unlined_statements (s ∷ rest) = record { number = s.number; line = 0; what = unlined_what s.what } ∷ unlined_statements rest
+unlined_statements (s ∷ rest) =
+    record { number = s.number; line = 0; what = unlined_what s.what } ∷ unlined_statements rest
 
 abbrev pub unlined_procedure : Procedure → Procedure
 unlined_procedure q = record q { body = unlined_statements q.body }

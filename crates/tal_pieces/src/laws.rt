@@ -15,5 +15,6 @@ pub fn a_text_is_cut_into_its_pieces()
 /// Where a text reads as a program, the text of the program's pieces reads as the same program but for the lines of its
 /// statements.
 pub fn a_printed_program_reads_back()
-    ensures { (program : Program) (source : List ℕ) → Reads source program → ReadsAgain (spelled (printed program)) program }
+    ensures { (program : Program) (source : List ℕ) → Reads source program
+        → ReadsAgain (spelled (printed program)) program }
 {}

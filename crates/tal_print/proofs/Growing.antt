@@ -8,5 +8,6 @@ blanks_more n c = replicate-append-replicate n 1 c
 pub one_more : (text : List ℕ) (c : ℕ) (rest : List ℕ) → (text ++ c ∷ []) ++ rest ≡ text ++ c ∷ rest
 one_more text c rest = append_assoc text (c ∷ []) rest
 
-pub quoted_text : (text : List ℕ) (c : ℕ) (name : List ℕ) → ((text ++ c ∷ []) ++ name) ++ c ∷ [] ≡ text ++ (c ∷ (name ++ c ∷ []))
+pub quoted_text : (text : List ℕ) (c : ℕ) (name : List ℕ)
+    → ((text ++ c ∷ []) ++ name) ++ c ∷ [] ≡ text ++ (c ∷ (name ++ c ∷ []))
 quoted_text text c name = append_assoc (text ++ c ∷ []) name (c ∷ []) ∙ append_assoc text (c ∷ []) (name ++ c ∷ [])

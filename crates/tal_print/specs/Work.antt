@@ -10,11 +10,14 @@ use Rattle.tal_print.specs.declared.work.Part.{Part}
 use Rattle.tal_print.specs.declared.work.Part.TheVariants as part
 use Rattle.tal_print.specs.declared.work.Work.{Work}
 use Rattle.tal_print.specs.declared.work.Work.TheVariants as work
-use Rattle.tal_pieces.specs.Weights.{value_weight, spot_weight, test_weight, values_weight, list_weight, what_weight, statements_weight, items_weight, procedures_weight}
+use Rattle.tal_pieces.specs.Weights.{value_weight, spot_weight, test_weight, values_weight, list_weight, what_weight}
+use Rattle.tal_pieces.specs.Weights.{statements_weight, items_weight, procedures_weight}
 use Rattle.tal_pieces.specs.Printed.Names.{named, target_piece}
 use Rattle.tal_pieces.specs.Printed.Expressions.{value_pieces, spot_pieces, test_pieces, more_values, arguments}
-use Rattle.tal_pieces.specs.Printed.Statements.{what_pieces, inner_pieces, body_pieces, more_statements, kept, more_items, more_files}
-use Rattle.tal_pieces.specs.Printed.Procedures.{word_if, items_pieces, parameters_pieces, more_names, locals_pieces, procedures_pieces, main_pieces}
+use Rattle.tal_pieces.specs.Printed.Statements.{what_pieces, inner_pieces, body_pieces, more_statements, kept}
+use Rattle.tal_pieces.specs.Printed.Statements.{more_items, more_files}
+use Rattle.tal_pieces.specs.Printed.Procedures.{word_if, items_pieces, parameters_pieces, more_names, locals_pieces}
+use Rattle.tal_pieces.specs.Printed.Procedures.{procedures_pieces, main_pieces}
 
 -- the pieces of a part
 abbrev pub part_pieces : Program → List (List ℕ) → Part → List Piece → List Piece

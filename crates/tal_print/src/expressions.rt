@@ -1,6 +1,8 @@
 ghost use Rattle.std.specs.Prelude.{◌≡◌, ◌<◌, ◌+◌, [], ◌∷◌, OnOk};
 ghost use Rattle.std.specs.Option.{option_copied};
-ghost use Rattle.tal_pieces.specs.Printed.Expressions.{and_needs, arguments, left_rank, more_values, op_symbol, or_needs, rel_symbol, right_rank, spot_pieces, test_pieces, value_needs, value_pieces};
+ghost use Rattle.tal_pieces.specs.Printed.Expressions.{and_needs, arguments, left_rank, more_values, op_symbol};
+ghost use Rattle.tal_pieces.specs.Printed.Expressions.{or_needs, rel_symbol, right_rank, spot_pieces, test_pieces};
+ghost use Rattle.tal_pieces.specs.Printed.Expressions.{value_needs, value_pieces};
 ghost use Rattle.tal_pieces.specs.Printed.Names.{named};
 ghost use Rattle.tal_print.specs.Work.{pieces_left, work_left};
 ghost use Rattle.tal_pieces.specs.Weights.{spot_weight, test_weight, value_weight, values_weight};
@@ -102,8 +104,11 @@ fn two<'a>(
     right: &'a Expr,
     list: &mut WorkList<'a>,
 ) -> Result<(), NoMemory>
-    ensures pieces { OnOk result (pieces_left program.now locals.now list.new.works.items ≡ value_pieces program.now locals.now rank (Expr.Two op left.now right.now) (pieces_left program.now locals.now list.old.works.items)) }
-    ensures less { OnOk result (work_left list.new.works.items < value_weight (Expr.Two op left.now right.now) + work_left list.old.works.items) }
+    ensures pieces { OnOk result (pieces_left program.now locals.now list.new.works.items
+        ≡ value_pieces program.now locals.now rank (Expr.Two op left.now right.now)
+        (pieces_left program.now locals.now list.old.works.items)) }
+    ensures less { OnOk result (work_left list.new.works.items
+        < value_weight (Expr.Two op left.now right.now) + work_left list.old.works.items) }
 {
     let before = Work::Part(Part::Value(left_rank(op), left));
     let between = Work::Sign(op_symbol(op));
@@ -127,8 +132,10 @@ pub fn take_value<'a>(
     expr: &'a Expr,
     list: &mut WorkList<'a>,
 ) -> Result<(), NoMemory>
-    ensures pieces { OnOk result (pieces_left program.now locals.now list.new.works.items ≡ value_pieces program.now locals.now rank expr.now (pieces_left program.now locals.now list.old.works.items)) }
-    ensures less { OnOk result (work_left list.new.works.items < value_weight expr.now + work_left list.old.works.items) }
+    ensures pieces { OnOk result (pieces_left program.now locals.now list.new.works.items
+        ≡ value_pieces program.now locals.now rank expr.now (pieces_left program.now locals.now list.old.works.items)) }
+    ensures less { OnOk result (work_left list.new.works.items
+        < value_weight expr.now + work_left list.old.works.items) }
 {
     match expr {
         Expr::Number(number) => list.put(&[Work::Number(*number)])?,
@@ -152,8 +159,10 @@ pub fn take_spot<'a>(
     spot: &'a Spot,
     list: &mut WorkList<'a>,
 ) -> Result<(), NoMemory>
-    ensures pieces { OnOk result (pieces_left program.now locals.now list.new.works.items ≡ spot_pieces program.now locals.now spot.now (pieces_left program.now locals.now list.old.works.items)) }
-    ensures less { OnOk result (work_left list.new.works.items < spot_weight spot.now + work_left list.old.works.items) }
+    ensures pieces { OnOk result (pieces_left program.now locals.now list.new.works.items
+        ≡ spot_pieces program.now locals.now spot.now (pieces_left program.now locals.now list.old.works.items)) }
+    ensures less { OnOk result (work_left list.new.works.items
+        < spot_weight spot.now + work_left list.old.works.items) }
 {
     match spot {
         Spot::Local(place) => list.put(&[Work::Name(locals.get(usize::from(*place)))])?,
@@ -182,8 +191,11 @@ fn and<'a>(
     right: &'a Cond,
     list: &mut WorkList<'a>,
 ) -> Result<(), NoMemory>
-    ensures pieces { OnOk result (pieces_left program.now locals.now list.new.works.items ≡ test_pieces program.now locals.now rank (Cond.And left.now right.now) (pieces_left program.now locals.now list.old.works.items)) }
-    ensures less { OnOk result (work_left list.new.works.items < test_weight (Cond.And left.now right.now) + work_left list.old.works.items) }
+    ensures pieces { OnOk result (pieces_left program.now locals.now list.new.works.items
+        ≡ test_pieces program.now locals.now rank (Cond.And left.now right.now)
+        (pieces_left program.now locals.now list.old.works.items)) }
+    ensures less { OnOk result (work_left list.new.works.items
+        < test_weight (Cond.And left.now right.now) + work_left list.old.works.items) }
 {
     let before = Work::Part(Part::Test(TestRank::And, left));
     let between = Work::Word(Keyword::And);
@@ -207,8 +219,11 @@ fn or<'a>(
     right: &'a Cond,
     list: &mut WorkList<'a>,
 ) -> Result<(), NoMemory>
-    ensures pieces { OnOk result (pieces_left program.now locals.now list.new.works.items ≡ test_pieces program.now locals.now rank (Cond.Or left.now right.now) (pieces_left program.now locals.now list.old.works.items)) }
-    ensures less { OnOk result (work_left list.new.works.items < test_weight (Cond.Or left.now right.now) + work_left list.old.works.items) }
+    ensures pieces { OnOk result (pieces_left program.now locals.now list.new.works.items
+        ≡ test_pieces program.now locals.now rank (Cond.Or left.now right.now)
+        (pieces_left program.now locals.now list.old.works.items)) }
+    ensures less { OnOk result (work_left list.new.works.items
+        < test_weight (Cond.Or left.now right.now) + work_left list.old.works.items) }
 {
     let before = Work::Part(Part::Test(TestRank::Or, left));
     let between = Work::Word(Keyword::Or);
@@ -232,8 +247,10 @@ pub fn take_test<'a>(
     cond: &'a Cond,
     list: &mut WorkList<'a>,
 ) -> Result<(), NoMemory>
-    ensures pieces { OnOk result (pieces_left program.now locals.now list.new.works.items ≡ test_pieces program.now locals.now rank cond.now (pieces_left program.now locals.now list.old.works.items)) }
-    ensures less { OnOk result (work_left list.new.works.items < test_weight cond.now + work_left list.old.works.items) }
+    ensures pieces { OnOk result (pieces_left program.now locals.now list.new.works.items
+        ≡ test_pieces program.now locals.now rank cond.now (pieces_left program.now locals.now list.old.works.items)) }
+    ensures less { OnOk result (work_left list.new.works.items
+        < test_weight cond.now + work_left list.old.works.items) }
 {
     match cond {
         Cond::Truth(expr) => list.put(&[Work::Part(Part::Value(ValueRank::Sum, expr))])?,
@@ -261,8 +278,10 @@ pub fn take_values<'a>(
     exprs: &'a [Expr],
     list: &mut WorkList<'a>,
 ) -> Result<(), NoMemory>
-    ensures pieces { OnOk result (pieces_left program.now locals.now list.new.works.items ≡ more_values program.now locals.now exprs.now (pieces_left program.now locals.now list.old.works.items)) }
-    ensures less { OnOk result (work_left list.new.works.items < values_weight exprs.now + work_left list.old.works.items) }
+    ensures pieces { OnOk result (pieces_left program.now locals.now list.new.works.items
+        ≡ more_values program.now locals.now exprs.now (pieces_left program.now locals.now list.old.works.items)) }
+    ensures less { OnOk result (work_left list.new.works.items
+        < values_weight exprs.now + work_left list.old.works.items) }
 {
     if let [expr, rest @ ..] = exprs {
         let comma = Work::Sign(Symbol::Comma);
@@ -279,8 +298,10 @@ pub fn take_arguments<'a>(
     exprs: &'a [Expr],
     list: &mut WorkList<'a>,
 ) -> Result<(), NoMemory>
-    ensures pieces { OnOk result (pieces_left program.now locals.now list.new.works.items ≡ arguments program.now locals.now exprs.now (pieces_left program.now locals.now list.old.works.items)) }
-    ensures less { OnOk result (work_left list.new.works.items < (values_weight exprs.now + 4) + work_left list.old.works.items) }
+    ensures pieces { OnOk result (pieces_left program.now locals.now list.new.works.items
+        ≡ arguments program.now locals.now exprs.now (pieces_left program.now locals.now list.old.works.items)) }
+    ensures less { OnOk result (work_left list.new.works.items
+        < (values_weight exprs.now + 4) + work_left list.old.works.items) }
 {
     if let [expr, rest @ ..] = exprs {
         list.put(&[

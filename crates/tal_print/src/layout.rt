@@ -1,5 +1,6 @@
 ghost use Rattle.std.specs.Prelude.{◌≡◌, ◌≤◌, ◌++◌, ◌*◌, OnOk};
-ghost use Rattle.tal_pieces.specs.Spelling.{begins_list, depth_after, depth_at, ending_of, gap, hangs, is_end, is_number, is_tight, line_at};
+ghost use Rattle.tal_pieces.specs.Spelling.{begins_list, depth_after, depth_at, ending_of, gap, hangs, is_end};
+ghost use Rattle.tal_pieces.specs.Spelling.{is_number, is_tight, line_at};
 
 use gd_words::{List, NoMemory};
 use tal_pieces::{Ending, Keyword, Piece, Symbol};

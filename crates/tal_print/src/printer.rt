@@ -27,8 +27,10 @@ fn take<'a>(
     part: Part<'a>,
     list: &mut WorkList<'a>,
 ) -> Result<(), NoMemory>
-    ensures pieces { OnOk result (pieces_left program.now locals.now list.new.works.items ≡ part_pieces program.now locals.now part.entry (pieces_left program.now locals.now list.old.works.items)) }
-    ensures less { OnOk result (work_left list.new.works.items < part_weight part.entry + work_left list.old.works.items) }
+    ensures pieces { OnOk result (pieces_left program.now locals.now list.new.works.items
+        ≡ part_pieces program.now locals.now part.entry (pieces_left program.now locals.now list.old.works.items)) }
+    ensures less { OnOk result (work_left list.new.works.items
+        < part_weight part.entry + work_left list.old.works.items) }
 {
     match part {
         Part::Value(rank, expr) => take_value(program, locals, rank, expr, list)?,
@@ -109,11 +111,12 @@ fn lay_program(alloc: Global, program: &Program) -> Result<List<u8>, NoMemory>
     page.into_text()
 }
 
-/// The text of a program: one declaration a line, without comments and LITERALs. It reads back as the same program, but for
-/// the lines of its statements.
+/// The text of a program: one declaration a line, without comments and LITERALs. It reads back as the same program, but
+/// for the lines of its statements.
 pub fn print_program(alloc: Global, program: &Program) -> Result<List<u8>, NoMemory>
     ensures text { IfOk result (λ bytes. bytes ≡ spelled (printed program.now)) }
-    ensures again { IfOk result (λ bytes. (source : Items ℕ) → Reads source program.now → ReadsAgain bytes program.now) }
+    ensures again { IfOk result (λ bytes. (source : Items ℕ) → Reads source program.now
+        → ReadsAgain bytes program.now) }
 {
     lay_program(alloc, program)
 }

@@ -1,6 +1,7 @@
 ghost use Rattle.std.specs.Prelude.{◌≡◌, ◌<◌, ◌+◌, [], ◌∷◌, drop, take, OnOk};
 ghost use Rattle.std.specs.Option.{option_copied};
-ghost use Rattle.tal_pieces.specs.Printed.Procedures.{items_pieces, locals_pieces, main_pieces, more_names, parameters_pieces, procedure_pieces, procedures_pieces};
+ghost use Rattle.tal_pieces.specs.Printed.Procedures.{items_pieces, locals_pieces, main_pieces, more_names};
+ghost use Rattle.tal_pieces.specs.Printed.Procedures.{parameters_pieces, procedure_pieces, procedures_pieces};
 ghost use Rattle.tal_print.specs.Work.{pieces_left, work_left};
 ghost use Rattle.tal_pieces.specs.Weights.{items_weight, list_weight, procedure_weight, procedures_weight};
 
@@ -40,8 +41,10 @@ pub fn take_items<'a>(
     items: &'a [Item],
     list: &mut WorkList<'a>,
 ) -> Result<(), NoMemory>
-    ensures pieces { OnOk result (pieces_left program.now locals.now list.new.works.items ≡ items_pieces items.now (pieces_left program.now locals.now list.old.works.items)) }
-    ensures less { OnOk result (work_left list.new.works.items < items_weight items.now + work_left list.old.works.items) }
+    ensures pieces { OnOk result (pieces_left program.now locals.now list.new.works.items
+        ≡ items_pieces items.now (pieces_left program.now locals.now list.old.works.items)) }
+    ensures less { OnOk result (work_left list.new.works.items
+        < items_weight items.now + work_left list.old.works.items) }
 {
     if let [item, rest @ ..] = items {
         match item.shape {
@@ -74,8 +77,10 @@ pub fn take_names<'a>(
     names: &'a [Ident],
     list: &mut WorkList<'a>,
 ) -> Result<(), NoMemory>
-    ensures pieces { OnOk result (pieces_left program.now locals.now list.new.works.items ≡ more_names names.now (pieces_left program.now locals.now list.old.works.items)) }
-    ensures less { OnOk result (work_left list.new.works.items < list_weight names.now + work_left list.old.works.items) }
+    ensures pieces { OnOk result (pieces_left program.now locals.now list.new.works.items
+        ≡ more_names names.now (pieces_left program.now locals.now list.old.works.items)) }
+    ensures less { OnOk result (work_left list.new.works.items
+        < list_weight names.now + work_left list.old.works.items) }
 {
     if let [name, rest @ ..] = names {
         list.put(&[
@@ -94,8 +99,10 @@ pub fn take_parameters<'a>(
     names: &'a [Ident],
     list: &mut WorkList<'a>,
 ) -> Result<(), NoMemory>
-    ensures pieces { OnOk result (pieces_left program.now locals.now list.new.works.items ≡ parameters_pieces names.now (pieces_left program.now locals.now list.old.works.items)) }
-    ensures less { OnOk result (work_left list.new.works.items < (list_weight names.now + 4) + work_left list.old.works.items) }
+    ensures pieces { OnOk result (pieces_left program.now locals.now list.new.works.items
+        ≡ parameters_pieces names.now (pieces_left program.now locals.now list.old.works.items)) }
+    ensures less { OnOk result (work_left list.new.works.items
+        < (list_weight names.now + 4) + work_left list.old.works.items) }
 {
     if let [name, rest @ ..] = names {
         list.put(&[
@@ -115,8 +122,10 @@ pub fn take_locals<'a>(
     names: &'a [Ident],
     list: &mut WorkList<'a>,
 ) -> Result<(), NoMemory>
-    ensures pieces { OnOk result (pieces_left program.now locals.now list.new.works.items ≡ locals_pieces names.now (pieces_left program.now locals.now list.old.works.items)) }
-    ensures less { OnOk result (work_left list.new.works.items < list_weight names.now + work_left list.old.works.items) }
+    ensures pieces { OnOk result (pieces_left program.now locals.now list.new.works.items
+        ≡ locals_pieces names.now (pieces_left program.now locals.now list.old.works.items)) }
+    ensures less { OnOk result (work_left list.new.works.items
+        < list_weight names.now + work_left list.old.works.items) }
 {
     if let [name, rest @ ..] = names {
         list.put(&[
@@ -138,8 +147,11 @@ fn take_procedure<'a>(
     rest: &'a [Procedure],
     list: &mut WorkList<'a>,
 ) -> Result<(), NoMemory>
-    ensures pieces { OnOk result (pieces_left program.now locals.now list.new.works.items ≡ procedure_pieces program.now is_main procedure.now (procedures_pieces program.now rest.now (pieces_left program.now locals.now list.old.works.items))) }
-    ensures less { OnOk result (work_left list.new.works.items < procedure_weight procedure.now + procedures_weight rest.now + work_left list.old.works.items) }
+    ensures pieces { OnOk result (pieces_left program.now locals.now list.new.works.items
+        ≡ procedure_pieces program.now is_main procedure.now
+        (procedures_pieces program.now rest.now (pieces_left program.now locals.now list.old.works.items))) }
+    ensures less { OnOk result (work_left list.new.works.items
+        < procedure_weight procedure.now + procedures_weight rest.now + work_left list.old.works.items) }
 {
     let names = procedure.locals.as_slice();
     let parameters = usize::from(procedure.parameters);
@@ -170,8 +182,10 @@ pub fn take_procedures<'a>(
     procedures: &'a [Procedure],
     list: &mut WorkList<'a>,
 ) -> Result<(), NoMemory>
-    ensures pieces { OnOk result (pieces_left program.now locals.now list.new.works.items ≡ procedures_pieces program.now procedures.now (pieces_left program.now locals.now list.old.works.items)) }
-    ensures less { OnOk result (work_left list.new.works.items < procedures_weight procedures.now + work_left list.old.works.items) }
+    ensures pieces { OnOk result (pieces_left program.now locals.now list.new.works.items
+        ≡ procedures_pieces program.now procedures.now (pieces_left program.now locals.now list.old.works.items)) }
+    ensures less { OnOk result (work_left list.new.works.items
+        < procedures_weight procedures.now + work_left list.old.works.items) }
 {
     if let [procedure, rest @ ..] = procedures {
         take_procedure(program, locals, false, procedure, rest, list)?;
@@ -186,8 +200,10 @@ pub fn take_main<'a>(
     procedures: &'a [Procedure],
     list: &mut WorkList<'a>,
 ) -> Result<(), NoMemory>
-    ensures pieces { OnOk result (pieces_left program.now locals.now list.new.works.items ≡ main_pieces program.now procedures.now (pieces_left program.now locals.now list.old.works.items)) }
-    ensures less { OnOk result (work_left list.new.works.items < procedures_weight procedures.now + work_left list.old.works.items) }
+    ensures pieces { OnOk result (pieces_left program.now locals.now list.new.works.items
+        ≡ main_pieces program.now procedures.now (pieces_left program.now locals.now list.old.works.items)) }
+    ensures less { OnOk result (work_left list.new.works.items
+        < procedures_weight procedures.now + work_left list.old.works.items) }
 {
     if let [procedure, rest @ ..] = procedures {
         take_procedure(program, locals, true, procedure, rest, list)?;

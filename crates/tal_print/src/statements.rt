@@ -1,6 +1,7 @@
 ghost use Rattle.std.specs.Prelude.{◌≡◌, ◌<◌, ◌+◌, ℕ, [], ◌∷◌, length, true, OnOk, pos};
 ghost use Rattle.std.specs.Option.{option_copied};
-ghost use Rattle.tal_pieces.specs.Printed.Statements.{body_pieces, inner_pieces, kept, more_files, more_items, more_statements, what_pieces};
+ghost use Rattle.tal_pieces.specs.Printed.Statements.{body_pieces, inner_pieces, kept, more_files, more_items};
+ghost use Rattle.tal_pieces.specs.Printed.Statements.{more_statements, what_pieces};
 ghost use Rattle.tal_print.specs.Work.{pieces_left, returns_or_calls_the_system, work_left};
 ghost use Rattle.tal_pieces.specs.Weights.{list_weight, statements_weight, what_weight};
 ghost use Rattle.tal_tree.specs.declared.statement.What.{AssignCall, Call, If, While, For};
@@ -20,8 +21,11 @@ pub fn take_inner<'a>(
     statements: &'a [Statement],
     list: &mut WorkList<'a>,
 ) -> Result<(), NoMemory>
-    ensures pieces { OnOk result (pieces_left program.now locals.now list.new.works.items ≡ inner_pieces program.now locals.now statements.now (pieces_left program.now locals.now list.old.works.items)) }
-    ensures less { OnOk result (work_left list.new.works.items < (statements_weight statements.now + 3) + work_left list.old.works.items) }
+    ensures pieces { OnOk result (pieces_left program.now locals.now list.new.works.items
+        ≡ inner_pieces program.now locals.now statements.now
+        (pieces_left program.now locals.now list.old.works.items)) }
+    ensures less { OnOk result (work_left list.new.works.items
+        < (statements_weight statements.now + 3) + work_left list.old.works.items) }
 {
     match statements {
         [] => {}
@@ -45,8 +49,11 @@ pub fn take_statements<'a>(
     statements: &'a [Statement],
     list: &mut WorkList<'a>,
 ) -> Result<(), NoMemory>
-    ensures pieces { OnOk result (pieces_left program.now locals.now list.new.works.items ≡ more_statements program.now locals.now statements.now (pieces_left program.now locals.now list.old.works.items)) }
-    ensures less { OnOk result (work_left list.new.works.items < statements_weight statements.now + work_left list.old.works.items) }
+    ensures pieces { OnOk result (pieces_left program.now locals.now list.new.works.items
+        ≡ more_statements program.now locals.now statements.now
+        (pieces_left program.now locals.now list.old.works.items)) }
+    ensures less { OnOk result (work_left list.new.works.items
+        < statements_weight statements.now + work_left list.old.works.items) }
 {
     if let [first, rest @ ..] = statements {
         list.put(&[
@@ -65,8 +72,10 @@ pub fn take_body<'a>(
     statements: &'a [Statement],
     list: &mut WorkList<'a>,
 ) -> Result<(), NoMemory>
-    ensures pieces { OnOk result (pieces_left program.now locals.now list.new.works.items ≡ body_pieces program.now locals.now statements.now (pieces_left program.now locals.now list.old.works.items)) }
-    ensures less { OnOk result (work_left list.new.works.items < (statements_weight statements.now + 1) + work_left list.old.works.items) }
+    ensures pieces { OnOk result (pieces_left program.now locals.now list.new.works.items
+        ≡ body_pieces program.now locals.now statements.now (pieces_left program.now locals.now list.old.works.items)) }
+    ensures less { OnOk result (work_left list.new.works.items
+        < (statements_weight statements.now + 1) + work_left list.old.works.items) }
 {
     if let [first, rest @ ..] = statements {
         list.put(&[
@@ -84,8 +93,10 @@ pub fn take_kept<'a>(
     items: &'a [u16],
     list: &mut WorkList<'a>,
 ) -> Result<(), NoMemory>
-    ensures pieces { OnOk result (pieces_left program.now locals.now list.new.works.items ≡ more_items program.now items.now (pieces_left program.now locals.now list.old.works.items)) }
-    ensures less { OnOk result (work_left list.new.works.items < list_weight items.now + work_left list.old.works.items) }
+    ensures pieces { OnOk result (pieces_left program.now locals.now list.new.works.items
+        ≡ more_items program.now items.now (pieces_left program.now locals.now list.old.works.items)) }
+    ensures less { OnOk result (work_left list.new.works.items
+        < list_weight items.now + work_left list.old.works.items) }
 {
     if let [item, rest @ ..] = items {
         list.put(&[
@@ -104,8 +115,10 @@ pub fn take_files<'a>(
     files: &'a [u8],
     list: &mut WorkList<'a>,
 ) -> Result<(), NoMemory>
-    ensures pieces { OnOk result (pieces_left program.now locals.now list.new.works.items ≡ more_files program.now files.now (pieces_left program.now locals.now list.old.works.items)) }
-    ensures less { OnOk result (work_left list.new.works.items < list_weight files.now + work_left list.old.works.items) }
+    ensures pieces { OnOk result (pieces_left program.now locals.now list.new.works.items
+        ≡ more_files program.now files.now (pieces_left program.now locals.now list.old.works.items)) }
+    ensures less { OnOk result (work_left list.new.works.items
+        < list_weight files.now + work_left list.old.works.items) }
 {
     if let [file, rest @ ..] = files {
         list.put(&[
@@ -125,8 +138,10 @@ pub fn take_checkpoint<'a>(
     files: &'a [u8],
     list: &mut WorkList<'a>,
 ) -> Result<(), NoMemory>
-    ensures pieces { OnOk result (pieces_left program.now locals.now list.new.works.items ≡ kept program.now items.now files.now (pieces_left program.now locals.now list.old.works.items)) }
-    ensures less { OnOk result (work_left list.new.works.items < (list_weight items.now + list_weight files.now + 6) + work_left list.old.works.items) }
+    ensures pieces { OnOk result (pieces_left program.now locals.now list.new.works.items
+        ≡ kept program.now items.now files.now (pieces_left program.now locals.now list.old.works.items)) }
+    ensures less { OnOk result (work_left list.new.works.items
+        < (list_weight items.now + list_weight files.now + 6) + work_left list.old.works.items) }
 {
     match items {
         [item, more @ ..] => list.put(&[
@@ -158,8 +173,11 @@ pub fn take_assign_call<'a>(
     arguments: &'a List<Expr>,
     list: &mut WorkList<'a>,
 ) -> Result<(), NoMemory>
-    ensures pieces { OnOk result (pieces_left program.now locals.now list.new.works.items ≡ what_pieces program.now locals.now (AssignCall to.now procedure arguments.now) (pieces_left program.now locals.now list.old.works.items)) }
-    ensures less { OnOk result (work_left list.new.works.items < what_weight (AssignCall to.now procedure arguments.now) + work_left list.old.works.items) }
+    ensures pieces { OnOk result (pieces_left program.now locals.now list.new.works.items
+        ≡ what_pieces program.now locals.now (AssignCall to.now procedure arguments.now)
+        (pieces_left program.now locals.now list.old.works.items)) }
+    ensures less { OnOk result (work_left list.new.works.items
+        < what_weight (AssignCall to.now procedure arguments.now) + work_left list.old.works.items) }
 {
     list.put(&[
         Work::Part(Part::Spot(to)),
@@ -178,8 +196,11 @@ pub fn take_call<'a>(
     arguments: &'a List<Expr>,
     list: &mut WorkList<'a>,
 ) -> Result<(), NoMemory>
-    ensures pieces { OnOk result (pieces_left program.now locals.now list.new.works.items ≡ what_pieces program.now locals.now (Call procedure arguments.now) (pieces_left program.now locals.now list.old.works.items)) }
-    ensures less { OnOk result (work_left list.new.works.items < what_weight (Call procedure arguments.now) + work_left list.old.works.items) }
+    ensures pieces { OnOk result (pieces_left program.now locals.now list.new.works.items
+        ≡ what_pieces program.now locals.now (Call procedure arguments.now)
+        (pieces_left program.now locals.now list.old.works.items)) }
+    ensures less { OnOk result (work_left list.new.works.items
+        < what_weight (Call procedure arguments.now) + work_left list.old.works.items) }
 {
     list.put(&[
         Work::Word(Keyword::Call),
@@ -198,8 +219,11 @@ pub fn take_if<'a>(
     no: &'a List<Statement>,
     list: &mut WorkList<'a>,
 ) -> Result<(), NoMemory>
-    ensures pieces { OnOk result (pieces_left program.now locals.now list.new.works.items ≡ what_pieces program.now locals.now (If test.now yes.now no.now) (pieces_left program.now locals.now list.old.works.items)) }
-    ensures less { OnOk result (work_left list.new.works.items < what_weight (If test.now yes.now no.now) + work_left list.old.works.items) }
+    ensures pieces { OnOk result (pieces_left program.now locals.now list.new.works.items
+        ≡ what_pieces program.now locals.now (If test.now yes.now no.now)
+        (pieces_left program.now locals.now list.old.works.items)) }
+    ensures less { OnOk result (work_left list.new.works.items
+        < what_weight (If test.now yes.now no.now) + work_left list.old.works.items) }
 {
     list.put(&[
         Work::Word(Keyword::If),
@@ -220,8 +244,11 @@ pub fn take_while<'a>(
     body: &'a List<Statement>,
     list: &mut WorkList<'a>,
 ) -> Result<(), NoMemory>
-    ensures pieces { OnOk result (pieces_left program.now locals.now list.new.works.items ≡ what_pieces program.now locals.now (While test.now body.now) (pieces_left program.now locals.now list.old.works.items)) }
-    ensures less { OnOk result (work_left list.new.works.items < what_weight (While test.now body.now) + work_left list.old.works.items) }
+    ensures pieces { OnOk result (pieces_left program.now locals.now list.new.works.items
+        ≡ what_pieces program.now locals.now (While test.now body.now)
+        (pieces_left program.now locals.now list.old.works.items)) }
+    ensures less { OnOk result (work_left list.new.works.items
+        < what_weight (While test.now body.now) + work_left list.old.works.items) }
 {
     list.put(&[
         Work::Word(Keyword::While),
@@ -242,8 +269,12 @@ pub fn take_for<'a>(
     body: &'a List<Statement>,
     list: &mut WorkList<'a>,
 ) -> Result<(), NoMemory>
-    ensures pieces { OnOk result ((last : ℕ) → pieces_left program.now locals.now list.new.works.items ≡ what_pieces program.now locals.now (For variable from.now to.now body.now last) (pieces_left program.now locals.now list.old.works.items)) }
-    ensures less { OnOk result ((last : ℕ) → work_left list.new.works.items < what_weight (For variable from.now to.now body.now last) + work_left list.old.works.items) }
+    ensures pieces { OnOk result ((last : ℕ)
+        → pieces_left program.now locals.now list.new.works.items
+        ≡ what_pieces program.now locals.now (For variable from.now to.now body.now last)
+        (pieces_left program.now locals.now list.old.works.items)) }
+    ensures less { OnOk result ((last : ℕ) → work_left list.new.works.items
+        < what_weight (For variable from.now to.now body.now last) + work_left list.old.works.items) }
 {
     list.put(&[
         Work::Word(Keyword::For),
@@ -266,8 +297,10 @@ pub fn take_return_or_system_call<'a>(
     list: &mut WorkList<'a>,
 ) -> Result<(), NoMemory>
     requires { returns_or_calls_the_system what.now ≡ true }
-    ensures pieces { OnOk result (pieces_left program.now locals.now list.new.works.items ≡ what_pieces program.now locals.now what.now (pieces_left program.now locals.now list.old.works.items)) }
-    ensures less { OnOk result (work_left list.new.works.items < what_weight what.now + work_left list.old.works.items) }
+    ensures pieces { OnOk result (pieces_left program.now locals.now list.new.works.items
+        ≡ what_pieces program.now locals.now what.now (pieces_left program.now locals.now list.old.works.items)) }
+    ensures less { OnOk result (work_left list.new.works.items
+        < what_weight what.now + work_left list.old.works.items) }
 {
     match what {
         What::Return(given) => take_return(program, locals, given, list)?,
@@ -305,8 +338,10 @@ pub fn take_what<'a>(
     what: &'a What,
     list: &mut WorkList<'a>,
 ) -> Result<(), NoMemory>
-    ensures pieces { OnOk result (pieces_left program.now locals.now list.new.works.items ≡ what_pieces program.now locals.now what.now (pieces_left program.now locals.now list.old.works.items)) }
-    ensures less { OnOk result (work_left list.new.works.items < what_weight what.now + work_left list.old.works.items) }
+    ensures pieces { OnOk result (pieces_left program.now locals.now list.new.works.items
+        ≡ what_pieces program.now locals.now what.now (pieces_left program.now locals.now list.old.works.items)) }
+    ensures less { OnOk result (work_left list.new.works.items
+        < what_weight what.now + work_left list.old.works.items) }
 {
     match what {
         What::Assign { to, value } => list.put(&[

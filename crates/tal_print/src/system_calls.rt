@@ -1,6 +1,7 @@
 ghost use Rattle.std.specs.Prelude.{◌≡◌, ◌<◌, ◌+◌, [], ◌∷◌, slice_get, OnOk, pos};
 ghost use Rattle.std.specs.Option.{option_copied};
-ghost use Rattle.tal_pieces.specs.Printed.Statements.{open_pieces, read_update_pieces, reply_pieces, return_pieces, write_read_pieces};
+ghost use Rattle.tal_pieces.specs.Printed.Statements.{open_pieces, read_update_pieces, reply_pieces, return_pieces};
+ghost use Rattle.tal_pieces.specs.Printed.Statements.{write_read_pieces};
 ghost use Rattle.tal_pieces.specs.declared.piece.Keyword.TheVariants as word;
 ghost use Rattle.tal_pieces.specs.declared.piece.Piece.TheVariants as piece;
 ghost use Rattle.tal_print.specs.Work.{pieces_left, work_left};
@@ -20,8 +21,11 @@ pub fn take_return<'a>(
     given: &'a Option<Expr>,
     list: &mut WorkList<'a>,
 ) -> Result<(), NoMemory>
-    ensures pieces { OnOk result (pieces_left program.now locals.now list.new.works.items ≡ piece.Keyword word.Return ∷ return_pieces program.now locals.now given.now (pieces_left program.now locals.now list.old.works.items)) }
-    ensures less { OnOk result (work_left list.new.works.items < (answer_weight given.now + 2) + work_left list.old.works.items) }
+    ensures pieces { OnOk result (pieces_left program.now locals.now list.new.works.items
+        ≡ piece.Keyword word.Return ∷ return_pieces program.now locals.now given.now
+        (pieces_left program.now locals.now list.old.works.items)) }
+    ensures less { OnOk result (work_left list.new.works.items
+        < (answer_weight given.now + 2) + work_left list.old.works.items) }
 {
     match given {
         None => list.put(&[Work::Word(Keyword::Return)])?,
@@ -42,8 +46,11 @@ pub fn take_read_update<'a>(
     got: Variable,
     list: &mut WorkList<'a>,
 ) -> Result<(), NoMemory>
-    ensures pieces { OnOk result (pieces_left program.now locals.now list.new.works.items ≡ read_update_pieces program.now locals.now buffer most.now got (pieces_left program.now locals.now list.old.works.items)) }
-    ensures less { OnOk result (work_left list.new.works.items < (value_weight most.now + 20) + work_left list.old.works.items) }
+    ensures pieces { OnOk result (pieces_left program.now locals.now list.new.works.items
+        ≡ read_update_pieces program.now locals.now buffer most.now got
+        (pieces_left program.now locals.now list.old.works.items)) }
+    ensures less { OnOk result (work_left list.new.works.items
+        < (value_weight most.now + 20) + work_left list.old.works.items) }
 {
     list.put(&[
         Work::Word(Keyword::Call),
@@ -69,8 +76,11 @@ pub fn take_reply<'a>(
     count: &'a Expr,
     list: &mut WorkList<'a>,
 ) -> Result<(), NoMemory>
-    ensures pieces { OnOk result (pieces_left program.now locals.now list.new.works.items ≡ reply_pieces program.now locals.now buffer count.now (pieces_left program.now locals.now list.old.works.items)) }
-    ensures less { OnOk result (work_left list.new.works.items < (value_weight count.now + 20) + work_left list.old.works.items) }
+    ensures pieces { OnOk result (pieces_left program.now locals.now list.new.works.items
+        ≡ reply_pieces program.now locals.now buffer count.now
+        (pieces_left program.now locals.now list.old.works.items)) }
+    ensures less { OnOk result (work_left list.new.works.items
+        < (value_weight count.now + 20) + work_left list.old.works.items) }
 {
     list.put(&[
         Work::Word(Keyword::Call),
@@ -95,8 +105,11 @@ pub fn take_write_read<'a>(
     got: Variable,
     list: &mut WorkList<'a>,
 ) -> Result<(), NoMemory>
-    ensures pieces { OnOk result (pieces_left program.now locals.now list.new.works.items ≡ write_read_pieces program.now locals.now file buffer send.now room.now got (pieces_left program.now locals.now list.old.works.items)) }
-    ensures less { OnOk result (work_left list.new.works.items < (value_weight send.now + value_weight room.now + 20) + work_left list.old.works.items) }
+    ensures pieces { OnOk result (pieces_left program.now locals.now list.new.works.items
+        ≡ write_read_pieces program.now locals.now file buffer send.now room.now got
+        (pieces_left program.now locals.now list.old.works.items)) }
+    ensures less { OnOk result (work_left list.new.works.items
+        < (value_weight send.now + value_weight room.now + 20) + work_left list.old.works.items) }
 {
     list.put(&[
         Work::Word(Keyword::Call),
@@ -123,7 +136,9 @@ pub fn take_open<'a>(
     file: u8,
     list: &mut WorkList<'a>,
 ) -> Result<(), NoMemory>
-    ensures pieces { OnOk result (pieces_left program.now locals.now list.new.works.items ≡ open_pieces program.now (slice_get program.now.files file) (pieces_left program.now locals.now list.old.works.items)) }
+    ensures pieces { OnOk result (pieces_left program.now locals.now list.new.works.items
+        ≡ open_pieces program.now (slice_get program.now.files file)
+        (pieces_left program.now locals.now list.old.works.items)) }
     ensures less { OnOk result (work_left list.new.works.items < 20 + work_left list.old.works.items) }
 {
     if let Some(opened) = program.files.get(usize::from(file)) {

@@ -60,7 +60,8 @@ pub enum Work<'a> {
     Part(Part<'a>),
 }
 
-/// What is still to be done, the next first. It stands in the place of recursion, so that no tree is too deep to be printed.
+/// What is still to be done, the next first. It stands in the place of recursion, so that no tree is too deep to be
+/// printed.
 #[derive(Drop)]
 pub struct WorkList<'a> {
     works: VecDeque<Work<'a>>,
@@ -78,7 +79,8 @@ impl<'a> WorkList<'a> {
 
     /// Takes what is next to be done.
     pub fn pop(&mut self) -> Option<Work<'a>>
-        ensures { MatchOption result ((self.old.works.items ≡ []) × (self.new.works.items ≡ [])) (λ work. self.old.works.items ≡ work ∷ self.new.works.items) }
+        ensures { MatchOption result ((self.old.works.items ≡ []) × (self.new.works.items ≡ []))
+            (λ work. self.old.works.items ≡ work ∷ self.new.works.items) }
     {
         self.works.pop_front()
     }

@@ -1,5 +1,6 @@
 -- The end of a text is its last token, and no token before a fault in the spelling is an end.
-use Rattle.std.proofs.Common.{◌≡◌, ℕ, ◌-◌, zero, suc, Bool, true, false, if◌then◌else◌, List, [], ◌∷◌, ◌++◌, Option, Some, None, refl, ap}
+use Rattle.std.proofs.Common.{◌≡◌, ℕ, ◌-◌, zero, suc, Bool, true, false, if◌then◌else◌, List, [], ◌∷◌, ◌++◌, Option}
+use Rattle.std.proofs.Common.{Some, None, refl, ap}
 use Rattle.std.specs.Prelude.{◌+◌, take, slice_index, ◌==◌, unwrap_or}
 use Rattle.std.specs.Option.{option_or}
 use Rattle.std.specs.Char.{is_ascii_digit}
@@ -14,7 +15,10 @@ use Rattle.tal_tokens.specs.declared.token.At.{At}
 use Rattle.tal_tokens.specs.declared.token.Token.{Token}
 use Rattle.tal_tokens.specs.declared.token.Token.TheVariants as tok
 use Rattle.tal_tokens.specs.Cursor.{after, at_front, start_of_text}
-use Rattle.tal_tokens.specs.Lexeme.{keyword_first, keyword_second, keyword_third, word_token, named, numbered, process_token, text_token, string_to, pair_token, mark_token, sign_token, paired, signed, longest, begun_of, run_of, is_octal, value_from, at_most, is_blank, comment_of, is_string_end, decimal_begun, name_begun, octal_begun, string_begun}
+use Rattle.tal_tokens.specs.Lexeme.{keyword_first, keyword_second, keyword_third, word_token, named, numbered}
+use Rattle.tal_tokens.specs.Lexeme.{process_token, text_token, string_to, pair_token, mark_token, sign_token, paired}
+use Rattle.tal_tokens.specs.Lexeme.{signed, longest, begun_of, run_of, is_octal, value_from, at_most, is_blank}
+use Rattle.tal_tokens.specs.Lexeme.{comment_of, is_string_end, decimal_begun, name_begun, octal_begun, string_begun}
 use Rattle.tal_tokens.specs.Lexer.{with_front, lexed_by, lexed, tokens_of}
 
 -- a token isn't the end of a text
@@ -65,7 +69,8 @@ keyword-second at word =
 
 keyword-third : (at : At) (word : List ℕ) → MayGoOn (keyword_third at word)
 keyword-third at word =
-    if-some _ (tok.Or at) _ tt (if-some _ (tok.Proc at) _ tt (if-some _ (tok.Return at) _ tt (if-some _ (tok.Then at) _ tt
+    if-some _ (tok.Or at) _ tt (if-some _ (tok.Proc at) _ tt
+    (if-some _ (tok.Return at) _ tt (if-some _ (tok.Then at) _ tt
     (if-some _ (tok.To at) _ tt (if-some _ (tok.Until at) _ tt (if-some _ (tok.While at) None tt no_token))))))
 
 word-goes-on : (at : At) (word : List ℕ) → GoesOn (word_token at word)
@@ -89,15 +94,18 @@ either-goes-on true j k g h = g
 either-goes-on false j k g h = h
 
 text-goes-on : (at : At) (text : List ℕ) → GoesOn (text_token at text)
-text-goes-on at text = either-goes-on _ (tok.Receive at) (process_token at (name_of text)) tt (process-goes-on at (name_of text))
+text-goes-on at text =
+    either-goes-on _ (tok.Receive at) (process_token at (name_of text)) tt (process-goes-on at (name_of text))
 
 string-begins : (here : Cursor) (rest : List ℕ) (o : Option ℕ) → Begins (string_to here rest o)
 string-begins here rest None = by_fault
-string-begins here rest (Some k) = if-begins (slice_index rest k == 34) _ _ (by_token (text-goes-on (at_front here (k + 2)) (take k rest))) by_fault
+string-begins here rest (Some k) =
+    if-begins (slice_index rest k == 34) _ _ (by_token (text-goes-on (at_front here (k + 2)) (take k rest))) by_fault
 
 pair-goes-on : (at : At) (c d : ℕ) → MayGoOn (pair_token at c d)
 pair-goes-on at c d =
-    if-some _ (tok.Assign at) _ tt (if-some _ (tok.Differs at) _ tt (if-some _ (tok.AtMost at) _ tt (if-some _ (tok.AtLeast at) None tt no_token)))
+    if-some _ (tok.Assign at) _ tt (if-some _ (tok.Differs at) _ tt
+    (if-some _ (tok.AtMost at) _ tt (if-some _ (tok.AtLeast at) None tt no_token)))
 
 paired-goes-on : (at : At) (c : ℕ) (rest : List ℕ) → MayGoOn (paired at c rest)
 paired-goes-on at c [] = no_token
@@ -105,13 +113,16 @@ paired-goes-on at c (d ∷ rest) = pair-goes-on at c d
 
 mark-goes-on : (at : At) (c : ℕ) → MayGoOn (mark_token at c)
 mark-goes-on at c =
-    if-some _ (tok.Open at) _ tt (if-some _ (tok.Close at) _ tt (if-some _ (tok.OpenIndex at) _ tt (if-some _ (tok.CloseIndex at) _ tt
+    if-some _ (tok.Open at) _ tt (if-some _ (tok.Close at) _ tt
+    (if-some _ (tok.OpenIndex at) _ tt (if-some _ (tok.CloseIndex at) _ tt
     (if-some _ (tok.Comma at) _ tt (if-some _ (tok.Semicolon at) _ tt (if-some _ (tok.Colon at) None tt no_token))))))
 
 sign-goes-on : (at : At) (c : ℕ) → MayGoOn (sign_token at c)
 sign-goes-on at c =
-    if-some _ (tok.Less at) _ tt (if-some _ (tok.Greater at) _ tt (if-some _ (tok.Equal at) _ tt (if-some _ (tok.Plus at) _ tt
-    (if-some _ (tok.Minus at) _ tt (if-some _ (tok.Star at) _ tt (if-some _ (tok.Slash at) _ tt (mark-goes-on at c)))))))
+    if-some _ (tok.Less at) _ tt (if-some _ (tok.Greater at) _ tt
+    (if-some _ (tok.Equal at) _ tt (if-some _ (tok.Plus at) _ tt
+    (if-some _ (tok.Minus at) _ tt (if-some _ (tok.Star at) _ tt
+    (if-some _ (tok.Slash at) _ tt (mark-goes-on at c)))))))
 
 signed-begins : (here : Cursor) {o : Option Token} → MayGoOn o → Begins (signed here o)
 signed-begins here no_token = by_fault
@@ -123,12 +134,14 @@ longest-begins here c (a_token g) = by_token g
 
 decimal-begins : (here : Cursor) (text : List ℕ) → Begins (decimal_begun here text)
 decimal-begins here text =
-    number-begins here (run_of is_ascii_digit text) (at_most 32767 (value_from 10 0 (take (run_of is_ascii_digit text) text)))
+    number-begins here (run_of is_ascii_digit text)
+    (at_most 32767 (value_from 10 0 (take (run_of is_ascii_digit text) text)))
 
 octal-begins : (here : Cursor) (digits : List ℕ) → Begins (octal_begun here digits)
 octal-begins here digits =
     if-begins (run_of is_octal digits == 0) _ _ by_fault
-    (number-begins here (run_of is_octal digits + 1) (at_most 65535 (value_from 8 0 (take (run_of is_octal digits) digits))))
+    (number-begins here (run_of is_octal digits + 1)
+    (at_most 65535 (value_from 8 0 (take (run_of is_octal digits) digits))))
 
 -- what a text begins with isn't its end
 begins : (here : Cursor) (text : List ℕ) → Begins (begun_of here text)
@@ -145,7 +158,8 @@ begins here (c ∷ rest) =
 
 -- the tokens end with the text, or before a fault in the spelling
 pub data Ended (tokens : TokenList) : Type 0 where
-  whole : (front : List Token) (at : At) → tokens.fault ≡ None → tokens.list ≡ front ++ tok.Finish at ∷ [] → Ended tokens
+  whole : (front : List Token) (at : At) → tokens.fault ≡ None → tokens.list ≡ front ++ tok.Finish at ∷ []
+      → Ended tokens
   broken : {f : TalFault} → tokens.fault ≡ Some f → AllGoOn tokens.list → Ended tokens
 
 ended-front : (k : Token) (tokens : TokenList) → GoesOn k → Ended tokens → Ended (with_front k tokens)
@@ -160,7 +174,8 @@ ended-by go by_fault h = broken refl tt
 ended : (skip : ℕ) (here : Cursor) (text : List ℕ) → Ended (lexed skip here text)
 ended zero here [] = whole [] (at_front here 0) refl refl
 ended (suc skip) here [] = whole [] (at_front here 0) refl refl
-ended zero here (c ∷ rest) = ended-by (λ k. lexed k (after here c) rest) (begins here (c ∷ rest)) (λ k. ended k (after here c) rest)
+ended zero here (c ∷ rest) =
+    ended-by (λ k. lexed k (after here c) rest) (begins here (c ∷ rest)) (λ k. ended k (after here c) rest)
 ended (suc skip) here (c ∷ rest) = ended skip (after here c) rest
 
 pub tokens-end : (text : List ℕ) → Ended (tokens_of text)

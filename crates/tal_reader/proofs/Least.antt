@@ -5,7 +5,8 @@ use Rattle.std.proofs.lemmas.List.Elements.{All-contains}
 use Rattle.std.specs.Prelude.{nat_lt}
 use Rattle.tal_tree.specs.declared.place.Place.{Place}
 use Rattle.tal_names.specs.declared.fault.Rule.{Rule}
-use Rattle.tal_names.specs.declared.fault.Rule.TheVariants.{Unknown, Twice, WrongKind, NotBefore, Prologue, Limit, NoMain}
+use Rattle.tal_names.specs.declared.fault.Rule.TheVariants.{Unknown, Twice, WrongKind, NotBefore, Prologue, Limit}
+use Rattle.tal_names.specs.declared.fault.Rule.TheVariants.{NoMain}
 use Rattle.tal_names.specs.declared.fault.RuleFault.{RuleFault}
 use Rattle.tal_names.specs.Faults.{answer_by, answer_of, rule_number, which_of, below, is_before, IsLeast}
 
@@ -31,7 +32,8 @@ same-rule r s n w = absurd cc
 same-place : (p q : Place) → p.line ≡ q.line → p.column ≡ q.column → p ≡ q
 same-place p q l c = (let place : ℕ → ℕ → Place = λ x y. record { line = x; column = y } in ap₂ place l c)
 
-same-answer : (f h : RuleFault) → f.place.line ≡ h.place.line → f.place.column ≡ h.place.column → f.rule ≡ h.rule → answer_of f ≡ answer_of h
+same-answer : (f h : RuleFault) → f.place.line ≡ h.place.line → f.place.column ≡ h.place.column → f.rule ≡ h.rule
+    → answer_of f ≡ answer_of h
 same-answer f h l c r = ap₂ answer_by r (same-place f.place h.place l c)
 
 -- faults of which none goes before the other are answered alike
@@ -43,14 +45,16 @@ level f h a b =
     let column : f.place.column ≡ h.place.column = same-by f.place.column h.place.column _ _ a1 b1 in
     let a2 = rest-by f.place.column h.place.column _ column a1 in
     let b2 = rest-by h.place.column f.place.column _ (sym column) b1 in
-    let number : rule_number f.rule ≡ rule_number h.rule = same-by (rule_number f.rule) (rule_number h.rule) _ _ a2 b2 in
+    let number : rule_number f.rule ≡ rule_number h.rule =
+    same-by (rule_number f.rule) (rule_number h.rule) _ _ a2 b2 in
     let a3 = rest-by (rule_number f.rule) (rule_number h.rule) _ number a2 in
     let b3 = rest-by (rule_number h.rule) (rule_number f.rule) _ (sym number) b2 in
     same-answer f h line column (same-rule f.rule h.rule number (no-less (which_of f.rule) (which_of h.rule) a3 b3))
 
 pub one-answer : (fs : List RuleFault) (f h : RuleFault) → IsLeast f fs → IsLeast h fs → answer_of f ≡ answer_of h
 one-answer fs f h l m =
-    level f h (All-contains (λ x. is_before x h ≡ false) fs f m.first l.one) (All-contains (λ x. is_before x f ≡ false) fs h l.first m.one)
+    level f h (All-contains (λ x. is_before x h ≡ false) fs f m.first l.one)
+    (All-contains (λ x. is_before x f ≡ false) fs h l.first m.one)
 
 pub none-least : (f : RuleFault) → IsLeast f [] → ⊥
 none-least f l = All-contains (λ x. ⊥) [] f (λ k x low. absurd (omega arith)) l.one

@@ -17,27 +17,32 @@ use Rattle.tal_meaning.specs.Judged.{Judged}
 use Rattle.tal_builder.specs.Built.{IsSyntax}
 use Rattle.tal_reader.specs.Places.{place_of}
 
--- the text's tokens are those of a syntax of the grammar, and none of them stands deeper than 33 levels, that of a procedure's
--- own statements counted
+-- the text's tokens are those of a syntax of the grammar, and none of them stands deeper than 33 levels, that of a
+-- procedure's own statements counted
 abbrev pub IsSyntaxOf : List ℕ → g.Text → Type 0
-IsSyntaxOf text t = g.IsText t × (tokens_of text ≡ record { list = g.of_text t; fault = None }) × AllAtMost 33 (nest_text t)
+IsSyntaxOf text t =
+    g.IsText t × (tokens_of text ≡ record { list = g.of_text t; fault = None }) × AllAtMost 33 (nest_text t)
 
 -- the text reads as the program: it has a syntax that keeps all rules, and the program is its tree
 abbrev pub Reads : List ℕ → Program → Type 0
 Reads text program = (t : g.Text) × IsSyntaxOf text t × (faults t ≡ []) × (program ≡ tree_of t)
 
--- the text is refused for a fault. A fault in the spelling of a token comes where the tokens before it begin a text; a token is
--- unexpected where no text goes on with it after the tokens before it, or stands too deep, and none before it does; and a text
--- that has a syntax is refused for the least of its faults
+-- the text is refused for a fault. A fault in the spelling of a token comes where the tokens before it begin a text; a
+-- token is unexpected where no text goes on with it after the tokens before it, or stands too deep, and none before it
+-- does; and a text that has a syntax is refused for the least of its faults
 pub data IsRefused (text : List ℕ) : TalFault → Type 0 where
   misspelt : {f : TalFault} → (tokens_of text).fault ≡ Some f → IsUnfinished 33 (tokens_of text).list → IsRefused text f
-  unexpected : {f : TalFault} (k : ℕ) (token : Token) → IsUnexpected 33 (tokens_of text).list k → slice_get (tokens_of text).list k ≡ Some token
+  unexpected : {f : TalFault} (k : ℕ) (token : Token) → IsUnexpected 33 (tokens_of text).list k
+      → slice_get (tokens_of text).list k ≡ Some token
       → f ≡ fault.Expected (place_of token) → IsRefused text f
-  too_deep : {f : TalFault} (k : ℕ) (token : Token) → IsTooDeep 33 (tokens_of text).list k → slice_get (tokens_of text).list k ≡ Some token
+  too_deep : {f : TalFault} (k : ℕ) (token : Token) → IsTooDeep 33 (tokens_of text).list k
+      → slice_get (tokens_of text).list k ≡ Some token
       → f ≡ fault.Limit 8 (place_of token) → IsRefused text f
-  unruly : {f : TalFault} (t : g.Text) (least : RuleFault) → IsSyntaxOf text t → IsLeast least (faults t) → f ≡ answer_of least → IsRefused text f
+  unruly : {f : TalFault} (t : g.Text) (least : RuleFault) → IsSyntaxOf text t → IsLeast least (faults t)
+      → f ≡ answer_of least → IsRefused text f
 
--- the answer of the reader: the program that the text reads as, or the fault for which it is refused, but where memory ran out
+-- the answer of the reader: the program that the text reads as, or the fault for which it is refused, but where memory
+-- ran out
 abbrev pub IsRead : List ℕ → Result Program TalFault → Type 0
 IsRead text (Ok program) = Reads text program
 IsRead text (Err f) = (f ≡ fault.NoMemory no_memory → ⊥) → IsRefused text f

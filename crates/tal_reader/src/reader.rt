@@ -7,10 +7,10 @@ ghost use Rattle.tal_tree.specs.declared.program.Program.{Program as Tree};
 use crate::place::place_of;
 use std::alloc::Global;
 use tal_builder::{BuildFault, build};
+use tal_meaning::tree;
 use tal_recogniser::{Judgement, judge};
 use tal_tokens::{Token, tokens};
 use tal_tree::{Program, TalFault};
-use tal_meaning::tree;
 
 /// The program that a text reads as, or the fault for which it is refused.
 pub fn read_program(alloc: Global, text: &[u8]) -> Result<Program, TalFault>

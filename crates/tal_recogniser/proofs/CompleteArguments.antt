@@ -11,14 +11,17 @@ use Rattle.tal_recogniser.specs.Machine.{marks, over, trace}
 use Rattle.tal_recogniser.proofs.Steps.{Leaves, QuitsExpr, QuitsRight, gives_way, unmarked}
 use Rattle.tal_recogniser.proofs.CompleteExpressions.{complete-expr}
 
-argument-begins : (e : g.Expr) (ss : Stack) (ks : List Token) → trace (sym.Argument ∷ ss) (g.of_expr e ks) ≡ trace (expr_on ss) (g.of_expr e ks)
+argument-begins : (e : g.Expr) (ss : Stack) (ks : List Token)
+    → trace (sym.Argument ∷ ss) (g.of_expr e ks) ≡ trace (expr_on ss) (g.of_expr e ks)
 argument-begins (g.expr (g.both (g.negated at n) ns) os) ss ks = refl
 argument-begins (g.expr (g.both (g.relation (g.sum (g.product (g.minus at f) fs) ts) c) ns) os) ss ks = refl
 argument-begins (g.expr (g.both (g.relation (g.sum (g.product (g.number at n) fs) ts) c) ns) os) ss ks = refl
-argument-begins (g.expr (g.both (g.relation (g.sum (g.product (g.read (g.spot at name i)) fs) ts) c) ns) os) ss ks = refl
+argument-begins (g.expr (g.both (g.relation (g.sum (g.product (g.read (g.spot at name i)) fs) ts) c) ns) os) ss ks =
+    refl
 argument-begins (g.expr (g.both (g.relation (g.sum (g.product (g.parens start e close) fs) ts) c) ns) os) ss ks = refl
 
-answer-begins : (e : g.Expr) (ss : Stack) (ks : List Token) → trace (sym.Answer ∷ ss) (g.of_expr e ks) ≡ trace (expr_on ss) (g.of_expr e ks)
+answer-begins : (e : g.Expr) (ss : Stack) (ks : List Token)
+    → trace (sym.Answer ∷ ss) (g.of_expr e ks) ≡ trace (expr_on ss) (g.of_expr e ks)
 answer-begins (g.expr (g.both (g.negated at n) ns) os) ss ks = refl
 answer-begins (g.expr (g.both (g.relation (g.sum (g.product (g.minus at f) fs) ts) c) ns) os) ss ks = refl
 answer-begins (g.expr (g.both (g.relation (g.sum (g.product (g.number at n) fs) ts) c) ns) os) ss ks = refl
@@ -26,9 +29,12 @@ answer-begins (g.expr (g.both (g.relation (g.sum (g.product (g.read (g.spot at n
 answer-begins (g.expr (g.both (g.relation (g.sum (g.product (g.parens start e close) fs) ts) c) ns) os) ss ks = refl
 
 -- what goes on after a name that begins a right side goes on as in an expression
-goes_on : (i : g.Index) (fs : g.Factors) (ts : g.Terms) (c : g.Compared) (ns : g.Ands) (os : g.Ors) (ss : Stack) (ks : List Token) → QuitsRight ks
-    → trace (sym.RightTail ∷ ss) (g.of_index i (g.of_factors fs (g.of_terms ts (g.of_compared c (g.of_ands ns (g.of_ors os ks))))))
-    ≡ trace (sym.IndexTail ∷ sym.TimesTail ∷ sym.TermTail ∷ sym.RelTail ∷ sym.AndTail ∷ sym.OrTail ∷ ss) (g.of_index i (g.of_factors fs (g.of_terms ts (g.of_compared c (g.of_ands ns (g.of_ors os ks))))))
+goes_on : (i : g.Index) (fs : g.Factors) (ts : g.Terms) (c : g.Compared) (ns : g.Ands) (os : g.Ors) (ss : Stack)
+    (ks : List Token) → QuitsRight ks
+    → trace (sym.RightTail ∷ ss) (g.of_index i
+    (g.of_factors fs (g.of_terms ts (g.of_compared c (g.of_ands ns (g.of_ors os ks))))))
+    ≡ trace (sym.IndexTail ∷ sym.TimesTail ∷ sym.TermTail ∷ sym.RelTail ∷ sym.AndTail ∷ sym.OrTail ∷ ss)
+    (g.of_index i (g.of_factors fs (g.of_terms ts (g.of_compared c (g.of_ands ns (g.of_ors os ks))))))
 goes_on (g.index start e close) fs ts c ns os ss ks q = refl
 goes_on g.no_index (g.more_factors (g.times at) f fs) ts c ns os ss ks q = refl
 goes_on g.no_index (g.more_factors (g.over at) f fs) ts c ns os ss ks q = refl
@@ -44,14 +50,16 @@ goes_on g.no_index g.no_factors g.no_terms g.alone (g.more_ands at n ns) os ss k
 goes_on g.no_index g.no_factors g.no_terms g.alone g.no_ands (g.more_ors at b os) ss ks q = refl
 goes_on g.no_index g.no_factors g.no_terms g.alone g.no_ands g.no_ors ss ks q =
     gives_way sym.RightTail ss ks q.1 refl
-    ∙ sym (gives_way sym.IndexTail (sym.TimesTail ∷ sym.TermTail ∷ sym.RelTail ∷ sym.AndTail ∷ sym.OrTail ∷ ss) ks q.0.0.0.0.0.0 refl
+    ∙ sym (gives_way sym.IndexTail (sym.TimesTail ∷ sym.TermTail ∷ sym.RelTail ∷ sym.AndTail ∷ sym.OrTail ∷ ss) ks
+    q.0.0.0.0.0.0 refl
     ∙ gives_way sym.TimesTail (sym.TermTail ∷ sym.RelTail ∷ sym.AndTail ∷ sym.OrTail ∷ ss) ks q.0.0.0.0.0.1 refl
     ∙ gives_way sym.TermTail (sym.RelTail ∷ sym.AndTail ∷ sym.OrTail ∷ ss) ks q.0.0.0.0.1 refl
     ∙ gives_way sym.RelTail (sym.AndTail ∷ sym.OrTail ∷ ss) ks q.0.0.0.1 refl
     ∙ gives_way sym.AndTail (sym.OrTail ∷ ss) ks q.0.0.1 refl
     ∙ gives_way sym.OrTail ss ks q.0.1 refl)
 
-right-begins : (e : g.Expr) (ss : Stack) (ks : List Token) → QuitsRight ks → trace (sym.Right ∷ ss) (g.of_expr e ks) ≡ trace (expr_on ss) (g.of_expr e ks)
+right-begins : (e : g.Expr) (ss : Stack) (ks : List Token) → QuitsRight ks
+    → trace (sym.Right ∷ ss) (g.of_expr e ks) ≡ trace (expr_on ss) (g.of_expr e ks)
 right-begins (g.expr (g.both (g.negated at n) ns) os) ss ks q = refl
 right-begins (g.expr (g.both (g.relation (g.sum (g.product (g.minus at f) fs) ts) c) ns) os) ss ks q = refl
 right-begins (g.expr (g.both (g.relation (g.sum (g.product (g.number at n) fs) ts) c) ns) os) ss ks q = refl
@@ -94,8 +102,10 @@ complete-arguments (g.listed start first more close) ss ks q =
     let m : ℕ = suc (marks ss) in
     let shut : QuitsExpr (tok.Close close ∷ ks) = (((((refl, refl), refl), refl), refl), refl) in
     ap (over (λ ls. m ∷ ls))
-    (complete-argument first (sym.FurtherTail ∷ sym.WantClose ∷ sym.LevelEnd ∷ ss) (g.of_further more (tok.Close close ∷ ks)) (quits-further more (tok.Close close ∷ ks) shut)
-    ∙ ap (over (nest_argument m first)) (complete-further more (sym.WantClose ∷ sym.LevelEnd ∷ ss) (tok.Close close ∷ ks) shut refl))
+    (complete-argument first (sym.FurtherTail ∷ sym.WantClose ∷ sym.LevelEnd ∷ ss)
+    (g.of_further more (tok.Close close ∷ ks)) (quits-further more (tok.Close close ∷ ks) shut)
+    ∙ ap (over (nest_argument m first)) (complete-further more (sym.WantClose ∷ sym.LevelEnd ∷ ss)
+    (tok.Close close ∷ ks) shut refl))
     ∙ ap (over (λ ls. m ∷ nest_argument m first (nest_further m more (m ∷ ls)))) (unmarked arguments_step ss ks q)
 
 pub quits-values : (vs : g.Values) (ks : List Token) → QuitsExpr ks → QuitsExpr (g.of_values vs ks)

@@ -3,14 +3,17 @@ use Rattle.std.proofs.Common.{◌≡◌, ℕ, List, ◌∷◌, refl, ap, ◌∙�
 use Rattle.tal_tokens.specs.declared.token.Token.{Token}
 use Rattle.tal_tokens.specs.declared.token.Token.TheVariants as tok
 use Rattle.tal_syntax.specs.Grammar as g
-use Rattle.tal_syntax.specs.Nesting.{nest_constant, nest_bounds, nest_items, nest_literals, nest_names, nest_parameters, nest_locals, nest_main}
+use Rattle.tal_syntax.specs.Nesting.{nest_constant, nest_bounds, nest_items, nest_literals, nest_names, nest_parameters}
+use Rattle.tal_syntax.specs.Nesting.{nest_locals, nest_main}
 use Rattle.tal_recogniser.specs.declared.symbol.Symbol.TheVariants as sym
 use Rattle.tal_recogniser.specs.ExpressionTable.{Stack}
-use Rattle.tal_recogniser.specs.DeclarationTable.{bounds_step, items_step, literals_step, parameters_step, names_step, main_step, locals_step}
+use Rattle.tal_recogniser.specs.DeclarationTable.{bounds_step, items_step, literals_step, parameters_step, names_step}
+use Rattle.tal_recogniser.specs.DeclarationTable.{main_step, locals_step}
 use Rattle.tal_recogniser.specs.Machine.{marks, over, trace}
 use Rattle.tal_recogniser.proofs.Steps.{Leaves, gives_way}
 
-complete-constant : (c : g.Constant) (ss : Stack) (ks : List Token) → trace (sym.Constant ∷ ss) (g.of_constant c ks) ≡ over (nest_constant (marks ss) c) (trace ss ks)
+complete-constant : (c : g.Constant) (ss : Stack) (ks : List Token)
+    → trace (sym.Constant ∷ ss) (g.of_constant c ks) ≡ over (nest_constant (marks ss) c) (trace ss ks)
 complete-constant (g.positive (g.digits at n)) ss ks = refl
 complete-constant (g.positive (g.known at name)) ss ks = refl
 complete-constant (g.negative sign (g.digits at n)) ss ks = refl
@@ -22,8 +25,10 @@ complete-bounds g.unbounded ss ks q = gives_way sym.BoundsTail ss ks q refl
 complete-bounds (g.bounded start low colon high close) ss ks q =
     let m : ℕ = marks ss in
     ap (over (λ ls. m ∷ ls))
-    (complete-constant low (sym.WantColon ∷ sym.Constant ∷ sym.WantCloseIndex ∷ ss) (tok.Colon colon ∷ g.of_constant high (tok.CloseIndex close ∷ ks))
-    ∙ ap (over (λ ls. nest_constant m low (m ∷ ls))) (complete-constant high (sym.WantCloseIndex ∷ ss) (tok.CloseIndex close ∷ ks)))
+    (complete-constant low (sym.WantColon ∷ sym.Constant ∷ sym.WantCloseIndex ∷ ss)
+    (tok.Colon colon ∷ g.of_constant high (tok.CloseIndex close ∷ ks))
+    ∙ ap (over (λ ls. nest_constant m low (m ∷ ls)))
+    (complete-constant high (sym.WantCloseIndex ∷ ss) (tok.CloseIndex close ∷ ks)))
 
 pub leaves-bounds : (i : g.Items) (ks : List Token) → Leaves bounds_step ks → Leaves bounds_step (g.of_items i ks)
 leaves-bounds g.no_items ks q = q
@@ -40,7 +45,8 @@ complete-items (g.more_items comma (g.item at name b) rest) ss ks q r =
 
 -- a literal after its name
 pub complete-literal : (c : g.Constant) (ss : Stack) (ks : List Token) (equal : _)
-    → trace (sym.WantEqual ∷ sym.Constant ∷ ss) (tok.Equal equal ∷ g.of_constant c ks) ≡ over (λ ls. marks ss ∷ nest_constant (marks ss) c ls) (trace ss ks)
+    → trace (sym.WantEqual ∷ sym.Constant ∷ ss) (tok.Equal equal ∷ g.of_constant c ks)
+    ≡ over (λ ls. marks ss ∷ nest_constant (marks ss) c ls) (trace ss ks)
 complete-literal c ss ks equal = ap (over (λ ls. marks ss ∷ ls)) (complete-constant c ss ks)
 
 pub complete-literals : (l : g.Literals) (ss : Stack) (ks : List Token) → Leaves literals_step ks
@@ -55,7 +61,8 @@ complete-literals (g.more_literals comma (g.literal at name equal c) rest) ss ks
 pub complete-names : (ns : g.Names) (ss : Stack) (ks : List Token) → Leaves names_step ks
     → trace (sym.NamesTail ∷ ss) (g.of_names ns ks) ≡ over (nest_names (marks ss) ns) (trace ss ks)
 complete-names g.no_names ss ks q = gives_way sym.NamesTail ss ks q refl
-complete-names (g.more_names comma at name rest) ss ks q = ap (over (λ ls. marks ss ∷ marks ss ∷ ls)) (complete-names rest ss ks q)
+complete-names (g.more_names comma at name rest) ss ks q =
+    ap (over (λ ls. marks ss ∷ marks ss ∷ ls)) (complete-names rest ss ks q)
 
 pub complete-parameters : (p : g.Parameters) (ss : Stack) (ks : List Token) → Leaves parameters_step ks
     → trace (sym.ParametersTail ∷ ss) (g.of_parameters p ks) ≡ over (nest_parameters (marks ss) p) (trace ss ks)

@@ -3,11 +3,13 @@ use Rattle.std.proofs.Common.{◌≡◌, suc, List, [], ◌∷◌, Some, refl, a
 use Rattle.tal_tokens.specs.declared.token.Token.{Token}
 use Rattle.tal_tokens.specs.declared.token.Token.TheVariants as tok
 use Rattle.tal_syntax.specs.Grammar as g
-use Rattle.tal_syntax.specs.Nesting.{nest_expr, nest_ors, nest_both, nest_ands, nest_neg, nest_compared, nest_sum, nest_terms, nest_product, nest_factors, nest_factor, nest_index}
+use Rattle.tal_syntax.specs.Nesting.{nest_expr, nest_ors, nest_both, nest_ands, nest_neg, nest_compared, nest_sum}
+use Rattle.tal_syntax.specs.Nesting.{nest_terms, nest_product, nest_factors, nest_factor, nest_index}
 use Rattle.tal_recogniser.specs.declared.symbol.Symbol.TheVariants as sym
 use Rattle.tal_recogniser.specs.ExpressionTable.{Stack, index_step, times_step, term_step, rel_step}
 use Rattle.tal_recogniser.specs.Machine.{marks, over, trace}
-use Rattle.tal_recogniser.proofs.Steps.{QuitsFactor, QuitsProduct, QuitsSum, QuitsNeg, QuitsBoth, QuitsExpr, gives_way, unmarked, taken}
+use Rattle.tal_recogniser.proofs.Steps.{QuitsFactor, QuitsProduct, QuitsSum, QuitsNeg, QuitsBoth, QuitsExpr, gives_way}
+use Rattle.tal_recogniser.proofs.Steps.{unmarked, taken}
 
 rel-step : (r : g.Rel) → rel_step (g.of_rel r) ≡ Some (sym.Factor ∷ sym.TimesTail ∷ sym.TermTail ∷ [])
 rel-step (g.equal at) = refl
@@ -63,7 +65,8 @@ quits-ors (g.more_ors at b os) ks q = ((((refl, refl), refl), refl), refl)
 
 -- a relation begins as its first factor does
 begins : (s : g.Sum) (ss : Stack) (ks : List Token)
-    → trace (sym.Neg ∷ ss) (g.of_sum s ks) ≡ trace (sym.Factor ∷ sym.TimesTail ∷ sym.TermTail ∷ sym.RelTail ∷ ss) (g.of_sum s ks)
+    → trace (sym.Neg ∷ ss) (g.of_sum s ks) ≡ trace (sym.Factor ∷ sym.TimesTail ∷ sym.TermTail ∷ sym.RelTail ∷ ss)
+    (g.of_sum s ks)
 begins (g.sum (g.product (g.minus at f) fs) ts) ss ks = refl
 begins (g.sum (g.product (g.number at n) fs) ts) ss ks = refl
 begins (g.sum (g.product (g.read (g.spot at name i)) fs) ts) ss ks = refl
@@ -116,7 +119,8 @@ mutual
       ∙ ap (over (λ ls. marks ss ∷ ls)) (complete-sum s ss ks q.0)
 
   complete-sum : (s : g.Sum) (ss : Stack) (ks : List Token) → QuitsSum ks
-      → trace (sym.Factor ∷ sym.TimesTail ∷ sym.TermTail ∷ ss) (g.of_sum s ks) ≡ over (nest_sum (marks ss) s) (trace ss ks)
+      → trace (sym.Factor ∷ sym.TimesTail ∷ sym.TermTail ∷ ss) (g.of_sum s ks)
+      ≡ over (nest_sum (marks ss) s) (trace ss ks)
   complete-sum (g.sum p ts) ss ks q =
       complete-product p (sym.TermTail ∷ ss) (g.of_terms ts ks) (quits-terms ts ks q)
       ∙ ap (over (nest_product (marks ss) p)) (complete-terms ts ss ks q)
@@ -125,7 +129,8 @@ mutual
       → trace (sym.TermTail ∷ ss) (g.of_terms ts ks) ≡ over (nest_terms (marks ss) ts) (trace ss ks)
   complete-terms g.no_terms ss ks q = gives_way sym.TermTail ss ks q.1 refl
   complete-terms (g.more_terms s p ts) ss ks q =
-      taken sym.TermTail (g.of_sign s) (sym.Factor ∷ sym.TimesTail ∷ sym.TermTail ∷ []) ss (g.of_product p (g.of_terms ts ks)) (sign-step s)
+      taken sym.TermTail (g.of_sign s) (sym.Factor ∷ sym.TimesTail ∷ sym.TermTail ∷ []) ss
+      (g.of_product p (g.of_terms ts ks)) (sign-step s)
       ∙ ap (over (λ ls. marks ss ∷ ls))
       (complete-product p (sym.TermTail ∷ ss) (g.of_terms ts ks) (quits-terms ts ks q)
       ∙ ap (over (nest_product (marks ss) p)) (complete-terms ts ss ks q))
@@ -140,7 +145,8 @@ mutual
       → trace (sym.TimesTail ∷ ss) (g.of_factors fs ks) ≡ over (nest_factors (marks ss) fs) (trace ss ks)
   complete-factors g.no_factors ss ks q = gives_way sym.TimesTail ss ks q.1 refl
   complete-factors (g.more_factors s f fs) ss ks q =
-      taken sym.TimesTail (g.of_scale s) (sym.Factor ∷ sym.TimesTail ∷ []) ss (g.of_factor f (g.of_factors fs ks)) (scale-step s)
+      taken sym.TimesTail (g.of_scale s) (sym.Factor ∷ sym.TimesTail ∷ []) ss (g.of_factor f (g.of_factors fs ks))
+      (scale-step s)
       ∙ ap (over (λ ls. marks ss ∷ ls))
       (complete-factor f (sym.TimesTail ∷ ss) (g.of_factors fs ks) (quits-factors fs ks q)
       ∙ ap (over (nest_factor (marks ss) f)) (complete-factors fs ss ks q))
@@ -154,13 +160,17 @@ mutual
   complete-factor (g.read (g.spot at name i)) ss ks q = ap (over (λ ls. marks ss ∷ ls)) (complete-index i ss ks q)
   complete-factor (g.parens start e close) ss ks q =
       ap (over (λ ls. suc (marks ss) ∷ ls))
-      (complete-expr e (sym.WantClose ∷ sym.LevelEnd ∷ ss) (tok.Close close ∷ ks) (((((refl, refl), refl), refl), refl), refl))
-      ∙ ap (over (λ ls. suc (marks ss) ∷ nest_expr (suc (marks ss)) e (suc (marks ss) ∷ ls))) (unmarked index_step ss ks q)
+      (complete-expr e (sym.WantClose ∷ sym.LevelEnd ∷ ss) (tok.Close close ∷ ks)
+      (((((refl, refl), refl), refl), refl), refl))
+      ∙ ap (over (λ ls. suc (marks ss) ∷ nest_expr (suc (marks ss)) e (suc (marks ss) ∷ ls)))
+      (unmarked index_step ss ks q)
 
   pub complete-index : (i : g.Index) (ss : Stack) (ks : List Token) → QuitsFactor ks
       → trace (sym.IndexTail ∷ ss) (g.of_index i ks) ≡ over (nest_index (marks ss) i) (trace ss ks)
   complete-index g.no_index ss ks q = gives_way sym.IndexTail ss ks q refl
   complete-index (g.index start e close) ss ks q =
       ap (over (λ ls. suc (marks ss) ∷ ls))
-      (complete-expr e (sym.WantCloseIndex ∷ sym.LevelEnd ∷ ss) (tok.CloseIndex close ∷ ks) (((((refl, refl), refl), refl), refl), refl))
-      ∙ ap (over (λ ls. suc (marks ss) ∷ nest_expr (suc (marks ss)) e (suc (marks ss) ∷ ls))) (unmarked index_step ss ks q)
+      (complete-expr e (sym.WantCloseIndex ∷ sym.LevelEnd ∷ ss) (tok.CloseIndex close ∷ ks)
+      (((((refl, refl), refl), refl), refl), refl))
+      ∙ ap (over (λ ls. suc (marks ss) ∷ nest_expr (suc (marks ss)) e (suc (marks ss) ∷ ls)))
+      (unmarked index_step ss ks q)

@@ -1,17 +1,20 @@
--- The machine takes the tokens of each statement in which an ELSE belongs to the nearest IF, and its marks are their levels.
+-- The machine takes the tokens of each statement in which an ELSE belongs to the nearest IF, and its marks are their
+-- levels.
 use Rattle.std.proofs.Common.{◌≡◌, ℕ, suc, Bool, true, false, List, ◌∷◌, refl, ap, ◌∙◌}
 use Rattle.tal_tokens.specs.declared.token.At.{At}
 use Rattle.tal_tokens.specs.declared.token.Token.{Token}
 use Rattle.tal_tokens.specs.declared.token.Token.TheVariants as tok
 use Rattle.tal_syntax.specs.Grammar as g
-use Rattle.tal_syntax.specs.Nesting.{nest_expr, nest_index, nest_arguments, nest_values, nest_answer, nest_statement, nest_otherwise, nest_row}
+use Rattle.tal_syntax.specs.Nesting.{nest_expr, nest_index, nest_arguments, nest_values, nest_answer, nest_statement}
+use Rattle.tal_syntax.specs.Nesting.{nest_otherwise, nest_row}
 use Rattle.tal_recogniser.specs.declared.symbol.Symbol.TheVariants as sym
 use Rattle.tal_recogniser.specs.ExpressionTable.{Stack}
 use Rattle.tal_recogniser.specs.StatementTable.{statement_step, else_step}
 use Rattle.tal_recogniser.specs.Machine.{marks, over, trace}
 use Rattle.tal_recogniser.proofs.Steps.{Leaves, LeavesOpen, QuitsExpr, QuitsStatement, QuitsRow, gives_way, unmarked}
 use Rattle.tal_recogniser.proofs.CompleteExpressions.{complete-expr, complete-index}
-use Rattle.tal_recogniser.proofs.CompleteArguments.{complete-right, complete-answer, complete-arguments, complete-values, quits-values}
+use Rattle.tal_recogniser.proofs.CompleteArguments.{complete-right, complete-answer, complete-arguments}
+use Rattle.tal_recogniser.proofs.CompleteArguments.{complete-values, quits-values}
 
 pub quits-end : (at : At) (ks : List Token) → QuitsRow (tok.End at ∷ ks)
 quits-end at ks = (((((((((refl, refl), refl), refl), refl), refl), refl), refl), (refl, refl)), (refl, refl))
@@ -22,7 +25,8 @@ quits-otherwise (g.otherwise at s) ks q = ((((((((refl, refl), refl), refl), ref
 
 pub quits-row : (r : g.Row) (ks : List Token) → QuitsRow ks → QuitsStatement (g.of_row r ks)
 quits-row g.no_row ks q = q.0
-quits-row (g.more_row semicolon s rest) ks q = ((((((((refl, refl), refl), refl), refl), refl), refl), refl), (refl, refl))
+quits-row (g.more_row semicolon s rest) ks q =
+    ((((((((refl, refl), refl), refl), refl), refl), refl), refl), (refl, refl))
 
 opened : (b : Bool) (ks : List Token) → Leaves else_step ks → LeavesOpen b ks
 opened true ks q = q
@@ -33,45 +37,59 @@ opened-row b g.no_row ks q = opened b ks q.1.1
 opened-row b (g.more_row semicolon s rest) ks q = opened b (g.of_row (g.more_row semicolon s rest) ks) refl
 
 -- no IF is open before an ELSE
-opened-else : (s : g.Statement) (o : g.Otherwise) (ks : List Token) → g.IsNearestElse s o → LeavesOpen (g.is_open_else o) ks → LeavesOpen (g.is_open s) (g.of_otherwise o ks)
+opened-else : (s : g.Statement) (o : g.Otherwise) (ks : List Token) → g.IsNearestElse s o
+    → LeavesOpen (g.is_open_else o) ks → LeavesOpen (g.is_open s) (g.of_otherwise o ks)
 opened-else s g.no_else ks n q = opened (g.is_open s) ks q
 opened-else s (g.otherwise at t) ks n q = rw n.0 tt
 
-twice : (ss : Stack) (ks : List Token) → Leaves statement_step ks → trace (sym.LevelEnd ∷ sym.LevelEnd ∷ ss) ks ≡ trace ss ks
+twice : (ss : Stack) (ks : List Token) → Leaves statement_step ks
+    → trace (sym.LevelEnd ∷ sym.LevelEnd ∷ ss) ks ≡ trace ss ks
 twice ss ks q = unmarked statement_step (sym.LevelEnd ∷ ss) ks q ∙ unmarked statement_step ss ks q
 
 mutual
-  pub complete-statement : (s : g.Statement) (ss : Stack) (ks : List Token) → g.IsNearest s → QuitsStatement ks → LeavesOpen (g.is_open s) ks
+  pub complete-statement : (s : g.Statement) (ss : Stack) (ks : List Token) → g.IsNearest s → QuitsStatement ks
+      → LeavesOpen (g.is_open s) ks
       → trace (sym.Statement ∷ ss) (g.of_statement s ks) ≡ over (nest_statement (marks ss) s) (trace ss ks)
   complete-statement g.nothing ss ks n q o = gives_way sym.Statement ss ks q.0.1 refl
   complete-statement (g.block begin first more end) ss ks n q o =
       let m : ℕ = suc (marks ss) in
       ap (over (λ ls. m ∷ ls))
-      (complete-statement first (sym.RowTail ∷ sym.WantEnd ∷ sym.LevelEnd ∷ ss) (g.of_row more (tok.End end ∷ ks)) n.0 (quits-row more (tok.End end ∷ ks) (quits-end end ks)) (opened-row (g.is_open first) more (tok.End end ∷ ks) (quits-end end ks))
-      ∙ ap (over (nest_statement m first)) (complete-row more (sym.WantEnd ∷ sym.LevelEnd ∷ ss) (tok.End end ∷ ks) n.1 (quits-end end ks)))
+      (complete-statement first (sym.RowTail ∷ sym.WantEnd ∷ sym.LevelEnd ∷ ss) (g.of_row more (tok.End end ∷ ks)) n.0
+      (quits-row more (tok.End end ∷ ks) (quits-end end ks))
+      (opened-row (g.is_open first) more (tok.End end ∷ ks) (quits-end end ks))
+      ∙ ap (over (nest_statement m first)) (complete-row more (sym.WantEnd ∷ sym.LevelEnd ∷ ss) (tok.End end ∷ ks) n.1
+      (quits-end end ks)))
       ∙ ap (over (λ ls. m ∷ nest_statement m first (nest_row m more (m ∷ ls)))) (unmarked statement_step ss ks q.0.1)
   complete-statement (g.if_then head test then_at s e) ss ks n q o =
       let m : ℕ = suc (marks ss) in
       ap (over (λ ls. m ∷ ls))
-      (complete-expr test (sym.WantThen ∷ sym.Statement ∷ sym.ElseTail ∷ sym.LevelEnd ∷ ss) (tok.Then then_at ∷ g.of_statement s (g.of_otherwise e ks)) (((((refl, refl), refl), refl), refl), refl)
+      (complete-expr test (sym.WantThen ∷ sym.Statement ∷ sym.ElseTail ∷ sym.LevelEnd ∷ ss)
+      (tok.Then then_at ∷ g.of_statement s (g.of_otherwise e ks)) (((((refl, refl), refl), refl), refl), refl)
       ∙ ap (over (λ ls. nest_expr m test (m ∷ ls)))
-      (complete-statement s (sym.ElseTail ∷ sym.LevelEnd ∷ ss) (g.of_otherwise e ks) n.0 (quits-otherwise e ks q) (opened-else s e ks n.1 o)
+      (complete-statement s (sym.ElseTail ∷ sym.LevelEnd ∷ ss) (g.of_otherwise e ks) n.0 (quits-otherwise e ks q)
+      (opened-else s e ks n.1 o)
       ∙ ap (over (nest_statement m s)) (complete-otherwise s e (sym.LevelEnd ∷ ss) ks n.1 q o)))
-      ∙ ap (over (λ ls. m ∷ nest_expr m test (m ∷ nest_statement m s (nest_otherwise m e ls)))) (unmarked statement_step ss ks q.0.1)
+      ∙ ap (over (λ ls. m ∷ nest_expr m test (m ∷ nest_statement m s (nest_otherwise m e ls))))
+      (unmarked statement_step ss ks q.0.1)
   complete-statement (g.while_do head test do_at s) ss ks n q o =
       let m : ℕ = suc (marks ss) in
       ap (over (λ ls. m ∷ ls))
-      (complete-expr test (sym.WantDo ∷ sym.Statement ∷ sym.LevelEnd ∷ ss) (tok.Do do_at ∷ g.of_statement s ks) (((((refl, refl), refl), refl), refl), refl)
+      (complete-expr test (sym.WantDo ∷ sym.Statement ∷ sym.LevelEnd ∷ ss) (tok.Do do_at ∷ g.of_statement s ks)
+      (((((refl, refl), refl), refl), refl), refl)
       ∙ ap (over (λ ls. nest_expr m test (m ∷ ls))) (complete-statement s (sym.LevelEnd ∷ ss) ks n q o))
       ∙ ap (over (λ ls. m ∷ nest_expr m test (m ∷ nest_statement m s ls))) (unmarked statement_step ss ks q.0.1)
   complete-statement (g.for_do head at name set_at from to_at to do_at s) ss ks n q o =
       let m : ℕ = suc (marks ss) in
       ap (over (λ ls. m ∷ m ∷ m ∷ ls))
-      (complete-expr from (sym.WantTo ∷ sym.Neg ∷ sym.AndTail ∷ sym.OrTail ∷ sym.WantDo ∷ sym.Statement ∷ sym.LevelEnd ∷ ss) (tok.To to_at ∷ g.of_expr to (tok.Do do_at ∷ g.of_statement s ks)) (((((refl, refl), refl), refl), refl), refl)
+      (complete-expr from (sym.WantTo ∷ sym.Neg ∷ sym.AndTail ∷ sym.OrTail ∷ sym.WantDo ∷ sym.Statement ∷ sym.LevelEnd
+      ∷ ss) (tok.To to_at ∷ g.of_expr to (tok.Do do_at ∷ g.of_statement s ks))
+      (((((refl, refl), refl), refl), refl), refl)
       ∙ ap (over (λ ls. nest_expr m from (m ∷ ls)))
-      (complete-expr to (sym.WantDo ∷ sym.Statement ∷ sym.LevelEnd ∷ ss) (tok.Do do_at ∷ g.of_statement s ks) (((((refl, refl), refl), refl), refl), refl)
+      (complete-expr to (sym.WantDo ∷ sym.Statement ∷ sym.LevelEnd ∷ ss) (tok.Do do_at ∷ g.of_statement s ks)
+      (((((refl, refl), refl), refl), refl), refl)
       ∙ ap (over (λ ls. nest_expr m to (m ∷ ls))) (complete-statement s (sym.LevelEnd ∷ ss) ks n q o)))
-      ∙ ap (over (λ ls. m ∷ m ∷ m ∷ nest_expr m from (m ∷ nest_expr m to (m ∷ nest_statement m s ls)))) (unmarked statement_step ss ks q.0.1)
+      ∙ ap (over (λ ls. m ∷ m ∷ m ∷ nest_expr m from (m ∷ nest_expr m to (m ∷ nest_statement m s ls))))
+      (unmarked statement_step ss ks q.0.1)
   complete-statement (g.call head at name a) ss ks n q o =
       let m : ℕ = suc (marks ss) in
       ap (over (λ ls. m ∷ m ∷ ls)) (complete-arguments a (sym.LevelEnd ∷ ss) ks q.1.0)
@@ -90,22 +108,30 @@ mutual
       let m : ℕ = suc (marks ss) in
       let shut : QuitsExpr (tok.Close close ∷ ks) = (((((refl, refl), refl), refl), refl), refl) in
       ap (over (λ ls. m ∷ ls))
-      (complete-index i (sym.WantAssign ∷ sym.Right ∷ sym.LevelEnd ∷ ss) (tok.Assign set_at ∷ tok.Name name_at callee ∷ tok.Open start ∷ g.of_expr first (g.of_values more (tok.Close close ∷ ks))) refl
+      (complete-index i (sym.WantAssign ∷ sym.Right ∷ sym.LevelEnd ∷ ss)
+      (tok.Assign set_at ∷ tok.Name name_at callee ∷ tok.Open start
+      ∷ g.of_expr first (g.of_values more (tok.Close close ∷ ks))) refl
       ∙ ap (over (λ ls. nest_index m i (m ∷ m ∷ suc m ∷ ls)))
-      (complete-expr first (sym.ValuesTail ∷ sym.WantClose ∷ sym.LevelEnd ∷ sym.LevelEnd ∷ ss) (g.of_values more (tok.Close close ∷ ks)) (quits-values more (tok.Close close ∷ ks) shut)
-      ∙ ap (over (nest_expr (suc m) first)) (complete-values more (sym.WantClose ∷ sym.LevelEnd ∷ sym.LevelEnd ∷ ss) (tok.Close close ∷ ks) shut refl)))
-      ∙ ap (over (λ ls. m ∷ nest_index m i (m ∷ m ∷ suc m ∷ nest_expr (suc m) first (nest_values (suc m) more (suc m ∷ ls)))))
+      (complete-expr first (sym.ValuesTail ∷ sym.WantClose ∷ sym.LevelEnd ∷ sym.LevelEnd ∷ ss)
+      (g.of_values more (tok.Close close ∷ ks)) (quits-values more (tok.Close close ∷ ks) shut)
+      ∙ ap (over (nest_expr (suc m) first)) (complete-values more (sym.WantClose ∷ sym.LevelEnd ∷ sym.LevelEnd ∷ ss)
+      (tok.Close close ∷ ks) shut refl)))
+      ∙ ap (over (λ ls. m ∷ nest_index m i (m ∷ m ∷ suc m
+      ∷ nest_expr (suc m) first (nest_values (suc m) more (suc m ∷ ls)))))
       (twice ss ks q.0.1)
 
-  complete-otherwise : (s : g.Statement) (o : g.Otherwise) (ss : Stack) (ks : List Token) → g.IsNearestElse s o → QuitsStatement ks → LeavesOpen (g.is_open_else o) ks
+  complete-otherwise : (s : g.Statement) (o : g.Otherwise) (ss : Stack) (ks : List Token) → g.IsNearestElse s o
+      → QuitsStatement ks → LeavesOpen (g.is_open_else o) ks
       → trace (sym.ElseTail ∷ ss) (g.of_otherwise o ks) ≡ over (nest_otherwise (marks ss) o) (trace ss ks)
   complete-otherwise s g.no_else ss ks n q o = gives_way sym.ElseTail ss ks o refl
-  complete-otherwise s (g.otherwise at t) ss ks n q o = ap (over (λ ls. marks ss ∷ ls)) (complete-statement t ss ks n.1 q o)
+  complete-otherwise s (g.otherwise at t) ss ks n q o =
+      ap (over (λ ls. marks ss ∷ ls)) (complete-statement t ss ks n.1 q o)
 
   pub complete-row : (r : g.Row) (ss : Stack) (ks : List Token) → g.IsNearestRow r → QuitsRow ks
       → trace (sym.RowTail ∷ ss) (g.of_row r ks) ≡ over (nest_row (marks ss) r) (trace ss ks)
   complete-row g.no_row ss ks n q = gives_way sym.RowTail ss ks q.1.0 refl
   complete-row (g.more_row semicolon s rest) ss ks n q =
       ap (over (λ ls. marks ss ∷ ls))
-      (complete-statement s (sym.RowTail ∷ ss) (g.of_row rest ks) n.0 (quits-row rest ks q) (opened-row (g.is_open s) rest ks q)
+      (complete-statement s (sym.RowTail ∷ ss) (g.of_row rest ks) n.0 (quits-row rest ks q)
+      (opened-row (g.is_open s) rest ks q)
       ∙ ap (over (nest_statement (marks ss) s)) (complete-row rest ss ks n.1 q))

@@ -4,16 +4,22 @@ use Rattle.tal_tokens.specs.declared.token.At.{At}
 use Rattle.tal_tokens.specs.declared.token.Token.{Token}
 use Rattle.tal_tokens.specs.declared.token.Token.TheVariants as tok
 use Rattle.tal_syntax.specs.Grammar as g
-use Rattle.tal_syntax.specs.Nesting.{nest_bounds, nest_items, nest_constant, nest_literals, nest_lines, nest_parameters, nest_locals, nest_main, nest_statement, nest_row, nest_procedure, nest_procedures, nest_text}
+use Rattle.tal_syntax.specs.Nesting.{nest_bounds, nest_items, nest_constant, nest_literals, nest_lines, nest_parameters}
+use Rattle.tal_syntax.specs.Nesting.{nest_locals, nest_main, nest_statement, nest_row, nest_procedure, nest_procedures}
+use Rattle.tal_syntax.specs.Nesting.{nest_text}
 use Rattle.tal_recogniser.specs.declared.symbol.Symbol.TheVariants as sym
 use Rattle.tal_recogniser.specs.ExpressionTable.{Stack}
-use Rattle.tal_recogniser.specs.DeclarationTable.{procedure_on, lines_step, procedures_step, parameters_step, locals_step}
+use Rattle.tal_recogniser.specs.DeclarationTable.{procedure_on, lines_step, procedures_step, parameters_step}
+use Rattle.tal_recogniser.specs.DeclarationTable.{locals_step}
 use Rattle.tal_recogniser.specs.Machine.{marks, over, trace, start}
 use Rattle.tal_recogniser.proofs.Steps.{Leaves, gives_way}
-use Rattle.tal_recogniser.proofs.CompleteDeclarations.{complete-bounds, leaves-bounds, complete-items, complete-literal, complete-literals, complete-parameters, complete-main, complete-locals}
+use Rattle.tal_recogniser.proofs.CompleteDeclarations.{complete-bounds, leaves-bounds, complete-items, complete-literal}
+use Rattle.tal_recogniser.proofs.CompleteDeclarations.{complete-literals, complete-parameters, complete-main}
+use Rattle.tal_recogniser.proofs.CompleteDeclarations.{complete-locals}
 use Rattle.tal_recogniser.proofs.CompleteStatements.{complete-statement, complete-row, quits-end, quits-row, opened-row}
 
-leaves-parameters : (w : g.Main) (end : At) (ks : List Token) → Leaves parameters_step (g.of_main w (tok.Semicolon end ∷ ks))
+leaves-parameters : (w : g.Main) (end : At) (ks : List Token)
+    → Leaves parameters_step (g.of_main w (tok.Semicolon end ∷ ks))
 leaves-parameters g.not_main end ks = refl
 leaves-parameters (g.is_main at) end ks = refl
 
@@ -22,7 +28,8 @@ leaves-row g.no_row end ks = refl
 leaves-row (g.more_row semicolon s rest) end ks = refl
 
 -- no statement begins with INT
-leaves-locals : (s : g.Statement) (r : g.Row) (end : At) (ks : List Token) → Leaves locals_step (g.of_statement s (g.of_row r (tok.End end ∷ ks)))
+leaves-locals : (s : g.Statement) (r : g.Row) (end : At) (ks : List Token)
+    → Leaves locals_step (g.of_statement s (g.of_row r (tok.End end ∷ ks)))
 leaves-locals g.nothing r end ks = leaves-row r end ks
 leaves-locals (g.block begin first more e) r end ks = refl
 leaves-locals (g.if_then head test then_at s o) r end ks = refl
@@ -34,12 +41,17 @@ leaves-locals (g.assign (g.spot at name i) set_at e) r end ks = refl
 leaves-locals (g.assign_call (g.spot at name i) set_at name_at callee open_at first more close) r end ks = refl
 
 -- a procedure after its PROC
-complete-procedure : (at : At) (name : List ℕ) (p : g.Parameters) (w : g.Main) (end : At) (outer : g.Locals) (begin : At) (inner : g.Locals)
-    (first : g.Statement) (more : g.Row) (stop last : At) (ss : Stack) (ks : List Token) → g.IsNearest first → g.IsNearestRow more
-    → trace (procedure_on ++ ss) (tok.Name at name ∷ g.of_parameters p (g.of_main w (tok.Semicolon end ∷ g.of_locals outer (tok.Begin begin
+complete-procedure : (at : At) (name : List ℕ) (p : g.Parameters) (w : g.Main) (end : At) (outer : g.Locals)
+    (begin : At) (inner : g.Locals)
+    (first : g.Statement) (more : g.Row) (stop last : At) (ss : Stack) (ks : List Token) → g.IsNearest first
+    → g.IsNearestRow more
+    → trace (procedure_on ++ ss) (tok.Name at name
+    ∷ g.of_parameters p (g.of_main w (tok.Semicolon end ∷ g.of_locals outer (tok.Begin begin
     ∷ g.of_locals inner (g.of_statement first (g.of_row more (tok.End stop ∷ tok.Semicolon last ∷ ks)))))))
-    ≡ over (λ ls. marks ss ∷ nest_parameters (marks ss) p (nest_main (marks ss) w (marks ss ∷ nest_locals (marks ss) outer (marks ss
-    ∷ nest_locals (marks ss) inner (nest_statement (marks ss) first (nest_row (marks ss) more (marks ss ∷ marks ss ∷ ls)))))))
+    ≡ over (λ ls. marks ss ∷ nest_parameters (marks ss) p
+    (nest_main (marks ss) w (marks ss ∷ nest_locals (marks ss) outer (marks ss
+    ∷ nest_locals (marks ss) inner (nest_statement (marks ss) first
+    (nest_row (marks ss) more (marks ss ∷ marks ss ∷ ls)))))))
     (trace (sym.Procedures ∷ ss) ks)
 complete-procedure at name p w end outer begin inner first more stop last ss ks n r =
     let m : ℕ = marks ss in
@@ -57,36 +69,52 @@ complete-procedure at name p w end outer begin inner first more stop last ss ks 
     ∙ ap (over (λ ls. nest_main m w (m ∷ ls)))
     (complete-locals outer ss3 ks3 refl
     ∙ ap (over (λ ls. nest_locals m outer (m ∷ ls)))
-    (complete-locals inner (sym.Statement ∷ sym.RowTail ∷ ss1) ks2 (leaves-locals first more stop (tok.Semicolon last ∷ ks))
+    (complete-locals inner (sym.Statement ∷ sym.RowTail ∷ ss1) ks2
+    (leaves-locals first more stop (tok.Semicolon last ∷ ks))
     ∙ ap (over (nest_locals m inner))
-    (complete-statement first (sym.RowTail ∷ ss1) (g.of_row more ks1) n (quits-row more ks1 (quits-end stop (tok.Semicolon last ∷ ks))) (opened-row (g.is_open first) more ks1 (quits-end stop (tok.Semicolon last ∷ ks)))
+    (complete-statement first (sym.RowTail ∷ ss1) (g.of_row more ks1) n
+    (quits-row more ks1 (quits-end stop (tok.Semicolon last ∷ ks)))
+    (opened-row (g.is_open first) more ks1 (quits-end stop (tok.Semicolon last ∷ ks)))
     ∙ ap (over (nest_statement m first)) (complete-row more ss1 ks1 r (quits-end stop (tok.Semicolon last ∷ ks))))))))
 
 complete-procedures : (ps : g.Procedures) (ss : Stack) (ks : List Token) → g.IsNearestIn ps → Leaves procedures_step ks
     → trace (sym.Procedures ∷ ss) (g.of_procedures ps ks) ≡ over (nest_procedures (marks ss) ps) (trace ss ks)
 complete-procedures g.no_procedures ss ks n q = gives_way sym.Procedures ss ks q refl
-complete-procedures (g.more_procedures (g.procedure (g.heading g.gives_nothing proc at name p w end) outer begin inner first more stop last) rest) ss ks n q =
-    ap (over (λ ls. marks ss ∷ ls)) (complete-procedure at name p w end outer begin inner first more stop last ss (g.of_procedures rest ks) n.0.0 n.0.1)
-    ∙ ap (over (nest_procedure (marks ss) (g.procedure (g.heading g.gives_nothing proc at name p w end) outer begin inner first more stop last))) (complete-procedures rest ss ks n.1 q)
-complete-procedures (g.more_procedures (g.procedure (g.heading (g.gives_int int) proc at name p w end) outer begin inner first more stop last) rest) ss ks n q =
-    ap (over (λ ls. marks ss ∷ marks ss ∷ ls)) (complete-procedure at name p w end outer begin inner first more stop last ss (g.of_procedures rest ks) n.0.0 n.0.1)
-    ∙ ap (over (nest_procedure (marks ss) (g.procedure (g.heading (g.gives_int int) proc at name p w end) outer begin inner first more stop last))) (complete-procedures rest ss ks n.1 q)
+complete-procedures (g.more_procedures (g.procedure (g.heading g.gives_nothing proc at name p w end) outer begin inner
+    first more stop last) rest) ss ks n q =
+    ap (over (λ ls. marks ss ∷ ls)) (complete-procedure at name p w end outer begin inner first more stop last ss
+    (g.of_procedures rest ks) n.0.0 n.0.1)
+    ∙ ap (over (nest_procedure (marks ss) (g.procedure (g.heading g.gives_nothing proc at name p w end) outer begin
+    inner first more stop last))) (complete-procedures rest ss ks n.1 q)
+complete-procedures (g.more_procedures (g.procedure (g.heading (g.gives_int int) proc at name p w end) outer begin
+    inner first more stop last) rest) ss ks n q =
+    ap (over (λ ls. marks ss ∷ marks ss ∷ ls))
+    (complete-procedure at name p w end outer begin inner first more stop last ss (g.of_procedures rest ks) n.0.0
+    n.0.1)
+    ∙ ap (over (nest_procedure (marks ss) (g.procedure (g.heading (g.gives_int int) proc at name p w end) outer begin
+    inner first more stop last))) (complete-procedures rest ss ks n.1 q)
 
 -- the first procedure may stand where a line of globals may
 procedures-begin : (ps : g.Procedures) (ss : Stack) (ks : List Token) → Leaves lines_step ks → Leaves procedures_step ks
     → trace (sym.Lines ∷ ss) (g.of_procedures ps ks) ≡ trace (sym.Procedures ∷ ss) (g.of_procedures ps ks)
-procedures-begin g.no_procedures ss ks q r = gives_way sym.Lines ss ks q refl ∙ sym (gives_way sym.Procedures ss ks r refl)
-procedures-begin (g.more_procedures (g.procedure (g.heading g.gives_nothing proc at name p w end) outer begin inner first more stop last) rest) ss ks q r = refl
-procedures-begin (g.more_procedures (g.procedure (g.heading (g.gives_int int) proc at name p w end) outer begin inner first more stop last) rest) ss ks q r = refl
+procedures-begin g.no_procedures ss ks q r =
+    gives_way sym.Lines ss ks q refl ∙ sym (gives_way sym.Procedures ss ks r refl)
+procedures-begin (g.more_procedures (g.procedure (g.heading g.gives_nothing proc at name p w end) outer begin inner
+    first more stop last) rest) ss ks q r = refl
+procedures-begin (g.more_procedures (g.procedure (g.heading (g.gives_int int) proc at name p w end) outer begin inner
+    first more stop last) rest) ss ks q r = refl
 
-complete-lines : (ls : g.Lines) (ps : g.Procedures) (ss : Stack) (ks : List Token) → g.IsNearestIn ps → Leaves lines_step ks → Leaves procedures_step ks
-    → trace (sym.Lines ∷ ss) (g.of_lines ls (g.of_procedures ps ks)) ≡ over (λ l. nest_lines (marks ss) ls (nest_procedures (marks ss) ps l)) (trace ss ks)
+complete-lines : (ls : g.Lines) (ps : g.Procedures) (ss : Stack) (ks : List Token) → g.IsNearestIn ps
+    → Leaves lines_step ks → Leaves procedures_step ks
+    → trace (sym.Lines ∷ ss) (g.of_lines ls (g.of_procedures ps ks))
+    ≡ over (λ l. nest_lines (marks ss) ls (nest_procedures (marks ss) ps l)) (trace ss ks)
 complete-lines g.no_lines ps ss ks n q r = procedures-begin ps ss ks q r ∙ complete-procedures ps ss ks n r
 complete-lines (g.more_lines (g.int_line int (g.item at name b) more end) rest) ps ss ks n q r =
     let m : ℕ = marks ss in
     let rests : List Token = tok.Semicolon end ∷ g.of_lines rest (g.of_procedures ps ks) in
     ap (over (λ ls. m ∷ m ∷ ls))
-    (complete-bounds b (sym.ItemsTail ∷ sym.WantSemicolon ∷ sym.Lines ∷ ss) (g.of_items more rests) (leaves-bounds more rests refl)
+    (complete-bounds b (sym.ItemsTail ∷ sym.WantSemicolon ∷ sym.Lines ∷ ss) (g.of_items more rests)
+    (leaves-bounds more rests refl)
     ∙ ap (over (nest_bounds m b))
     (complete-items more (sym.WantSemicolon ∷ sym.Lines ∷ ss) rests refl refl
     ∙ ap (over (λ ls. nest_items m more (m ∷ ls))) (complete-lines rest ps ss ks n q r)))

@@ -1,5 +1,6 @@
 -- Where nothing is to come the last token was the end.
-use Rattle.std.proofs.Common.{◌≡◌, ◌⊎◌, inl, inr, Bool, true, false, List, [], ◌∷◌, ◌++◌, Option, Some, None, refl, sym, ap, ◌∙◌, append_assoc}
+use Rattle.std.proofs.Common.{◌≡◌, ◌⊎◌, inl, inr, Bool, true, false, List, [], ◌∷◌, ◌++◌, Option, Some, None, refl, sym}
+use Rattle.std.proofs.Common.{ap, ◌∙◌, append_assoc}
 use Rattle.std.proofs.lemmas.Option.{none-some}
 use Rattle.tal_tokens.specs.declared.token.At.{At}
 use Rattle.tal_tokens.specs.declared.token.Token.{Token}
@@ -23,7 +24,8 @@ stays-last : (k : Token) → Stays k (fed_by (finish_step k) false [] None)
 stays-last (tok.Finish at) = inr (at, refl, refl)
 stays-last _ = tt
 
-stays-by : (k : Token) (o : Option Stack) (b : Bool) (front : Stack) (later : Option Stack) → Stays k later → Stays k (fed_by o b (front ++ sym.WantFinish ∷ []) later)
+stays-by : (k : Token) (o : Option Stack) (b : Bool) (front : Stack) (later : Option Stack) → Stays k later
+    → Stays k (fed_by o b (front ++ sym.WantFinish ∷ []) later)
 stays-by k (Some ts) b front later h = inl (ts ++ front, sym (append_assoc ts front (sym.WantFinish ∷ [])))
 stays-by k None true front later h = h
 stays-by k None false front later h = tt
@@ -68,5 +70,6 @@ ended-from [] front e = absurd (not-bare front (ap some_front e))
 ended-from (k ∷ ks) front e =
     ended-on k ks (feed k (front ++ sym.WantFinish ∷ [])) (stays k front) e (ended-from ks)
 
-pub ended : (ks : List Token) → (trace start ks).0 ≡ Some [] → (front : List Token) × (at : At) × (ks ≡ front ++ tok.Finish at ∷ [])
+pub ended : (ks : List Token) → (trace start ks).0 ≡ Some []
+    → (front : List Token) × (at : At) × (ks ≡ front ++ tok.Finish at ∷ [])
 ended ks e = ended-from ks (sym.Lines ∷ []) e

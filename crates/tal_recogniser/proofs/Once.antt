@@ -1,9 +1,11 @@
 -- Tokens are judged in one way.
-use Rattle.std.proofs.Common.{◌≡◌, ◌⊎◌, inl, inr, ℕ, zero, suc, ◌+◌, ◌<◌, ◌≤◌, List, [], ◌∷◌, ◌++◌, length, take, get_or, Option, Some, None, refl, sym, ap, ◌∙◌, arith, append_assoc, append-nil}
+use Rattle.std.proofs.Common.{◌≡◌, ◌⊎◌, inl, inr, ℕ, zero, suc, ◌+◌, ◌<◌, ◌≤◌, List, [], ◌∷◌, ◌++◌, length, take}
+use Rattle.std.proofs.Common.{get_or, Option, Some, None, refl, sym, ap, ◌∙◌, arith, append_assoc, append-nil}
 use Rattle.std.proofs.lemmas.List.{length-take-le, take_all}
 use Rattle.tal_tokens.specs.declared.token.Token.{Token}
 use Rattle.tal_syntax.specs.Nesting.{nest_text}
-use Rattle.tal_syntax.specs.Expected.{AllAtMost, Viable, IsWithin, Begins, IsUnexpected, IsTooDeep, too_deep, IsUnfinished}
+use Rattle.tal_syntax.specs.Expected.{AllAtMost, Viable, IsWithin, Begins, IsUnexpected, IsTooDeep, too_deep}
+use Rattle.tal_syntax.specs.Expected.{IsUnfinished}
 use Rattle.tal_recogniser.specs.ExpressionTable.{Stack}
 use Rattle.tal_recogniser.specs.Machine.{trace, start}
 use Rattle.tal_recogniser.specs.Judged.{Judged, deepest}
@@ -24,7 +26,8 @@ fewer : (ks : List Token) (i j : ℕ) → i ≤ j → length (take i ks) ≤ len
 fewer ks zero j h = omega arith
 fewer ks (suc i) zero h = absurd (omega arith)
 fewer [] (suc i) (suc j) h = omega arith
-fewer (k ∷ ks) (suc i) (suc j) h = let r : length (take i ks) ≤ length (take j ks) = fewer ks i j (omega arith) in omega arith
+fewer (k ∷ ks) (suc i) (suc j) h =
+    let r : length (take i ks) ≤ length (take j ks) = fewer ks i j (omega arith) in omega arith
 
 all-fewer : (m : ℕ) (ls : List ℕ) (i j : ℕ) → i ≤ j → AllAtMost m (take j ls) → AllAtMost m (take i ls)
 all-fewer m ls zero j h a = tt
@@ -50,7 +53,8 @@ begins-fewer m ks i j h (t, more, n, e, a) =
 viable-begins : (m : ℕ) (ks : List Token) → Begins m ks → Viable ks
 viable-begins m ks (t, more, n, e, a) = (t, more, n, e)
 
-reached-by : (ks : List Token) (o : Option Stack) → (trace start ks).0 ≡ o → Viable ks → (ss : Stack) × ((trace start ks).0 ≡ Some ss)
+reached-by : (ks : List Token) (o : Option Stack) → (trace start ks).0 ≡ o → Viable ks
+    → (ss : Stack) × ((trace start ks).0 ≡ Some ss)
 reached-by ks None r v = absurd (not-viable ks r v)
 reached-by ks (Some ss) r v = (ss, r)
 
@@ -100,7 +104,8 @@ one-reach m ks i j r q = one-of m ks i j r q (apart i j)
 
 -- what begins a text to its end stops nowhere before
 no-reach : (m : ℕ) (ks : List Token) (k : ℕ) → Begins m ks → Reach m ks k → ⊥
-no-reach m ks k b (reach h c n) = n (begins-fewer m ks (k + 1) (length ks) (omega arith) (rw (take_all (length ks) ks (omega arith)) b))
+no-reach m ks k b (reach h c n) =
+    n (begins-fewer m ks (k + 1) (length ks) (omega arith) (rw (take_all (length ks) ks (omega arith)) b))
 
 all-take : (m : ℕ) (ls : List ℕ) (i : ℕ) → AllAtMost m ls → AllAtMost m (take i ls)
 all-take m ls zero a = tt
@@ -128,17 +133,25 @@ not-both m ks i j u d =
 pub one_judgement : (ks : List Token) (i j : Judgement) → Judged ks i → Judged ks j → i ≡ j
 one_judgement ks Fine Fine a b = refl
 one_judgement ks Fine Unfinished a b = absurd (no-end deepest ks a b)
-one_judgement ks Fine (Unexpected j) a b = absurd (no-reach deepest ks j (within-begins deepest ks a) (reach-unexpected deepest ks j b))
-one_judgement ks Fine (TooDeep j) a b = absurd (no-reach deepest ks j (within-begins deepest ks a) (reach-deep deepest ks j b))
+one_judgement ks Fine (Unexpected j) a b =
+    absurd (no-reach deepest ks j (within-begins deepest ks a) (reach-unexpected deepest ks j b))
+one_judgement ks Fine (TooDeep j) a b =
+    absurd (no-reach deepest ks j (within-begins deepest ks a) (reach-deep deepest ks j b))
 one_judgement ks Unfinished Fine a b = absurd (no-end deepest ks b a)
 one_judgement ks Unfinished Unfinished a b = refl
-one_judgement ks Unfinished (Unexpected j) a b = absurd (no-reach deepest ks j a.begins (reach-unexpected deepest ks j b))
+one_judgement ks Unfinished (Unexpected j) a b =
+    absurd (no-reach deepest ks j a.begins (reach-unexpected deepest ks j b))
 one_judgement ks Unfinished (TooDeep j) a b = absurd (no-reach deepest ks j a.begins (reach-deep deepest ks j b))
-one_judgement ks (Unexpected i) Fine a b = absurd (no-reach deepest ks i (within-begins deepest ks b) (reach-unexpected deepest ks i a))
-one_judgement ks (Unexpected i) Unfinished a b = absurd (no-reach deepest ks i b.begins (reach-unexpected deepest ks i a))
-one_judgement ks (Unexpected i) (Unexpected j) a b = ap Unexpected (one-reach deepest ks i j (reach-unexpected deepest ks i a) (reach-unexpected deepest ks j b))
+one_judgement ks (Unexpected i) Fine a b =
+    absurd (no-reach deepest ks i (within-begins deepest ks b) (reach-unexpected deepest ks i a))
+one_judgement ks (Unexpected i) Unfinished a b =
+    absurd (no-reach deepest ks i b.begins (reach-unexpected deepest ks i a))
+one_judgement ks (Unexpected i) (Unexpected j) a b =
+    ap Unexpected (one-reach deepest ks i j (reach-unexpected deepest ks i a) (reach-unexpected deepest ks j b))
 one_judgement ks (Unexpected i) (TooDeep j) a b = absurd (not-both deepest ks i j a b)
-one_judgement ks (TooDeep i) Fine a b = absurd (no-reach deepest ks i (within-begins deepest ks b) (reach-deep deepest ks i a))
+one_judgement ks (TooDeep i) Fine a b =
+    absurd (no-reach deepest ks i (within-begins deepest ks b) (reach-deep deepest ks i a))
 one_judgement ks (TooDeep i) Unfinished a b = absurd (no-reach deepest ks i b.begins (reach-deep deepest ks i a))
 one_judgement ks (TooDeep i) (Unexpected j) a b = absurd (not-both deepest ks j i b a)
-one_judgement ks (TooDeep i) (TooDeep j) a b = ap TooDeep (one-reach deepest ks i j (reach-deep deepest ks i a) (reach-deep deepest ks j b))
+one_judgement ks (TooDeep i) (TooDeep j) a b =
+    ap TooDeep (one-reach deepest ks i j (reach-deep deepest ks i a) (reach-deep deepest ks j b))

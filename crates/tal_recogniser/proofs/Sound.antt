@@ -6,10 +6,17 @@ use Rattle.tal_recogniser.specs.declared.symbol.Symbol.TheVariants as sym
 use Rattle.tal_recogniser.specs.ExpressionTable.{Stack}
 use Rattle.tal_recogniser.specs.Machine.{step, vanishes, fed_by, feed, noted, trace}
 use Rattle.tal_recogniser.proofs.Things.{Things, of_things, Made, Steps, closing, closed}
-use Rattle.tal_recogniser.proofs.SoundExpressions.{sound-neg, sound-or, sound-and, sound-rel, sound-term, sound-times, sound-factor, sound-index}
-use Rattle.tal_recogniser.proofs.SoundStatements.{sound-statement, sound-row, sound-else, sound-right, sound-right-tail, sound-answer, sound-argument, sound-arguments, sound-further, sound-values}
-use Rattle.tal_recogniser.proofs.SoundDeclarations.{sound-lines, sound-after-int, sound-procedures, sound-bounds, sound-items, sound-constant, sound-atom, sound-literals, sound-parameters, sound-names, sound-main, sound-locals}
-use Rattle.tal_recogniser.proofs.SoundWanted.{sound-name, sound-begin, sound-end, sound-then, sound-do, sound-to, sound-proc, sound-assign, sound-equal, sound-close, sound-close-index, sound-semicolon, sound-colon, sound-finish}
+use Rattle.tal_recogniser.proofs.SoundExpressions.{sound-neg, sound-or, sound-and, sound-rel, sound-term, sound-times}
+use Rattle.tal_recogniser.proofs.SoundExpressions.{sound-factor, sound-index}
+use Rattle.tal_recogniser.proofs.SoundStatements.{sound-statement, sound-row, sound-else, sound-right, sound-right-tail}
+use Rattle.tal_recogniser.proofs.SoundStatements.{sound-answer, sound-argument, sound-arguments, sound-further}
+use Rattle.tal_recogniser.proofs.SoundStatements.{sound-values}
+use Rattle.tal_recogniser.proofs.SoundDeclarations.{sound-lines, sound-after-int, sound-procedures, sound-bounds}
+use Rattle.tal_recogniser.proofs.SoundDeclarations.{sound-items, sound-constant, sound-atom, sound-literals}
+use Rattle.tal_recogniser.proofs.SoundDeclarations.{sound-parameters, sound-names, sound-main, sound-locals}
+use Rattle.tal_recogniser.proofs.SoundWanted.{sound-name, sound-begin, sound-end, sound-then, sound-do, sound-to}
+use Rattle.tal_recogniser.proofs.SoundWanted.{sound-proc, sound-assign, sound-equal, sound-close, sound-close-index}
+use Rattle.tal_recogniser.proofs.SoundWanted.{sound-semicolon, sound-colon, sound-finish}
 
 pub sound-step : (s : Symbol) (k : Token) (ss : Stack) → Steps s k ss (step s k)
 sound-step sym.LevelEnd k ss = tt
@@ -63,22 +70,26 @@ abbrev pub Back : Stack → List Token → Option Stack → Type 0
 Back ss ks None = Unit {0}
 Back ss ks (Some ts) = (x : Things ts) → Made ss (ks ++ of_things ts x)
 
-fed-back : (s : Symbol) (k : Token) (ss : Stack) (o : Option Stack) → Steps s k ss o → (b : Bool) → vanishes s ≡ b → (later : Option Stack) → Back ss (k ∷ []) later
+fed-back : (s : Symbol) (k : Token) (ss : Stack) (o : Option Stack) → Steps s k ss o → (b : Bool) → vanishes s ≡ b
+    → (later : Option Stack) → Back ss (k ∷ []) later
     → Back (s ∷ ss) (k ∷ []) (fed_by o b ss later)
 fed-back s k ss (Some ts) h b e later m = h.1
 fed-back s k ss None h true e None m = tt
-fed-back s k ss None h true e (Some ts) m = λ x. ((closing s, (m x).0), closed s (rw e tt) (of_things ss (m x).0) ∙ (m x).1)
+fed-back s k ss None h true e (Some ts) m =
+    λ x. ((closing s, (m x).0), closed s (rw e tt) (of_things ss (m x).0) ∙ (m x).1)
 fed-back s k ss None h false e later m = tt
 
 sound-feed : (k : Token) (ss : Stack) → Back ss (k ∷ []) (feed k ss)
 sound-feed k [] = tt
 sound-feed k (s ∷ ss) = fed-back s k ss (step s k) (sound-step s k ss) (vanishes s) refl (feed k ss) (sound-feed k ss)
 
-then-back : (ss ts : Stack) (k : Token) (ks : List Token) (o : Option Stack) → ((x : Things ts) → Made ss (k ∷ of_things ts x)) → Back ts ks o → Back ss (k ∷ ks) o
+then-back : (ss ts : Stack) (k : Token) (ks : List Token) (o : Option Stack)
+    → ((x : Things ts) → Made ss (k ∷ of_things ts x)) → Back ts ks o → Back ss (k ∷ ks) o
 then-back ss ts k ks None m n = tt
 then-back ss ts k ks (Some us) m n = λ x. ((m (n x).0).0, (m (n x).0).1 ∙ ap (λ l. k ∷ l) (n x).1)
 
-ran : (ss : Stack) (k : Token) (ks : List Token) (o : Option Stack) → Back ss (k ∷ []) o → ((ts : Stack) → Back ts ks (trace ts ks).0)
+ran : (ss : Stack) (k : Token) (ks : List Token) (o : Option Stack) → Back ss (k ∷ []) o
+    → ((ts : Stack) → Back ts ks (trace ts ks).0)
     → Back ss (k ∷ ks) (noted o (λ ts. trace ts ks)).0
 ran ss k ks None m go = tt
 ran ss k ks (Some ts) m go = then-back ss ts k ks (trace ts ks).0 m (go ts)

@@ -6,14 +6,17 @@ use Rattle.tal_tokens.specs.declared.token.Token.TheVariants as tok
 use Rattle.tal_syntax.specs.Grammar as g
 use Rattle.tal_recogniser.specs.declared.symbol.Symbol.TheVariants as sym
 use Rattle.tal_recogniser.specs.ExpressionTable.{Stack}
-use Rattle.tal_recogniser.specs.DeclarationTable.{procedure_on, lines_step, after_int_step, procedures_step, bounds_step, items_step, atom_step, constant_step, literals_step, parameters_step, names_step, main_step, locals_step}
+use Rattle.tal_recogniser.specs.DeclarationTable.{procedure_on, lines_step, after_int_step, procedures_step}
+use Rattle.tal_recogniser.specs.DeclarationTable.{bounds_step, items_step, atom_step, constant_step, literals_step}
+use Rattle.tal_recogniser.specs.DeclarationTable.{parameters_step, names_step, main_step, locals_step}
 use Rattle.tal_recogniser.proofs.Things.{Things, of_things, Made, Steps, NearProcedures, listing, proceeding}
 
 -- the procedures of which the first is what stands after its PROC
 abbrev procedures_from : (ss : Stack) → At → Things (procedure_on ++ ss) → g.Gives → NearProcedures
 procedures_from ss proc x gives = (
   g.more_procedures
-      (g.procedure (g.heading gives proc x.0.0 x.0.1 x.1.0 x.1.1.0 x.1.1.1.0) x.1.1.1.1.0 x.1.1.1.1.1.0 x.1.1.1.1.1.1.0 x.1.1.1.1.1.1.1.0.0 x.1.1.1.1.1.1.1.1.0.0 x.1.1.1.1.1.1.1.1.1.0 x.1.1.1.1.1.1.1.1.1.1.0)
+      (g.procedure (g.heading gives proc x.0.0 x.0.1 x.1.0 x.1.1.0 x.1.1.1.0) x.1.1.1.1.0 x.1.1.1.1.1.0 x.1.1.1.1.1.1.0
+      x.1.1.1.1.1.1.1.0.0 x.1.1.1.1.1.1.1.1.0.0 x.1.1.1.1.1.1.1.1.1.0 x.1.1.1.1.1.1.1.1.1.1.0)
       x.1.1.1.1.1.1.1.1.1.1.1.0.0,
   ((x.1.1.1.1.1.1.1.0.1, x.1.1.1.1.1.1.1.1.0.1), x.1.1.1.1.1.1.1.1.1.1.1.0.1),
 )
@@ -22,25 +25,43 @@ abbrev after_procedures : (ss : Stack) → Things (procedure_on ++ ss) → Thing
 after_procedures ss x = x.1.1.1.1.1.1.1.1.1.1.1.1
 
 pub sound-procedures : (k : Token) (ss : Stack) → Steps sym.Procedures k ss (procedures_step k)
-sound-procedures (tok.Int at) ss = (tt, λ x. ((procedures_from ss x.0 x.1 (g.gives_int at), after_procedures ss x.1), refl))
+sound-procedures (tok.Int at) ss =
+    (tt, λ x. ((procedures_from ss x.0 x.1 (g.gives_int at), after_procedures ss x.1), refl))
 sound-procedures (tok.Proc at) ss = (tt, λ x. ((procedures_from ss at x g.gives_nothing, after_procedures ss x), refl))
 sound-procedures _ ss = tt
 
 pub sound-after-int : (k : Token) (ss : Stack) → Steps sym.AfterInt k ss (after_int_step k)
-sound-after-int (tok.Name at name) ss = (tt, λ x. ((listing at name x.0 x.1.0 x.1.1.0 x.1.1.1.0.0 x.1.1.1.0.1, x.1.1.1.1), refl))
-sound-after-int (tok.Proc at) ss = (tt, λ x. ((proceeding (procedures_from ss at x) (λ int ks. refl), after_procedures ss x), refl))
+sound-after-int (tok.Name at name) ss =
+    (tt, λ x. ((listing at name x.0 x.1.0 x.1.1.0 x.1.1.1.0.0 x.1.1.1.0.1, x.1.1.1.1), refl))
+sound-after-int (tok.Proc at) ss =
+    (tt, λ x. ((proceeding (procedures_from ss at x) (λ int ks. refl), after_procedures ss x), refl))
 sound-after-int _ ss = tt
 
 -- a line of items, or the first procedure, from its INT on
-from_int : (at : At) (ss : Stack) (x : Things (sym.AfterInt ∷ ss)) → Made (sym.Lines ∷ ss) (tok.Int at ∷ of_things (sym.AfterInt ∷ ss) x)
-from_int at ss (listing name_at name b more end ls ps, rest) = (((g.more_lines (g.int_line at (g.item name_at name b) more end) ls, ps), rest), refl)
+from_int : (at : At) (ss : Stack) (x : Things (sym.AfterInt ∷ ss))
+    → Made (sym.Lines ∷ ss) (tok.Int at ∷ of_things (sym.AfterInt ∷ ss) x)
+from_int at ss (listing name_at name b more end ls ps, rest) =
+    (((g.more_lines (g.int_line at (g.item name_at name b) more end) ls, ps), rest), refl)
 from_int at ss (proceeding from same, rest) = (((g.no_lines, from (g.gives_int at)), rest), same at (of_things ss rest))
 
 pub sound-lines : (k : Token) (ss : Stack) → Steps sym.Lines k ss (lines_step k)
 sound-lines (tok.Int at) ss = (tt, from_int at ss)
-sound-lines (tok.Literal at) ss =
-    (tt, λ x. (((g.more_lines (g.literal_line at (g.literal x.0.0 x.0.1 x.1.0 x.1.1.0) x.1.1.1.0 x.1.1.1.1.0) x.1.1.1.1.1.0.0, x.1.1.1.1.1.0.1), x.1.1.1.1.1.1), refl))
-sound-lines (tok.Proc at) ss = (tt, λ x. (((g.no_lines, procedures_from ss at x g.gives_nothing), after_procedures ss x), refl))
+sound-lines (tok.Literal at) ss = (
+  tt,
+  λ x. (
+    (
+      (
+        g.more_lines (g.literal_line at (g.literal x.0.0 x.0.1 x.1.0 x.1.1.0) x.1.1.1.0 x.1.1.1.1.0)
+            x.1.1.1.1.1.0.0,
+        x.1.1.1.1.1.0.1,
+      ),
+      x.1.1.1.1.1.1,
+    ),
+    refl,
+  ),
+)
+sound-lines (tok.Proc at) ss =
+    (tt, λ x. (((g.no_lines, procedures_from ss at x g.gives_nothing), after_procedures ss x), refl))
 sound-lines _ ss = tt
 
 pub sound-bounds : (k : Token) (ss : Stack) → Steps sym.BoundsTail k ss (bounds_step k)
@@ -63,7 +84,8 @@ sound-constant (tok.Name at name) ss = (tt, λ x. ((g.positive (g.known at name)
 sound-constant _ ss = tt
 
 pub sound-literals : (k : Token) (ss : Stack) → Steps sym.LiteralsTail k ss (literals_step k)
-sound-literals (tok.Comma at) ss = (tt, λ x. ((g.more_literals at (g.literal x.0.0 x.0.1 x.1.0 x.1.1.0) x.1.1.1.0, x.1.1.1.1), refl))
+sound-literals (tok.Comma at) ss =
+    (tt, λ x. ((g.more_literals at (g.literal x.0.0 x.0.1 x.1.0 x.1.1.0) x.1.1.1.0, x.1.1.1.1), refl))
 sound-literals _ ss = tt
 
 pub sound-parameters : (k : Token) (ss : Stack) → Steps sym.ParametersTail k ss (parameters_step k)
@@ -79,5 +101,6 @@ sound-main (tok.Main at) ss = (tt, λ x. ((g.is_main at, x), refl))
 sound-main _ ss = tt
 
 pub sound-locals : (k : Token) (ss : Stack) → Steps sym.Locals k ss (locals_step k)
-sound-locals (tok.Int at) ss = (tt, λ x. ((g.more_locals (g.local at x.0.0 x.0.1 x.1.0 x.1.1.0) x.1.1.1.0, x.1.1.1.1), refl))
+sound-locals (tok.Int at) ss =
+    (tt, λ x. ((g.more_locals (g.local at x.0.0 x.0.1 x.1.0 x.1.1.0) x.1.1.1.0, x.1.1.1.1), refl))
 sound-locals _ ss = tt

@@ -4,18 +4,21 @@ use Rattle.tal_tokens.specs.declared.token.Token.{Token}
 use Rattle.tal_tokens.specs.declared.token.Token.TheVariants as tok
 use Rattle.tal_syntax.specs.Grammar as g
 use Rattle.tal_recogniser.specs.declared.symbol.Symbol.TheVariants as sym
-use Rattle.tal_recogniser.specs.ExpressionTable.{Stack, factor_step, index_step, times_step, term_step, rel_step, neg_step, and_step, or_step}
+use Rattle.tal_recogniser.specs.ExpressionTable.{Stack, factor_step, index_step, times_step, term_step, rel_step}
+use Rattle.tal_recogniser.specs.ExpressionTable.{neg_step, and_step, or_step}
 use Rattle.tal_recogniser.proofs.Things.{Made, Steps}
 
 pub sound-factor : (k : Token) (ss : Stack) → Steps sym.Factor k ss (factor_step k)
 sound-factor (tok.Minus at) ss = (tt, λ x. ((g.minus at x.0, x.1.1), refl))
 sound-factor (tok.Number at n) ss = (tt, λ x. ((g.number at n, x), refl))
 sound-factor (tok.Name at name) ss = (tt, λ x. ((g.read (g.spot at name x.0), x.1), refl))
-sound-factor (tok.Open at) ss = (tt, λ x. ((g.parens at (g.expr (g.both x.0 x.1.0) x.1.1.0) x.1.1.1.0, x.1.1.1.1.1), refl))
+sound-factor (tok.Open at) ss =
+    (tt, λ x. ((g.parens at (g.expr (g.both x.0 x.1.0) x.1.1.0) x.1.1.1.0, x.1.1.1.1.1), refl))
 sound-factor _ ss = tt
 
 pub sound-index : (k : Token) (ss : Stack) → Steps sym.IndexTail k ss (index_step k)
-sound-index (tok.OpenIndex at) ss = (tt, λ x. ((g.index at (g.expr (g.both x.0 x.1.0) x.1.1.0) x.1.1.1.0, x.1.1.1.1.1), refl))
+sound-index (tok.OpenIndex at) ss =
+    (tt, λ x. ((g.index at (g.expr (g.both x.0 x.1.0) x.1.1.0) x.1.1.1.0, x.1.1.1.1.1), refl))
 sound-index _ ss = tt
 
 pub sound-times : (k : Token) (ss : Stack) → Steps sym.TimesTail k ss (times_step k)
@@ -29,16 +32,22 @@ sound-term (tok.Minus at) ss = (tt, λ x. ((g.more_terms (g.dash at) (g.product 
 sound-term _ ss = tt
 
 pub sound-rel : (k : Token) (ss : Stack) → Steps sym.RelTail k ss (rel_step k)
-sound-rel (tok.Equal at) ss = (tt, λ x. ((g.compared (g.equal at) (g.sum (g.product x.0 x.1.0) x.1.1.0), x.1.1.1), refl))
-sound-rel (tok.Differs at) ss = (tt, λ x. ((g.compared (g.differs at) (g.sum (g.product x.0 x.1.0) x.1.1.0), x.1.1.1), refl))
+sound-rel (tok.Equal at) ss =
+    (tt, λ x. ((g.compared (g.equal at) (g.sum (g.product x.0 x.1.0) x.1.1.0), x.1.1.1), refl))
+sound-rel (tok.Differs at) ss =
+    (tt, λ x. ((g.compared (g.differs at) (g.sum (g.product x.0 x.1.0) x.1.1.0), x.1.1.1), refl))
 sound-rel (tok.Less at) ss = (tt, λ x. ((g.compared (g.less at) (g.sum (g.product x.0 x.1.0) x.1.1.0), x.1.1.1), refl))
-sound-rel (tok.AtMost at) ss = (tt, λ x. ((g.compared (g.at_most at) (g.sum (g.product x.0 x.1.0) x.1.1.0), x.1.1.1), refl))
-sound-rel (tok.Greater at) ss = (tt, λ x. ((g.compared (g.greater at) (g.sum (g.product x.0 x.1.0) x.1.1.0), x.1.1.1), refl))
-sound-rel (tok.AtLeast at) ss = (tt, λ x. ((g.compared (g.at_least at) (g.sum (g.product x.0 x.1.0) x.1.1.0), x.1.1.1), refl))
+sound-rel (tok.AtMost at) ss =
+    (tt, λ x. ((g.compared (g.at_most at) (g.sum (g.product x.0 x.1.0) x.1.1.0), x.1.1.1), refl))
+sound-rel (tok.Greater at) ss =
+    (tt, λ x. ((g.compared (g.greater at) (g.sum (g.product x.0 x.1.0) x.1.1.0), x.1.1.1), refl))
+sound-rel (tok.AtLeast at) ss =
+    (tt, λ x. ((g.compared (g.at_least at) (g.sum (g.product x.0 x.1.0) x.1.1.0), x.1.1.1), refl))
 sound-rel _ ss = tt
 
 -- a relation is its first factor with what goes on behind it
-as_neg : (ss : Stack) (ks : List Token) → Made (sym.Factor ∷ sym.TimesTail ∷ sym.TermTail ∷ sym.RelTail ∷ ss) ks → Made (sym.Neg ∷ ss) ks
+as_neg : (ss : Stack) (ks : List Token) → Made (sym.Factor ∷ sym.TimesTail ∷ sym.TermTail ∷ sym.RelTail ∷ ss) ks
+    → Made (sym.Neg ∷ ss) ks
 as_neg ss ks m = ((g.relation (g.sum (g.product m.0.0 m.0.1.0) m.0.1.1.0) m.0.1.1.1.0, m.0.1.1.1.1), m.1)
 
 abbrev sum_on : Stack → Stack

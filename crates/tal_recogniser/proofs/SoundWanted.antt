@@ -4,7 +4,9 @@ use Rattle.tal_tokens.specs.declared.token.Token.{Token}
 use Rattle.tal_tokens.specs.declared.token.Token.TheVariants as tok
 use Rattle.tal_recogniser.specs.declared.symbol.Symbol.TheVariants as sym
 use Rattle.tal_recogniser.specs.ExpressionTable.{Stack}
-use Rattle.tal_recogniser.specs.WantedTable.{name_step, begin_step, end_step, then_step, do_step, to_step, proc_step, assign_step, equal_step, close_step, close_index_step, semicolon_step, colon_step, finish_step}
+use Rattle.tal_recogniser.specs.WantedTable.{name_step, begin_step, end_step, then_step, do_step, to_step, proc_step}
+use Rattle.tal_recogniser.specs.WantedTable.{assign_step, equal_step, close_step, close_index_step, semicolon_step}
+use Rattle.tal_recogniser.specs.WantedTable.{colon_step, finish_step}
 use Rattle.tal_recogniser.proofs.Things.{Steps}
 
 pub sound-name : (k : Token) (ss : Stack) → Steps sym.WantName k ss (name_step k)

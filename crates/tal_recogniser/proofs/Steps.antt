@@ -4,7 +4,8 @@ use Rattle.tal_tokens.specs.declared.token.Token.{Token}
 use Rattle.tal_recogniser.specs.declared.symbol.Symbol.{Symbol}
 use Rattle.tal_recogniser.specs.declared.symbol.Symbol.TheVariants as sym
 use Rattle.tal_recogniser.specs.ExpressionTable.{Stack, index_step, times_step, term_step, rel_step, and_step, or_step}
-use Rattle.tal_recogniser.specs.StatementTable.{arguments_step, answer_step, right_tail_step, statement_step, else_step, row_step}
+use Rattle.tal_recogniser.specs.StatementTable.{arguments_step, answer_step, right_tail_step, statement_step, else_step}
+use Rattle.tal_recogniser.specs.StatementTable.{row_step}
 use Rattle.tal_recogniser.specs.Machine.{step, vanishes, fed_by, feed, marks, over, noted, trace}
 
 -- the first token isn't one with which a symbol goes on
@@ -31,14 +32,16 @@ abbrev pub QuitsExpr : List Token → Type 0
 QuitsExpr ks = QuitsBoth ks × Leaves or_step ks
 
 -- what needs no token gives way
-pub gives_way : (s : Symbol) (ss : Stack) (ks : List Token) → Leaves (step s) ks → vanishes s ≡ true → trace (s ∷ ss) ks ≡ trace ss ks
+pub gives_way : (s : Symbol) (ss : Stack) (ks : List Token) → Leaves (step s) ks → vanishes s ≡ true
+    → trace (s ∷ ss) ks ≡ trace ss ks
 gives_way s ss [] q v = absurd q
 gives_way s ss (k ∷ ks) q v =
     ap (λ o. noted (fed_by o (vanishes s) ss (feed k ss)) (λ ts. trace ts ks)) q
     ∙ ap (λ b. noted (fed_by None b ss (feed k ss)) (λ ts. trace ts ks)) v
 
 -- the mark of a level that ends
-pub unmarked : (row : Token → Option Stack) (ss : Stack) (ks : List Token) → Leaves row ks → trace (sym.LevelEnd ∷ ss) ks ≡ trace ss ks
+pub unmarked : (row : Token → Option Stack) (ss : Stack) (ks : List Token) → Leaves row ks
+    → trace (sym.LevelEnd ∷ ss) ks ≡ trace ss ks
 unmarked row ss [] q = absurd q
 unmarked row ss (k ∷ ks) q = refl
 

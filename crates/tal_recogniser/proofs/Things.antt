@@ -17,7 +17,8 @@ pub data Right : Type 0 where
 
 abbrev pub of_right : Right → List Token → List Token
 of_right (shown e) ks = g.of_expr e ks
-of_right (called at name start first more close) ks = tok.Name at name ∷ tok.Open start ∷ g.of_expr first (g.of_values more (tok.Close close ∷ ks))
+of_right (called at name start first more close) ks =
+    tok.Name at name ∷ tok.Open start ∷ g.of_expr first (g.of_values more (tok.Close close ∷ ks))
 
 -- a right side after the name that it begins with
 pub data RightRest : Type 0 where
@@ -25,8 +26,10 @@ pub data RightRest : Type 0 where
   going : g.Index → g.Factors → g.Terms → g.Compared → g.Ands → g.Ors → RightRest
 
 abbrev pub of_right_rest : RightRest → List Token → List Token
-of_right_rest (listed start first more close) ks = tok.Open start ∷ g.of_expr first (g.of_values more (tok.Close close ∷ ks))
-of_right_rest (going i fs ts c ns os) ks = g.of_index i (g.of_factors fs (g.of_terms ts (g.of_compared c (g.of_ands ns (g.of_ors os ks)))))
+of_right_rest (listed start first more close) ks =
+    tok.Open start ∷ g.of_expr first (g.of_values more (tok.Close close ∷ ks))
+of_right_rest (going i fs ts c ns os) ks =
+    g.of_index i (g.of_factors fs (g.of_terms ts (g.of_compared c (g.of_ands ns (g.of_ors os ks)))))
 
 abbrev pub NearStatement : Type 0
 NearStatement = (s : g.Statement) × g.IsNearest s
@@ -42,10 +45,12 @@ NearProcedures = (ps : g.Procedures) × g.IsNearestIn ps
 pub data AfterInt : Type 0 where
   listing : At → List ℕ → g.Bounds → g.Items → At → g.Lines → NearProcedures → AfterInt
   proceeding : (from : g.Gives → NearProcedures)
-      → ((at : At) (ks : List Token) → g.of_procedures (from (g.gives_int at)).0 ks ≡ tok.Int at ∷ g.of_procedures (from g.gives_nothing).0 ks) → AfterInt
+      → ((at : At) (ks : List Token) → g.of_procedures (from (g.gives_int at)).0 ks
+      ≡ tok.Int at ∷ g.of_procedures (from g.gives_nothing).0 ks) → AfterInt
 
 abbrev pub of_after_int : AfterInt → List Token → List Token
-of_after_int (listing at name b more end ls ps) ks = tok.Name at name ∷ g.of_bounds b (g.of_items more (tok.Semicolon end ∷ g.of_lines ls (g.of_procedures ps.0 ks)))
+of_after_int (listing at name b more end ls ps) ks =
+    tok.Name at name ∷ g.of_bounds b (g.of_items more (tok.Semicolon end ∷ g.of_lines ls (g.of_procedures ps.0 ks)))
 of_after_int (proceeding from e) ks = g.of_procedures (from g.gives_nothing).0 ks
 
 abbrev pub Thing : Symbol → Type 0

@@ -13,7 +13,8 @@ procedure_on =
 
 abbrev pub lines_step : Token → Option Stack
 lines_step (tok.Int at) = Some (sym.AfterInt ∷ [])
-lines_step (tok.Literal at) = Some (sym.WantName ∷ sym.WantEqual ∷ sym.Constant ∷ sym.LiteralsTail ∷ sym.WantSemicolon ∷ sym.Lines ∷ [])
+lines_step (tok.Literal at) =
+    Some (sym.WantName ∷ sym.WantEqual ∷ sym.Constant ∷ sym.LiteralsTail ∷ sym.WantSemicolon ∷ sym.Lines ∷ [])
 lines_step (tok.Proc at) = Some procedure_on
 lines_step _ = None
 

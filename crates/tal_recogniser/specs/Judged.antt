@@ -6,7 +6,8 @@ use Rattle.tal_recogniser.specs.ExpressionTable.{Stack}
 use Rattle.tal_recogniser.specs.declared.judgement.Judgement.{Judgement}
 use Rattle.tal_recogniser.specs.declared.judgement.Judgement.TheVariants as judgement
 
--- 32 levels of parentheses, unary minus, NOT, indexes and statements inside statements, and that of a procedure's own statement
+-- 32 levels of parentheses, unary minus, NOT, indexes and statements inside statements, and that of a procedure's own
+-- statement
 abbrev pub deepest : ℕ
 deepest = 33
 

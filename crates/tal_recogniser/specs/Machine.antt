@@ -3,9 +3,13 @@ use Rattle.std.specs.Prelude.{ℕ, suc, Bool, true, false, List, [], ◌∷◌, 
 use Rattle.tal_tokens.specs.declared.token.Token.{Token}
 use Rattle.tal_recogniser.specs.declared.symbol.Symbol.{Symbol}
 use Rattle.tal_recogniser.specs.declared.symbol.Symbol.TheVariants as sym
-use Rattle.tal_recogniser.specs.ExpressionTable.{Stack, factor_step, index_step, times_step, term_step, rel_step, neg_step, and_step, or_step}
-use Rattle.tal_recogniser.specs.StatementTable.{argument_step, further_step, arguments_step, values_step, answer_step, right_step, right_tail_step, statement_step, else_step, row_step}
-use Rattle.tal_recogniser.specs.DeclarationTable.{lines_step, after_int_step, procedures_step, bounds_step, items_step, atom_step, constant_step, literals_step, parameters_step, names_step, main_step, locals_step}
+use Rattle.tal_recogniser.specs.ExpressionTable.{Stack, factor_step, index_step, times_step, term_step, rel_step}
+use Rattle.tal_recogniser.specs.ExpressionTable.{neg_step, and_step, or_step}
+use Rattle.tal_recogniser.specs.StatementTable.{argument_step, further_step, arguments_step, values_step, answer_step}
+use Rattle.tal_recogniser.specs.StatementTable.{right_step, right_tail_step, statement_step, else_step, row_step}
+use Rattle.tal_recogniser.specs.DeclarationTable.{lines_step, after_int_step, procedures_step, bounds_step, items_step}
+use Rattle.tal_recogniser.specs.DeclarationTable.{atom_step, constant_step, literals_step, parameters_step, names_step}
+use Rattle.tal_recogniser.specs.DeclarationTable.{main_step, locals_step}
 use Rattle.tal_recogniser.specs.WantedTable.{wanted_step}
 
 -- what stands in a symbol's place after a token

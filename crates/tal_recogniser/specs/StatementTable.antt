@@ -35,11 +35,16 @@ right_step k = behind (sym.AndTail ∷ sym.OrTail ∷ []) (neg_step k)
 abbrev pub right_tail_step : Token → Option Stack
 right_tail_step (tok.Open at) = Some (expr_on (sym.ValuesTail ∷ sym.WantClose ∷ sym.LevelEnd ∷ []))
 right_tail_step (tok.OpenIndex at) =
-    Some (expr_on (sym.WantCloseIndex ∷ sym.LevelEnd ∷ sym.TimesTail ∷ sym.TermTail ∷ sym.RelTail ∷ sym.AndTail ∷ sym.OrTail ∷ []))
-right_tail_step (tok.Star at) = Some (sym.Factor ∷ sym.TimesTail ∷ sym.TermTail ∷ sym.RelTail ∷ sym.AndTail ∷ sym.OrTail ∷ [])
-right_tail_step (tok.Slash at) = Some (sym.Factor ∷ sym.TimesTail ∷ sym.TermTail ∷ sym.RelTail ∷ sym.AndTail ∷ sym.OrTail ∷ [])
-right_tail_step (tok.Plus at) = Some (sym.Factor ∷ sym.TimesTail ∷ sym.TermTail ∷ sym.RelTail ∷ sym.AndTail ∷ sym.OrTail ∷ [])
-right_tail_step (tok.Minus at) = Some (sym.Factor ∷ sym.TimesTail ∷ sym.TermTail ∷ sym.RelTail ∷ sym.AndTail ∷ sym.OrTail ∷ [])
+    Some (expr_on (sym.WantCloseIndex ∷ sym.LevelEnd ∷ sym.TimesTail ∷ sym.TermTail ∷ sym.RelTail ∷ sym.AndTail
+    ∷ sym.OrTail ∷ []))
+right_tail_step (tok.Star at) =
+    Some (sym.Factor ∷ sym.TimesTail ∷ sym.TermTail ∷ sym.RelTail ∷ sym.AndTail ∷ sym.OrTail ∷ [])
+right_tail_step (tok.Slash at) =
+    Some (sym.Factor ∷ sym.TimesTail ∷ sym.TermTail ∷ sym.RelTail ∷ sym.AndTail ∷ sym.OrTail ∷ [])
+right_tail_step (tok.Plus at) =
+    Some (sym.Factor ∷ sym.TimesTail ∷ sym.TermTail ∷ sym.RelTail ∷ sym.AndTail ∷ sym.OrTail ∷ [])
+right_tail_step (tok.Minus at) =
+    Some (sym.Factor ∷ sym.TimesTail ∷ sym.TermTail ∷ sym.RelTail ∷ sym.AndTail ∷ sym.OrTail ∷ [])
 right_tail_step (tok.Equal at) = Some (sym.Factor ∷ sym.TimesTail ∷ sym.TermTail ∷ sym.AndTail ∷ sym.OrTail ∷ [])
 right_tail_step (tok.Differs at) = Some (sym.Factor ∷ sym.TimesTail ∷ sym.TermTail ∷ sym.AndTail ∷ sym.OrTail ∷ [])
 right_tail_step (tok.Less at) = Some (sym.Factor ∷ sym.TimesTail ∷ sym.TermTail ∷ sym.AndTail ∷ sym.OrTail ∷ [])
@@ -55,7 +60,8 @@ statement_step (tok.Begin at) = Some (sym.Statement ∷ sym.RowTail ∷ sym.Want
 statement_step (tok.If at) = Some (expr_on (sym.WantThen ∷ sym.Statement ∷ sym.ElseTail ∷ sym.LevelEnd ∷ []))
 statement_step (tok.While at) = Some (expr_on (sym.WantDo ∷ sym.Statement ∷ sym.LevelEnd ∷ []))
 statement_step (tok.For at) =
-    Some (sym.WantName ∷ sym.WantAssign ∷ expr_on (sym.WantTo ∷ expr_on (sym.WantDo ∷ sym.Statement ∷ sym.LevelEnd ∷ [])))
+    Some (sym.WantName ∷ sym.WantAssign ∷ expr_on
+    (sym.WantTo ∷ expr_on (sym.WantDo ∷ sym.Statement ∷ sym.LevelEnd ∷ [])))
 statement_step (tok.Call at) = Some (sym.WantName ∷ sym.ArgumentsTail ∷ sym.LevelEnd ∷ [])
 statement_step (tok.Return at) = Some (sym.Answer ∷ sym.LevelEnd ∷ [])
 statement_step (tok.Name at name) = Some (sym.IndexTail ∷ sym.WantAssign ∷ sym.Right ∷ sym.LevelEnd ∷ [])

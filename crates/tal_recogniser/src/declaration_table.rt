@@ -1,5 +1,7 @@
 ghost use Rattle.std.specs.Prelude.{◌≡◌, MatchOption, Some, None};
-ghost use Rattle.tal_recogniser.specs.DeclarationTable.{lines_step, after_int_step, procedures_step, bounds_step, items_step, atom_step, constant_step, literals_step, parameters_step, names_step, main_step, locals_step};
+ghost use Rattle.tal_recogniser.specs.DeclarationTable.{lines_step, after_int_step, procedures_step, bounds_step};
+ghost use Rattle.tal_recogniser.specs.DeclarationTable.{items_step, atom_step, constant_step, literals_step};
+ghost use Rattle.tal_recogniser.specs.DeclarationTable.{parameters_step, names_step, main_step, locals_step};
 
 use crate::symbol::Symbol;
 use tal_tokens::Token;

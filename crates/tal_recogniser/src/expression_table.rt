@@ -1,5 +1,6 @@
 ghost use Rattle.std.specs.Prelude.{◌≡◌, MatchOption, Some, None};
-ghost use Rattle.tal_recogniser.specs.ExpressionTable.{factor_step, index_step, times_step, term_step, rel_step, neg_step, and_step, or_step};
+ghost use Rattle.tal_recogniser.specs.ExpressionTable.{factor_step, index_step, times_step, term_step, rel_step};
+ghost use Rattle.tal_recogniser.specs.ExpressionTable.{neg_step, and_step, or_step};
 
 use crate::symbol::Symbol;
 use tal_tokens::Token;

@@ -1,4 +1,5 @@
-/// How tokens are judged: a text of the grammar, the beginning of one, or not so from one token on, by its place in the list.
+/// How tokens are judged: a text of the grammar, the beginning of one, or not so from one token on, by its place in the
+/// list.
 #[derive(Clone, Copy, PartialEq, Eq)]
 pub enum Judgement {
     Fine,

@@ -1,5 +1,7 @@
 ghost use Rattle.std.specs.Prelude.{◌≡◌, MatchOption, Some, None};
-ghost use Rattle.tal_recogniser.specs.StatementTable.{argument_step, further_step, arguments_step, values_step, answer_step, right_step, right_tail_step, statement_step, else_step, row_step};
+ghost use Rattle.tal_recogniser.specs.StatementTable.{argument_step, further_step, arguments_step, values_step};
+ghost use Rattle.tal_recogniser.specs.StatementTable.{answer_step, right_step, right_tail_step, statement_step};
+ghost use Rattle.tal_recogniser.specs.StatementTable.{else_step, row_step};
 
 use crate::symbol::Symbol;
 use tal_tokens::Token;
@@ -114,7 +116,12 @@ pub fn answer_row(token: &Token) -> Option<&'static [Symbol]>
     ensures { MatchOption result (answer_step token.now ≡ None) (λ r. answer_step token.now ≡ Some r.now) }
 {
     match token {
-        Token::Not(_) => Some(&[Symbol::Neg, Symbol::LevelEnd, Symbol::AndTail, Symbol::OrTail]),
+        Token::Not(_) => Some(&[
+            Symbol::Neg,
+            Symbol::LevelEnd,
+            Symbol::AndTail,
+            Symbol::OrTail,
+        ]),
         Token::Minus(_) => Some(&[
             Symbol::Factor,
             Symbol::LevelEnd,

@@ -1,5 +1,7 @@
 ghost use Rattle.std.specs.Prelude.{◌≡◌, MatchOption, Some, None};
-ghost use Rattle.tal_recogniser.specs.WantedTable.{name_step, begin_step, end_step, then_step, do_step, to_step, proc_step, assign_step, equal_step, close_step, close_index_step, semicolon_step, colon_step, finish_step, wanted_step};
+ghost use Rattle.tal_recogniser.specs.WantedTable.{name_step, begin_step, end_step, then_step, do_step, to_step};
+ghost use Rattle.tal_recogniser.specs.WantedTable.{proc_step, assign_step, equal_step, close_step, close_index_step};
+ghost use Rattle.tal_recogniser.specs.WantedTable.{semicolon_step, colon_step, finish_step, wanted_step};
 
 use crate::symbol::Symbol;
 use tal_tokens::Token;
@@ -132,7 +134,8 @@ fn finish_row(token: &Token) -> Option<&'static [Symbol]>
 
 /// What is to come after a token that is wanted by itself: nothing.
 pub fn wanted_row(symbol: Symbol, token: &Token) -> Option<&'static [Symbol]>
-    ensures { MatchOption result (wanted_step symbol token.now ≡ None) (λ r. wanted_step symbol token.now ≡ Some r.now) }
+    ensures { MatchOption result (wanted_step symbol token.now ≡ None)
+        (λ r. wanted_step symbol token.now ≡ Some r.now) }
 {
     match symbol {
         Symbol::WantName => name_row(token),

@@ -15,5 +15,7 @@ no_more : (fs : List RuleFault) → fs ++ [] ++ [] ++ [] ++ [] ++ [] ++ [] ≡ f
 no_more [] = refl
 no_more (f ∷ fs) = ap (λ (hs : List RuleFault). f ∷ hs) (no_more fs)
 
-pub lone-faults : (s : Scope) (e : g.Expr) (x : Named) → name_of_expr e ≡ Some x → value_faults s e ≡ kind_faults need.Readable x.at (meaning_of s x.name)
-lone-faults s e x h = ap (value_faults s) (lone-is e x h) ∙ no_more (kind_faults need.Readable x.at (meaning_of s x.name))
+pub lone-faults : (s : Scope) (e : g.Expr) (x : Named) → name_of_expr e ≡ Some x
+    → value_faults s e ≡ kind_faults need.Readable x.at (meaning_of s x.name)
+lone-faults s e x h =
+    ap (value_faults s) (lone-is e x h) ∙ no_more (kind_faults need.Readable x.at (meaning_of s x.name))

@@ -1,5 +1,6 @@
 -- The faults of calls: of procedures and of the system.
-use Rattle.std.specs.Prelude.{ℕ, ◌+◌, ◌&&◌, ◌||◌, not, ◌==◌, nat_lt, nat_le, Bool, true, false, ℤ, pos, int_le, List, [], ◌∷◌, ◌++◌, length, slice_get, Option, Some, None, is_none}
+use Rattle.std.specs.Prelude.{ℕ, ◌+◌, ◌&&◌, ◌||◌, not, ◌==◌, nat_lt, nat_le, Bool, true, false, ℤ, pos, int_le, List}
+use Rattle.std.specs.Prelude.{[], ◌∷◌, ◌++◌, length, slice_get, Option, Some, None, is_none}
 use Rattle.tal_tokens.specs.declared.token.At.{At}
 use Rattle.tal_syntax.specs.Grammar as g
 use Rattle.tal_names.specs.declared.fault.Rule.TheVariants.{Unknown, Twice, WrongKind, NotBefore, Prologue, Limit}
@@ -23,8 +24,8 @@ use Rattle.tal_names.specs.Names.{Declarations, is_declared, with_name}
 use Rattle.tal_names.specs.Places.{first_of_argument, name_of_argument, front_name_of_argument, constant_of}
 use Rattle.tal_names.specs.Scopes.{meaning_of, name_faults}
 
--- a procedure is called with as many values as it has parameters, on a right side only where it gives a value, and only after
--- its own declaration has ended
+-- a procedure is called with as many values as it has parameters, on a right side only where it gives a value, and only
+-- after its own declaration has ended
 abbrev pub called_faults : Scope → Bool → At → ℕ → Option Meaning → List RuleFault
 called_faults s wants at count None = fault_at at Unknown
 called_faults s wants at count (Some (m.Procedure number gives parameters)) =
@@ -56,8 +57,8 @@ abbrev pub undeclared_faults : Scope → Option Named → List RuleFault
 undeclared_faults s None = []
 undeclared_faults s (Some x) = if_so (is_none (meaning_of s x.name)) (fault_at x.at Unknown)
 
--- an argument of another form than its place needs is WrongKind where it begins, or Unknown where it begins with a name that isn't
--- declared
+-- an argument of another form than its place needs is WrongKind where it begins, or Unknown where it begins with a name
+-- that isn't declared
 abbrev pub misfit_faults : Scope → g.Argument → List RuleFault
 misfit_faults s a = undeclared_faults s (front_name_of_argument a) ++ fault_at (first_of_argument a) WrongKind
 
@@ -82,7 +83,8 @@ count_faults at count arguments = if_so (not (length arguments == count)) (fault
 -- READUPDATE(rcv, buf, max, got)
 abbrev pub read_update_faults : Scope → At → List g.Argument → List RuleFault
 read_update_faults s at arguments =
-    count_faults at 4 arguments ++ name_in s need.Receive (slice_get arguments 0) ++ name_in s need.Array (slice_get arguments 1)
+    count_faults at 4 arguments ++ name_in s need.Receive (slice_get arguments 0)
+    ++ name_in s need.Array (slice_get arguments 1)
     ++ value_in s (slice_get arguments 2) ++ name_in s need.Variable (slice_get arguments 3)
 
 -- REPLY(buf, count)
@@ -93,8 +95,10 @@ reply_faults s at arguments =
 -- WRITEREAD(f, buf, wcount, rcount, got)
 abbrev pub write_read_faults : Scope → At → List g.Argument → List RuleFault
 write_read_faults s at arguments =
-    count_faults at 5 arguments ++ name_in s need.Process (slice_get arguments 0) ++ name_in s need.Array (slice_get arguments 1)
-    ++ value_in s (slice_get arguments 2) ++ value_in s (slice_get arguments 3) ++ name_in s need.Variable (slice_get arguments 4)
+    count_faults at 5 arguments ++ name_in s need.Process (slice_get arguments 0)
+    ++ name_in s need.Array (slice_get arguments 1)
+    ++ value_in s (slice_get arguments 2) ++ value_in s (slice_get arguments 3)
+    ++ name_in s need.Variable (slice_get arguments 4)
 
 -- a name stands once in a CHECKPOINT
 abbrev pub repeated_faults : Declarations → Option Named → List RuleFault
@@ -106,11 +110,13 @@ with_mention before None = before
 with_mention before (Some x) = with_name before x.name (m.Literal (pos 0))
 
 abbrev pub mention_faults : Scope → Declarations → g.Argument → List RuleFault
-mention_faults s before a = named_faults s need.Kept a (name_of_argument a) ++ repeated_faults before (name_of_argument a)
+mention_faults s before a =
+    named_faults s need.Kept a (name_of_argument a) ++ repeated_faults before (name_of_argument a)
 
 abbrev pub checkpoint_faults : Scope → Declarations → List g.Argument → List RuleFault
 checkpoint_faults s before [] = []
-checkpoint_faults s before (a ∷ rest) = mention_faults s before a ++ checkpoint_faults s (with_mention before (name_of_argument a)) rest
+checkpoint_faults s before (a ∷ rest) =
+    mention_faults s before a ++ checkpoint_faults s (with_mention before (name_of_argument a)) rest
 
 -- the string of an OPEN is `$RECEIVE` or the name of a process
 abbrev pub string_faults : Scope → Option g.Argument → List RuleFault
@@ -139,7 +145,8 @@ abbrev pub name_opened : Scope → ℕ → Option Named → Bool
 name_opened s opened None = false
 name_opened s opened (Some x) = number_below (file_number (meaning_of s x.name)) opened
 
--- whether an argument is the variable of one of the files that are opened before; they are numbered in the order of their OPENs
+-- whether an argument is the variable of one of the files that are opened before; they are numbered in the order of
+-- their OPENs
 abbrev pub is_opened : Scope → ℕ → Option g.Argument → Bool
 is_opened s opened None = false
 is_opened s opened (Some a) = name_opened s opened (name_of_argument a)
@@ -174,8 +181,8 @@ abbrev pub takes_open : Stage → Bool
 takes_open stage.Opens = true
 takes_open _ = false
 
--- OPEN("name", f, depth): only one opens `$RECEIVE`, it stands after CHECKMONITOR and other OPENs alone, and its variable is no
--- file's before
+-- OPEN("name", f, depth): only one opens `$RECEIVE`, it stands after CHECKMONITOR and other OPENs alone, and its
+-- variable is no file's before
 abbrev pub open_faults : Scope → Walk → At → List g.Argument → List RuleFault
 open_faults s w at arguments =
     if_so (w.receive && opens_receive (slice_get arguments 0)) (fault_at at Twice)
@@ -201,7 +208,8 @@ system_faults s w at arguments system.WriteRead = write_read_faults s at argumen
 
 -- the faults of a call of a procedure
 abbrev pub procedure_call_faults : Scope → At → List ℕ → List g.Argument → List RuleFault
-procedure_call_faults s at name arguments = called_faults s false at (length arguments) (meaning_of s name) ++ arguments_faults s arguments
+procedure_call_faults s at name arguments =
+    called_faults s false at (length arguments) (meaning_of s name) ++ arguments_faults s arguments
 
 -- the faults of CALL: of the system where the name is its, else of a procedure
 abbrev pub call_faults : Scope → Walk → At → List ℕ → List g.Argument → Option System → List RuleFault

@@ -18,8 +18,8 @@ abbrev pub misplaced : Wanted → List RuleFault
 misplaced Condition = []
 misplaced (Value at) = fault_at at WrongKind
 
--- a chain of OR or AND and a relation are conditions, and their operands are a condition's and a value's places; what stands
--- without an operator hands its place on
+-- a chain of OR or AND and a relation are conditions, and their operands are a condition's and a value's places; what
+-- stands without an operator hands its place on
 abbrev pub ors_misplaced : Wanted → g.Ors → List RuleFault
 ors_misplaced w g.no_ors = []
 ors_misplaced w (g.more_ors at b os) = misplaced w
@@ -75,7 +75,8 @@ module _ (s : Scope) where
 
     pub neg_faults : Wanted → g.Neg → List RuleFault
     neg_faults w (g.negated at n) = misplaced w ++ neg_faults Condition n
-    neg_faults w (g.relation a c) = relation_misplaced w c ++ sum_faults (wanted_by_relation w (first_of_sum a) c) a ++ compared_faults c
+    neg_faults w (g.relation a c) =
+        relation_misplaced w c ++ sum_faults (wanted_by_relation w (first_of_sum a) c) a ++ compared_faults c
 
     pub compared_faults : g.Compared → List RuleFault
     compared_faults g.alone = []
@@ -89,7 +90,8 @@ module _ (s : Scope) where
     terms_faults (g.more_terms sign p ts) = product_faults (Value (first_of_product p)) p ++ terms_faults ts
 
     pub product_faults : Wanted → g.Product → List RuleFault
-    product_faults w (g.product f fs) = factor_faults (wanted_by_factors w (first_of_factor f) fs) f ++ factors_faults fs
+    product_faults w (g.product f fs) =
+        factor_faults (wanted_by_factors w (first_of_factor f) fs) f ++ factors_faults fs
 
     pub factors_faults : g.Factors → List RuleFault
     factors_faults g.no_factors = []

@@ -1,5 +1,6 @@
 -- The numbers of statements, the prologue of the main procedure, and the faults of statements.
-use Rattle.std.specs.Prelude.{ℕ, ◌+◌, ◌||◌, not, nat_lt, true, List, [], ◌++◌, slice_get, Option, Some, None, if◌then◌else◌}
+use Rattle.std.specs.Prelude.{ℕ, ◌+◌, ◌||◌, not, nat_lt, true, List, [], ◌++◌, slice_get, Option, Some, None}
+use Rattle.std.specs.Prelude.{if◌then◌else◌}
 use Rattle.tal_tokens.specs.declared.token.At.{At}
 use Rattle.tal_syntax.specs.Grammar as g
 use Rattle.tal_names.specs.declared.fault.Rule.TheVariants.{WrongKind, Limit}
@@ -50,7 +51,8 @@ abbrev pub stepped : Walk → Walk
 stepped w = record w { number = next_number w.number; stage = stage_after w.stage }
 
 abbrev pub after_call : Walk → List g.Argument → Option System → Walk
-after_call w arguments (Some system.CheckMonitor) = record w { number = next_number w.number; stage = stage_after_monitor w.stage }
+after_call w arguments (Some system.CheckMonitor) =
+    record w { number = next_number w.number; stage = stage_after_monitor w.stage }
 after_call w arguments (Some system.Open) = record {
   number = next_number w.number;
   stage = stage_after_open w.stage;
@@ -75,7 +77,8 @@ return_faults s head (g.answer e) = if_so (not s.gives) (fault_at head WrongKind
 
 -- a right side that is a procedure's name alone is a call of it
 abbrev pub right_by : Scope → g.Expr → At → Option Meaning → List RuleFault
-right_by s e at (Some (m.Procedure number gives parameters)) = called_faults s true at 0 (Some (m.Procedure number gives parameters))
+right_by s e at (Some (m.Procedure number gives parameters)) =
+    called_faults s true at 0 (Some (m.Procedure number gives parameters))
 right_by s e at found = value_faults s e
 
 abbrev pub right_named : Scope → g.Expr → Option Named → List RuleFault
@@ -87,18 +90,21 @@ right_faults s e = right_named s e (name_of_expr e)
 
 -- the faults of statements with no statement inside
 abbrev pub call_statement_faults : Scope → Walk → At → At → List ℕ → List g.Argument → List RuleFault
-call_statement_faults s w head at name arguments = number_faults w.number head ++ call_faults s w at name arguments (system_of name)
+call_statement_faults s w head at name arguments =
+    number_faults w.number head ++ call_faults s w at name arguments (system_of name)
 
 abbrev pub return_statement_faults : Scope → Walk → At → g.Answer → List RuleFault
 return_statement_faults s w head a = number_faults w.number head ++ return_faults s head a
 
 abbrev pub assign_faults : Scope → Walk → g.Spot → g.Expr → List RuleFault
-assign_faults s w target e = number_faults w.number (first_of_spot target) ++ spot_faults s need.Variable target ++ right_faults s e
+assign_faults s w target e =
+    number_faults w.number (first_of_spot target) ++ spot_faults s need.Variable target ++ right_faults s e
 
 abbrev pub assign_call_faults : Scope → Walk → g.Spot → At → List ℕ → g.Expr → g.Values → List RuleFault
 assign_call_faults s w target at name first more =
     number_faults w.number (first_of_spot target) ++ spot_faults s need.Variable target
-    ++ called_faults s true at (values_count more + 1) (meaning_of s name) ++ value_faults s first ++ values_faults s more
+    ++ called_faults s true at (values_count more + 1) (meaning_of s name) ++ value_faults s first
+    ++ values_faults s more
 
 -- the faults of a test, and of the head of a FOR but for its numbers
 abbrev pub test_faults : Scope → Walk → At → g.Expr → List RuleFault
@@ -108,8 +114,8 @@ abbrev pub for_head_faults : Scope → At → List ℕ → g.Expr → g.Expr →
 for_head_faults s at name from to = name_faults s need.Variable at name ++ value_faults s from ++ value_faults s to
 
 module _ (s : Scope) where
-  -- what stands before the statement that follows. FOR has a number, its test has the next, and the assignment that adds to its
-  -- variable has one after its body
+  -- what stands before the statement that follows. FOR has a number, its test has the next, and the assignment that
+  -- adds to its variable has one after its body
   abbrev mutual
     pub after : Walk → g.Statement → Walk
     after w g.nothing = w
@@ -144,7 +150,8 @@ module _ (s : Scope) where
     statement_faults w (g.call head at name a) = call_statement_faults s w head at name (arguments_of a)
     statement_faults w (g.return head a) = return_statement_faults s w head a
     statement_faults w (g.assign target at e) = assign_faults s w target e
-    statement_faults w (g.assign_call target at name_at name start first more close) = assign_call_faults s w target name_at name first more
+    statement_faults w (g.assign_call target at name_at name start first more close) =
+        assign_call_faults s w target name_at name first more
 
     pub else_faults : Walk → g.Otherwise → List RuleFault
     else_faults w g.no_else = []

@@ -15,13 +15,15 @@ use Rattle.tal_rules.specs.declared.walk.Walk.{Walk}
 use Rattle.tal_names.specs.Faults.{fault_at, if_so}
 use Rattle.tal_declarations.specs.Files.{statement_files, row_files}
 use Rattle.tal_declarations.specs.Globals.{lines_faults, with_lines, nothing_declared}
-use Rattle.tal_declarations.specs.Headings.{parameters_of, locals_of, with_locals, locals_faults, does_give, headings_faults, with_headings}
+use Rattle.tal_declarations.specs.Headings.{parameters_of, locals_of, with_locals, locals_faults, does_give}
+use Rattle.tal_declarations.specs.Headings.{headings_faults, with_headings}
 use Rattle.tal_names.specs.Names.{Declarations}
 use Rattle.tal_rules.specs.Statements.{after, after_row, statement_faults, row_faults}
 
 -- what the names of a procedure stand for, among the globals and the files of the text
 abbrev pub locals_by : g.Heading → g.Locals → Declarations
-locals_by (g.heading gives proc at name listed main end) inner = with_locals (with_locals [] (parameters_of listed)) (locals_of inner)
+locals_by (g.heading gives proc at name listed main end) inner =
+    with_locals (with_locals [] (parameters_of listed)) (locals_of inner)
 
 abbrev pub gives_by : g.Heading → Bool
 gives_by (g.heading gives proc at name listed main end) = does_give gives
@@ -41,7 +43,8 @@ procedure_files globals number f (g.procedure h outer begin inner first more end
 
 abbrev pub files_from : Declarations → ℕ → Files → g.Procedures → Files
 files_from globals number f g.no_procedures = f
-files_from globals number f (g.more_procedures p rest) = files_from globals (next_procedure number) (procedure_files globals number f p) rest
+files_from globals number f (g.more_procedures p rest) =
+    files_from globals (next_procedure number) (procedure_files globals number f p) rest
 
 -- whether a heading makes its procedure the main one: it is the first with MAIN
 abbrev pub is_main_by : g.Main → Bool
@@ -87,7 +90,8 @@ abbrev pub procedure_faults : Declarations → Declarations → Progress → g.P
 procedure_faults globals files p (g.procedure h outer begin inner first more end last) =
     heading_locals_faults h outer inner
     ++ body_faults (scope_of globals files p.count h inner) (entered p h) first more
-    ++ if_so (lacks_monitor (body_after (scope_of globals files p.count h inner) (entered p h) first more).stage) (fault_at (name_place h) Prologue)
+    ++ if_so (lacks_monitor (body_after (scope_of globals files p.count h inner) (entered p h) first more).stage)
+    (fault_at (name_place h) Prologue)
 
 -- what stands before the procedure that follows one of a heading, where its statements leave a walk
 abbrev pub passed : Progress → g.Heading → Walk → Progress
@@ -104,7 +108,8 @@ procedures_faults globals files p (g.more_procedures q rest) =
 
 -- what stands before the first procedure
 abbrev pub first_progress : Progress
-first_progress = record { count = 0; has_main = false; walk = record { number = 1; stage = stage.Over; files = 0; receive = false } }
+first_progress =
+    record { count = 0; has_main = false; walk = record { number = 1; stage = stage.Over; files = 0; receive = false } }
 
 -- what the headings declare after the globals, and which files there are
 abbrev pub headed_after : Declared → Headed

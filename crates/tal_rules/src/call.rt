@@ -1,6 +1,13 @@
 ghost use Rattle.std.specs.Prelude.{◌≡◌, [], OnOk, IfOk, Some, option_map, length};
 ghost use Rattle.std.specs.Option.{option_copied};
-ghost use Rattle.tal_rules.specs.Calls.{called_faults, argument_faults, arguments_faults, values_faults, undeclared_faults, misfit_faults, named_faults, name_in, value_in, count_faults, read_update_faults, reply_faults, write_read_faults, repeated_faults, with_mention, mention_faults, checkpoint_faults, string_faults, opens_receive, file_number, number_below, name_opened, is_opened, file_limit, is_depth, depth_limit, depth_faults, is_start, takes_open, open_faults, monitor_faults, system_faults, procedure_call_faults, call_faults};
+ghost use Rattle.tal_rules.specs.Calls.{called_faults, argument_faults, arguments_faults, values_faults};
+ghost use Rattle.tal_rules.specs.Calls.{undeclared_faults, misfit_faults, named_faults, name_in, value_in};
+ghost use Rattle.tal_rules.specs.Calls.{count_faults, read_update_faults, reply_faults, write_read_faults};
+ghost use Rattle.tal_rules.specs.Calls.{repeated_faults, with_mention, mention_faults, checkpoint_faults};
+ghost use Rattle.tal_rules.specs.Calls.{string_faults, opens_receive, file_number, number_below, name_opened};
+ghost use Rattle.tal_rules.specs.Calls.{is_opened, file_limit, is_depth, depth_limit, depth_faults, is_start};
+ghost use Rattle.tal_rules.specs.Calls.{takes_open, open_faults, monitor_faults, system_faults, procedure_call_faults};
+ghost use Rattle.tal_rules.specs.Calls.{call_faults};
 ghost use Rattle.tal_names.specs.Faults.{least};
 ghost use Rattle.tal_names.specs.Places.{arguments_of, further_arguments, name_of_argument, constant_of};
 ghost use Rattle.tal_syntax.specs.Seen.{seen_argument, seen_further, seen_arguments, seen_values, seen_constant};
@@ -275,7 +282,8 @@ fn judge_mention(
     argument: &Argument,
     so_far: Option<RuleFault>,
 ) -> Result<Option<RuleFault>, NoMemory>
-    ensures least { IfOk result (λ o. o ≡ least so_far (mention_faults scope.now before.old (seen_argument argument.now))) }
+    ensures least { IfOk result (λ o. o ≡ least so_far
+        (mention_faults scope.now before.old (seen_argument argument.now))) }
     ensures names { OnOk result (before.new ≡ with_mention before.old (name_of_argument (seen_argument argument.now))) }
 {
     let so_far = judge_named(
@@ -295,7 +303,8 @@ fn judge_mentions(
     more: &[NextArgument],
     so_far: Option<RuleFault>,
 ) -> Result<Option<RuleFault>, NoMemory>
-    ensures { IfOk result (λ o. o ≡ least so_far (checkpoint_faults scope.now before.old (further_arguments (seen_further more.now)))) }
+    ensures { IfOk result (λ o. o ≡ least so_far
+        (checkpoint_faults scope.now before.old (further_arguments (seen_further more.now)))) }
 {
     let mut so_far = so_far;
     for next in more {
@@ -311,7 +320,8 @@ fn judge_checkpoint(
     arguments: &Arguments,
     so_far: Option<RuleFault>,
 ) -> Result<Option<RuleFault>, NoMemory>
-    ensures { IfOk result (λ o. o ≡ least so_far (checkpoint_faults scope.now [] (arguments_of (seen_arguments arguments.now)))) }
+    ensures { IfOk result (λ o. o ≡ least so_far
+        (checkpoint_faults scope.now [] (arguments_of (seen_arguments arguments.now)))) }
 {
     match arguments {
         Arguments::Absent => Ok(so_far),
@@ -329,7 +339,8 @@ fn judge_string(
     argument: Option<&Argument>,
     so_far: Option<RuleFault>,
 ) -> Option<RuleFault>
-    ensures { result ≡ least so_far (string_faults scope.now (option_map seen_argument (option_copied argument.entry))) }
+    ensures { result ≡ least so_far (string_faults scope.now
+        (option_map seen_argument (option_copied argument.entry))) }
 {
     match argument {
         None => so_far,
@@ -472,7 +483,8 @@ fn judge_depth(
     argument: Option<&Argument>,
     so_far: Option<RuleFault>,
 ) -> Option<RuleFault>
-    ensures { result ≡ least so_far (depth_faults scope.now receive (option_map seen_argument (option_copied argument.entry))) }
+    ensures { result ≡ least so_far (depth_faults scope.now receive
+        (option_map seen_argument (option_copied argument.entry))) }
 {
     match argument {
         None => so_far,
@@ -545,7 +557,8 @@ fn judge_system(
     system: System,
     so_far: Option<RuleFault>,
 ) -> Result<Option<RuleFault>, NoMemory>
-    ensures { IfOk result (λ o. o ≡ least so_far (system_faults scope.now walk at (arguments_of (seen_arguments arguments.now)) system)) }
+    ensures { IfOk result (λ o. o ≡ least so_far
+        (system_faults scope.now walk at (arguments_of (seen_arguments arguments.now)) system)) }
 {
     match system {
         System::CheckMonitor => Ok(judge_monitor(walk, at, arguments, so_far)),
@@ -567,7 +580,8 @@ fn judge_procedure(
     arguments: &Arguments,
     so_far: Option<RuleFault>,
 ) -> Option<RuleFault>
-    ensures { result ≡ least so_far (procedure_call_faults scope.now at name (arguments_of (seen_arguments arguments.now))) }
+    ensures { result ≡ least so_far (procedure_call_faults scope.now at name
+        (arguments_of (seen_arguments arguments.now))) }
 {
     let found = meaning_of(scope, name);
     let so_far = judge_called(scope, false, at, argument_count(arguments), found, so_far);
@@ -585,7 +599,8 @@ pub fn judge_call(
     system: Option<System>,
     so_far: Option<RuleFault>,
 ) -> Result<Option<RuleFault>, NoMemory>
-    ensures { IfOk result (λ o. o ≡ least so_far (call_faults scope.now walk at name (arguments_of (seen_arguments arguments.now)) system)) }
+    ensures { IfOk result (λ o. o ≡ least so_far
+        (call_faults scope.now walk at name (arguments_of (seen_arguments arguments.now)) system)) }
 {
     match system {
         Some(system) => judge_system(alloc, scope, walk, at, arguments, system, so_far),

@@ -1,7 +1,12 @@
 ghost use Rattle.std.specs.Prelude.{◌≡◌};
-ghost use Rattle.tal_rules.specs.Expressions.{misplaced, ors_misplaced, wanted_by_ors, ands_misplaced, wanted_by_ands, relation_misplaced, wanted_by_relation, wanted_by_terms, wanted_by_factors, need_by_index, expr_faults, both_faults, neg_faults, compared_faults, sum_faults, product_faults, factor_faults, spot_faults, index_faults, value_faults};
+ghost use Rattle.tal_rules.specs.Expressions.{misplaced, ors_misplaced, wanted_by_ors, ands_misplaced, wanted_by_ands};
+ghost use Rattle.tal_rules.specs.Expressions.{relation_misplaced, wanted_by_relation, wanted_by_terms};
+ghost use Rattle.tal_rules.specs.Expressions.{wanted_by_factors, need_by_index, expr_faults, both_faults, neg_faults};
+ghost use Rattle.tal_rules.specs.Expressions.{compared_faults, sum_faults, product_faults, factor_faults, spot_faults};
+ghost use Rattle.tal_rules.specs.Expressions.{index_faults, value_faults};
 ghost use Rattle.tal_names.specs.Faults.{least};
-ghost use Rattle.tal_syntax.specs.Seen.{seen_spot, seen_index, seen_factor, seen_factors, seen_product, seen_terms, seen_sum, seen_compared, seen_neg, seen_ands, seen_both, seen_ors, seen_expr};
+ghost use Rattle.tal_syntax.specs.Seen.{seen_spot, seen_index, seen_factor, seen_factors, seen_product, seen_terms};
+ghost use Rattle.tal_syntax.specs.Seen.{seen_sum, seen_compared, seen_neg, seen_ands, seen_both, seen_ors, seen_expr};
 
 use tal_names::fault::{Rule, RuleFault};
 use tal_names::least::with_fault;

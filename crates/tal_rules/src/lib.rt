@@ -1,8 +1,9 @@
 //! The rules of program texts: which faults a text's syntax has, as a list whose least one is the answer.
 //!
-//! Below stand `tal_declarations` for what a text declares and `tal_names` for what its names stand for. The layer above,
-//! which builds the tree of a text, uses `judge_text`: its clauses say the least fault of the text, and what its globals,
-//! files and procedures are. There it walks the statements again by `enter`, `entered`, `stepped` and `after_call`.
+//! Below stand `tal_declarations` for what a text declares and `tal_names` for what its names stand for. The layer
+//! above, which builds the tree of a text, uses `judge_text`: its clauses say the least fault of the text, and what its
+//! globals, files and procedures are. There it walks the statements again by `enter`, `entered`, `stepped` and
+//! `after_call`.
 #![tactic(auto)]
 
 pub mod call;

@@ -6,9 +6,14 @@ ghost use Rattle.tal_names.specs.Scopes.{kind_faults};
 ghost use Rattle.tal_names.specs.Systems.{system_of};
 ghost use Rattle.tal_names.specs.declared.meaning.Need.TheVariants.{Readable};
 ghost use Rattle.tal_names.specs.Places.{arguments_of, first_of_spot};
-ghost use Rattle.tal_rules.specs.Statements.{next_number, stage_after, stage_after_monitor, stage_after_open, next_file, stepped, after_call, number_faults, return_faults, right_by, right_faults, call_statement_faults, return_statement_faults, assign_faults, assign_call_faults, for_head_faults, test_faults, after, after_else, after_row, statement_faults, else_faults, row_faults};
+ghost use Rattle.tal_rules.specs.Statements.{next_number, stage_after, stage_after_monitor, stage_after_open};
+ghost use Rattle.tal_rules.specs.Statements.{next_file, stepped, after_call, number_faults, return_faults, right_by};
+ghost use Rattle.tal_rules.specs.Statements.{right_faults, call_statement_faults, return_statement_faults};
+ghost use Rattle.tal_rules.specs.Statements.{assign_faults, assign_call_faults, for_head_faults, test_faults, after};
+ghost use Rattle.tal_rules.specs.Statements.{after_else, after_row, statement_faults, else_faults, row_faults};
 ghost use Rattle.tal_syntax.specs.Grammar as g;
-ghost use Rattle.tal_syntax.specs.Seen.{seen_spot, seen_expr, seen_arguments, seen_values, seen_answer, seen_statement, seen_otherwise, seen_row};
+ghost use Rattle.tal_syntax.specs.Seen.{seen_spot, seen_expr, seen_arguments, seen_values, seen_answer, seen_statement};
+ghost use Rattle.tal_syntax.specs.Seen.{seen_otherwise, seen_row};
 
 use crate::call::{judge_call, judge_called, judge_values, opens_receive};
 use crate::expression::{judge_expr, judge_spot, judge_value};
@@ -152,7 +157,8 @@ fn judge_right_by(
     found: Option<Meaning>,
     so_far: Option<RuleFault>,
 ) -> Option<RuleFault>
-    ensures { (e : g.Expr) → value_faults scope.now e ≡ kind_faults Readable at found → result ≡ least so_far (right_by scope.now e at found) }
+    ensures { (e : g.Expr) → value_faults scope.now e ≡ kind_faults Readable at found
+        → result ≡ least so_far (right_by scope.now e at found) }
 {
     match found {
         Some(
@@ -184,8 +190,11 @@ fn judge_call_statement(
     call: &Call,
     so_far: Option<RuleFault>,
 ) -> Result<Judged, NoMemory>
-    ensures walk { IfOk result (λ j. j.walk ≡ after_call walk (arguments_of (seen_arguments call.now.arguments)) (system_of call.now.name)) }
-    ensures least { IfOk result (λ j. j.least ≡ least so_far (call_statement_faults scope.now walk call.now.head call.now.at call.now.name (arguments_of (seen_arguments call.now.arguments)))) }
+    ensures walk { IfOk result (λ j. j.walk
+        ≡ after_call walk (arguments_of (seen_arguments call.now.arguments)) (system_of call.now.name)) }
+    ensures least { IfOk result (λ j. j.least
+        ≡ least so_far (call_statement_faults scope.now walk call.now.head call.now.at call.now.name
+        (arguments_of (seen_arguments call.now.arguments)))) }
 {
     let so_far = judge_number(walk.number, call.head, so_far);
     let system = system_of(call.name);
@@ -207,7 +216,8 @@ fn judge_return_statement(
     so_far: Option<RuleFault>,
 ) -> Judged
     ensures walk { result.walk ≡ stepped walk }
-    ensures least { result.least ≡ least so_far (return_statement_faults scope.now walk said.now.head (seen_answer said.now.answer)) }
+    ensures least { result.least ≡ least so_far
+        (return_statement_faults scope.now walk said.now.head (seen_answer said.now.answer)) }
 {
     let so_far = judge_number(walk.number, said.head, so_far);
     Judged {
@@ -219,7 +229,8 @@ fn judge_return_statement(
 #[tactic(auto, using(crate::proofs::Parts::parts))]
 fn judge_assign(scope: &Scope, walk: Walk, said: &Assign, so_far: Option<RuleFault>) -> Judged
     ensures walk { result.walk ≡ stepped walk }
-    ensures least { result.least ≡ least so_far (assign_faults scope.now walk (seen_spot said.now.target) (seen_expr said.now.value)) }
+    ensures least { result.least ≡ least so_far
+        (assign_faults scope.now walk (seen_spot said.now.target) (seen_expr said.now.value)) }
 {
     let so_far = judge_number(walk.number, said.target.at, so_far);
     let so_far = judge_spot(&said.target, scope, Need::Variable, so_far);
@@ -243,7 +254,9 @@ fn judge_assign_call(
     so_far: Option<RuleFault>,
 ) -> Judged
     ensures walk { result.walk ≡ stepped walk }
-    ensures least { result.least ≡ least so_far (assign_call_faults scope.now walk (seen_spot said.now.target) said.now.name_at said.now.name (seen_expr said.now.first) (seen_values said.now.more)) }
+    ensures least { result.least ≡ least so_far
+        (assign_call_faults scope.now walk (seen_spot said.now.target) said.now.name_at said.now.name
+        (seen_expr said.now.first) (seen_values said.now.more)) }
 {
     let so_far = judge_number(walk.number, said.target.at, so_far);
     let so_far = judge_spot(&said.target, scope, Need::Variable, so_far);
@@ -273,7 +286,8 @@ fn judge_test(
 
 #[tactic(auto, using(crate::proofs::Parts::parts))]
 fn judge_for_head(scope: &Scope, head: &ForHead, so_far: Option<RuleFault>) -> Option<RuleFault>
-    ensures { result ≡ least so_far (for_head_faults scope.now head.now.at head.now.name (seen_expr head.now.from) (seen_expr head.now.to)) }
+    ensures { result ≡ least so_far (for_head_faults scope.now head.now.at head.now.name (seen_expr head.now.from)
+        (seen_expr head.now.to)) }
 {
     let so_far = judge_name(scope, Need::Variable, head.at, head.name, so_far);
     let so_far = judge_value(&head.from, scope, so_far);
@@ -290,7 +304,8 @@ pub fn judge_statement(
     so_far: Option<RuleFault>,
 ) -> Result<Judged, NoMemory>
     ensures walk { IfOk result (λ j. j.walk ≡ after scope.now walk (seen_statement statement.now)) }
-    ensures least { IfOk result (λ j. j.least ≡ least so_far (statement_faults scope.now walk (seen_statement statement.now))) }
+    ensures least { IfOk result (λ j. j.least
+        ≡ least so_far (statement_faults scope.now walk (seen_statement statement.now))) }
 {
     match statement {
         Statement::Nothing => Ok(Judged {
@@ -336,7 +351,8 @@ fn judge_else(
     so_far: Option<RuleFault>,
 ) -> Result<Judged, NoMemory>
     ensures walk { IfOk result (λ j. j.walk ≡ after_else scope.now walk (seen_otherwise otherwise.now)) }
-    ensures least { IfOk result (λ j. j.least ≡ least so_far (else_faults scope.now walk (seen_otherwise otherwise.now))) }
+    ensures least { IfOk result (λ j. j.least
+        ≡ least so_far (else_faults scope.now walk (seen_otherwise otherwise.now))) }
 {
     match otherwise {
         Otherwise::Absent => Ok(Judged {

@@ -3,8 +3,14 @@ ghost use Rattle.tal_names.specs.Faults.{least};
 ghost use Rattle.tal_declarations.specs.Files.{row_files, statement_files};
 ghost use Rattle.tal_declarations.specs.Globals.{with_lines, nothing_declared};
 ghost use Rattle.tal_declarations.specs.Headings.{with_headings};
-ghost use Rattle.tal_rules.specs.Texts.{locals_by, gives_by, scope_of, next_procedure, procedure_files, files_from, is_main_by, has_word_main, name_place, is_main, stage_at, entered, lacks_monitor, heading_locals_faults, body_after, body_faults, procedure_faults, passed, after_procedure, procedures_faults, first_progress, headed_after, no_files, main_missing, files_by, bodies_faults, headed_text, faults};
-ghost use Rattle.tal_syntax.specs.Seen.{seen_main, seen_heading, seen_locals, seen_statement, seen_row, seen_procedure, seen_procedures, seen_lines, seen_text};
+ghost use Rattle.tal_rules.specs.Texts.{locals_by, gives_by, scope_of, next_procedure, procedure_files, files_from};
+ghost use Rattle.tal_rules.specs.Texts.{is_main_by, has_word_main, name_place, is_main, stage_at, entered};
+ghost use Rattle.tal_rules.specs.Texts.{lacks_monitor, heading_locals_faults, body_after, body_faults};
+ghost use Rattle.tal_rules.specs.Texts.{procedure_faults, passed, after_procedure, procedures_faults, first_progress};
+ghost use Rattle.tal_rules.specs.Texts.{headed_after, no_files, main_missing, files_by, bodies_faults, headed_text};
+ghost use Rattle.tal_rules.specs.Texts.{faults};
+ghost use Rattle.tal_syntax.specs.Seen.{seen_main, seen_heading, seen_locals, seen_statement, seen_row, seen_procedure};
+ghost use Rattle.tal_syntax.specs.Seen.{seen_procedures, seen_lines, seen_text};
 
 use crate::statement::{Judged, judge_row, judge_statement};
 use crate::walk::{Progress, Stage, Walk};
@@ -46,7 +52,8 @@ pub fn enter(
     number: u16,
     procedure: &Procedure,
 ) -> Result<(), NoMemory>
-    ensures { OnOk result (scope.new ≡ scope_of scope.old.globals scope.old.files number (seen_heading procedure.now.heading) (seen_locals procedure.now.inner)) }
+    ensures { OnOk result (scope.new ≡ scope_of scope.old.globals scope.old.files number
+        (seen_heading procedure.now.heading) (seen_locals procedure.now.inner)) }
 {
     let locals = locals_by(alloc, &procedure.heading, procedure.inner.as_slice())?;
     scope.locals = locals;
@@ -70,7 +77,8 @@ fn procedure_files(
     procedure: &Procedure,
 ) -> Result<(), NoMemory>
     requires { scope.old.files ≡ [] }
-    ensures files { OnOk result (files.new ≡ procedure_files scope.old.globals number files.old (seen_procedure procedure.now)) }
+    ensures files { OnOk result (files.new ≡ procedure_files scope.old.globals number files.old
+        (seen_procedure procedure.now)) }
     ensures globals { OnOk result (scope.new.globals ≡ scope.old.globals) }
     ensures none { OnOk result (scope.new.files ≡ []) }
 {
@@ -138,7 +146,9 @@ fn judge_heading_locals(
     procedure: &Procedure,
     so_far: Option<RuleFault>,
 ) -> Result<Option<RuleFault>, NoMemory>
-    ensures { IfOk result (λ o. o ≡ least so_far (heading_locals_faults (seen_heading procedure.now.heading) (seen_locals procedure.now.outer) (seen_locals procedure.now.inner))) }
+    ensures { IfOk result (λ o. o ≡ least so_far
+        (heading_locals_faults (seen_heading procedure.now.heading) (seen_locals procedure.now.outer)
+        (seen_locals procedure.now.inner))) }
 {
     let parameters = parameters_of(alloc, &procedure.heading.parameters)?;
     let outer = locals_of(alloc, procedure.outer.as_slice())?;
@@ -162,14 +172,17 @@ fn judge_body(
     more: &[Next],
     so_far: Option<RuleFault>,
 ) -> Result<Judged, NoMemory>
-    ensures walk { IfOk result (λ j. j.walk ≡ body_after scope.now walk (seen_statement first.now) (seen_row more.now)) }
-    ensures least { IfOk result (λ j. j.least ≡ least so_far (body_faults scope.now walk (seen_statement first.now) (seen_row more.now))) }
+    ensures walk { IfOk result (λ j. j.walk
+        ≡ body_after scope.now walk (seen_statement first.now) (seen_row more.now)) }
+    ensures least { IfOk result (λ j. j.least
+        ≡ least so_far (body_faults scope.now walk (seen_statement first.now) (seen_row more.now))) }
 {
     let judged = judge_statement(first, alloc, scope, walk, so_far)?;
     judge_row(more, alloc, scope, judged.walk, judged.least)
 }
 
-/// What is known after a procedure, from what was known before it, its heading, and the walk as its statements leave it.
+/// What is known after a procedure, from what was known before it, its heading, and the walk as its statements leave
+/// it.
 pub fn passed(progress: Progress, heading: &Heading, walk: Walk) -> Progress
     ensures { result ≡ passed progress (seen_heading heading.now) walk }
 {
@@ -196,8 +209,10 @@ fn judge_procedure(
     procedure: &Procedure,
     so_far: Option<RuleFault>,
 ) -> Result<Gone, NoMemory>
-    ensures progress { IfOk result (λ r. r.progress ≡ after_procedure scope.old.globals scope.old.files progress (seen_procedure procedure.now)) }
-    ensures least { IfOk result (λ r. r.least ≡ least so_far (procedure_faults scope.old.globals scope.old.files progress (seen_procedure procedure.now))) }
+    ensures progress { IfOk result (λ r. r.progress
+        ≡ after_procedure scope.old.globals scope.old.files progress (seen_procedure procedure.now)) }
+    ensures least { IfOk result (λ r. r.least
+        ≡ least so_far (procedure_faults scope.old.globals scope.old.files progress (seen_procedure procedure.now))) }
     ensures globals { OnOk result (scope.new.globals ≡ scope.old.globals) }
     ensures files { OnOk result (scope.new.files ≡ scope.old.files) }
 {
@@ -244,7 +259,8 @@ fn judge_procedures(
     procedures: &[Procedure],
     so_far: Option<RuleFault>,
 ) -> Result<Option<RuleFault>, NoMemory>
-    ensures least { IfOk result (λ o. o ≡ least so_far (procedures_faults scope.old.globals scope.old.files first_progress (seen_procedures procedures.now))) }
+    ensures least { IfOk result (λ o. o ≡ least so_far
+        (procedures_faults scope.old.globals scope.old.files first_progress (seen_procedures procedures.now))) }
     ensures globals { OnOk result (scope.new.globals ≡ scope.old.globals) }
     ensures files { OnOk result (scope.new.files ≡ scope.old.files) }
 {
@@ -284,7 +300,9 @@ fn judge_headed(
     text: &Text,
     so_far: Option<RuleFault>,
 ) -> Result<Tables, NoMemory>
-    ensures least { IfOk result (λ t. t.least ≡ least so_far (bodies_faults headed (seen_procedures text.now.procedures) ++ main_missing headed.main text.now.finish)) }
+    ensures least { IfOk result (λ t. t.least
+        ≡ least so_far (bodies_faults headed (seen_procedures text.now.procedures)
+        ++ main_missing headed.main text.now.finish)) }
     ensures items { IfOk result (λ t. t.items ≡ items) }
     ensures main { IfOk result (λ t. t.main ≡ headed.main) }
     ensures globals { IfOk result (λ t. t.scope.globals ≡ headed.names) }
@@ -321,10 +339,16 @@ fn judge_headed(
 pub fn judge_text(alloc: Global, text: &Text) -> Result<Tables, NoMemory>
     ensures least { IfOk result (λ t. t.least ≡ least None (faults (seen_text text.now))) }
     ensures items { IfOk result (λ t. t.items ≡ (with_lines nothing_declared (seen_lines text.now.globals)).items) }
-    ensures main { IfOk result (λ t. t.main ≡ (headed_text (seen_lines text.now.globals) (seen_procedures text.now.procedures)).main) }
-    ensures globals { IfOk result (λ t. t.scope.globals ≡ (headed_text (seen_lines text.now.globals) (seen_procedures text.now.procedures)).names) }
-    ensures files { IfOk result (λ t. t.scope.files ≡ (files_by (headed_text (seen_lines text.now.globals) (seen_procedures text.now.procedures)) (seen_procedures text.now.procedures)).names) }
-    ensures uses { IfOk result (λ t. t.uses ≡ (files_by (headed_text (seen_lines text.now.globals) (seen_procedures text.now.procedures)) (seen_procedures text.now.procedures)).uses) }
+    ensures main { IfOk result (λ t. t.main
+        ≡ (headed_text (seen_lines text.now.globals) (seen_procedures text.now.procedures)).main) }
+    ensures globals { IfOk result (λ t. t.scope.globals
+        ≡ (headed_text (seen_lines text.now.globals) (seen_procedures text.now.procedures)).names) }
+    ensures files { IfOk result (λ t. t.scope.files
+        ≡ (files_by (headed_text (seen_lines text.now.globals) (seen_procedures text.now.procedures))
+        (seen_procedures text.now.procedures)).names) }
+    ensures uses { IfOk result (λ t. t.uses
+        ≡ (files_by (headed_text (seen_lines text.now.globals) (seen_procedures text.now.procedures))
+        (seen_procedures text.now.procedures)).uses) }
 {
     let mut declared = nothing_declared(alloc);
     let so_far = declared_by(&mut declared, text.globals.as_slice())?;

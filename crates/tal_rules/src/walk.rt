@@ -1,5 +1,5 @@
-/// How far the prologue of the main procedure has come: nothing stands before; CHECKMONITOR and OPENs alone; it is over, as
-/// it is in every other procedure; the body began with something else.
+/// How far the prologue of the main procedure has come: nothing stands before; CHECKMONITOR and OPENs alone; it is
+/// over, as it is in every other procedure; the body began with something else.
 #[derive(Clone, Copy, PartialEq, Eq)]
 pub enum Stage {
     Start,

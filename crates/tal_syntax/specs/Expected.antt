@@ -25,7 +25,8 @@ IsWithin m ks = (t : g.Text) × g.IsText t × (g.of_text t ≡ ks) × AllAtMost 
 
 -- a text begins with the tokens, and there none of them stands deeper than m levels
 abbrev pub Begins : ℕ → List Token → Type 0
-Begins m ks = (t : g.Text) × (more : List Token) × g.IsText t × (g.of_text t ≡ ks ++ more) × AllAtMost m (take (length ks) (nest_text t))
+Begins m ks = (t : g.Text) × (more : List Token) × g.IsText t × (g.of_text t ≡ ks ++ more)
+    × AllAtMost m (take (length ks) (nest_text t))
 
 -- token k is the first after which no text goes on, and none before it stands too deep
 pub record IsUnexpected (m : ℕ) (ks : List Token) (k : ℕ) : Type 0 where

@@ -1,8 +1,9 @@
-//! The grammar of program texts: as data of the definitions, with the tokens of each part and how deep each token stands,
-//! and as the types that the reader builds, with the view that leads from these to those.
+//! The grammar of program texts: as data of the definitions, with the tokens of each part and how deep each token
+//! stands, and as the types that the reader builds, with the view that leads from these to those.
 //!
-//! Below stand `gd_words` for lists, boxes and identifiers and `tal_tokens` for the tokens. The recogniser above finds the
-//! first token after which no text goes on, and the builder builds these types; their contracts name the grammar's data.
+//! Below stand `gd_words` for lists, boxes and identifiers and `tal_tokens` for the tokens. The recogniser above finds
+//! the first token after which no text goes on, and the builder builds these types; their contracts name the grammar's
+//! data.
 #![tactic(auto)]
 
 pub mod declaration;

@@ -44,7 +44,8 @@ pub record IsNode (places : List (List Entry)) (procedure : ℕ) (rest : List En
   pub own : node.procedure ≡ procedure
 
 -- a node of one of these procedures does what is done where this remains of it
-pub record IsNodeAmong (places : List (List Entry)) (procedures : List Procedure) (rest : List Entry) (node : Node) : Type 0 where
+pub record IsNodeAmong (places : List (List Entry)) (procedures : List Procedure) (rest : List Entry) (node : Node) :
+    Type 0 where
   pub deed : seen places node.work ≡ deed_of rest
   pub after : rest_at places node.after ≡ drop 1 rest
   pub own : IsOf procedures node.procedure rest
@@ -60,7 +61,8 @@ Each is (rest ∷ rests) [] = ⊥
 pub record Puts (old new : List Node) (procedure : ℕ) (part : List Entry → List (List Entry)) (after : ℕ) : Type 0 where
   pub made : List Node
   pub behind : new ≡ old ++ made
-  pub are : (places : List (List Entry)) (rest : List Entry) → after ≡ next_number rest → Finds places rest → FindsAll places (part rest)
+  pub are : (places : List (List Entry)) (rest : List Entry) → after ≡ next_number rest → Finds places rest
+      → FindsAll places (part rest)
       → Each (IsNode places procedure) (part rest) made
 
 -- what remains from each entry of a statement on, where others come after it
@@ -96,7 +98,8 @@ IsAlone _ = Unit {0}
 
 -- work is what is done at a statement in which no others stand, before an entry of this number
 pub record IsLeaf (statement : Statement) (after : ℕ) (made : Work) : Type 0 where
-  pub deed : (places : List (List Entry)) (rest : List Entry) → rest_at places after ≡ rest → seen places made ≡ deed_run rest statement (out-What statement.what)
+  pub deed : (places : List (List Entry)) (rest : List Entry) → rest_at places after ≡ rest
+      → seen places made ≡ deed_run rest statement (out-What statement.what)
   pub alone : (rest : List Entry) → rests_in statement.what statement rest ≡ []
 
 -- what remains from each entry of procedures on
@@ -107,7 +110,8 @@ rests_all procedures = flat_map (λ procedure. rests_of procedure.body) procedur
 pub record Fills (procedures some : List Procedure) (nodes : List Node) : Type 0 where
   pub made : List Node
   pub behind : nodes ≡ record { procedure = 0; work = work.Return None; after = 0 } ∷ made
-  pub are : (places : List (List Entry)) → Finds places [] → FindsAll places (rests_all procedures) → Each (IsNodeAmong places procedures) (rests_all some) made
+  pub are : (places : List (List Entry)) → Finds places [] → FindsAll places (rests_all procedures)
+      → Each (IsNodeAmong places procedures) (rests_all some) made
 
 -- the heading of a procedure
 abbrev pub heading_of : Procedure → Heading

@@ -1,7 +1,8 @@
 -- The deed that a node does, where this remains at each number of its program.
 use Rattle.std.specs.Prelude.{List}
 use Rattle.process_semantics.specs.State.{Entry}
-use Rattle.program_deeds.specs.Deed.{Deed, Assigns, Tests, Enters, Returns, Passes, Stops, Takes, Asks, Answers, Checkpoints}
+use Rattle.program_deeds.specs.Deed.{Deed, Assigns, Tests, Enters, Returns, Passes, Stops, Takes, Asks, Answers}
+use Rattle.program_deeds.specs.Deed.{Checkpoints}
 use Rattle.tal_table.specs.Places.{rest_at}
 use Rattle.tal_table.specs.declared.node.Work.{Work}
 use Rattle.tal_table.specs.declared.node.Work.TheVariants as work

@@ -36,7 +36,8 @@ pub record Heads (program : Program) (number : ℕ) (heading : Heading) : Type 0
 
 -- what remains of a procedure from a number on, where both are there
 abbrev pub told_in : Program → ℕ → ℕ → Option (List Entry)
-told_in program procedure number = option_and_then (λ (of : Procedure). rest_from of.body number) (slice_get program.procedures procedure)
+told_in program procedure number =
+    option_and_then (λ (of : Procedure). rest_from of.body number) (slice_get program.procedures procedure)
 
 -- what remains at a place is told, or nothing is
 abbrev pub told_if : Bool → List Entry → Option (List Entry)
@@ -45,12 +46,15 @@ told_if false rest = None
 
 -- this remains from one of the entries of the procedure of this number on
 abbrev pub IsOf : List Procedure → ℕ → List Entry → Type 0
-IsOf procedures number rest = (procedure : Procedure) × (slice_get procedures number ≡ Some procedure) × IsAmong rest (rests_of procedure.body)
+IsOf procedures number rest =
+    (procedure : Procedure) × (slice_get procedures number ≡ Some procedure) × IsAmong rest (rests_of procedure.body)
 
 -- the nodes of a program: one for each number, and one for 0
 pub record AreNodes (program : Program) (nodes : List Node) : Type 0 where
-  pub tell : (number : ℕ) (node : Node) → slice_get nodes number ≡ Some node → Tells program (rest_at (places program) number) node
-  pub own : (number : ℕ) (node : Node) → 1 ≤ number → slice_get nodes number ≡ Some node → IsOf program.procedures node.procedure (rest_at (places program) number)
+  pub tell : (number : ℕ) (node : Node) → slice_get nodes number ≡ Some node
+      → Tells program (rest_at (places program) number) node
+  pub own : (number : ℕ) (node : Node) → 1 ≤ number → slice_get nodes number ≡ Some node
+      → IsOf program.procedures node.procedure (rest_at (places program) number)
   pub all : length nodes ≡ length (places program)
 
 -- the headings of a program: one for each procedure

@@ -64,7 +64,8 @@ fn put_statement(
 }
 
 fn push(nodes: &mut Vec<Node>, procedure: u16, work: Work, after: u16) -> Result<(), NoMemory>
-    ensures { OnOk result (nodes.new.items ≡ nodes.old.items ++ record { procedure = procedure; work = work; after = after } ∷ []) }
+    ensures { OnOk result (nodes.new.items ≡ nodes.old.items
+        ++ record { procedure = procedure; work = work; after = after } ∷ []) }
 {
     nodes.push(Node {
         procedure,

@@ -50,7 +50,8 @@ fn heading_of(procedure: &Procedure) -> Heading
 pub(crate) fn nodes_of(alloc: Global, procedures: &[Procedure]) -> Result<Vec<Node>, NoMemory>
     requires few { length procedures.now ≤ 64 }
     requires small { loads.AreSmall (numbers_in_all procedures.now) }
-    requires waiting { (k : ℕ) (procedure : Procedure) → slice_get procedures.now k ≡ Some procedure → loads.FewWait (all_of procedure.body) }
+    requires waiting { (k : ℕ) (procedure : Procedure) → slice_get procedures.now k ≡ Some procedure
+        → loads.FewWait (all_of procedure.body) }
     ensures { IfOk result (λ nodes. loads.Fills procedures.now procedures.now nodes.items) }
 {
     let mut nodes = Vec::new(alloc);

@@ -15,8 +15,8 @@ use std::marker::Model;
 use std::snapshot::Snapshot;
 use tal_tree::{Item, Program};
 
-/// The table of a program: a node for each of its numbers, the first for 0, at which nothing remains, and a heading for each of
-/// its procedures.
+/// The table of a program: a node for each of its numbers, the first for 0, at which nothing remains, and a heading for
+/// each of its procedures.
 #[derive(Drop)]
 pub struct Table {
     program: Snapshot<Program>,
@@ -44,8 +44,8 @@ impl Model for Table {
 }
 
 impl Table {
-    /// The table of a program that is numbered in the order of its text, keeps its limits, is regular, and has room for the
-    /// code of what it computes, as what is read has.
+    /// The table of a program that is numbered in the order of its text, keeps its limits, is regular, and has room for
+    /// the code of what it computes, as what is read has.
     pub fn load(alloc: Global, program: &Program) -> Result<Table, NoMemory>
         requires numbered { IsNumbered program.now }
         requires limits { IsWithinLimits program.now }

@@ -3,7 +3,8 @@ ghost use Rattle.tal_tree.specs.declared.expression.Cond.TheVariants as cond;
 ghost use Rattle.tal_tree.specs.declared.expression.Expr.TheVariants as expr;
 ghost use Rattle.tal_tree.specs.declared.statement.What.{out-What};
 ghost use Rattle.tal_values.specs.Spots.{spot_of};
-ghost use Rattle.tal_code.specs.Waiting.{waiting_of, waiting_of_spot, waiting_for, waiting_of_test, waiting_of_all, waiting_of_answer, waiting_at};
+ghost use Rattle.tal_code.specs.Waiting.{waiting_of, waiting_of_spot, waiting_for, waiting_of_test, waiting_of_all};
+ghost use Rattle.tal_code.specs.Waiting.{waiting_of_answer, waiting_at};
 ghost use Rattle.tal_table.specs.Loads.{IsAlone, IsLeaf};
 ghost use Rattle.tal_table.specs.declared.node.Work.TheVariants as work;
 
@@ -203,7 +204,8 @@ pub(crate) fn limit_work(
     no: u16,
 ) -> Result<Work, NoMemory>
     requires { waiting_for to.now < 80 }
-    ensures { IfOk result (λ made. made ≡ work.Test (cond.Compare Rel.AtMost (expr.Read (spot_of variable)) to.now) yes no) }
+    ensures { IfOk result (λ made. made ≡ work.Test (cond.Compare Rel.AtMost (expr.Read (spot_of variable)) to.now) yes
+        no) }
 {
     let test = limit_code_of(alloc, variable, to)?;
     Ok(Work::Test { test, yes, no })
@@ -211,7 +213,8 @@ pub(crate) fn limit_work(
 
 /// The last assignment of a FOR, before its test.
 pub(crate) fn last_work(alloc: Global, variable: Variable, test: u16) -> Result<Work, NoMemory>
-    ensures { IfOk result (λ made. made ≡ work.Assign (spot_of variable) (expr.Two Op.Add (expr.Read (spot_of variable)) (expr.Number (pos 1))) test) }
+    ensures { IfOk result (λ made. made ≡ work.Assign (spot_of variable)
+        (expr.Two Op.Add (expr.Read (spot_of variable)) (expr.Number (pos 1))) test) }
 {
     let spot = spot(variable);
     let to = spot_code_of(alloc, &spot)?;

@@ -16,7 +16,8 @@ ended-by (Broken f) go h e = absurd (none-some f (sym e))
 
 ended-lexed : (skip : ℕ) (here : Cursor) (text : List ℕ) → IsEnded (lexed skip here text)
 ended-lexed skip here [] e = ([], at_front here 0, refl)
-ended-lexed zero here (c ∷ rest) e = ended-by (begun_of here (c ∷ rest)) (λ k. lexed k (after here c) rest) (λ k. ended-lexed k (after here c) rest) e
+ended-lexed zero here (c ∷ rest) e =
+    ended-by (begun_of here (c ∷ rest)) (λ k. lexed k (after here c) rest) (λ k. ended-lexed k (after here c) rest) e
 ended-lexed (suc skip) here (c ∷ rest) e = ended-lexed skip (after here c) rest e
 
 pub ended : (text : List ℕ) → IsEnded (tokens_of text)

@@ -9,7 +9,8 @@ start_of_text = record { place = record { line = 1; column = 1 }; offset = 0 }
 
 -- the place of the byte after the byte c at a place: the next column, or after a line feed the next line
 abbrev pub next_place : Place → ℕ → Place
-next_place place c = if c == 10 then record { line = place.line + 1; column = 1 } else record place { column = place.column + 1 }
+next_place place c =
+    if c == 10 then record { line = place.line + 1; column = 1 } else record place { column = place.column + 1 }
 
 abbrev pub after : Cursor → ℕ → Cursor
 after cursor c = record { place = next_place cursor.place c; offset = cursor.offset + 1 }

@@ -1,5 +1,6 @@
 -- What a text begins with: the longest piece that is a token, or the fault that stands there.
-use Rattle.std.specs.Prelude.{ℕ, ◌+◌, ◌≤◌, ◌-◌, ◌*◌, ◌==◌, ◌&&◌, ◌||◌, not, nat_le, nat_eq, Bool, pos, List, [], ◌∷◌, length, take, slice_index, Option, Some, None, unwrap_or, map, codes, if◌then◌else◌}
+use Rattle.std.specs.Prelude.{ℕ, ◌+◌, ◌≤◌, ◌-◌, ◌*◌, ◌==◌, ◌&&◌, ◌||◌, not, nat_le, nat_eq, Bool, pos, List, [], ◌∷◌}
+use Rattle.std.specs.Prelude.{length, take, slice_index, Option, Some, None, unwrap_or, map, codes, if◌then◌else◌}
 use Rattle.std.specs.List.{position}
 use Rattle.std.specs.Option.{option_or}
 use Rattle.std.specs.Char.{is_ascii_digit, to_ascii_lowercase}
@@ -62,7 +63,8 @@ keyword_third at word =
 
 -- the token of a word in upper case: a keyword, or else a name
 abbrev pub word_token : At → List ℕ → Token
-word_token at word = unwrap_or (option_or (keyword_first at word) (option_or (keyword_second at word) (keyword_third at word))) (tok.Name at word)
+word_token at word = unwrap_or (option_or (keyword_first at word)
+    (option_or (keyword_second at word) (keyword_third at word))) (tok.Name at word)
 
 abbrev pub named : Cursor → ℕ → Option (List ℕ) → Begun
 named here n None = Broken (fault.NameTooLong here.place)
@@ -86,7 +88,8 @@ numbered here n (Some v) = Whole (tok.Number (at_front here n) (wrap (pos v))) n
 
 -- a decimal number is at most 32,767
 abbrev pub decimal_begun : Cursor → List ℕ → Begun
-decimal_begun here text = numbered here (run_of is_ascii_digit text) (at_most 32767 (value_from 10 0 (take (run_of is_ascii_digit text) text)))
+decimal_begun here text = numbered here (run_of is_ascii_digit text)
+    (at_most 32767 (value_from 10 0 (take (run_of is_ascii_digit text) text)))
 
 -- an octal number after its `%` is at most %177777 and stands for the word of that pattern; `%` alone begins no token
 abbrev pub octal_begun : Cursor → List ℕ → Begun
@@ -100,7 +103,8 @@ process_token at (Some name) = tok.Process at name
 
 -- the token of a string: `$RECEIVE` or a process's name, in either case, or another text
 abbrev pub text_token : At → List ℕ → Token
-text_token at text = if same (map to_ascii_lowercase text) (codes "$receive") then tok.Receive at else process_token at (name_of text)
+text_token at text =
+    if same (map to_ascii_lowercase text) (codes "$receive") then tok.Receive at else process_token at (name_of text)
 
 -- a string goes up to the next quote on its line
 abbrev pub is_string_end : ℕ → Bool

@@ -1,7 +1,8 @@
 //! The tokens of a program text: names, numbers, strings, keywords and symbols, each with its place. Comments are none.
 //!
-//! Below stand `gd_words` for identifiers and lists and `tal_tree` for places, faults and what a string opens. The reader
-//! of programs above uses the one clause of `tokens`: its answer is `tokens_of`, the tokens of the text as they are defined.
+//! Below stand `gd_words` for identifiers and lists and `tal_tree` for places, faults and what a string opens. The
+//! reader of programs above uses the one clause of `tokens`: its answer is `tokens_of`, the tokens of the text as they
+//! are defined.
 #![tactic(auto)]
 
 mod begun;

@@ -1,5 +1,6 @@
 ghost use Rattle.std.specs.Prelude.{◌≡◌, ◌<◌, ◌≤◌, ◌+◌, length};
-ghost use Rattle.tal_tokens.specs.Lexeme.{is_blank, pair_token, mark_token, sign_token, paired, symbol_begun, TakesUpTo};
+ghost use Rattle.tal_tokens.specs.Lexeme.{is_blank, pair_token, mark_token, sign_token, paired, symbol_begun};
+ghost use Rattle.tal_tokens.specs.Lexeme.{TakesUpTo};
 
 use crate::begun::Begun;
 use crate::cursor::Cursor;

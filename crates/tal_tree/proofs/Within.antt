@@ -3,7 +3,10 @@ use Rattle.std.proofs.Common.{◌≡◌, List, [], ◌∷◌, ◌++◌, refl, ap
 use Rattle.tal_tree.specs.Rows.{rows, if-is, while-is, for-is}
 use Rattle.tal_tree.specs.declared.statement.Statement.{Statement}
 use Rattle.tal_tree.specs.declared.statement.What.{What, What-F, out-What, roll-What, roll-out-What}
-use Rattle.tal_tree.specs.declared.statement.What.TheViews.{rolls-Assign, rolls-AssignCall, rolls-If, rolls-While, rolls-For, rolls-Call, rolls-Return, rolls-ReadUpdate, rolls-Reply, rolls-WriteRead, rolls-Checkpoint, rolls-CheckMonitor, rolls-Open, rolls-Stop}
+use Rattle.tal_tree.specs.declared.statement.What.TheViews.{rolls-Assign, rolls-AssignCall, rolls-If, rolls-While}
+use Rattle.tal_tree.specs.declared.statement.What.TheViews.{rolls-For, rolls-Call, rolls-Return, rolls-ReadUpdate}
+use Rattle.tal_tree.specs.declared.statement.What.TheViews.{rolls-Reply, rolls-WriteRead, rolls-Checkpoint}
+use Rattle.tal_tree.specs.declared.statement.What.TheViews.{rolls-CheckMonitor, rolls-Open, rolls-Stop}
 use Rattle.tal_tree.specs.Statements.{within, within_row, all_of}
 
 -- those of the branches and bodies of a statement
@@ -21,7 +24,8 @@ within-roll : (what : What-F What Statement) → within (roll-What what) ≡ wit
 within-roll (What-F.Assign to value) = ap within (rolls-Assign to value)
 within-roll (What-F.AssignCall to procedure arguments) = ap within (rolls-AssignCall to procedure arguments)
 within-roll (What-F.If test first second) =
-    ap within (rolls-If test first second) ∙ ap within (if-is test first second) ∙ ap₂ (λ (xs ys : List Statement). xs ++ ys) (row-is first) (row-is second)
+    ap within (rolls-If test first second) ∙ ap within (if-is test first second)
+    ∙ ap₂ (λ (xs ys : List Statement). xs ++ ys) (row-is first) (row-is second)
 within-roll (What-F.While test body) = ap within (rolls-While test body) ∙ ap within (while-is test body) ∙ row-is body
 within-roll (What-F.For variable from to body last) =
     ap within (rolls-For variable from to body last) ∙ ap within (for-is variable from to body last) ∙ row-is body

@@ -13,7 +13,9 @@ numbers_in_all procedures = flat_map (λ procedure. numbers_of procedure.body) p
 abbrev pub IsNumbered : Program → Type 0
 IsNumbered program = (k number : ℕ) → slice_get (numbers_in_all program.procedures) k ≡ Some number → number ≡ k + 1
 
--- each number of a program is that of one statement alone, and its procedures call only procedures that stand before them
+-- each number of a program is that of one statement alone, and its procedures call only procedures that stand before
+-- them
 pub record IsOrdered (program : Program) : Type 0 where
   pub numbers : AreDistinct (numbers_in_all program.procedures)
-  pub calls : (k : ℕ) (procedure : Procedure) → slice_get program.procedures k ≡ Some procedure → (called : ℕ) → IsAmong called (calls_of procedure.body) → called < k
+  pub calls : (k : ℕ) (procedure : Procedure) → slice_get program.procedures k ≡ Some procedure → (called : ℕ)
+      → IsAmong called (calls_of procedure.body) → called < k

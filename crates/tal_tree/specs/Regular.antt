@@ -24,7 +24,8 @@ pub record AreListed (program : Program) (items files : List ℕ) : Type 0 where
   pub distinct_files : AreDistinct files
   pub files_there : (k : ℕ) → IsAmong k files → IsProcess program k
 
--- a call is of a procedure that is there, with as many values as it has parameters, each of which is one of its locals; where its value is wanted it gives one
+-- a call is of a procedure that is there, with as many values as it has parameters, each of which is one of its locals;
+-- where its value is wanted it gives one
 pub record IsCalled (program : Program) (locals : ℕ) (wants : Bool) (number : ℕ) (values : List Expr) : Type 0 where
   pub procedure : Procedure
   pub there : slice_get program.procedures number ≡ Some procedure
@@ -43,16 +44,20 @@ module _ (program : Program) (locals : ℕ) (gives : Bool) where
   -- what a statement names is there and of its kind
   abbrev pub IsRegularStatement : What-F What Statement → Type 0
   IsRegularStatement (What-F.Assign to value) = IsSpotThere program locals to × IsThere program locals value
-  IsRegularStatement (What-F.AssignCall to procedure arguments) = IsSpotThere program locals to × IsCalled program locals true procedure arguments
+  IsRegularStatement (What-F.AssignCall to procedure arguments) =
+      IsSpotThere program locals to × IsCalled program locals true procedure arguments
   IsRegularStatement (What-F.If test first second) = IsTestThere program locals test
   IsRegularStatement (What-F.While test body) = IsTestThere program locals test
-  IsRegularStatement (What-F.For variable from to body last) = IsVariableThere program locals variable × (IsThere program locals from × IsThere program locals to)
+  IsRegularStatement (What-F.For variable from to body last) =
+      IsVariableThere program locals variable × (IsThere program locals from × IsThere program locals to)
   IsRegularStatement (What-F.Call procedure arguments) = IsCalled program locals false procedure arguments
   IsRegularStatement (What-F.Return value) = (is_some value ≡ gives) × IsAnswerThere program locals value
-  IsRegularStatement (What-F.ReadUpdate buffer most got) = IsArray program buffer × (IsThere program locals most × IsVariableThere program locals got)
+  IsRegularStatement (What-F.ReadUpdate buffer most got) =
+      IsArray program buffer × (IsThere program locals most × IsVariableThere program locals got)
   IsRegularStatement (What-F.Reply buffer count) = IsArray program buffer × IsThere program locals count
   IsRegularStatement (What-F.WriteRead file buffer send room got) =
-      IsProcess program file × (IsArray program buffer × (IsThere program locals send × (IsThere program locals room × IsVariableThere program locals got)))
+      IsProcess program file × (IsArray program buffer
+      × (IsThere program locals send × (IsThere program locals room × IsVariableThere program locals got)))
   IsRegularStatement (What-F.Checkpoint items files) = AreListed program items files
   IsRegularStatement What-F.CheckMonitor = Unit {0}
   IsRegularStatement (What-F.Open file) = file < length program.files
@@ -68,4 +73,5 @@ pub record IsRegularProcedure (program : Program) (procedure : Procedure) : Type
 -- a program is regular where its main procedure is there and each procedure is regular
 pub record IsRegular (program : Program) : Type 0 where
   pub main : (procedure : Procedure) × (slice_get program.procedures program.main ≡ Some procedure)
-  pub procedures : (k : ℕ) (procedure : Procedure) → slice_get program.procedures k ≡ Some procedure → IsRegularProcedure program procedure
+  pub procedures : (k : ℕ) (procedure : Procedure) → slice_get program.procedures k ≡ Some procedure
+      → IsRegularProcedure program procedure

@@ -3,7 +3,9 @@ use Rattle.std.specs.Prelude.{ℕ, ◌+◌, List, [], ◌∷◌, ◌++◌, flat_
 use Rattle.std.specs.Option.{option_to_list}
 use Rattle.tal_tree.specs.Rows.{rows}
 use Rattle.tal_tree.specs.declared.statement.Statement.{Statement}
-use Rattle.tal_tree.specs.declared.statement.What.{What, What-F, out-What, Assign, AssignCall, If', While', For', Call, Return, ReadUpdate, Reply, WriteRead, Checkpoint, CheckMonitor, Open, Stop, Row_of-Statement, end_of-Statement, more_of-Statement}
+use Rattle.tal_tree.specs.declared.statement.What.{What, What-F, out-What, Assign, AssignCall, If', While', For', Call}
+use Rattle.tal_tree.specs.declared.statement.What.{Return, ReadUpdate, Reply, WriteRead, Checkpoint, CheckMonitor, Open}
+use Rattle.tal_tree.specs.declared.statement.What.{Stop, Row_of-Statement, end_of-Statement, more_of-Statement}
 
 -- the statements that stand in a statement, at any level, in the order of the text
 abbrev mutual
@@ -25,7 +27,8 @@ abbrev mutual
 
   pub within_row : {n : _} → Row_of-Statement n → List Statement
   within_row end_of-Statement = []
-  within_row (more_of-Statement number line what rest) = record { number = number; line = line; what = what } ∷ (within what ++ within_row rest)
+  within_row (more_of-Statement number line what rest) =
+      record { number = number; line = line; what = what } ∷ (within what ++ within_row rest)
 
 -- a statement and those that stand in it
 abbrev pub all_in : Statement → List Statement
@@ -46,7 +49,8 @@ abbrev mutual
   numbers_row end_of-Statement = []
   numbers_row (more_of-Statement number line what rest) = number ∷ numbers_within number what ++ numbers_row rest
 
-  -- the numbers within a statement of this number: a FOR's test has the next one, and its last assignment one that stands behind its body
+  -- the numbers within a statement of this number: a FOR's test has the next one, and its last assignment one that
+  -- stands behind its body
   pub numbers_within : ℕ → What → List ℕ
   numbers_within number (If' test _ first _ second) = numbers_row first ++ numbers_row second
   numbers_within number (While' test _ body) = numbers_row body

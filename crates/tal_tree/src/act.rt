@@ -10,8 +10,8 @@ pub enum Act {
     Print(u8),
 }
 
-/// What can be seen from outside: a write to a disc's sector, or the reply that a terminal prints to its request of this
-/// number, from 1.
+/// What can be seen from outside: a write to a disc's sector, or the reply that a terminal prints to its request of
+/// this number, from 1.
 #[derive(Drop)]
 pub enum Shown {
     Write {

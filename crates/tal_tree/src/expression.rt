@@ -7,8 +7,8 @@ pub enum Variable {
     Simple(u16),
 }
 
-/// What an expression reads and an assignment sets: a simple variable, or an element of a global array. The index is the
-/// program's own, which counts from the array's low bound.
+/// What an expression reads and an assignment sets: a simple variable, or an element of a global array. The index is
+/// the program's own, which counts from the array's low bound.
 #[cycle(expression)]
 #[derive(Drop)]
 pub enum Spot {
@@ -17,8 +17,8 @@ pub enum Spot {
     Element { item: u16, index: Expr },
 }
 
-/// A value over words. Named constants stand as their numbers. A chain of operators leans to the left and may be as long
-/// as the text that spells it, so no function may recurse along left operands.
+/// A value over words. Named constants stand as their numbers. A chain of operators leans to the left and may be as
+/// long as the text that spells it, so no function may recurse along left operands.
 #[cycle(expression)]
 pub enum Expr {
     Number(i16),

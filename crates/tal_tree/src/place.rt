@@ -2,8 +2,8 @@ ghost use Rattle.std.specs.Prelude.{◌++◌, Some, codes, decimal};
 
 use std::fmt;
 
-/// Where a token of a program text begins. Both numbers are from 1, and columns count bytes; line 1 is the first line of
-/// the text, in a deck the line after its `pair` line.
+/// Where a token of a program text begins. Both numbers are from 1, and columns count bytes; line 1 is the first line
+/// of the text, in a deck the line after its `pair` line.
 #[derive(Clone, Copy, Debug, PartialEq, Eq)]
 pub struct Place {
     pub line: u32,

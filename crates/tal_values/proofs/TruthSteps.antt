@@ -14,7 +14,8 @@ use Rattle.tal_values.proofs.ChainSteps.{linked-push}
 pub truth-not : (m : Memory) (inner : Cond) → truth_of m (Not inner) ≡ option_map not (truth_of m inner)
 truth-not m inner = ap (truth_of m) (not-is inner)
 
-pub truth-joined : (m : Memory) (junction : Junction) (left right : Cond) → truth_of m (joined junction left right) ≡ joined_truth junction (truth_of m left) (truth_of m right)
+pub truth-joined : (m : Memory) (junction : Junction) (left right : Cond)
+    → truth_of m (joined junction left right) ≡ joined_truth junction (truth_of m left) (truth_of m right)
 truth-joined m junction.And left right = ap (truth_of m) (and-is left right)
 truth-joined m junction.Or left right = ap (truth_of m) (or-is left right)
 
@@ -25,10 +26,12 @@ pub record Climbs (m : Memory) (left : Option Bool) (links : List Link) (whole :
   pub chain : linked below links ≡ whole
 
 pub climbs_up : (m : Memory) {left : Option Bool} {whole : Cond} {items : List Link} (links : List Link) (link : Link)
-    → items ≡ links ++ link ∷ [] → Climbs m left items whole → Climbs m (joined_truth link.junction left (truth_of m link.right.now)) links whole
+    → items ≡ links ++ link ∷ [] → Climbs m left items whole
+    → Climbs m (joined_truth link.junction left (truth_of m link.right.now)) links whole
 climbs_up m {left} {whole} {items} links link popped so_far = record {
   below = joined link.junction so_far.below link.right.now;
-  truth = truth-joined m link.junction so_far.below link.right.now ∙ (λ i. joined_truth link.junction (so_far.truth i) (truth_of m link.right.now));
+  truth = truth-joined m link.junction so_far.below link.right.now
+      ∙ (λ i. joined_truth link.junction (so_far.truth i) (truth_of m link.right.now));
   chain = sym (linked-push so_far.below links link) ∙ ap (linked so_far.below) (sym popped) ∙ so_far.chain;
 }
 
@@ -43,11 +46,17 @@ right_within junction.Or left right = omega (arith, sized-Or left right)
 
 pub first_within : (first : Cond) (links : List Link) → size-Cond first ≤ size-Cond (linked first links)
 first_within first [] = omega arith
-first_within first (link ∷ links) = omega (arith, first_within first links, left_within link.junction (linked first links) link.right.now)
+first_within first (link ∷ links) =
+    omega (arith, first_within first links, left_within link.junction (linked first links) link.right.now)
 
 pub link_within : {m : Memory} {left : Option Bool} {whole : Cond} {items : List Link} (links : List Link) (link : Link)
     → items ≡ links ++ link ∷ [] → Climbs m left items whole → size-Cond link.right.now < size-Cond whole
 link_within {m} {left} {whole} {items} links link popped so_far =
     let grown : linked (joined link.junction so_far.below link.right.now) links ≡ whole =
     sym (linked-push so_far.below links link) ∙ ap (linked so_far.below) (sym popped) ∙ so_far.chain in
-    omega (arith, ap size-Cond grown, first_within (joined link.junction so_far.below link.right.now) links, right_within link.junction so_far.below link.right.now)
+    omega (
+      arith,
+      ap size-Cond grown,
+      first_within (joined link.junction so_far.below link.right.now) links,
+      right_within link.junction so_far.below link.right.now,
+    )

@@ -16,10 +16,12 @@ use Rattle.tal_values.proofs.ChainSteps.{chained-push}
 pub value-read : (m : Memory) (spot : Spot) → value_of m (Read spot) ≡ option_and_then (word_at m) (cell_of m spot)
 value-read m spot = ap (value_of m) (read-is spot)
 
-pub value-minus : (m : Memory) (inner : Expr) → value_of m (Minus inner) ≡ option_map (λ x. wrap (neg_ℤ x)) (value_of m inner)
+pub value-minus : (m : Memory) (inner : Expr)
+    → value_of m (Minus inner) ≡ option_map (λ x. wrap (neg_ℤ x)) (value_of m inner)
 value-minus m inner = ap (value_of m) (minus-is inner)
 
-pub value-two : (m : Memory) (op : Op) (left right : Expr) → value_of m (Two op left right) ≡ both (result_of op) (value_of m left) (value_of m right)
+pub value-two : (m : Memory) (op : Op) (left right : Expr)
+    → value_of m (Two op left right) ≡ both (result_of op) (value_of m left) (value_of m right)
 value-two m op left right = ap (value_of m) (two-is op left right)
 
 -- what the operators that are left make of an expression of this value is the whole
@@ -28,11 +30,14 @@ pub record Climbs (m : Memory) (left : Option ℤ) (tails : List Tail) (whole : 
   pub value : value_of m below ≡ left
   pub chain : chained below tails ≡ whole
 
-pub climbs_up : (m : Memory) {left right : Option ℤ} {whole : Expr} {items : List Tail} (tails : List Tail) (tail : Tail)
-    → items ≡ tails ++ tail ∷ [] → right ≡ value_of m tail.right.now → Climbs m left items whole → Climbs m (both (result_of tail.op) left right) tails whole
+pub climbs_up : (m : Memory) {left right : Option ℤ} {whole : Expr} {items : List Tail} (tails : List Tail)
+    (tail : Tail)
+    → items ≡ tails ++ tail ∷ [] → right ≡ value_of m tail.right.now → Climbs m left items whole
+    → Climbs m (both (result_of tail.op) left right) tails whole
 climbs_up m {left} {right} {whole} {items} tails tail popped at_right so_far = record {
   below = Two tail.op so_far.below tail.right.now;
-  value = value-two m tail.op so_far.below tail.right.now ∙ (λ i. both (result_of tail.op) (so_far.value i) (sym at_right i));
+  value = value-two m tail.op so_far.below tail.right.now
+      ∙ (λ i. both (result_of tail.op) (so_far.value i) (sym at_right i));
   chain = sym (chained-push so_far.below tails tail) ∙ ap (chained so_far.below) (sym popped) ∙ so_far.chain;
 }
 
@@ -53,4 +58,9 @@ pub tail_within : {m : Memory} {left : Option ℤ} {whole : Expr} {items : List 
 tail_within {m} {left} {whole} {items} tails tail popped so_far =
     let grown : chained (Two tail.op so_far.below tail.right.now) tails ≡ whole =
     sym (chained-push so_far.below tails tail) ∙ ap (chained so_far.below) (sym popped) ∙ so_far.chain in
-    omega (arith, ap size-Expr grown, first_within (Two tail.op so_far.below tail.right.now) tails, right_within tail.op so_far.below tail.right.now)
+    omega (
+      arith,
+      ap size-Expr grown,
+      first_within (Two tail.op so_far.below tail.right.now) tails,
+      right_within tail.op so_far.below tail.right.now,
+    )

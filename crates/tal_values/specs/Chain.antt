@@ -1,4 +1,5 @@
--- A chain of operators as its first operand and what stands after it. The last part of a list is the one that comes first after the operand.
+-- A chain of operators as its first operand and what stands after it. The last part of a list is the one that comes
+-- first after the operand.
 use Rattle.std.specs.Prelude.{Bool, Option, List, [], ◌∷◌}
 use Rattle.tal_tree.specs.declared.expression.Expr.{Expr}
 use Rattle.tal_tree.specs.declared.expression.Expr.TheVariants as expr

@@ -1,5 +1,8 @@
--- The value of an expression and the truth of a condition. None is a trap: a zero divisor, or an index out of the bounds of its array.
-use Rattle.std.specs.Prelude.{ℕ, ℤ, pos, ◌+ℤ◌, ◌-ℤ◌, ◌*ℤ◌, neg_ℤ, int_lt, int_le, Bool, true, false, not, ◌&&◌, unsigned_abs, List, Option, Some, None, slice_get, option_map, option_and_then, if◌then◌else◌}
+-- The value of an expression and the truth of a condition. None is a trap: a zero divisor, or an index out of the
+-- bounds of its array.
+use Rattle.std.specs.Prelude.{ℕ, ℤ, pos, ◌+ℤ◌, ◌-ℤ◌, ◌*ℤ◌, neg_ℤ, int_lt, int_le, Bool, true, false, not, ◌&&◌}
+use Rattle.std.specs.Prelude.{unsigned_abs, List, Option, Some, None, slice_get, option_map, option_and_then}
+use Rattle.std.specs.Prelude.{if◌then◌else◌}
 use Rattle.std.specs.Ordering.{int_eq}
 use Rattle.gd_words.specs.Arithmetic.{wrap, quotient}
 use Rattle.tal_tree.specs.declared.program.Item.{Item}
@@ -10,8 +13,10 @@ use Rattle.tal_tree.specs.declared.expression.Op.TheVariants.{Add, Sub, Mul, Div
 use Rattle.tal_tree.specs.declared.expression.Rel.{Rel}
 use Rattle.tal_tree.specs.declared.expression.Rel.TheVariants.{Equal, Differs, Less, AtMost, Greater, AtLeast}
 use Rattle.tal_tree.specs.declared.expression.Spot.{Spot, Local, Simple, Element}
-use Rattle.tal_tree.specs.declared.expression.Expr.{Expr, Number, Read', Minus', Two', Row_of-Spot, end_of-Spot, more_of-Spot, Row_of-Expr, end_of-Expr, more_of-Expr}
-use Rattle.tal_tree.specs.declared.expression.Cond.{Cond, Truth, Compare, Not', And', Or', Row_of-Cond, end_of-Cond, more_of-Cond}
+use Rattle.tal_tree.specs.declared.expression.Expr.{Expr, Number, Read', Minus', Two', Row_of-Spot, end_of-Spot}
+use Rattle.tal_tree.specs.declared.expression.Expr.{more_of-Spot, Row_of-Expr, end_of-Expr, more_of-Expr}
+use Rattle.tal_tree.specs.declared.expression.Cond.{Cond, Truth, Compare, Not', And', Or', Row_of-Cond, end_of-Cond}
+use Rattle.tal_tree.specs.declared.expression.Cond.{more_of-Cond}
 use Rattle.tal_values.specs.declared.memory.Cell.{Cell}
 use Rattle.tal_values.specs.declared.memory.Cell.TheVariants as cell
 
@@ -21,9 +26,11 @@ pub record Memory : Type 0 where
   pub globals : List (List ℤ)
   pub locals : List ℤ
 
--- the place of an element in its array's list: how far its index lies above the low bound; none outside the bounds, or where there is no array
+-- the place of an element in its array's list: how far its index lies above the low bound; none outside the bounds, or
+-- where there is no array
 abbrev pub place_in : Shape → ℤ → Option ℕ
-place_in (Array low high) index = if int_le low index && int_le index high then Some (unsigned_abs (index -ℤ low)) else None
+place_in (Array low high) index =
+    if int_le low index && int_le index high then Some (unsigned_abs (index -ℤ low)) else None
 place_in _ index = None
 
 -- the place of an element of an item
@@ -48,7 +55,8 @@ result_of Sub x y = Some (wrap (x -ℤ y))
 result_of Mul x y = Some (wrap (x *ℤ y))
 result_of Div x y = quotient x y
 
--- The value of an expression, and the cell that a spot names: an item's one word is at place 0, an element where its index has it.
+-- The value of an expression, and the cell that a spot names: an item's one word is at place 0, an element where its
+-- index has it.
 abbrev mutual
   pub value_of : Memory → Expr → Option ℤ
   value_of m (Number n) = Some n

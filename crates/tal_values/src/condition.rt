@@ -33,7 +33,8 @@ fn joined(
     left: Option<bool>,
     link: Link<'_>,
 ) -> Result<Option<bool>, NoMemory>
-    ensures { IfOk result (λ truth. truth ≡ joined_truth link.entry.junction left (truth_of (seen memory.entry) link.entry.right.now)) }
+    ensures { IfOk result (λ truth. truth ≡ joined_truth link.entry.junction left
+        (truth_of (seen memory.entry) link.entry.right.now)) }
 {
     if is_decided(link.junction, left) {
         return Ok(left);

@@ -1,8 +1,8 @@
 //! Values of expressions and truths of conditions: what they are, over the whole tree, and the calls that find them.
 //!
 //! Below stand `gd_words` with its wrapped arithmetic and `tal_tree` with the trees. The layer above uses `value_of`,
-//! `truth_of` and `cell_of` of `specs/Value.antt` in its own definitions, and that `value`, `truth` and `cell` give just these;
-//! `operators` has what one operator does, for whoever evaluates in another order.
+//! `truth_of` and `cell_of` of `specs/Value.antt` in its own definitions, and that `value`, `truth` and `cell` give
+//! just these; `operators` has what one operator does, for whoever evaluates in another order.
 #![tactic(auto)]
 
 pub mod chain;

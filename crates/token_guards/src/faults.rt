@@ -1,5 +1,6 @@
 ghost use Rattle.std.specs.Prelude.{◌≡◌, [], ◌∷◌, ◌++◌, codes, replicate, Some, None};
-ghost use Rattle.tal_tree.specs.declared.fault.TalFault.TheVariants.{BadCharacter, NumberTooLarge, OpenString, NameTooLong};
+ghost use Rattle.tal_tree.specs.declared.fault.TalFault.TheVariants.{BadCharacter, NumberTooLarge, OpenString};
+ghost use Rattle.tal_tree.specs.declared.fault.TalFault.TheVariants.{NameTooLong};
 ghost use Rattle.token_guards.specs.Texts.{fault_in, place};
 
 /// A `%` needs an octal digit, and a carriage return begins no token.

@@ -15,10 +15,12 @@ use Rattle.trace_print.specs.ShownLine.{process_name, terminal_name}
 abbrev pub variable_in : Kind → ℕ → List ℕ
 variable_in (kind.Disc sectors) file = []
 variable_in (kind.Pair program) file =
-    unwrap_or (option_and_then (λ used. option_map (λ item. item.name) (slice_get program.items used.item)) (slice_get program.files file)) []
+    unwrap_or (option_and_then (λ used. option_map (λ item. item.name) (slice_get program.items used.item))
+    (slice_get program.files file)) []
 
 abbrev pub variable_name : Site → ℕ → ℕ → List ℕ
-variable_name site process file = unwrap_or (option_map (λ spec. variable_in spec.what file) (slice_get site.processes process)) []
+variable_name site process file =
+    unwrap_or (option_map (λ spec. variable_in spec.what file) (slice_get site.processes process)) []
 
 -- an opener: a terminal by its name, a file by its process's name, `/` and its variable
 abbrev pub who_name : Site → Who → List ℕ
@@ -27,12 +29,14 @@ who_name site (who.File process file) = process_name site process ++ codes "/" +
 
 -- the opener at a place of a process; nothing where it has none there
 abbrev pub opener_name : Site → ℕ → ℕ → List ℕ
-opener_name site process place = unwrap_or (option_map (λ opener. who_name site opener.who) (slice_get (openers_of site process) place)) []
+opener_name site process place =
+    unwrap_or (option_map (λ opener. who_name site opener.who) (slice_get (openers_of site process) place)) []
 
 -- `A step PROCESS`, `A take PROCESS OPENER`, `A enter TERMINAL`, `A print TERMINAL`
 abbrev pub act_line : Site → Act → List ℕ
 act_line site (Step process) = codes "A step " ++ process_name site process ++ 10 ∷ []
-act_line site (Take process opener) = codes "A take " ++ process_name site process ++ codes " " ++ opener_name site process opener ++ 10 ∷ []
+act_line site (Take process opener) =
+    codes "A take " ++ process_name site process ++ codes " " ++ opener_name site process opener ++ 10 ∷ []
 act_line site (Enter terminal) = codes "A enter " ++ terminal_name site terminal ++ 10 ∷ []
 act_line site (Print terminal) = codes "A print " ++ terminal_name site terminal ++ 10 ∷ []
 

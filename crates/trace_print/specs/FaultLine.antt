@@ -1,7 +1,9 @@
 -- The line of a deck's fault.
 use Rattle.std.specs.Prelude.{ℕ, List, [], ◌∷◌, ◌++◌, codes}
 use Rattle.tal_tree.specs.declared.fault.DeckFault.{DeckFault}
-use Rattle.tal_tree.specs.declared.fault.DeckFault.TheVariants.{Line, Program, NameTwice, UnknownName, SameProcessor, NoProcessor, Limit, NoEnd, OpensItself, TooLong, NoMemory}
+use Rattle.tal_tree.specs.declared.fault.DeckFault.TheVariants.{Line, Program, NameTwice, UnknownName, SameProcessor}
+use Rattle.tal_tree.specs.declared.fault.DeckFault.TheVariants.{NoProcessor, Limit, NoEnd, OpensItself, TooLong}
+use Rattle.tal_tree.specs.declared.fault.DeckFault.TheVariants.{NoMemory}
 use Rattle.trace_print.specs.NumbersText.{numbers_text}
 use Rattle.trace_print.specs.TalNumbers.{IsOfText, tal_numbers}
 

@@ -9,4 +9,5 @@ count_line word count = word ++ decimal count ++ 10 ∷ []
 
 -- `LOAD n`, the number of requests of each terminal, and `W count` and `R count`
 abbrev pub load_lines : LoadCounts → List ℕ
-load_lines counts = count_line (codes "LOAD ") counts.requests ++ count_line (codes "W ") counts.writes ++ count_line (codes "R ") counts.replies
+load_lines counts = count_line (codes "LOAD ") counts.requests ++ count_line (codes "W ") counts.writes
+    ++ count_line (codes "R ") counts.replies

@@ -13,11 +13,13 @@ use Rattle.trace_print.specs.StopLine.{stop_lines}
 use Rattle.trace_print.specs.declared.closing.End.{End}
 use Rattle.trace_print.specs.declared.load.LoadCounts.{LoadCounts}
 
--- what the run shows, the sectors that were written, the processors that have stopped, the acts that it kept, and its end
+-- what the run shows, the sectors that were written, the processors that have stopped, the acts that it kept, and its
+-- end
 abbrev pub report_text : Site → List Shown → List SectorWords → List ℕ → List Act → End → List ℕ
 report_text site shown sectors stopped acts end =
     shown_lines site shown ++ sector_lines site sectors ++ stop_lines stopped ++ act_lines site acts ++ end_line end
 
 -- the same of a load: its counts in place of what it shows, and no acts
 abbrev pub load_report_text : Site → LoadCounts → List SectorWords → List ℕ → End → List ℕ
-load_report_text site counts sectors stopped end = load_lines counts ++ sector_lines site sectors ++ stop_lines stopped ++ end_line end
+load_report_text site counts sectors stopped end =
+    load_lines counts ++ sector_lines site sectors ++ stop_lines stopped ++ end_line end

@@ -7,7 +7,8 @@ use Rattle.trace_print.specs.declared.closing.End.TheVariants.{Swept}
 
 -- `F processor runs idle cut second`
 abbrev pub row_line : ProcessorRow → List ℕ
-row_line one = codes "F" ++ numbers_text (one.processor ∷ one.row.runs ∷ one.row.idle ∷ one.row.cut ∷ one.row.second ∷ []) ++ 10 ∷ []
+row_line one = codes "F" ++ numbers_text
+    (one.processor ∷ one.row.runs ∷ one.row.idle ∷ one.row.cut ∷ one.row.second ∷ []) ++ 10 ∷ []
 
 -- the lines of rows, in order
 abbrev pub row_lines : List ProcessorRow → List ℕ

@@ -8,7 +8,8 @@ use Rattle.trace_print.specs.ShownLine.{process_name}
 
 -- `D NAME sector: words`
 abbrev pub sector_line : Site → SectorWords → List ℕ
-sector_line site written = codes "D " ++ process_name site written.process ++ codes " " ++ decimal written.sector ++ codes ":" ++ words_text written.words ++ 10 ∷ []
+sector_line site written = codes "D " ++ process_name site written.process ++ codes " " ++ decimal written.sector
+    ++ codes ":" ++ words_text written.words ++ 10 ∷ []
 
 -- the lines of sectors, in order
 abbrev pub sector_lines : Site → List SectorWords → List ℕ

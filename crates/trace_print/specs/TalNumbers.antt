@@ -2,7 +2,9 @@
 use Rattle.std.specs.Prelude.{ℕ, List, [], ◌∷◌}
 use Rattle.tal_tree.specs.declared.place.Place.{Place}
 use Rattle.tal_tree.specs.declared.fault.TalFault.{TalFault}
-use Rattle.tal_tree.specs.declared.fault.TalFault.TheVariants.{BadCharacter, NumberTooLarge, OpenString, NameTooLong, Expected, Unknown, Twice, WrongKind, NotBefore, Prologue, Limit, NoMain, NoMemory}
+use Rattle.tal_tree.specs.declared.fault.TalFault.TheVariants.{BadCharacter, NumberTooLarge, OpenString, NameTooLong}
+use Rattle.tal_tree.specs.declared.fault.TalFault.TheVariants.{Expected, Unknown, Twice, WrongKind, NotBefore, Prologue}
+use Rattle.tal_tree.specs.declared.fault.TalFault.TheVariants.{Limit, NoMain, NoMemory}
 
 -- a fault of the text itself, and not want of memory
 abbrev pub IsOfText : TalFault → Type 0

@@ -42,7 +42,8 @@ global_in (kind.Disc sectors) item = []
 global_in (kind.Pair program) item = unwrap_or (option_map (λ found. found.name) (slice_get program.items item)) []
 
 abbrev pub global_name : Site → ℕ → ℕ → List ℕ
-global_name site process item = unwrap_or (option_map (λ spec. global_in spec.what item) (slice_get site.processes process)) []
+global_name site process item =
+    unwrap_or (option_map (λ spec. global_in spec.what item) (slice_get site.processes process)) []
 
 -- a reason, with the global or the variable of the file that it is about
 abbrev pub reason_text : Site → ℕ → Reason → List ℕ
@@ -59,9 +60,11 @@ cause_text site process (NoMemory _) = []
 
 -- `REFUSED NAME` and the cause
 abbrev pub refused_line : Site → ℕ → RefusalFault → List ℕ
-refused_line site process refusal = codes "REFUSED " ++ process_name site process ++ codes " " ++ cause_text site process refusal ++ 10 ∷ []
+refused_line site process refusal =
+    codes "REFUSED " ++ process_name site process ++ codes " " ++ cause_text site process refusal ++ 10 ∷ []
 
--- `P NUMBER LINE` of a statement of a path, where these are the lines of a program's statements in the order of their numbers, from 1
+-- `P NUMBER LINE` of a statement of a path, where these are the lines of a program's statements in the order of their
+-- numbers, from 1
 abbrev pub step_line : List ℕ → ℕ → List ℕ
 step_line lines number = codes "P " ++ decimal number ++ codes " " ++ decimal (line_among lines number) ++ 10 ∷ []
 
@@ -77,4 +80,5 @@ path_of (NoMemory _) = []
 
 -- where a program is refused: the cause, the path that shows it, and the end
 abbrev pub refusal_text : Site → ℕ → RefusalFault → List ℕ → List ℕ
-refusal_text site process refusal lines = refused_line site process refusal ++ step_lines lines (path_of refusal) ++ end_line end.Refused
+refusal_text site process refusal lines =
+    refused_line site process refusal ++ step_lines lines (path_of refusal) ++ end_line end.Refused

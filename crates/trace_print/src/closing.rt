@@ -5,8 +5,8 @@ ghost use Rattle.trace_print.specs.EndLine.{end_line, usage_line};
 use crate::line::Line;
 use gd_io::{Sink, WriteFault, put_all};
 
-/// How a report ends: nothing more could happen, the run was cut short, a second processor would have stopped, all programs were
-/// accepted, one was refused, or all stops were tried.
+/// How a report ends: nothing more could happen, the run was cut short, a second processor would have stopped, all
+/// programs were accepted, one was refused, or all stops were tried.
 #[derive(Clone, Copy, PartialEq, Eq)]
 pub enum End {
     Idle,

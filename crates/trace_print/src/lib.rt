@@ -1,11 +1,13 @@
-//! The lines of a report: what a run shows, or for a load its counts, the sectors that were written, the processors that stopped,
-//! the acts that it kept and how it ended; the rows of a sweep; which programs are accepted, and why one is refused; a deck's
-//! fault; and the usage. Each is one exact text that goes out by one call of `put_all`. Nothing here takes memory.
+//! The lines of a report: what a run shows, or for a load its counts, the sectors that were written, the processors
+//! that stopped, the acts that it kept and how it ended; the rows of a sweep; which programs are accepted, and why one
+//! is refused; a deck's fault; and the usage. Each is one exact text that goes out by one call of `put_all`. Nothing
+//! here takes memory.
 //!
-//! Below stand `gd_io`, whose relation `Puts` is what each call here says of its sink, `tal_tree` with what the lines tell of,
-//! `plain_semantics` with the openers that acts name, `path_semantics` with the reasons of refusals, `shown_sectors`, and
-//! `run_table` with the rows. The crates above use the texts, `report_text`, `load_report_text`, `sweep_text`, `accepted_text`,
-//! `refusal_text`, `fault_line`, `end_line` and `usage_line`, and join other texts by the lemmas of `gd_io` on `Puts`.
+//! Below stand `gd_io`, whose relation `Puts` is what each call here says of its sink, `tal_tree` with what the lines
+//! tell of, `plain_semantics` with the openers that acts name, `path_semantics` with the reasons of refusals,
+//! `shown_sectors`, and `run_table` with the rows. The crates above use the texts, `report_text`, `load_report_text`,
+//! `sweep_text`, `accepted_text`, `refusal_text`, `fault_line`, `end_line` and `usage_line`, and join other texts by
+//! the lemmas of `gd_io` on `Puts`.
 #![tactic(auto)]
 
 pub mod acts;

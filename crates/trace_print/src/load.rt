@@ -22,7 +22,8 @@ pub fn write_load<K: Sink>(sink: &mut K, counts: LoadCounts) -> Result<(), Write
 }
 
 fn write_requests_and_writes<K: Sink>(sink: &mut K, counts: LoadCounts) -> Result<(), WriteFault>
-    ensures { Puts K.held K.faults K.sure sink.old sink.new (count_line (codes "LOAD ") counts.requests ++ count_line (codes "W ") counts.writes) result }
+    ensures { Puts K.held K.faults K.sure sink.old sink.new
+        (count_line (codes "LOAD ") counts.requests ++ count_line (codes "W ") counts.writes) result }
 {
     write_count(sink, b"LOAD ", counts.requests)?;
     write_count(sink, b"W ", counts.writes)

@@ -18,8 +18,8 @@ use gd_io::{Sink, WriteFault};
 use shown_sectors::SectorWords;
 use tal_tree::{Act, Shown, Site};
 
-/// Writes the lines of all that a run shows, of the sectors that were written, of the processors that have stopped, of the acts
-/// that are to be told, and of its end, in this order. It takes no memory.
+/// Writes the lines of all that a run shows, of the sectors that were written, of the processors that have stopped, of
+/// the acts that are to be told, and of its end, in this order. It takes no memory.
 pub fn write_report<K: Sink>(
     sink: &mut K,
     site: &Site,
@@ -30,7 +30,8 @@ pub fn write_report<K: Sink>(
     end: End,
 ) -> Result<(), WriteFault>
     requires { KeepsSiteLimits site.now }
-    ensures { Puts K.held K.faults K.sure sink.old sink.new (report_text site.now shown.now sectors.now stopped.now acts.now end) result }
+    ensures { Puts K.held K.faults K.sure sink.old sink.new
+        (report_text site.now shown.now sectors.now stopped.now acts.now end) result }
 {
     write_run(sink, site, shown, sectors, stopped, acts)?;
     write_end(sink, end)
@@ -46,7 +47,8 @@ fn write_run<K: Sink>(
 ) -> Result<(), WriteFault>
     requires { KeepsSiteLimits site.now }
     ensures { Puts K.held K.faults K.sure sink.old sink.new
-        (shown_lines site.now shown.now ++ sector_lines site.now sectors.now ++ stop_lines stopped.now ++ act_lines site.now acts.now) result }
+        (shown_lines site.now shown.now ++ sector_lines site.now sectors.now ++ stop_lines stopped.now
+        ++ act_lines site.now acts.now) result }
 {
     write_end_states(sink, site, shown, sectors, stopped)?;
     write_all_acts(sink, site, acts)
@@ -72,14 +74,15 @@ fn write_outside<K: Sink>(
     shown: &[Shown],
     sectors: &[SectorWords],
 ) -> Result<(), WriteFault>
-    ensures { Puts K.held K.faults K.sure sink.old sink.new (shown_lines site.now shown.now ++ sector_lines site.now sectors.now) result }
+    ensures { Puts K.held K.faults K.sure sink.old sink.new
+        (shown_lines site.now shown.now ++ sector_lines site.now sectors.now) result }
 {
     write_all_shown(sink, site, shown)?;
     write_all_sectors(sink, site, sectors)
 }
 
-/// Writes the lines of a load's counts, of the sectors that were written, of the processors that have stopped, and of its end, in
-/// this order. It takes no memory.
+/// Writes the lines of a load's counts, of the sectors that were written, of the processors that have stopped, and of
+/// its end, in this order. It takes no memory.
 pub fn write_load_report<K: Sink>(
     sink: &mut K,
     site: &Site,
@@ -88,7 +91,8 @@ pub fn write_load_report<K: Sink>(
     stopped: &[u8],
     end: End,
 ) -> Result<(), WriteFault>
-    ensures { Puts K.held K.faults K.sure sink.old sink.new (load_report_text site.now counts sectors.now stopped.now end) result }
+    ensures { Puts K.held K.faults K.sure sink.old sink.new
+        (load_report_text site.now counts sectors.now stopped.now end) result }
 {
     write_load_states(sink, site, counts, sectors, stopped)?;
     write_end(sink, end)
@@ -101,7 +105,8 @@ fn write_load_states<K: Sink>(
     sectors: &[SectorWords],
     stopped: &[u8],
 ) -> Result<(), WriteFault>
-    ensures { Puts K.held K.faults K.sure sink.old sink.new (load_lines counts ++ sector_lines site.now sectors.now ++ stop_lines stopped.now) result }
+    ensures { Puts K.held K.faults K.sure sink.old sink.new
+        (load_lines counts ++ sector_lines site.now sectors.now ++ stop_lines stopped.now) result }
 {
     write_load_sectors(sink, site, counts, sectors)?;
     write_all_stops(sink, stopped)
@@ -113,7 +118,8 @@ fn write_load_sectors<K: Sink>(
     counts: LoadCounts,
     sectors: &[SectorWords],
 ) -> Result<(), WriteFault>
-    ensures { Puts K.held K.faults K.sure sink.old sink.new (load_lines counts ++ sector_lines site.now sectors.now) result }
+    ensures { Puts K.held K.faults K.sure sink.old sink.new (load_lines counts ++ sector_lines site.now sectors.now)
+        result }
 {
     write_load(sink, counts)?;
     write_all_sectors(sink, site, sectors)

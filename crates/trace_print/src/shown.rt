@@ -8,8 +8,8 @@ use crate::line::Line;
 use gd_io::{Sink, WriteFault, put_all};
 use tal_tree::{Shown, Site};
 
-/// Writes the line of what a process or a terminal of the site shows; the name of one that isn't there is empty. It takes no
-/// memory.
+/// Writes the line of what a process or a terminal of the site shows; the name of one that isn't there is empty. It
+/// takes no memory.
 pub fn write_shown<K: Sink>(sink: &mut K, site: &Site, shown: &Shown) -> Result<(), WriteFault>
     ensures { Puts K.held K.faults K.sure sink.old sink.new (shown_line site.now shown.now) result }
 {
@@ -85,7 +85,8 @@ pub(crate) fn told(letter: &[u8], name: &[u8], number: u32, words: &[i16]) -> Li
     requires letter { length letter.now ≤ 2 }
     requires short { length name.now ≤ 6 }
     requires few { length words.now ≤ 16 }
-    ensures { result ≡ letter.now ++ name.now ++ codes " " ++ decimal number ++ codes ":" ++ words_text words.now ++ 10 ∷ [] }
+    ensures { result ≡ letter.now ++ name.now ++ codes " " ++ decimal number ++ codes ":" ++ words_text words.now
+        ++ 10 ∷ [] }
 {
     let mut line = Line::new();
     line.push(letter);

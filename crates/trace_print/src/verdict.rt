@@ -1,7 +1,9 @@
 ghost use Rattle.std.specs.Prelude.{◌≡◌, ◌+◌, ◌≤◌, ◌++◌, length};
 ghost use Rattle.gd_io.specs.Puts.{Puts};
 ghost use Rattle.statement_lines.specs.Lines.{line_among};
-ghost use Rattle.trace_print.specs.VerdictText.{accepted_by, accepted_line, accepted_lines, accepted_text, cause_text, global_in, global_name, path_of, reason_text, refusal_text, refused_line, step_line, step_lines};
+ghost use Rattle.trace_print.specs.VerdictText.{accepted_by, accepted_line, accepted_lines, accepted_text, cause_text};
+ghost use Rattle.trace_print.specs.VerdictText.{global_in, global_name, path_of, reason_text, refusal_text};
+ghost use Rattle.trace_print.specs.VerdictText.{refused_line, step_line, step_lines};
 
 use crate::acts::variable_name;
 use crate::closing::{End, write_end};
@@ -48,8 +50,9 @@ fn accepted_line(spec: &ProcessSpec) -> Line
     line
 }
 
-/// Writes why the program of a process is refused: the cause, the number and the line of each statement of the path that shows
-/// it, and the end. `lines` are those of the program's statements in the order of their numbers, from 1. It takes no memory.
+/// Writes why the program of a process is refused: the cause, the number and the line of each statement of the path
+/// that shows it, and the end. `lines` are those of the program's statements in the order of their numbers, from 1. It
+/// takes no memory.
 pub fn write_refusal<K: Sink>(
     sink: &mut K,
     site: &Site,
@@ -57,7 +60,8 @@ pub fn write_refusal<K: Sink>(
     refusal: &RefusalFault,
     lines: &[u32],
 ) -> Result<(), WriteFault>
-    ensures { Puts K.held K.faults K.sure sink.old sink.new (refusal_text site.now process refusal.now lines.now) result }
+    ensures { Puts K.held K.faults K.sure sink.old sink.new (refusal_text site.now process refusal.now lines.now)
+        result }
 {
     write_cause(sink, site, process, refusal, lines)?;
     write_end(sink, End::Refused)
@@ -70,7 +74,8 @@ fn write_cause<K: Sink>(
     refusal: &RefusalFault,
     lines: &[u32],
 ) -> Result<(), WriteFault>
-    ensures { Puts K.held K.faults K.sure sink.old sink.new (refused_line site.now process refusal.now ++ step_lines lines.now (path_of refusal.now)) result }
+    ensures { Puts K.held K.faults K.sure sink.old sink.new
+        (refused_line site.now process refusal.now ++ step_lines lines.now (path_of refusal.now)) result }
 {
     write_refused(sink, site, process, refusal)?;
     write_path(sink, lines, path_of(refusal))

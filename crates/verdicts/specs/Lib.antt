@@ -1,2 +1,3 @@
 pub mod Causes
+pub mod Judgeable
 pub mod Refused

@@ -1,11 +1,7 @@
 -- The first program of a site that is refused.
 use Rattle.std.specs.Prelude.{◌≡◌, ◌≢◌, ◌<◌, ℕ, List, Option, Some, None, Err, slice_get}
-use Rattle.std.specs.List.{All}
 use Rattle.std.specs.Option.{option_and_then}
 use Rattle.gd_words.specs.Memory.{no_memory}
-use Rattle.tal_tree.specs.Limits.{IsWithinLimits}
-use Rattle.tal_tree.specs.Ordered.{IsOrdered}
-use Rattle.tal_tree.specs.Regular.{IsRegular}
 use Rattle.tal_tree.specs.declared.program.Program.{Program}
 use Rattle.tal_tree.specs.declared.site.Kind.{Kind}
 use Rattle.tal_tree.specs.declared.site.Kind.TheVariants as kind
@@ -15,19 +11,6 @@ use Rattle.path_semantics.specs.declared.reason.RefusalFault.TheVariants.{NoMemo
 use Rattle.discipline.specs.Verdict.{IsVerdict}
 use Rattle.statement_lines.specs.Lines.{lines_of}
 use Rattle.verdicts.specs.declared.refused.RefusedProgram.{RefusedProgram}
-
--- a program that can be judged: as every program that is read, it calls only procedures before the caller, keeps the limits and is regular
-pub record IsJudgeable (program : Program) : Type 0 where
-  pub ordered : IsOrdered program
-  pub limits : IsWithinLimits program
-  pub regular : IsRegular program
-
-abbrev pub IsJudgeableKind : Kind → Type 0
-IsJudgeableKind (kind.Disc sectors) = Unit {0}
-IsJudgeableKind (kind.Pair program) = IsJudgeable program
-
-abbrev pub AreJudgeable : List ProcessSpec → Type 0
-AreJudgeable specs = All (λ spec. IsJudgeableKind spec.what) specs
 
 -- the program of a pair; a disc has none
 abbrev pub program_of : Kind → Option Program
@@ -44,7 +27,8 @@ AreAccepted specs = (place : ℕ) (program : Program) → program_at specs place
 
 -- the programs before a place are accepted
 abbrev pub AreAcceptedBefore : List ProcessSpec → ℕ → Type 0
-AreAcceptedBefore specs end = (place : ℕ) (program : Program) → place < end → program_at specs place ≡ Some program → IsAccepted program
+AreAcceptedBefore specs end =
+    (place : ℕ) (program : Program) → place < end → program_at specs place ≡ Some program → IsAccepted program
 
 -- the process has the first program that is refused, with its refusal and the lines of its statements
 pub record IsFirstRefused (specs : List ProcessSpec) (refused : RefusedProgram) : Type 0 where

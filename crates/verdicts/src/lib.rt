@@ -1,7 +1,7 @@
 //! The verdict on the programs of a site: the first that is refused, in deck order, or that all are accepted.
 //!
-//! Below stand `discipline`, which judges one program, and `statement_lines`, which tells where its statements stand. The layer
-//! above uses `first_refused`, whose answer is `IsFirstRefused` or `AreAccepted` of `specs/Refused.antt`.
+//! Below stand `discipline`, which judges one program, and `statement_lines`, which tells where its statements stand.
+//! The layer above uses `first_refused`, whose answer is `IsFirstRefused` or `AreAccepted` of `specs/Refused.antt`.
 #![tactic(auto)]
 
 pub mod refused;

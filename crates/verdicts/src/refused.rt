@@ -1,6 +1,7 @@
 ghost use Rattle.std.specs.Prelude.{◌≡◌, ◌≤◌, length, IfOk, MatchOption};
 ghost use Rattle.verdicts.specs.Causes.{IsAcceptedKind, IsCauseOf};
-ghost use Rattle.verdicts.specs.Refused.{AreAccepted, AreJudgeable, IsFirstRefused, IsJudgeable, IsJudgeableKind};
+ghost use Rattle.verdicts.specs.Judgeable.{AreJudgeable, IsJudgeable, IsJudgeableKind};
+ghost use Rattle.verdicts.specs.Refused.{AreAccepted, IsFirstRefused};
 
 use discipline::check;
 use gd_words::{List, NoMemory};
@@ -9,8 +10,8 @@ use statement_lines::lines_of;
 use std::alloc::Global;
 use tal_tree::{Kind, ProcessSpec, Program};
 
-/// The process at a place in the deck whose program is refused, and why; and the lines of the program's statements in the order
-/// of their numbers, from 1.
+/// The process at a place in the deck whose program is refused, and why; and the lines of the program's statements in
+/// the order of their numbers, from 1.
 #[derive(Drop)]
 pub struct RefusedProgram {
     pub process: u8,
@@ -32,7 +33,8 @@ pub fn first_refused(
 ) -> Result<Option<RefusedProgram>, NoMemory>
     requires few { length processes.now ≤ 16 }
     requires judgeable { AreJudgeable processes.now }
-    ensures { IfOk result (λ found. MatchOption found (AreAccepted processes.now) (λ refused. IsFirstRefused processes.now refused)) }
+    ensures { IfOk result (λ found. MatchOption found (AreAccepted processes.now)
+        (λ refused. IsFirstRefused processes.now refused)) }
 {
     for (place, spec) in processes.iter().enumerate() {
         match cause_of(alloc, &spec.what)? {
@@ -62,7 +64,8 @@ fn cause_of(alloc: Global, what: &Kind) -> Result<Option<Cause>, NoMemory>
 
 fn cause_of_program(alloc: Global, program: &Program) -> Result<Option<Cause>, NoMemory>
     requires { IsJudgeable program.now }
-    ensures { IfOk result (λ found. MatchOption found (IsAcceptedKind (Kind.Pair program.now)) (λ cause. IsCauseOf (Kind.Pair program.now) cause)) }
+    ensures { IfOk result (λ found. MatchOption found (IsAcceptedKind (Kind.Pair program.now))
+        (λ cause. IsCauseOf (Kind.Pair program.now) cause)) }
 {
     match check(alloc, program) {
         Ok(()) => Ok(None),

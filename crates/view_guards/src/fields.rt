@@ -6,44 +6,48 @@ ghost use Rattle.process_semantics.specs.declared.point.Point.TheVariants.{Await
 ghost use Rattle.world_semantics.specs.declared.role.Role.TheVariants.{Acting, Watching};
 ghost use Rattle.world_semantics.specs.World.{World};
 ghost use Rattle.world_semantics.specs.Core.{Core, next_on};
-ghost use Rattle.machine_views.specs.Views.{awaited_at, awaited_by, copy_view, image_of_everything, marks_in, sector_views, stopped_in, terminal_view, view_of};
+ghost use Rattle.machine_views.specs.Views.{awaited_at, awaited_by, copy_view, image_of_everything, marks_in};
+ghost use Rattle.machine_views.specs.Views.{sector_views, stopped_in, terminal_view, view_of};
 ghost use Rattle.view_guards.specs.Copies.{acting, core_of, watching};
 
 /// Each field of a copy is told in its own place: of two copies that differ in all of them.
 pub fn a_copy_is_told_field_by_field()
-    ensures acting { (state : ProcessState) (table : ReceiveBlock) (a b : Request) → copy_view 2 (acting (core_of state table) (a ∷ b ∷ [])) ≡ record {
-      process = 2;
-      processor = 7;
-      role = Acting;
-      era = 3;
-      number = 4;
-      sent = true;
-      awaited = awaited_by (core_of state table);
-      point = point state;
-      state = image_of_everything state;
-      files = record { file = 0; next = 5 } ∷ record { file = 1; next = 6 } ∷ [];
-      receive = table;
-      waiting = a ∷ b ∷ [];
-    } }
-    ensures watching { (state : ProcessState) (table : ReceiveBlock) (a b : Request) → copy_view 3 (watching (core_of state table) (b ∷ [])) ≡ record {
-      process = 3;
-      processor = 8;
-      role = Watching;
-      era = 4;
-      number = 3;
-      sent = false;
-      awaited = awaited_by (core_of state table);
-      point = point state;
-      state = image_of_everything state;
-      files = record { file = 0; next = 5 } ∷ record { file = 1; next = 6 } ∷ [];
-      receive = table;
-      waiting = b ∷ [];
-    } }
+    ensures acting { (state : ProcessState) (table : ReceiveBlock) (a b : Request)
+        → copy_view 2 (acting (core_of state table) (a ∷ b ∷ [])) ≡ record {
+          process = 2;
+          processor = 7;
+          role = Acting;
+          era = 3;
+          number = 4;
+          sent = true;
+          awaited = awaited_by (core_of state table);
+          point = point state;
+          state = image_of_everything state;
+          files = record { file = 0; next = 5 } ∷ record { file = 1; next = 6 } ∷ [];
+          receive = table;
+          waiting = a ∷ b ∷ [];
+        } }
+    ensures watching { (state : ProcessState) (table : ReceiveBlock) (a b : Request)
+        → copy_view 3 (watching (core_of state table) (b ∷ [])) ≡ record {
+          process = 3;
+          processor = 8;
+          role = Watching;
+          era = 4;
+          number = 3;
+          sent = false;
+          awaited = awaited_by (core_of state table);
+          point = point state;
+          state = image_of_everything state;
+          files = record { file = 0; next = 5 } ∷ record { file = 1; next = 6 } ∷ [];
+          receive = table;
+          waiting = b ∷ [];
+        } }
 {}
 
 /// A reply is awaited at Await alone: that to the last request on the file on which the process asked.
 pub fn a_reply_is_awaited_at_await()
-    ensures awaits { (core : Core) → awaited_at core Await ≡ Some (record { file = asked_file core.state; number = next_on core (asked_file core.state) - 1 }) }
+    ensures awaits { (core : Core) → awaited_at core Await
+        ≡ Some (record { file = asked_file core.state; number = next_on core (asked_file core.state) - 1 }) }
     ensures elsewhere { (core : Core) → awaited_at core Take ≡ None }
 {}
 
@@ -56,6 +60,10 @@ pub fn a_terminal_is_told_field_by_field()
 pub fn a_world_is_told_part_by_part()
     ensures stopped { (w : World) → (view_of w).stopped ≡ stopped_in w.stopped }
     ensures down { (w : World) → (view_of w).down ≡ marks_in w.marks }
-    ensures terminals { (w : World) → (view_of (record w { terminals = record { entered = 5; printed = 4 } ∷ record { entered = 0; printed = 0 } ∷ [] })).terminals
+    ensures terminals { (w : World) → (view_of
+        (record w {
+          terminals = record { entered = 5; printed = 4 } ∷ record { entered = 0; printed = 0 }
+              ∷ [];
+        })).terminals
         ≡ record { entered = 5; printed = 4 } ∷ record { entered = 0; printed = 0 } ∷ [] }
 {}

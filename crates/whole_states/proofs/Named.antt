@@ -16,7 +16,12 @@ use Rattle.whole_states.specs.Whole.{IsFrame, AreFrames, IsWhole}
 use Rattle.whole_states.proofs.Frames.{IsRegularSomewhere, next-regular}
 
 none-listed : (program : Program) → AreListed program [] []
-none-listed program = record { distinct_items = tt; items_there = λ k among. absurd among; distinct_files = tt; files_there = λ k among. absurd among }
+none-listed program = record {
+  distinct_items = tt;
+  items_there = λ k among. absurd among;
+  distinct_files = tt;
+  files_there = λ k among. absurd among;
+}
 
 layer-listed : {program : Program} (layer : What-F What Statement) → IsRegularSomewhere program layer
     → AreListed program (listed_items_in layer) (listed_files_in layer)
@@ -38,13 +43,16 @@ frames-listed program regular (frame ∷ callers) are = by frame.rest are.0
 pub file-there : {program : Program} (file : ℕ) → IsProcess program file → file < length program.files
 file-there {program} file is = slice_get_within program.files file is.opened is.there
 
-pub asked-there : (program : Program) (s : ProgramState) → IsRegular program → point_of program s ≡ point.Ask → IsWhole program s
+pub asked-there : (program : Program) (s : ProgramState) → IsRegular program → point_of program s ≡ point.Ask
+    → IsWhole program s
     → asked_file s < length program.files
 asked-there program s regular at is =
     let stands = stands-at program s point.Ask (λ same. cc) (λ same. cc) at in
     let are = subst (AreFrames program) stands.frames is.frames in
     subst (λ (file : ℕ). file < length program.files) (sym (in-next 0 file_in s.frames stands.statement stands.next))
-    (by (out-What stands.statement.what) stands.call (next-regular stands.statement stands.rest regular are.0 stands.first))
+    (by (out-What stands.statement.what) stands.call
+    (next-regular stands.statement stands.rest regular are.0 stands.first))
   where
-    by : (layer : What-F What Statement) → AtCall program s layer point.Ask → IsRegularSomewhere program layer → file_in layer < length program.files
+    by : (layer : What-F What Statement) → AtCall program s layer point.Ask → IsRegularSomewhere program layer
+        → file_in layer < length program.files
     by _ (at_ask file buffer send room got free good) there = file-there file there.regular.0

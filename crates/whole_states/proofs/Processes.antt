@@ -40,33 +40,40 @@ pub inner-process : (s : ProcessState) → IsWholeProcess s → IsAwakeProcess (
 inner-process (Runs program s) is = (is.0, inner-awake program s is.0 is.1)
 inner-process (Serves sectors s) is = is
 
-pub took-process : (s : ProcessState) (words : List ℤ) → process.point s ≡ point.Take → length words ≤ 16 → IsWholeProcess s
+pub took-process : (s : ProcessState) (words : List ℤ) → process.point s ≡ point.Take → length words ≤ 16
+    → IsWholeProcess s
     → IsAwakeProcess (process.after_took s words)
 took-process (Runs program s) words at few is = (is.0, took-awake program s words at is.1)
 took-process (Serves sectors s) words at few is = took-disc words at few is
 
 -- however many words come
-pub took-away : (s : ProcessState) (words : List ℤ) → IsWholeProcess s → process.point s ≡ point.Take → process.point (process.after_took s words) ≢ point.Await
+pub took-away : (s : ProcessState) (words : List ℤ) → IsWholeProcess s → process.point s ≡ point.Take
+    → process.point (process.after_took s words) ≢ point.Await
 took-away (Runs program s) words is at = awake-away program _ (took-awake program s words at is.1)
 took-away (Serves sectors s) words is at = λ same. cc
 
-pub asked-process : (s : ProcessState) → process.point s ≡ point.Ask → IsWholeProcess s → IsWholeProcess (process.after_asked s)
+pub asked-process : (s : ProcessState) → process.point s ≡ point.Ask → IsWholeProcess s
+    → IsWholeProcess (process.after_asked s)
 asked-process (Runs program s) at is = (is.0, asked-whole program s at is.1)
 asked-process (Serves sectors s) at is = is
 
-pub asked-awaits : (s : ProcessState) → IsWholeProcess s → process.point s ≡ point.Ask → process.point (process.after_asked s) ≡ point.Await
+pub asked-awaits : (s : ProcessState) → IsWholeProcess s → process.point s ≡ point.Ask
+    → process.point (process.after_asked s) ≡ point.Await
 asked-awaits (Runs program s) is at = (waits-at program (with_waiting true s) (asked-whole program s at is.1) refl).at
 asked-awaits (Serves sectors s) is at = absurd (disc-at point.Ask at is)
 
-pub got-process : (s : ProcessState) (words : List ℤ) → process.point s ≡ point.Await → IsWholeProcess s → IsAwakeProcess (process.after_got s words)
+pub got-process : (s : ProcessState) (words : List ℤ) → process.point s ≡ point.Await → IsWholeProcess s
+    → IsAwakeProcess (process.after_got s words)
 got-process (Runs program s) words at is = (is.0, got-awake program s words at is.1)
 got-process (Serves sectors s) words at is = is
 
-pub answered-process : (s : ProcessState) → process.point s ≡ point.Answer → IsWholeProcess s → IsAwakeProcess (process.after_answered s)
+pub answered-process : (s : ProcessState) → process.point s ≡ point.Answer → IsWholeProcess s
+    → IsAwakeProcess (process.after_answered s)
 answered-process (Runs program s) at is = (is.0, answered-awake program s at is.1)
 answered-process (Serves sectors s) at is = answered-disc is
 
-pub marked-process : (s : ProcessState) → process.point s ≡ point.AtCheckpoint → IsWholeProcess s → IsAwakeProcess (process.after_checkpoint s)
+pub marked-process : (s : ProcessState) → process.point s ≡ point.AtCheckpoint → IsWholeProcess s
+    → IsAwakeProcess (process.after_checkpoint s)
 marked-process (Runs program s) at is = (is.0, marked-awake program s at is.1)
 marked-process (Serves sectors s) at is = marked-disc at is
 
@@ -76,7 +83,8 @@ pub device-process : (s : ProcessState) (found : List ℤ) → process.point s �
 device-process (Runs program s) found at few low is = is
 device-process (Serves sectors s) found at few low is = device-disc sectors found at few (low sectors s refl) is
 
-pub device-away : (s : ProcessState) (found : List ℤ) → process.point s ≡ point.Device → process.point (process.after_device s found) ≢ point.Await
+pub device-away : (s : ProcessState) (found : List ℤ) → process.point s ≡ point.Device
+    → process.point (process.after_device s found) ≢ point.Await
 device-away (Runs program s) found at = λ same. cc
 device-away (Serves sectors s) found at = λ same. cc
 
@@ -86,10 +94,12 @@ pub listed-there : (s : ProcessState) → IsWholeProcess s → MayList s (listed
 listed-there (Runs program s) is = frames-listed program is.0 s.frames is.1.frames
 listed-there (Serves sectors s) is = (refl, refl)
 
-pub files-there : (s : ProcessState) (items files : List ℕ) (file : ℕ) → MayList s items files → IsAmong file files → file < files_of s
+pub files-there : (s : ProcessState) (items files : List ℕ) (file : ℕ) → MayList s items files → IsAmong file files
+    → file < files_of s
 files-there (Runs program s) items files file may among = file-there file (may.files_there file among)
 files-there (Serves sectors s) items files file may among = absurd (subst (IsAmong file) may.1 among)
 
-pub asked-file-there : (s : ProcessState) → IsWholeProcess s → process.point s ≡ point.Ask → process.asked_file s < files_of s
+pub asked-file-there : (s : ProcessState) → IsWholeProcess s → process.point s ≡ point.Ask
+    → process.asked_file s < files_of s
 asked-file-there (Runs program s) is at = asked-there program s is.0 at is.1
 asked-file-there (Serves sectors s) is at = absurd (disc-at point.Ask at is)

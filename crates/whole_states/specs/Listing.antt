@@ -3,7 +3,8 @@ use Rattle.std.specs.Prelude.{◌≡◌, ℕ, List, [], length}
 use Rattle.tal_tree.specs.Regular.{AreListed}
 use Rattle.process_semantics.specs.Process.{ProcessState, Runs, Serves}
 
--- a program may list its items that have words and its files that are opened to a process, each once; a disc may list nothing
+-- a program may list its items that have words and its files that are opened to a process, each once; a disc may list
+-- nothing
 abbrev pub MayList : ProcessState → List ℕ → List ℕ → Type 0
 MayList (Runs program s) items files = AreListed program items files
 MayList (Serves sectors s) items files = (items ≡ []) × (files ≡ [])

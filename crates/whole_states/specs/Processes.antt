@@ -9,7 +9,8 @@ use Rattle.process_semantics.specs.declared.point.Point.TheVariants.{Take, Answe
 use Rattle.process_semantics.specs.Process.{ProcessState, Runs, Serves}
 use Rattle.whole_states.specs.Whole.{IsWhole}
 
--- a disc at Take has neither request nor reply, at AtCheckpoint and at Device a request, and at Answer a reply too, which isn't empty
+-- a disc at Take has neither request nor reply, at AtCheckpoint and at Device a request, and at Answer a reply too,
+-- which isn't empty
 abbrev pub IsDiscAt : Point → Option (List ℤ) → Option (List ℤ) → Type 0
 IsDiscAt Take None None = Unit {0}
 IsDiscAt AtCheckpoint (Some request) None = length request ≤ 16

@@ -1,4 +1,5 @@
--- Whole states: those that a program may be in. What is no state of a program, such as two frames of which the lower one has called nothing, is none.
+-- Whole states: those that a program may be in. What is no state of a program, such as two frames of which the lower
+-- one has called nothing, is none.
 use Rattle.std.specs.Prelude.{◌≡◌, ℕ, ℤ, true, false, List, [], ◌∷◌, map, length, slice_get, Option, Some}
 use Rattle.tal_tree.specs.Shapes.{width}
 use Rattle.tal_tree.specs.declared.program.Program.{Program}
@@ -25,7 +26,8 @@ called_above program (caller ∷ callers) = called_by caller.rest
 -- each frame is of the procedure that the one below it has called, and the lowest is MAIN's
 abbrev pub AreFrames : Program → List Frame → Type 0
 AreFrames program [] = Unit {0}
-AreFrames program (frame ∷ callers) = IsFrame program frame × ((called_above program callers ≡ Some frame.procedure) × AreFrames program callers)
+AreFrames program (frame ∷ callers) =
+    IsFrame program frame × ((called_above program callers ≡ Some frame.procedure) × AreFrames program callers)
 
 -- how many words each global of a state has
 abbrev pub sizes_of : List (List ℤ) → List ℕ
@@ -35,8 +37,8 @@ sizes_of globals = map (λ words. length words) globals
 abbrev pub widths_of : Program → List ℕ
 widths_of program = map (λ item. width item.shape) program.items
 
--- a whole state of a program: its frames and globals are the program's, it has ended exactly where no procedure runs, and a reply is awaited only where a
--- process that awaits none would ask
+-- a whole state of a program: its frames and globals are the program's, it has ended exactly where no procedure runs,
+-- and a reply is awaited only where a process that awaits none would ask
 pub record IsWhole (program : Program) (s : ProgramState) : Type 0 where
   pub frames : AreFrames program s.frames
   pub globals : sizes_of s.globals ≡ widths_of program

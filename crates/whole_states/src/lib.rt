@@ -1,8 +1,8 @@
 //! The states that a process may be in, as definitions, and the laws that its steps come to no others.
 //!
 //! Below stands `process_semantics` with the states and steps of processes. The layer above uses `IsWholeProcess` of
-//! `specs/Processes.antt`, that the beginning and every step are whole (`states_stay_whole`), and what follows at each point:
-//! what is in hand, when a reply is awaited, and that what is asked and listed is there. No code runs here.
+//! `specs/Processes.antt`, that the beginning and every step are whole (`states_stay_whole`), and what follows at each
+//! point: what is in hand, when a reply is awaited, and that what is asked and listed is there. No code runs here.
 #![tactic(auto)]
 
 pub mod laws;

@@ -1,5 +1,5 @@
-//! Guards of what stands lowest: the values that wrapped arithmetic, names and expressions have at telling points. A wrong
-//! definition is refused here.
+//! Guards of what stands lowest: the values that wrapped arithmetic, names and expressions have at telling points. A
+//! wrong definition is refused here.
 //!
 //! Below stand `gd_words`, `tal_tree` and `tal_values`, whose definitions are guarded; nothing stands above.
 #![tactic(auto)]

@@ -10,12 +10,15 @@ use Rattle.world_copies.proofs.Reroutes.{again-same, with_takers}
 
 -- it is sent again by the routes after copies took over, which are those before
 pub marked-sends : (s took : SiteWorld) (node processor : ℕ) (none told all : List Sending) → none ≡ []
-    → took ≡ record s { world = with_takers node processor s.world } → told ≡ none ++ flat_map (told_at_down node processor) s.world.processes
+    → took ≡ record s { world = with_takers node processor s.world }
+    → told ≡ none ++ flat_map (told_at_down node processor) s.world.processes
     → all ≡ told ++ sent_again took.site took.world took.world node processor
-    → all ≡ (world_at_down node processor s.world).sendings ++ sent_again s.site s.world (world_at_down node processor s.world).world node processor
+    → all ≡ (world_at_down node processor s.world).sendings
+    ++ sent_again s.site s.world (world_at_down node processor s.world).world node processor
 marked-sends s took node processor none told all nothing takes tells sends =
     let first = flat_map (told_at_down node processor) s.world.processes in
     sends
-    ∙ ap (λ told. told ++ sent_again took.site took.world took.world node processor) (tells ∙ ap (λ none. none ++ first) nothing)
+    ∙ ap (λ told. told ++ sent_again took.site took.world took.world node processor)
+    (tells ∙ ap (λ none. none ++ first) nothing)
     ∙ ap (λ (s : SiteWorld). first ++ sent_again s.site s.world s.world node processor) takes
     ∙ ap (λ again. first ++ again) (again-same s.site s.world node processor)

@@ -13,7 +13,8 @@ use Rattle.world_copies.specs.Seen.{pairs_in}
 use Rattle.world_copies.proofs.Places.{pair-at, pairs-set}
 
 -- a process that is found in its place has room
-pub placed-room : (w : World) (places : List Placed) (k : ℕ) (placed : Placed) → w.processes ≡ pairs_in places → slice_get places k ≡ Some placed
+pub placed-room : (w : World) (places : List Placed) (k : ℕ) (placed : Placed) → w.processes ≡ pairs_in places
+    → slice_get places k ≡ Some placed
     → WorldHasRoom w → PairHasRoom placed.pair
 placed-room w places k placed pairs there room =
     room.processes k placed.pair
@@ -24,29 +25,49 @@ marked-one None pair room k watches = room k watches
 marked-one (Some First) pair room First watches = absurd (cc)
 marked-one (Some First) pair room Second watches =
     let has = room Second watches in
-    record { next = has.next; taken = has.taken; write = has.write; number = has.number; era = has.era; position = has.position }
+    record {
+      next = has.next;
+      taken = has.taken;
+      write = has.write;
+      number = has.number;
+      era = has.era;
+      position = has.position;
+    }
 marked-one (Some Second) pair room First watches =
     let has = room First watches in
-    record { next = has.next; taken = has.taken; write = has.write; number = has.number; era = has.era; position = has.position }
+    record {
+      next = has.next;
+      taken = has.taken;
+      write = has.write;
+      number = has.number;
+      era = has.era;
+      position = has.position;
+    }
 marked-one (Some Second) pair room Second watches = absurd (cc)
 
 -- a mark leaves room to the copies that still watch
-pub marked-room : (node processor : ℕ) (pair : Pair) → WatchersHaveRoom pair → WatchersHaveRoom (pair_at_down node processor pair)
+pub marked-room : (node processor : ℕ) (pair : Pair) → WatchersHaveRoom pair
+    → WatchersHaveRoom (pair_at_down node processor pair)
 marked-room node processor pair room = marked-one (taker node processor pair) pair room
 
 -- and all of them
-pub all-marked-room : (node processor : ℕ) (pairs : List Pair) → AllWatchersHaveRoom pairs → AllWatchersHaveRoom (map (pair_at_down node processor) pairs)
+pub all-marked-room : (node processor : ℕ) (pairs : List Pair) → AllWatchersHaveRoom pairs
+    → AllWatchersHaveRoom (map (pair_at_down node processor) pairs)
 all-marked-room node processor pairs room =
-    map-all (λ number. WatchersHaveRoom) (pair_at_down node processor) pairs (λ number pair there. marked-room node processor pair (room number pair there))
+    map-all (λ number. WatchersHaveRoom) (pair_at_down node processor) pairs
+    (λ number pair there. marked-room node processor pair (room number pair there))
 
 -- the process at a place
-pub watcher-there : (places : List Placed) (k : ℕ) (placed : Placed) → slice_get places k ≡ Some placed → AllWatchersHaveRoom (pairs_in places)
+pub watcher-there : (places : List Placed) (k : ℕ) (placed : Placed) → slice_get places k ≡ Some placed
+    → AllWatchersHaveRoom (pairs_in places)
     → WatchersHaveRoom placed.pair
 watcher-there places k placed there rooms =
     rooms k placed.pair (pair-at places k ∙ ap (option_map (λ (placed : Placed). placed.pair)) there)
 
 -- where one process changes that keeps room, and no other one
-pub put-room : (places : List Placed) (k : ℕ) (after : Placed) → WatchersHaveRoom after.pair → AllWatchersHaveRoom (pairs_in places)
+pub put-room : (places : List Placed) (k : ℕ) (after : Placed) → WatchersHaveRoom after.pair
+    → AllWatchersHaveRoom (pairs_in places)
     → AllWatchersHaveRoom (pairs_in (slice_set places k after))
 put-room places k after room rooms =
-    subst AllWatchersHaveRoom (sym (pairs-set places k after)) (set-all (λ number. WatchersHaveRoom) (pairs_in places) k after.pair rooms room)
+    subst AllWatchersHaveRoom (sym (pairs-set places k after))
+    (set-all (λ number. WatchersHaveRoom) (pairs_in places) k after.pair rooms room)

@@ -19,9 +19,11 @@ pub record IsFound (s : SiteWorld) (places : List Placed) (k : ℕ) (before : Pl
   pub site : before.site ≡ s.site
   pub number : before.number ≡ k
 
-pair-there : {s : SiteWorld} {places : List Placed} {k : ℕ} {before : Placed} → IsFound s places k before → slice_get s.world.processes k ≡ Some before.pair
+pair-there : {s : SiteWorld} {places : List Placed} {k : ℕ} {before : Placed} → IsFound s places k before
+    → slice_get s.world.processes k ≡ Some before.pair
 pair-there {places = places} {k = k} found =
-    ap (λ pairs. slice_get pairs k) found.pairs ∙ pair-at places k ∙ ap (option_map (λ (placed : Placed). placed.pair)) found.there
+    ap (λ pairs. slice_get pairs k) found.pairs ∙ pair-at places k
+    ∙ ap (option_map (λ (placed : Placed). placed.pair)) found.there
 
 -- the change where it runs
 abbrev pub step_where_run : SiteWorld → Placed → Option Stepped
@@ -35,14 +37,17 @@ pub run-found : {s : SiteWorld} {places : List Placed} {k : ℕ} {before : Place
     → run_done s.site k s.world ≡ option_map (in_world k s.world) (step_where_run s before)
 run-found {s} {places} {k} {before} found =
     ap (run_pair s.site k s.world) (pair-there found)
-    ∙ ap₂ (λ site number. option_map (in_world k s.world) (step_of site number before.pair s.world.marks (records_of s.world)))
+    ∙ ap₂ (λ site number. option_map (in_world k s.world)
+    (step_of site number before.pair s.world.marks (records_of s.world)))
     (sym found.site) (sym found.number)
 
-pub told-found : {s : SiteWorld} {places : List Placed} {k : ℕ} {before : Placed} (node : ℕ) (message : Message) → IsFound s places k before
+pub told-found : {s : SiteWorld} {places : List Placed} {k : ℕ} {before : Placed} (node : ℕ) (message : Message)
+    → IsFound s places k before
     → brought s.site k node message s.world ≡ option_map (in_world k s.world) (step_where_told s node before message)
 told-found {s} {places} {k} {before} node message found =
     ap (brought_to s.site k node message s.world) (pair-there found)
-    ∙ ap₂ (λ site number. option_map (in_world k s.world) (step_on site number node before.pair (records_of s.world) message))
+    ∙ ap₂ (λ site number. option_map (in_world k s.world)
+    (step_on site number node before.pair (records_of s.world) message))
     (sym found.site) (sym found.number)
 
 pub sent-step : (k : ℕ) (w : World) (step : Option Stepped) → sent_by step ≡ sent_in (option_map (in_world k w) step)
@@ -61,13 +66,16 @@ put_back s places k after records = record s {
   };
 }
 
-put-same : (s : SiteWorld) (places : List Placed) (k : ℕ) (before : Placed) → IsFound s places k before → put_back s places k before (records_of s.world) ≡ s
+put-same : (s : SiteWorld) (places : List Placed) (k : ℕ) (before : Placed) → IsFound s places k before
+    → put_back s places k before (records_of s.world) ≡ s
 put-same s places k before found =
     ap (λ processes. record s { world = record s.world { processes = processes } })
     (ap pairs_in (set-same places k before found.there) ∙ sym found.pairs)
 
-put-step : (s : SiteWorld) (places : List Placed) (k : ℕ) (before : Placed) (step : Option Stepped) → IsFound s places k before
-    → put_back s places k (placed_after before step) (records_after (records_of s.world) step) ≡ changed_by s (option_map (in_world k s.world) step)
+put-step : (s : SiteWorld) (places : List Placed) (k : ℕ) (before : Placed) (step : Option Stepped)
+    → IsFound s places k before
+    → put_back s places k (placed_after before step) (records_after (records_of s.world) step)
+    ≡ changed_by s (option_map (in_world k s.world) step)
 put-step s places k before None found = put-same s places k before found
 put-step s places k before (Some step) found =
     ap (λ processes. record s {
@@ -79,24 +87,30 @@ put-step s places k before (Some step) found =
         kept = step.records.kept;
       };
     })
-    (pairs-set places k (record before { pair = step.pair }) ∙ ap (λ pairs. slice_set pairs k step.pair) (sym found.pairs))
+    (pairs-set places k (record before { pair = step.pair })
+    ∙ ap (λ pairs. slice_set pairs k step.pair) (sym found.pairs))
 
-pub put-found : {s : SiteWorld} {places : List Placed} {k : ℕ} {before after : Placed} {records : Records} (step : Option Stepped) → IsFound s places k before
+pub put-found : {s : SiteWorld} {places : List Placed} {k : ℕ} {before after : Placed} {records : Records}
+    (step : Option Stepped) → IsFound s places k before
     → after ≡ placed_after before step → records ≡ records_after (records_of s.world) step
     → put_back s places k after records ≡ changed_by s (option_map (in_world k s.world) step)
 put-found {s} {places} {k} {before} step found made recorded =
     ap₂ (put_back s places k) made recorded ∙ put-step s places k before step found
 
 -- what a step tells is what the change of the world sends
-pub tells : (done : SiteWorld → ℕ → Option Done) {s now : SiteWorld} {k number : ℕ} {told : Option (List Sending)} (step : Option Stepped) → s ≡ now → k ≡ number
+pub tells : (done : SiteWorld → ℕ → Option Done) {s now : SiteWorld} {k number : ℕ} {told : Option (List Sending)}
+    (step : Option Stepped) → s ≡ now → k ≡ number
     → done s k ≡ option_map (in_world k s.world) step → told ≡ sent_by step → told ≡ sent_in (done now number)
 tells done {s} {now} {k} {number} step same at does is =
     is ∙ sent-step k s.world step ∙ ap sent_in (sym does) ∙ ap₂ (λ (s : SiteWorld) (k : ℕ). sent_in (done s k)) same at
 
 -- and the world is the one after that change
-pub stands : (done : SiteWorld → ℕ → Option Done) {s now : SiteWorld} {k number : ℕ} {places : List Placed} {before after : Placed} {records : Records}
-    (step : Option Stepped) → s ≡ now → k ≡ number → IsFound s places k before → done s k ≡ option_map (in_world k s.world) step
+pub stands : (done : SiteWorld → ℕ → Option Done) {s now : SiteWorld} {k number : ℕ} {places : List Placed}
+    {before after : Placed} {records : Records}
+    (step : Option Stepped) → s ≡ now → k ≡ number → IsFound s places k before
+    → done s k ≡ option_map (in_world k s.world) step
     → after ≡ placed_after before step → records ≡ records_after (records_of s.world) step
     → put_back s places k after records ≡ changed_by now (done now number)
 stands done {s} {now} {k} {number} step same at found does made recorded =
-    put-found step found made recorded ∙ ap (changed_by s) (sym does) ∙ ap₂ (λ (s : SiteWorld) (k : ℕ). changed_by s (done s k)) same at
+    put-found step found made recorded ∙ ap (changed_by s) (sym does)
+    ∙ ap₂ (λ (s : SiteWorld) (k : ℕ). changed_by s (done s k)) same at

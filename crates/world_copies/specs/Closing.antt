@@ -5,7 +5,8 @@ use Rattle.world_semantics.specs.Shares.{closed_by, closed_by_all, let_go}
 
 abbrev pub closed_with : ℕ → World → Option Pair → World
 closed_with place w None = w
-closed_with place w (Some pair) = record w { kept = closed_by w.kept pair; processes = slice_set w.processes place (let_go pair) }
+closed_with place w (Some pair) =
+    record w { kept = closed_by w.kept pair; processes = slice_set w.processes place (let_go pair) }
 
 -- the world after the process at a place was closed, if it is there: what its copies held is kept
 abbrev pub closed_at : ℕ → World → World

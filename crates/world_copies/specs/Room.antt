@@ -1,4 +1,5 @@
--- What a change of the world needs, so that each number that it raises has a successor, and each opener is there. Our own rule.
+-- What a change of the world needs, so that each number that it raises has a successor, and each opener is there. Our
+-- own rule.
 use Rattle.std.specs.Prelude.{◌≡◌, ℕ, List, slice_get, Some}
 use Rattle.gd_words.specs.declared.message.Request.{Request}
 use Rattle.tal_tree.specs.declared.site.Site.{Site}
@@ -9,8 +10,8 @@ use Rattle.world_semantics.specs.Messages.{Message, Asking}
 use Rattle.computed_changes.specs.Laws.{NamesOpener}
 use Rattle.number_ranges.specs.HasRoom.{CopyHasRoom}
 
--- of a process at a mark: each copy that watches has room, since only such a copy takes over. A copy that took over acts,
--- and the other one keeps its numbers, so this lasts from one mark of a tick to the next
+-- of a process at a mark: each copy that watches has room, since only such a copy takes over. A copy that took over
+-- acts, and the other one keeps its numbers, so this lasts from one mark of a tick to the next
 abbrev pub WatchersHaveRoom : Pair → Type 0
 WatchersHaveRoom pair = (k : Which) → (copy_of k pair).role ≡ Watching → CopyHasRoom (copy_of k pair)
 

@@ -14,9 +14,11 @@ pairs_in places = map (λ placed. placed.pair) places
 
 -- each process is in its place of the site
 abbrev pub ArePlaced : Site → List Placed → Type 0
-ArePlaced site places = (number : ℕ) (placed : Placed) → slice_get places number ≡ Some placed → (placed.site ≡ site) × (placed.number ≡ number)
+ArePlaced site places = (number : ℕ) (placed : Placed) → slice_get places number ≡ Some placed
+    → (placed.site ≡ site) × (placed.number ≡ number)
 
 -- for each terminal, from a number on, the opener that it is
 abbrev pub terminal_row : Site → ℕ → List TerminalSpec → List (Option Opener)
 terminal_row site number [] = []
-terminal_row site number (terminal ∷ terminals) = opener_of site (who.Terminal number) ∷ terminal_row site (number + 1) terminals
+terminal_row site number (terminal ∷ terminals) =
+    opener_of site (who.Terminal number) ∷ terminal_row site (number + 1) terminals

@@ -5,7 +5,8 @@ ghost use Rattle.plain_semantics.specs.Machine.{next_request};
 ghost use Rattle.plain_semantics.specs.Openers.{opener_of};
 ghost use Rattle.world_semantics.specs.Messages.{sent_at};
 ghost use Rattle.world_semantics.specs.World.{copy_of};
-ghost use Rattle.letters.specs.Again.{asks_again, awaited_by, awaited_from, entered_last, if_acts_on, is_rerouted, of_copies, rerouted};
+ghost use Rattle.letters.specs.Again.{asks_again, awaited_by, awaited_from, entered_last, if_acts_on, is_rerouted};
+ghost use Rattle.letters.specs.Again.{of_copies, rerouted};
 ghost use Rattle.letters.specs.Again.{sent_again, terminals_ask};
 ghost use Rattle.world_copies.specs.Again.{of_copy, of_terminal, terminal_asking};
 
@@ -25,7 +26,8 @@ impl WorldCopies {
         processor: u8,
         again: &mut List<Sending>,
     ) -> Result<(), NoMemory>
-        ensures { OnOk result (again.new ≡ again.old ++ sent_again self.now.site self.now.world self.now.world node processor) }
+        ensures { OnOk result (again.new ≡ again.old
+            ++ sent_again self.now.site self.now.world self.now.world node processor) }
     {
         self.copies_ask(node, processor, again)?;
         self.terminals_ask(node, processor, again)?;
@@ -35,7 +37,8 @@ impl WorldCopies {
 
     fn copies_ask(&self, node: u8, processor: u8, again: &mut List<Sending>) -> Result<(), NoMemory>
         ensures { OnOk result (again.new
-            ≡ again.old ++ sent_at node (of_copies (asks_again self.now.site self.now.world node processor) 0 self.now.world.processes)) }
+            ≡ again.old ++ sent_at node (of_copies (asks_again self.now.site self.now.world node processor) 0
+            self.now.world.processes)) }
     {
         for number in 0..self.processes.len() {
             self.copy_asks(node, processor, number, Which::First, again)?;
@@ -71,7 +74,8 @@ impl WorldCopies {
         request: Option<Request>,
         again: &mut List<Sending>,
     ) -> Result<(), NoMemory>
-        ensures { OnOk result (again.new ≡ again.old ++ sent_at node (rerouted self.now.world node processor (option_to_list request))) }
+        ensures { OnOk result (again.new ≡ again.old
+            ++ sent_at node (rerouted self.now.world node processor (option_to_list request))) }
     {
         match request {
             None => Ok(()),
@@ -90,7 +94,8 @@ impl WorldCopies {
         processor: u8,
         again: &mut List<Sending>,
     ) -> Result<(), NoMemory>
-        ensures { OnOk result (again.new ≡ again.old ++ sent_at node (terminals_ask self.now.site self.now.world node processor self.now.world.terminals)) }
+        ensures { OnOk result (again.new ≡ again.old
+            ++ sent_at node (terminals_ask self.now.site self.now.world node processor self.now.world.terminals)) }
     {
         if node != TERMINAL_NODE {
             return Ok(());
@@ -138,7 +143,8 @@ impl WorldCopies {
     fn entered_last(&self, terminal: usize, number: u32) -> Option<Request>
         requires { 0 < number }
         ensures { option_to_list result
-            ≡ entered_last number (opener_of self.now.site (who.Terminal terminal)) (next_request self.now.site terminal (number - 1)) }
+            ≡ entered_last number (opener_of self.now.site (who.Terminal terminal))
+            (next_request self.now.site terminal (number - 1)) }
     {
         let opener = self.terminal_opener(terminal);
         match self.request_after(terminal, number - 1) {

@@ -15,8 +15,8 @@ use std::alloc::Global;
 use std::marker::Model;
 use tal_tree::{Act, Shown, Site};
 
-/// The world of copies: its site, where its terminals stand, which processors have stopped, which node has marked which,
-/// the processes, the terminals, and what happened.
+/// The world of copies: its site, where its terminals stand, which processors have stopped, which node has marked
+/// which, the processes, the terminals, and what happened.
 #[derive(Drop)]
 pub struct WorldCopies {
     pub(crate) alloc: Global,

@@ -30,8 +30,10 @@ impl WorldCopies {
     /// A terminal enters its next request, if it awaits no reply and has one left.
     pub fn enter(&mut self, terminal: u8) -> Result<StepOutcome, NoMemory>
         requires { WorldHasRoom self.old.world }
-        ensures told { IfOk result (λ step. step_sendings step ≡ sent_in (enter_done self.old.site terminal self.old.world)) }
-        ensures state { OnOk result (self.new ≡ changed_by self.old (enter_done self.old.site terminal self.old.world)) }
+        ensures told { IfOk result (λ step. step_sendings step
+            ≡ sent_in (enter_done self.old.site terminal self.old.world)) }
+        ensures state { OnOk result (self.new ≡ changed_by self.old
+            (enter_done self.old.site terminal self.old.world)) }
     {
         let place = usize::from(terminal);
         if place >= self.terminals.len() {
@@ -48,8 +50,10 @@ impl WorldCopies {
     /// A terminal that awaits no reply enters its next request, if it has one left.
     fn enter_next(&mut self, terminal: u8, before: Terminal) -> Result<StepOutcome, NoMemory>
         requires { HasNext before.entered }
-        ensures told { IfOk result (λ step. step_sendings step ≡ sent_in (enter_where self.old.site terminal before self.old.world true)) }
-        ensures state { OnOk result (self.new ≡ changed_by self.old (enter_where self.old.site terminal before self.old.world true)) }
+        ensures told { IfOk result (λ step. step_sendings step
+            ≡ sent_in (enter_where self.old.site terminal before self.old.world true)) }
+        ensures state { OnOk result (self.new ≡ changed_by self.old
+            (enter_where self.old.site terminal before self.old.world true)) }
     {
         match self.place_of(terminal) {
             None => Ok(StepOutcome::Impossible),
@@ -67,9 +71,11 @@ impl WorldCopies {
         opener: Address,
     ) -> Result<StepOutcome, NoMemory>
         requires { HasNext before.entered }
-        ensures told { IfOk result (λ step. step_sendings step ≡ sent_in (option_map (entered_done terminal before self.old.world opener)
+        ensures told { IfOk result (λ step. step_sendings step
+            ≡ sent_in (option_map (entered_done terminal before self.old.world opener)
             (next_request self.old.site terminal before.entered))) }
-        ensures state { OnOk result (self.new ≡ changed_by self.old (option_map (entered_done terminal before self.old.world opener)
+        ensures state { OnOk result (self.new ≡ changed_by self.old
+            (option_map (entered_done terminal before self.old.world opener)
             (next_request self.old.site terminal before.entered))) }
     {
         match self.next_request(terminal, before.entered()) {
@@ -99,8 +105,10 @@ impl WorldCopies {
         words: Words,
     ) -> Result<Sending, NoMemory>
         requires { HasNext before.entered }
-        ensures told { IfOk result (λ sending. sending ∷ [] ≡ (entered_done terminal before self.old.world opener words).sendings) }
-        ensures state { OnOk result (self.new ≡ record self.old { world = (entered_done terminal before self.old.world opener words).world }) }
+        ensures told { IfOk result (λ sending. sending ∷ []
+            ≡ (entered_done terminal before self.old.world opener words).sendings) }
+        ensures state { OnOk result (self.new ≡ record self.old
+            { world = (entered_done terminal before self.old.world opener words).world }) }
     {
         let after = before.after_entering();
         let number = after.entered();

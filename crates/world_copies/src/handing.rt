@@ -21,8 +21,10 @@ impl WorldCopies {
     pub fn hand(&mut self, node: u8, message: Message) -> Result<StepOutcome, NoMemory>
         requires opener { NamesItsOpener self.old.site (message_of message) }
         requires room { WorldHasRoom self.old.world }
-        ensures told { IfOk result (λ step. step_sendings step ≡ sent_in (handed_done self.old.site node (message_of message) self.old.world)) }
-        ensures state { OnOk result (self.new ≡ changed_by self.old (handed_done self.old.site node (message_of message) self.old.world)) }
+        ensures told { IfOk result (λ step. step_sendings step
+            ≡ sent_in (handed_done self.old.site node (message_of message) self.old.world)) }
+        ensures state { OnOk result (self.new ≡ changed_by self.old
+            (handed_done self.old.site node (message_of message) self.old.world)) }
     {
         match message {
             Message::Asking(request) => {
@@ -48,9 +50,11 @@ impl WorldCopies {
     /// A reply goes to the opener that stands at its place.
     fn hand_reply(&mut self, node: u8, reply: Reply) -> Result<StepOutcome, NoMemory>
         requires { WorldHasRoom self.old.world }
-        ensures told { IfOk result (λ step. step_sendings step ≡ sent_in (replied_done self.old.site node reply self.old.world
+        ensures told { IfOk result (λ step. step_sendings step
+            ≡ sent_in (replied_done self.old.site node reply self.old.world
             (option_map (λ one. one.who) (slice_get (openers_of self.old.site reply.process) reply.opener)))) }
-        ensures state { OnOk result (self.new ≡ changed_by self.old (replied_done self.old.site node reply self.old.world
+        ensures state { OnOk result (self.new ≡ changed_by self.old
+            (replied_done self.old.site node reply self.old.world
             (option_map (λ one. one.who) (slice_get (openers_of self.old.site reply.process) reply.opener)))) }
     {
         match self.opener_at(reply.process, reply.opener) {
@@ -64,8 +68,10 @@ impl WorldCopies {
 
     fn reply_to(&mut self, node: u8, reply: Reply, opener: Who) -> Result<StepOutcome, NoMemory>
         requires { WorldHasRoom self.old.world }
-        ensures told { IfOk result (λ step. step_sendings step ≡ sent_in (replied_to self.old.site node reply self.old.world opener)) }
-        ensures state { OnOk result (self.new ≡ changed_by self.old (replied_to self.old.site node reply self.old.world opener)) }
+        ensures told { IfOk result (λ step. step_sendings step
+            ≡ sent_in (replied_to self.old.site node reply self.old.world opener)) }
+        ensures state { OnOk result (self.new ≡ changed_by self.old
+            (replied_to self.old.site node reply self.old.world opener)) }
     {
         match opener {
             Who::File { process, file: _ } => {
@@ -86,8 +92,10 @@ impl WorldCopies {
     fn bring(&mut self, number: u8, node: u8, message: Message) -> Result<StepOutcome, NoMemory>
         requires opener { NamesOpener self.old.site number (message_of message) }
         requires room { WorldHasRoom self.old.world }
-        ensures told { IfOk result (λ step. step_sendings step ≡ sent_in (brought self.old.site number node (message_of message) self.old.world)) }
-        ensures state { OnOk result (self.new ≡ changed_by self.old (brought self.old.site number node (message_of message) self.old.world)) }
+        ensures told { IfOk result (λ step. step_sendings step
+            ≡ sent_in (brought self.old.site number node (message_of message) self.old.world)) }
+        ensures state { OnOk result (self.new ≡ changed_by self.old
+            (brought self.old.site number node (message_of message) self.old.world)) }
     {
         let place = usize::from(number);
         if place >= self.processes.len() {

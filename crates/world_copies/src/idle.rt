@@ -2,7 +2,8 @@ ghost use Rattle.std.specs.Prelude.{◌≡◌, ◌==◌, length, slice_get, is_s
 ghost use Rattle.world_semantics.specs.World.{is_running};
 ghost use Rattle.world_semantics.specs.Running.{run_done};
 ghost use Rattle.computed_changes.specs.Entered.{enter_done, enter_where};
-ghost use Rattle.message_wires.specs.Idle.{all_from, all_noted, has_marked_all, has_marked_if, none_enters, none_runs, none_waits};
+ghost use Rattle.message_wires.specs.Idle.{all_from, all_noted, has_marked_all, has_marked_if, none_enters, none_runs};
+ghost use Rattle.message_wires.specs.Idle.{none_waits};
 ghost use Rattle.world_copies.specs.Seen.{pairs_in};
 
 use crate::copies::WorldCopies;
@@ -40,7 +41,8 @@ impl WorldCopies {
 
     #[tactic(auto, using(crate::proofs::Lookups::enters))]
     fn can_enter_as(&self, number: usize, terminal: Terminal) -> bool
-        ensures { result ≡ is_some (enter_where self.now.site number terminal self.now.world (terminal.entered == terminal.printed)) }
+        ensures { result ≡ is_some (enter_where self.now.site number terminal self.now.world
+            (terminal.entered == terminal.printed)) }
     {
         if terminal.entered() != terminal.printed() {
             return false;
@@ -109,7 +111,9 @@ impl WorldCopies {
     }
 
     fn has_marked_stopped(&self, node: usize) -> bool
-        ensures { result ≡ all_from (λ processor. has_marked_if self.now.world node processor (slice_get self.now.world.stopped processor)) 0 (length self.now.world.stopped) }
+        ensures { result ≡ all_from (λ processor.
+            has_marked_if self.now.world node processor (slice_get self.now.world.stopped processor)) 0
+            (length self.now.world.stopped) }
     {
         for processor in 0..self.processor_count() {
             if !self.has_marked_if(node, processor) {

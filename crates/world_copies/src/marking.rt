@@ -16,7 +16,8 @@ use sendings::Sending;
 impl WorldCopies {
     /// Whether a processor has stopped, and a node that runs hasn't marked it.
     pub fn is_to_mark(&self, node: u8, processor: u8) -> bool
-        ensures { down_done node processor self.now.world ≡ (if result then Some (world_at_down node processor self.now.world) else None) }
+        ensures { down_done node processor self.now.world
+            ≡ (if result then Some (world_at_down node processor self.now.world) else None) }
     {
         let place = usize::from(processor);
         if place >= self.stopped.len() {
@@ -34,12 +35,14 @@ impl WorldCopies {
         self.is_running(node) && !self.marks.has(node, processor)
     }
 
-    /// A node marks a processor that has stopped. The answer is what takes over tells again, and what the node sends again.
+    /// A node marks a processor that has stopped. The answer is what takes over tells again, and what the node sends
+    /// again.
     pub fn mark(&mut self, node: u8, processor: u8) -> Result<List<Sending>, NoMemory>
         requires { AllWatchersHaveRoom self.old.world.processes }
         ensures told { IfOk result (λ sendings. sendings ≡ (world_at_down node processor self.old.world).sendings
             ++ sent_again self.old.site self.old.world (world_at_down node processor self.old.world).world node processor) }
-        ensures state { OnOk result (self.new ≡ record self.old { world = (world_at_down node processor self.old.world).world }) }
+        ensures state { OnOk result (self.new ≡ record self.old
+            { world = (world_at_down node processor self.old.world).world }) }
     {
         let mut sendings = List::new(self.alloc);
         self.mark_processes(node, processor, &mut sendings)?;
@@ -48,7 +51,8 @@ impl WorldCopies {
         Ok(sendings)
     }
 
-    /// Makes each copy on the node take over whose other copy was on the processor. What they send again is added to `told`.
+    /// Makes each copy on the node take over whose other copy was on the processor. What they send again is added to
+    /// `told`.
     fn mark_processes(
         &mut self,
         node: u8,
@@ -57,8 +61,12 @@ impl WorldCopies {
     ) -> Result<(), NoMemory>
         requires { AllWatchersHaveRoom self.old.world.processes }
         ensures state { OnOk result (self.new
-            ≡ record self.old { world = record self.old.world { processes = map (pair_at_down node processor) self.old.world.processes } }) }
-        ensures told { OnOk result (told.new ≡ told.old ++ flat_map (told_at_down node processor) self.old.world.processes) }
+            ≡ record self.old {
+              world = record self.old.world
+                  { processes = map (pair_at_down node processor) self.old.world.processes };
+            }) }
+        ensures told { OnOk result (told.new ≡ told.old
+            ++ flat_map (told_at_down node processor) self.old.world.processes) }
     {
         mark_all(self.processes.as_mut_slice(), node, processor, told)?;
         Ok(())
@@ -82,7 +90,8 @@ fn mark_all(
 ) -> Result<(), NoMemory>
     requires { AllWatchersHaveRoom (pairs_in processes.old) }
     ensures processes { OnOk result (processes.new ≡ map (changed (pair_at_down node processor)) processes.old) }
-    ensures told { OnOk result (told.new ≡ told.old ++ flat_map (told_at_down node processor) (pairs_in processes.old)) }
+    ensures told { OnOk result (told.new ≡ told.old
+        ++ flat_map (told_at_down node processor) (pairs_in processes.old)) }
     ensures placed { (site : Site) → ArePlaced site processes.old → ArePlaced site processes.new }
 {
     for number in 0..processes.len() {

@@ -50,7 +50,8 @@ impl WorldCopies {
 
     /// Where a node finds the opener at a place of a process.
     fn home_at(&self, node: u8, process: u8, opener: u16) -> Option<u8>
-        ensures { result ≡ option_and_then (λ one. home_of self.now.world node one.who) (slice_get (openers_of self.now.site process) opener) }
+        ensures { result ≡ option_and_then (λ one. home_of self.now.world node one.who)
+            (slice_get (openers_of self.now.site process) opener) }
     {
         match self.opener_at(process, opener) {
             None => None,

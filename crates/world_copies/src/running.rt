@@ -13,7 +13,8 @@ impl WorldCopies {
     /// A process makes its step, if it can.
     pub fn run(&mut self, number: u8) -> Result<StepOutcome, NoMemory>
         requires { WorldHasRoom self.old.world }
-        ensures told { IfOk result (λ step. step_sendings step ≡ sent_in (run_done self.old.site number self.old.world)) }
+        ensures told { IfOk result (λ step. step_sendings step
+            ≡ sent_in (run_done self.old.site number self.old.world)) }
         ensures state { OnOk result (self.new ≡ changed_by self.old (run_done self.old.site number self.old.world)) }
     {
         let place = usize::from(number);

@@ -11,7 +11,8 @@ impl WorldCopies {
     /// Whether a processor can stop: it is there, and runs.
     pub fn can_stop(&self, processor: u8) -> bool
         ensures { stop_done processor self.now.world
-            ≡ (if result then Some (record { world = stopped_world processor self.now.world; sendings = [] }) else None) }
+            ≡ (if result then Some (record { world = stopped_world processor self.now.world; sendings = [] }) else
+            None) }
     {
         let place = usize::from(processor);
         if place >= self.stopped.len() {

@@ -14,7 +14,8 @@ use tal_tree::{OpenerSpec, Who};
 use world_semantics::Which;
 
 impl WorldCopies {
-    /// The replies that a node's copies keep for openers which are found elsewhere once it has marked a processor are added to `again`.
+    /// The replies that a node's copies keep for openers which are found elsewhere once it has marked a processor are
+    /// added to `again`.
     pub(crate) fn copies_tell(
         &self,
         node: u8,
@@ -22,7 +23,8 @@ impl WorldCopies {
         again: &mut List<Sending>,
     ) -> Result<(), NoMemory>
         ensures { OnOk result (again.new
-            ≡ again.old ++ sent_at node (of_copies (tells_again self.now.site self.now.world node processor) 0 self.now.world.processes)) }
+            ≡ again.old ++ sent_at node (of_copies (tells_again self.now.site self.now.world node processor) 0
+            self.now.world.processes)) }
     {
         for number in 0..self.processes.len() {
             self.copy_tells(node, processor, number, Which::First, again)?;
@@ -87,7 +89,8 @@ impl WorldCopies {
     ) -> Result<(), NoMemory>
         requires { IsKeptTable table.now }
         ensures { OnOk result (again.new
-            ≡ again.old ++ sent_at node (map Replying (kept_from self.now.world node processor number table.now 0 openers.now))) }
+            ≡ again.old ++ sent_at node (map Replying
+            (kept_from self.now.world node processor number table.now 0 openers.now))) }
     {
         for place in 0..openers.len() {
             if self.is_moved(node, processor, openers[place].who) {

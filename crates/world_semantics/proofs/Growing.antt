@@ -1,5 +1,6 @@
 -- What only grows.
-use Rattle.std.proofs.Common.{◌≡◌, ◌⊎◌, inl, inr, ℕ, zero, suc, Bool, true, List, [], ◌∷◌, Some, slice_get, slice_set, refl, ap, ◌∙◌}
+use Rattle.std.proofs.Common.{◌≡◌, ◌⊎◌, inl, inr, ℕ, zero, suc, Bool, true, List, [], ◌∷◌, Some, slice_get, slice_set}
+use Rattle.std.proofs.Common.{refl, ap, ◌∙◌}
 use Rattle.gd_words.specs.Members.{IsAmong}
 use Rattle.tal_tree.specs.declared.act.Act.{Act}
 use Rattle.tal_tree.specs.declared.site.Site.{Site}
@@ -7,16 +8,19 @@ use Rattle.world_semantics.specs.Core.{Core, Deed}
 use Rattle.world_semantics.specs.World.{Copy, Pair, Down, World}
 use Rattle.world_semantics.specs.Kept.{Enters, holds_on, repeats, begins, keeps}
 use Rattle.world_semantics.specs.Messages.{Message, Sending, Cause}
-use Rattle.world_semantics.specs.Own.{Around, Causes, by_inner, by_take, by_ask, by_answer, by_device, by_write, by_reply}
+use Rattle.world_semantics.specs.Own.{Around, Causes, by_inner, by_take, by_ask, by_answer, by_device, by_write}
+use Rattle.world_semantics.specs.Own.{by_reply}
 use Rattle.world_semantics.specs.Passes.{Passes, by_send, by_pass_again, by_pass, by_apply, by_acknowledge}
-use Rattle.world_semantics.specs.Rules.{Change, by_own, by_checkpoint, by_request, by_early_request, by_enter, by_print, by_stop, by_mark}
+use Rattle.world_semantics.specs.Rules.{Change, by_own, by_checkpoint, by_request, by_early_request, by_enter, by_print}
+use Rattle.world_semantics.specs.Rules.{by_stop, by_mark}
 use Rattle.world_semantics.specs.Laws.{HasGrown}
 use Rattle.world_semantics.proofs.Lists.{grown-none, grown-one, grown-more, grown-by, grown-both}
 use Rattle.world_semantics.proofs.Runs.{IsKept}
 
 -- processors that have stopped stay so
 abbrev pub StayStopped : List Bool → List Bool → Type 0
-StayStopped before after = (processor : ℕ) → slice_get before processor ≡ Some true → slice_get after processor ≡ Some true
+StayStopped before after =
+    (processor : ℕ) → slice_get before processor ≡ Some true → slice_get after processor ≡ Some true
 
 pub stop-stays : (stopped : List Bool) (x : ℕ) → StayStopped stopped (slice_set stopped x true)
 stop-stays [] x processor e = e
@@ -41,23 +45,30 @@ pub record AroundGrows (before after : Around) : Type 0 where
 around-same : (a : Around) → AroundGrows a a
 around-same a = record { requests = grown-none a.requests; replies = grown-none a.replies; shown = grown-none a.shown }
 
-pub causes-grow : {site : Site} {number node : ℕ} {core : Core} {before after : Around} {cause : Cause} {deed : Deed} {act : Act} {messages : List Message}
+pub causes-grow : {site : Site} {number node : ℕ} {core : Core} {before after : Around} {cause : Cause} {deed : Deed}
+    {act : Act} {messages : List Message}
     → Causes site number node core before cause deed act messages after → AroundGrows before after
 causes-grow {before = b} by_inner = around-same b
-causes-grow {before = b} (by_take e) = record { requests = grown-none b.requests; replies = grown-none b.replies; shown = grown-none b.shown }
-causes-grow {before = b} by_ask = record { requests = grown-by _ b.requests; replies = grown-none b.replies; shown = grown-none b.shown }
-causes-grow {before = b} (by_answer e) = record { requests = grown-none b.requests; replies = grown-one _ b.replies; shown = grown-none b.shown }
+causes-grow {before = b} (by_take e) =
+    record { requests = grown-none b.requests; replies = grown-none b.replies; shown = grown-none b.shown }
+causes-grow {before = b} by_ask =
+    record { requests = grown-by _ b.requests; replies = grown-none b.replies; shown = grown-none b.shown }
+causes-grow {before = b} (by_answer e) =
+    record { requests = grown-none b.requests; replies = grown-one _ b.replies; shown = grown-none b.shown }
 causes-grow {before = b} (by_device e) = around-same b
-causes-grow {before = b} (by_write e) = record { requests = grown-none b.requests; replies = grown-none b.replies; shown = grown-one _ b.shown }
+causes-grow {before = b} (by_write e) =
+    record { requests = grown-none b.requests; replies = grown-none b.replies; shown = grown-one _ b.shown }
 causes-grow {before = b} (by_reply i o n e) = around-same b
 
-pub enters-grows : {number : ℕ} {act : Act} {kept after : List Act} {copy entered : Copy} → Enters number act kept copy entered after → HasGrown kept after
+pub enters-grows : {number : ℕ} {act : Act} {kept after : List Act} {copy entered : Copy}
+    → Enters number act kept copy entered after → HasGrown kept after
 enters-grows {kept = kept} (holds_on e) = grown-none kept
 enters-grows {kept = kept} (repeats e l) = grown-none kept
 enters-grows {kept = kept} (begins e l t) = grown-none kept
 enters-grows {act = act} {kept = kept} (keeps e l t) = grown-one act kept
 
-pub passes-grow : {number : ℕ} {marks : List Down} {kept after : List Act} {pair next : Pair} {cause : Cause} {sendings : List Sending}
+pub passes-grow : {number : ℕ} {marks : List Down} {kept after : List Act} {pair next : Pair} {cause : Cause}
+    {sendings : List Sending}
     → Passes number marks kept pair cause sendings next after → HasGrown kept after
 passes-grow {kept = kept} (by_send k r p s m) = grown-none kept
 passes-grow {kept = kept} (by_pass_again k r p m l) = grown-none kept
@@ -65,7 +76,8 @@ passes-grow {kept = kept} (by_pass k r p m l) = grown-more _ _ kept
 passes-grow {kept = kept} (by_apply k message applied r i e n a) = grown-more _ _ kept
 passes-grow {kept = kept} (by_acknowledge k taken r s i e n) = grown-none kept
 
-same-but-kept : (w : World) (processes : List Pair) (kept : List Act) → HasGrown w.kept kept → Grows w (record w { processes = processes; kept = kept })
+same-but-kept : (w : World) (processes : List Pair) (kept : List Act) → HasGrown w.kept kept
+    → Grows w (record w { processes = processes; kept = kept })
 same-but-kept w processes kept g = record {
   stopped = λ x e. e;
   requests = grown-none w.requests;
@@ -74,13 +86,15 @@ same-but-kept w processes kept g = record {
   kept = g;
 }
 
-pub change-grows : {site : Site} (w next : World) (cause : Cause) (sendings : List Sending) → Change site w cause sendings next → Grows w next
+pub change-grows : {site : Site} (w next : World) (cause : Cause) (sendings : List Sending)
+    → Change site w cause sendings next → Grows w next
 change-grows w next cause sendings (by_own number k pair there acts c a e) =
     let g = causes-grow c in
     record { stopped = λ x e. e; requests = g.requests; replies = g.replies; shown = g.shown; kept = enters-grows e }
 change-grows w next cause sendings (by_checkpoint number pair there p) = same-but-kept w _ _ (passes-grow p)
 change-grows w next cause sendings (by_request request k pair i there r) = same-but-kept w _ w.kept (grown-none w.kept)
-change-grows w next cause sendings (by_early_request request k pair i there r) = same-but-kept w _ w.kept (grown-none w.kept)
+change-grows w next cause sendings (by_early_request request k pair i there r) =
+    same-but-kept w _ w.kept (grown-none w.kept)
 change-grows w next cause sendings (by_enter number terminal opener t e r o) = record {
   stopped = λ x e. e;
   requests = grown-one _ w.requests;
@@ -127,7 +141,8 @@ growth site = record {
 abbrev pub AreStopped : World → Type 0
 AreStopped w = (m : Down) → IsAmong m w.marks → slice_get w.stopped m.down ≡ Some true
 
-pub change-marks : {site : Site} (w next : World) (cause : Cause) (sendings : List Sending) → Change site w cause sendings next → AreStopped w → AreStopped next
+pub change-marks : {site : Site} (w next : World) (cause : Cause) (sendings : List Sending)
+    → Change site w cause sendings next → AreStopped w → AreStopped next
 change-marks w next cause sendings (by_own number k pair there acts c a e) ok = ok
 change-marks w next cause sendings (by_checkpoint number pair there p) ok = ok
 change-marks w next cause sendings (by_request request k pair i there r) ok = ok
@@ -137,6 +152,7 @@ change-marks w next cause sendings (by_print number terminal reply t e i o n) ok
 change-marks w next cause sendings (by_stop processor r) ok = λ m i. stop-stays w.stopped processor m.down (ok m i)
 change-marks w next cause sendings (by_mark node processor s r n) ok = added
   where
-    added : (m : Down) → (m ≡ record { node = node; down = processor }) ⊎ IsAmong m w.marks → slice_get w.stopped m.down ≡ Some true
+    added : (m : Down) → (m ≡ record { node = node; down = processor }) ⊎ IsAmong m w.marks
+        → slice_get w.stopped m.down ≡ Some true
     added m (inl same) = ap (λ (x : Down). slice_get w.stopped x.down) same ∙ s
     added m (inr i) = ok m i

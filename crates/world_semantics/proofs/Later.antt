@@ -9,7 +9,8 @@ use Rattle.world_semantics.specs.World.{Copy, Pair, Down, Terminal, World, Which
 use Rattle.world_semantics.specs.Kept.{Enters, holds_on, repeats, begins, keeps}
 use Rattle.world_semantics.specs.Messages.{Sending, Cause}
 use Rattle.world_semantics.specs.Passes.{Passes, by_send, by_pass_again, by_pass, by_apply, by_acknowledge}
-use Rattle.world_semantics.specs.Rules.{Change, by_own, by_checkpoint, by_request, by_early_request, by_enter, by_print, by_stop, by_mark, stopped_pair, taker, pair_after_down, pair_at_down}
+use Rattle.world_semantics.specs.Rules.{Change, by_own, by_checkpoint, by_request, by_early_request, by_enter, by_print}
+use Rattle.world_semantics.specs.Rules.{by_stop, by_mark, stopped_pair, taker, pair_after_down, pair_at_down}
 use Rattle.world_semantics.specs.Laws.{IsLater, IsLaterPair, IsLaterTerminal}
 use Rattle.world_semantics.proofs.Lists.{IsThen, set-then, map-then, grown-none, grown-one, grown-both}
 use Rattle.world_semantics.proofs.Runs.{IsKept}
@@ -32,30 +33,38 @@ pair-both f g = record {
 }
 
 -- the same process with other copies
-pair-by : (pair next : Pair) → IsLater pair.first next.first → IsLater pair.second next.second → next.checkpoints ≡ pair.checkpoints
+pair-by : (pair next : Pair) → IsLater pair.first next.first → IsLater pair.second next.second
+    → next.checkpoints ≡ pair.checkpoints
     → next.takens ≡ pair.takens → IsLaterPair pair next
 pair-by pair next f s c t = record { first = f; second = s; checkpoints = ([], c); takens = ([], t) }
 
 pair-same : (pair : Pair) → IsLaterPair pair pair
-pair-same pair = pair-by pair pair (later-same pair.first pair.first refl refl) (later-same pair.second pair.second refl refl) refl refl
+pair-same pair = pair-by pair pair (later-same pair.first pair.first refl refl)
+    (later-same pair.second pair.second refl refl) refl refl
 
-enters-later : {number : ℕ} {act : Act} {kept after : List Act} {copy entered : Copy} (core : Core) (waiting : List Request)
+enters-later : {number : ℕ} {act : Act} {kept after : List Act} {copy entered : Copy} (core : Core)
+    (waiting : List Request)
     → Enters number act kept copy entered after → IsLater copy (record entered { core = core; waiting = waiting })
 enters-later core waiting (holds_on e) = later-same _ _ refl refl
 enters-later core waiting (repeats e l) = later-same _ _ refl refl
 enters-later core waiting (begins e l t) = later-same _ _ refl refl
 enters-later core waiting (keeps e l t) = later-same _ _ refl refl
 
-own-later : (k : Which) (pair : Pair) (core : Core) (waiting : List Request) (sectors : List Stored) {number : ℕ} {act : Act} {kept after : List Act}
+own-later : (k : Which) (pair : Pair) (core : Core) (waiting : List Request) (sectors : List Stored) {number : ℕ}
+    {act : Act} {kept after : List Act}
     {entered : Copy} → Enters number act kept (copy_of k pair) entered after
-    → IsLaterPair pair (with_copy k (record entered { core = core; waiting = waiting }) (record pair { sectors = sectors }))
-own-later First pair core waiting sectors e = pair-by pair _ (enters-later core waiting e) (later-same _ _ refl refl) refl refl
-own-later Second pair core waiting sectors e = pair-by pair _ (later-same _ _ refl refl) (enters-later core waiting e) refl refl
+    → IsLaterPair pair (with_copy k (record entered { core = core; waiting = waiting })
+    (record pair { sectors = sectors }))
+own-later First pair core waiting sectors e =
+    pair-by pair _ (enters-later core waiting e) (later-same _ _ refl refl) refl refl
+own-later Second pair core waiting sectors e =
+    pair-by pair _ (later-same _ _ refl refl) (enters-later core waiting e) refl refl
 
 next-number : (before after : Copy) → after.era ≡ before.era → after.number ≡ before.number + 1 → IsLater before after
 next-number before after e n = record { era = omega (arith, e); number = λ _. omega (arith, n) }
 
-passes-later : {number : ℕ} {marks : List Down} {kept after : List Act} {pair next : Pair} {cause : Cause} {sendings : List Sending}
+passes-later : {number : ℕ} {marks : List Down} {kept after : List Act} {pair next : Pair} {cause : Cause}
+    {sendings : List Sending}
     → Passes number marks kept pair cause sendings next after → IsLaterPair pair next
 passes-later {pair = p} (by_send First r t s m) = record {
   first = next-number p.first _ refl refl;
@@ -69,10 +78,14 @@ passes-later {pair = p} (by_send Second r t s m) = record {
   checkpoints = grown-one _ p.checkpoints;
   takens = grown-none p.takens;
 }
-passes-later {pair = p} (by_pass_again First r t m l) = pair-by p _ (later-same p.first _ refl refl) (later-same p.second _ refl refl) refl refl
-passes-later {pair = p} (by_pass_again Second r t m l) = pair-by p _ (later-same p.first _ refl refl) (later-same p.second _ refl refl) refl refl
-passes-later {pair = p} (by_pass First r t m l) = pair-by p _ (later-same p.first _ refl refl) (later-same p.second _ refl refl) refl refl
-passes-later {pair = p} (by_pass Second r t m l) = pair-by p _ (later-same p.first _ refl refl) (later-same p.second _ refl refl) refl refl
+passes-later {pair = p} (by_pass_again First r t m l) =
+    pair-by p _ (later-same p.first _ refl refl) (later-same p.second _ refl refl) refl refl
+passes-later {pair = p} (by_pass_again Second r t m l) =
+    pair-by p _ (later-same p.first _ refl refl) (later-same p.second _ refl refl) refl refl
+passes-later {pair = p} (by_pass First r t m l) =
+    pair-by p _ (later-same p.first _ refl refl) (later-same p.second _ refl refl) refl refl
+passes-later {pair = p} (by_pass Second r t m l) =
+    pair-by p _ (later-same p.first _ refl refl) (later-same p.second _ refl refl) refl refl
 passes-later {pair = p} (by_apply First message applied r i e n a) = record {
   first = next-number p.first _ refl n;
   second = later-same p.second _ refl refl;
@@ -85,12 +98,16 @@ passes-later {pair = p} (by_apply Second message applied r i e n a) = record {
   checkpoints = grown-none p.checkpoints;
   takens = grown-one _ p.takens;
 }
-passes-later {pair = p} (by_acknowledge First taken r s i e n) = pair-by p _ (later-same p.first _ refl refl) (later-same p.second _ refl refl) refl refl
-passes-later {pair = p} (by_acknowledge Second taken r s i e n) = pair-by p _ (later-same p.first _ refl refl) (later-same p.second _ refl refl) refl refl
+passes-later {pair = p} (by_acknowledge First taken r s i e n) =
+    pair-by p _ (later-same p.first _ refl refl) (later-same p.second _ refl refl) refl refl
+passes-later {pair = p} (by_acknowledge Second taken r s i e n) =
+    pair-by p _ (later-same p.first _ refl refl) (later-same p.second _ refl refl) refl refl
 
-waiting-later : (k : Which) (p : Pair) (waiting : List Request) → IsLaterPair p (with_copy k (record (copy_of k p) { waiting = waiting }) p)
+waiting-later : (k : Which) (p : Pair) (waiting : List Request)
+    → IsLaterPair p (with_copy k (record (copy_of k p) { waiting = waiting }) p)
 waiting-later First p waiting = pair-by p _ (later-same p.first _ refl refl) (later-same p.second _ refl refl) refl refl
-waiting-later Second p waiting = pair-by p _ (later-same p.first _ refl refl) (later-same p.second _ refl refl) refl refl
+waiting-later Second p waiting =
+    pair-by p _ (later-same p.first _ refl refl) (later-same p.second _ refl refl) refl refl
 
 stopped-later : (x : ℕ) (p : Pair) → IsLaterPair p (stopped_pair x p)
 stopped-later x p = pair-by p _ (later-same p.first _ refl refl) (later-same p.second _ refl refl) refl refl
@@ -106,16 +123,20 @@ marking-later (Some Second) p = pair-by p _ (later-same p.first _ refl refl) (ne
 -- All changes
 
 abbrev pub PairsGoOn : World → World → Type 0
-PairsGoOn w next = (number : ℕ) (pair : Pair) → slice_get w.processes number ≡ Some pair → IsThen IsLaterPair pair (slice_get next.processes number)
+PairsGoOn w next = (number : ℕ) (pair : Pair) → slice_get w.processes number ≡ Some pair
+    → IsThen IsLaterPair pair (slice_get next.processes number)
 
 abbrev pub TerminalsGoOn : World → World → Type 0
 TerminalsGoOn w next =
-    (number : ℕ) (terminal : Terminal) → slice_get w.terminals number ≡ Some terminal → IsThen IsLaterTerminal terminal (slice_get next.terminals number)
+    (number : ℕ) (terminal : Terminal) → slice_get w.terminals number ≡ Some terminal
+    → IsThen IsLaterTerminal terminal (slice_get next.terminals number)
 
-pub change-later : {site : Site} (w next : World) (cause : Cause) (sendings : List Sending) → Change site w cause sendings next → PairsGoOn w next
+pub change-later : {site : Site} (w next : World) (cause : Cause) (sendings : List Sending)
+    → Change site w cause sendings next → PairsGoOn w next
 change-later w next cause sendings (by_own number k pair there acts c a e) =
     set-then IsLaterPair pair-same w.processes number pair _ there (own-later k pair _ _ _ e)
-change-later w next cause sendings (by_checkpoint number pair there p) = set-then IsLaterPair pair-same w.processes number pair _ there (passes-later p)
+change-later w next cause sendings (by_checkpoint number pair there p) =
+    set-then IsLaterPair pair-same w.processes number pair _ there (passes-later p)
 change-later w next cause sendings (by_request request k pair i there r) =
     set-then IsLaterPair pair-same w.processes request.process pair _ there (waiting-later k pair _)
 change-later w next cause sendings (by_early_request request k pair i there r) =
@@ -136,22 +157,33 @@ pairs-go-on site = record {
 terminal-same : (t : Terminal) → IsLaterTerminal t t
 terminal-same t = record { entered = omega arith; printed = omega arith }
 
-pub change-terminals : {site : Site} (w next : World) (cause : Cause) (sendings : List Sending) → Change site w cause sendings next → TerminalsGoOn w next
+pub change-terminals : {site : Site} (w next : World) (cause : Cause) (sendings : List Sending)
+    → Change site w cause sendings next → TerminalsGoOn w next
 change-terminals w next cause sendings (by_enter number terminal opener t e r o) =
-    set-then IsLaterTerminal terminal-same w.terminals number terminal _ t (record { entered = omega arith; printed = omega arith })
+    set-then IsLaterTerminal terminal-same w.terminals number terminal _ t
+    (record { entered = omega arith; printed = omega arith })
 change-terminals w next cause sendings (by_print number terminal reply t e i o n) =
-    set-then IsLaterTerminal terminal-same w.terminals number terminal _ t (record { entered = omega arith; printed = omega arith })
-change-terminals w next cause sendings (by_own number k pair there acts c a e) = λ n t there. (t, there, terminal-same t)
+    set-then IsLaterTerminal terminal-same w.terminals number terminal _ t
+    (record { entered = omega arith; printed = omega arith })
+change-terminals w next cause sendings (by_own number k pair there acts c a e) =
+    λ n t there. (t, there, terminal-same t)
 change-terminals w next cause sendings (by_checkpoint number pair there p) = λ n t there. (t, there, terminal-same t)
 change-terminals w next cause sendings (by_request request k pair i there r) = λ n t there. (t, there, terminal-same t)
-change-terminals w next cause sendings (by_early_request request k pair i there r) = λ n t there. (t, there, terminal-same t)
+change-terminals w next cause sendings (by_early_request request k pair i there r) =
+    λ n t there. (t, there, terminal-same t)
 change-terminals w next cause sendings (by_stop x r) = λ n t there. (t, there, terminal-same t)
 change-terminals w next cause sendings (by_mark node x s r n) = λ m t there. (t, there, terminal-same t)
 
 pub terminals-go-on : (site : Site) → IsKept site TerminalsGoOn
 terminals-go-on site = record {
   same = λ w n t there. (t, there, terminal-same t);
-  both = λ u v w f g n t there. let a = f n t there in let b = g n a.0 a.1 in
-      (b.0, b.1, record { entered = omega (arith, a.2.entered, b.2.entered); printed = omega (arith, a.2.printed, b.2.printed) });
+  both = λ u v w f g n t there. let a = f n t there in let b = g n a.0 a.1 in (
+    b.0,
+    b.1,
+    record {
+      entered = omega (arith, a.2.entered, b.2.entered);
+      printed = omega (arith, a.2.printed, b.2.printed);
+    },
+  );
   change = change-terminals;
 }

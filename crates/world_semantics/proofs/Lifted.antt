@@ -7,7 +7,8 @@ use Rattle.world_semantics.specs.World.{Pair, World, Which, copy_of, with_copy}
 use Rattle.world_semantics.specs.Passes.{copy_at_checkpoint}
 use Rattle.world_semantics.specs.Records.{records_of}
 use Rattle.world_semantics.specs.Shares.{passing_where, share_of, with_share}
-use Rattle.world_semantics.specs.Running.{Done, Own, Stepped, in_world, mark_step, own_step, sending_step, step_as, step_at, step_of_copy}
+use Rattle.world_semantics.specs.Running.{Done, Own, Stepped, in_world, mark_step, own_step, sending_step, step_as}
+use Rattle.world_semantics.specs.Running.{step_at, step_of_copy}
 
 abbrev pub lifted : ℕ → World → Option Stepped → Option Done
 lifted number w step = option_map (in_world number w) step
@@ -24,7 +25,8 @@ sent_done number k pair w = in_world number w (sending_step number k pair (recor
 -- a copy passes its checkpoint, which it did already or not
 abbrev pub passed_done : ℕ → Which → Pair → World → Bool → Done
 passed_done number k pair w again = in_world number w (record {
-  pair = with_copy k (with_share (passing_where number w.kept (share_of (copy_of k pair)) again).share (copy_at_checkpoint (copy_of k pair))) pair;
+  pair = with_copy k (with_share (passing_where number w.kept (share_of (copy_of k pair)) again).share
+      (copy_at_checkpoint (copy_of k pair))) pair;
   records = record (records_of w) { kept = (passing_where number w.kept (share_of (copy_of k pair)) again).kept };
   sendings = [];
 })

@@ -1,5 +1,6 @@
 -- Runs that are computed from moves: each move says which change an event makes. The examples are played by it.
-use Rattle.std.proofs.Common.{◌≡◌, ℕ, ◌+◌, ◌==◌, ◌&&◌, Bool, true, false, List, [], ◌∷◌, map, Option, Some, None, slice_get, refl, ap, ◌∙◌}
+use Rattle.std.proofs.Common.{◌≡◌, ℕ, ◌+◌, ◌==◌, ◌&&◌, Bool, true, false, List, [], ◌∷◌, map, Option, Some, None}
+use Rattle.std.proofs.Common.{slice_get, refl, ap, ◌∙◌}
 use Rattle.std.proofs.lemmas.Bool.{eqb-true}
 use Rattle.gd_words.specs.Members.{IsAmong}
 use Rattle.gd_words.proofs.Among.{among-at}
@@ -25,14 +26,17 @@ use Rattle.world_semantics.specs.World.{Pair, World, is_running, has_noted, Whic
 use Rattle.world_semantics.specs.Messages.{Sending}
 use Rattle.world_semantics.specs.Passes.{by_apply, by_acknowledge}
 use Rattle.world_semantics.specs.Own.{by_reply}
-use Rattle.world_semantics.specs.Rules.{by_own, by_checkpoint, by_request, by_early_request, by_enter, by_print, by_stop, by_mark}
-use Rattle.world_semantics.specs.Follows.{marks_none, marks_one, Follows, runs, enters, delivers, ticks, fails, Leads, stays, goes_on}
+use Rattle.world_semantics.specs.Rules.{by_own, by_checkpoint, by_request, by_early_request, by_enter, by_print}
+use Rattle.world_semantics.specs.Rules.{by_stop, by_mark}
+use Rattle.world_semantics.specs.Follows.{marks_none, marks_one, Follows, runs, enters, delivers, ticks, fails, Leads}
+use Rattle.world_semantics.specs.Follows.{stays, goes_on}
 use Rattle.world_semantics.specs.Running.{run_done}
 use Rattle.world_semantics.proofs.Running.{enters-as}
 use Rattle.world_semantics.proofs.Roles.{both-true}
 use Rattle.world_semantics.proofs.Ran.{run-may}
 
--- which change an event makes: of the messages that were ever sent, each is named by its place among those of its kind, the newest at 0
+-- which change an event makes: of the messages that were ever sent, each is named by its place among those of its kind,
+-- the newest at 0
 pub data Move : Type 0 where
   -- a process runs
   Runs : (number : ℕ) → Move
@@ -98,12 +102,20 @@ enter_move site w number =
     with_reason (opener_of site (who.Terminal number)) (λ opener opens.
     where_true (terminal.entered == terminal.printed) (λ free.
     with_reason (next_request site number terminal.entered) (λ words next.
-    Some (record { world = _; sendings = _; follows = enters (by_enter number terminal opener there (eqb-true _ _ free) next opens) })))))
+    Some (record {
+      world = _;
+      sendings = _;
+      follows = enters (by_enter number terminal opener there (eqb-true _ _ free) next opens);
+    })))))
 
-abbrev bring_as : (site : Site) (w : World) (request : Request) (k : Which) (pair : Pair) (role : Role) → IsAmong request w.requests
-    → slice_get w.processes request.process ≡ Some pair → (copy_of k pair).role ≡ role → Perhaps site w (event.Deliver false 0)
-bring_as site w request k pair Acting i there e = Some (record { world = _; sendings = _; follows = delivers _ _ (by_request request k pair i there e) })
-bring_as site w request k pair Watching i there e = Some (record { world = _; sendings = _; follows = delivers _ _ (by_early_request request k pair i there e) })
+abbrev bring_as : (site : Site) (w : World) (request : Request) (k : Which) (pair : Pair) (role : Role)
+    → IsAmong request w.requests
+    → slice_get w.processes request.process ≡ Some pair → (copy_of k pair).role ≡ role
+    → Perhaps site w (event.Deliver false 0)
+bring_as site w request k pair Acting i there e =
+    Some (record { world = _; sendings = _; follows = delivers _ _ (by_request request k pair i there e) })
+bring_as site w request k pair Watching i there e =
+    Some (record { world = _; sendings = _; follows = delivers _ _ (by_early_request request k pair i there e) })
 bring_as site w request k pair Gone i there e = None
 
 abbrev bring_move : (site : Site) (w : World) (place : ℕ) (k : Which) → Perhaps site w (event.Deliver false 0)
@@ -115,7 +127,8 @@ bring_move site w place k =
 abbrev is_opener : Opener → Reply → Bool
 is_opener opener reply = opener.server == reply.process && opener.place == reply.opener
 
-pub opener-is : (opener : Opener) (reply : Reply) → is_opener opener reply ≡ true → opener ≡ record { server = reply.process; place = reply.opener }
+pub opener-is : (opener : Opener) (reply : Reply) → is_opener opener reply ≡ true
+    → opener ≡ record { server = reply.process; place = reply.opener }
 opener-is opener reply e =
     let b = both-true (opener.server == reply.process) _ e in
     let s = eqb-true _ _ b.0 in let p = eqb-true _ _ b.1 in λ i. record { server = s i; place = p i }
@@ -136,12 +149,15 @@ print_move site w place number =
           (opens ∙ ap Some (opener-is opener reply own)) (eqb-true _ _ same));
     })))))))
 
-abbrev get_at : (site : Site) (w : World) (number : ℕ) (reply : Reply) (k : Which) (pair : Pair) (p : Point) → slice_get w.processes number ≡ Some pair
-    → IsAmong reply w.replies → (copy_of k pair).role ≡ Acting → process.point (copy_of k pair).core.state ≡ p → Perhaps site w (event.Deliver false 0)
+abbrev get_at : (site : Site) (w : World) (number : ℕ) (reply : Reply) (k : Which) (pair : Pair) (p : Point)
+    → slice_get w.processes number ≡ Some pair
+    → IsAmong reply w.replies → (copy_of k pair).role ≡ Acting → process.point (copy_of k pair).core.state ≡ p
+    → Perhaps site w (event.Deliver false 0)
 get_at site w number reply k pair point.Await there i role stands =
     with_reason (opener_of site (who.File number (process.asked_file (copy_of k pair).core.state))) (λ opener opens.
     where_true (is_opener opener reply) (λ same.
-    where_true (reply.number + 1 == next_on (copy_of k pair).core (process.asked_file (copy_of k pair).core.state)) (λ awaits.
+    where_true (reply.number + 1 == next_on (copy_of k pair).core (process.asked_file (copy_of k pair).core.state))
+    (λ awaits.
     Some (record {
       world = _;
       sendings = _;
@@ -152,7 +168,8 @@ get_at site w number reply k pair point.Await there i role stands =
     }))))
 get_at site w number reply k pair _ there i role stands = None
 
-abbrev get_as : (site : Site) (w : World) (number : ℕ) (reply : Reply) (k : Which) (pair : Pair) (role : Role) → slice_get w.processes number ≡ Some pair
+abbrev get_as : (site : Site) (w : World) (number : ℕ) (reply : Reply) (k : Which) (pair : Pair) (role : Role)
+    → slice_get w.processes number ≡ Some pair
     → IsAmong reply w.replies → (copy_of k pair).role ≡ role → Perhaps site w (event.Deliver false 0)
 get_as site w number reply k pair Acting there i role =
     get_at site w number reply k pair (process.point (copy_of k pair).core.state) there i role refl
@@ -164,7 +181,8 @@ get_move site w number place k =
     with_reason (slice_get w.processes number) (λ pair there.
     get_as site w number reply k pair (copy_of k pair).role there (among-at w.replies place reply sent) refl))
 
-abbrev apply_as : (site : Site) (w : World) (number : ℕ) (message : ImageMessage) (k : Which) (pair : Pair) (role : Role) → slice_get w.processes number ≡ Some pair
+abbrev apply_as : (site : Site) (w : World) (number : ℕ) (message : ImageMessage) (k : Which) (pair : Pair)
+    (role : Role) → slice_get w.processes number ≡ Some pair
     → IsAmong message pair.checkpoints → (copy_of k pair).role ≡ role → Perhaps site w (event.Deliver false 0)
 apply_as site w number message k pair Watching there i role =
     where_true (message.era == (copy_of k pair).era) (λ era.
@@ -173,7 +191,8 @@ apply_as site w number message k pair Watching there i role =
     Some (record {
       world = _;
       sendings = _;
-      follows = delivers _ _ (by_checkpoint number pair there (by_apply k message applied role i (eqb-true _ _ era) (eqb-true _ _ next) e));
+      follows = delivers _ _ (by_checkpoint number pair there
+          (by_apply k message applied role i (eqb-true _ _ era) (eqb-true _ _ next) e));
     }))))
 apply_as site w number message k pair _ there i role = None
 
@@ -181,9 +200,11 @@ abbrev apply_move : (site : Site) (w : World) (number place : ℕ) (k : Which) �
 apply_move site w number place k =
     with_reason (slice_get w.processes number) (λ pair there.
     with_reason (slice_get pair.checkpoints place) (λ message sent.
-    apply_as site w number message k pair (copy_of k pair).role there (among-at pair.checkpoints place message sent) refl))
+    apply_as site w number message k pair (copy_of k pair).role there (among-at pair.checkpoints place message sent)
+    refl))
 
-abbrev tell_as : (site : Site) (w : World) (number : ℕ) (taken : TakenMessage) (k : Which) (pair : Pair) (role : Role) → slice_get w.processes number ≡ Some pair
+abbrev tell_as : (site : Site) (w : World) (number : ℕ) (taken : TakenMessage) (k : Which) (pair : Pair) (role : Role)
+    → slice_get w.processes number ≡ Some pair
     → IsAmong taken pair.takens → (copy_of k pair).role ≡ role → Perhaps site w (event.Deliver false 0)
 tell_as site w number taken k pair Acting there i role =
     where_true (copy_of k pair).sent (λ sent.
@@ -192,7 +213,8 @@ tell_as site w number taken k pair Acting there i role =
     Some (record {
       world = _;
       sendings = _;
-      follows = delivers _ _ (by_checkpoint number pair there (by_acknowledge k taken role sent i (eqb-true _ _ era) (eqb-true _ _ same)));
+      follows = delivers _ _ (by_checkpoint number pair there
+          (by_acknowledge k taken role sent i (eqb-true _ _ era) (eqb-true _ _ same)));
     }))))
 tell_as site w number taken k pair _ there i role = None
 
@@ -202,15 +224,22 @@ tell_move site w number place k =
     with_reason (slice_get pair.takens place) (λ taken sent.
     tell_as site w number taken k pair (copy_of k pair).role there (among-at pair.takens place taken sent) refl))
 
-abbrev fail_as : (site : Site) (w : World) (processor : ℕ) (stopped : Option Bool) → slice_get w.stopped processor ≡ stopped → Perhaps site w (event.Fail processor)
-fail_as site w processor (Some false) e = Some (record { world = _; sendings = _; follows = fails (by_stop processor e) })
+abbrev fail_as : (site : Site) (w : World) (processor : ℕ) (stopped : Option Bool)
+    → slice_get w.stopped processor ≡ stopped → Perhaps site w (event.Fail processor)
+fail_as site w processor (Some false) e =
+    Some (record { world = _; sendings = _; follows = fails (by_stop processor e) })
 fail_as site w processor _ e = None
 
-abbrev tick_as : (site : Site) (w : World) (node processor : ℕ) (stopped : Option Bool) → slice_get w.stopped processor ≡ stopped → Perhaps site w (event.Tick node)
+abbrev tick_as : (site : Site) (w : World) (node processor : ℕ) (stopped : Option Bool)
+    → slice_get w.stopped processor ≡ stopped → Perhaps site w (event.Tick node)
 tick_as site w node processor (Some true) e =
     where_true (is_running w.stopped node) (λ runs.
     where_false (has_noted w.marks node processor) (λ new.
-    Some (record { world = _; sendings = _; follows = ticks runs (marks_one processor (by_mark node processor e runs new) marks_none) })))
+    Some (record {
+      world = _;
+      sendings = _;
+      follows = ticks runs (marks_one processor (by_mark node processor e runs new) marks_none);
+    })))
 tick_as site w node processor _ e = None
 
 -- the change of a move, where it is possible

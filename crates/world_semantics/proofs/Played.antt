@@ -15,9 +15,13 @@ use Rattle.world_semantics.specs.declared.role.Role.{Role}
 use Rattle.world_semantics.specs.declared.role.Role.TheVariants.{Acting}
 use Rattle.world_semantics.specs.World.{Pair, World, First, Second, boot}
 use Rattle.world_semantics.specs.Kept.{closed}
-use Rattle.world_semantics.specs.Examples.{adder_for, disc_site, takeover_events, takeover_acts, takeover_shown, lost_take_events, lost_take_acts, lost_take_shown, disc_events, disc_acts, disc_shown, bank_site, repeat_events, repeat_acts, repeat_shown, echo_site, ahead_events, ahead_acts, standings, CanKeep, CanLeave}
+use Rattle.world_semantics.specs.Examples.{adder_for, disc_site, takeover_events, takeover_acts, takeover_shown}
+use Rattle.world_semantics.specs.Examples.{lost_take_events, lost_take_acts, lost_take_shown, disc_events, disc_acts}
+use Rattle.world_semantics.specs.Examples.{disc_shown, bank_site, repeat_events, repeat_acts, repeat_shown, echo_site}
+use Rattle.world_semantics.specs.Examples.{ahead_events, ahead_acts, standings, CanKeep, CanLeave}
 use Rattle.world_semantics.proofs.Lists.{some-same}
-use Rattle.world_semantics.proofs.Moves.{Move, Runs, Enters, Brings, Prints, Gets, Applies, Tells, Fails, Ticks, Played, played}
+use Rattle.world_semantics.proofs.Moves.{Move, Runs, Enters, Brings, Prints, Gets, Applies, Tells, Fails, Ticks, Played}
+use Rattle.world_semantics.proofs.Moves.{played}
 
 -- what a run keeps and shows
 record Seen : Type 0 where
@@ -28,23 +32,28 @@ abbrev seen : {site : Site} {w : World} {events : List Event} → Option (Played
 seen None = None
 seen (Some p) = Some (record { acts = closed p.world; said = p.world.shown })
 
-can-keep : {site : Site} {events : List Event} (acts : List Act) (said : List Shown) (p : Option (Played site (boot site) events))
+can-keep : {site : Site} {events : List Event} (acts : List Act) (said : List Shown)
+    (p : Option (Played site (boot site) events))
     → seen p ≡ Some (record { acts = acts; said = said }) → CanKeep site events acts said
 can-keep acts said None e = absurd (cc)
-can-keep acts said (Some p) e = let s = some-same e in (p.world, p.leads, ap (λ (x : Seen). x.acts) s, ap (λ (x : Seen). x.said) s)
+can-keep acts said (Some p) e =
+    let s = some-same e in (p.world, p.leads, ap (λ (x : Seen). x.acts) s, ap (λ (x : Seen). x.said) s)
 
 abbrev takeover_moves : List Move
 takeover_moves =
-    Enters 0 ∷ Runs 0 ∷ Runs 0 ∷ Runs 0 ∷ Brings 0 Second ∷ Brings 0 First ∷ Runs 0 ∷ Runs 0 ∷ Runs 0 ∷ Runs 0 ∷ Applies 0 0 Second ∷ Tells 0 0 First
+    Enters 0 ∷ Runs 0 ∷ Runs 0 ∷ Runs 0 ∷ Brings 0 Second ∷ Brings 0 First ∷ Runs 0 ∷ Runs 0 ∷ Runs 0 ∷ Runs 0
+    ∷ Applies 0 0 Second ∷ Tells 0 0 First
     ∷ Runs 0 ∷ Runs 0 ∷ Fails 0 ∷ Ticks 1 0 ∷ Ticks 16 0 ∷ Runs 0 ∷ Brings 0 Second ∷ Prints 0 0 ∷ Runs 0 ∷ []
 
 pub takeover : CanKeep (adder_for (pos 5 ∷ [])) takeover_events takeover_acts takeover_shown
 unfolding out-What shown-the_row-Statement-0 shown out int_wrap
-takeover = can-keep takeover_acts takeover_shown (played (adder_for (pos 5 ∷ [])) takeover_moves (boot (adder_for (pos 5 ∷ [])))) refl
+takeover = can-keep takeover_acts takeover_shown
+    (played (adder_for (pos 5 ∷ [])) takeover_moves (boot (adder_for (pos 5 ∷ [])))) refl
 
 abbrev lost_take_moves : List Move
 lost_take_moves =
-    Enters 0 ∷ Enters 1 ∷ Runs 0 ∷ Runs 0 ∷ Runs 0 ∷ Brings 1 First ∷ Runs 0 ∷ Runs 0 ∷ Fails 0 ∷ Ticks 1 0 ∷ Brings 0 Second ∷ Runs 0 ∷ Runs 0 ∷ Runs 0
+    Enters 0 ∷ Enters 1 ∷ Runs 0 ∷ Runs 0 ∷ Runs 0 ∷ Brings 1 First ∷ Runs 0 ∷ Runs 0 ∷ Fails 0 ∷ Ticks 1 0
+    ∷ Brings 0 Second ∷ Runs 0 ∷ Runs 0 ∷ Runs 0
     ∷ Runs 0 ∷ Runs 0 ∷ Runs 0 ∷ Runs 0 ∷ Runs 0 ∷ Prints 0 1 ∷ []
 
 pub lost_take : CanKeep (adder_for (pos 5 ∷ pos 7 ∷ [])) lost_take_events lost_take_acts lost_take_shown
@@ -55,7 +64,8 @@ lost_take =
 
 abbrev disc_moves : List Move
 disc_moves =
-    Enters 0 ∷ Brings 0 First ∷ Runs 0 ∷ Runs 0 ∷ Applies 0 0 Second ∷ Tells 0 0 First ∷ Runs 0 ∷ Runs 0 ∷ Fails 0 ∷ Ticks 1 0 ∷ Runs 0 ∷ Runs 0
+    Enters 0 ∷ Brings 0 First ∷ Runs 0 ∷ Runs 0 ∷ Applies 0 0 Second ∷ Tells 0 0 First ∷ Runs 0 ∷ Runs 0 ∷ Fails 0
+    ∷ Ticks 1 0 ∷ Runs 0 ∷ Runs 0
     ∷ Prints 0 0 ∷ []
 
 pub disc_finds : CanKeep disc_site disc_events disc_acts disc_shown
@@ -64,8 +74,10 @@ disc_finds = can-keep disc_acts disc_shown (played disc_site disc_moves (boot di
 
 abbrev repeat_moves : List Move
 repeat_moves =
-    Enters 0 ∷ Runs 1 ∷ Runs 1 ∷ Runs 1 ∷ Runs 1 ∷ Brings 0 First ∷ Runs 1 ∷ Runs 1 ∷ Runs 1 ∷ Applies 1 0 Second ∷ Tells 1 0 First ∷ Runs 1 ∷ Runs 1 ∷ Runs 1
-    ∷ Runs 1 ∷ Runs 1 ∷ Brings 0 First ∷ Runs 0 ∷ Runs 0 ∷ Applies 0 0 Second ∷ Tells 0 0 First ∷ Runs 0 ∷ Runs 0 ∷ Runs 0 ∷ Fails 0 ∷ Ticks 1 0 ∷ Runs 1
+    Enters 0 ∷ Runs 1 ∷ Runs 1 ∷ Runs 1 ∷ Runs 1 ∷ Brings 0 First ∷ Runs 1 ∷ Runs 1 ∷ Runs 1 ∷ Applies 1 0 Second
+    ∷ Tells 1 0 First ∷ Runs 1 ∷ Runs 1 ∷ Runs 1
+    ∷ Runs 1 ∷ Runs 1 ∷ Brings 0 First ∷ Runs 0 ∷ Runs 0 ∷ Applies 0 0 Second ∷ Tells 0 0 First ∷ Runs 0 ∷ Runs 0
+    ∷ Runs 0 ∷ Fails 0 ∷ Ticks 1 0 ∷ Runs 1
     ∷ Runs 1 ∷ Runs 1 ∷ Runs 1 ∷ Brings 0 First ∷ Gets 1 0 Second ∷ Runs 1 ∷ Runs 1 ∷ Prints 0 0 ∷ Runs 1 ∷ []
 
 pub repeated : CanKeep bank_site repeat_events repeat_acts repeat_shown
@@ -90,7 +102,8 @@ abbrev left : {site : Site} {w : World} {events : List Event} → Option (Played
 left None = None
 left (Some p) = Some (left_by p.world)
 
-can-leave : {site : Site} {events : List Event} (acts : List Act) (roles : List Role) (waits : List (List RequestStanding)) (p : Option (Played site (boot site) events))
+can-leave : {site : Site} {events : List Event} (acts : List Act) (roles : List Role)
+    (waits : List (List RequestStanding)) (p : Option (Played site (boot site) events))
     → left p ≡ Some (record { acts = acts; roles = roles; waits = waits }) → CanLeave site events acts roles waits
 can-leave acts roles waits None e = absurd (cc)
 can-leave acts roles waits (Some p) e =
@@ -99,7 +112,8 @@ can-leave acts roles waits (Some p) e =
 
 abbrev ahead_moves : List Move
 ahead_moves =
-    Enters 0 ∷ Runs 0 ∷ Runs 0 ∷ Runs 0 ∷ Brings 0 First ∷ Runs 0 ∷ Runs 0 ∷ Prints 0 0 ∷ Enters 0 ∷ Fails 0 ∷ Ticks 1 0 ∷ Brings 0 Second ∷ []
+    Enters 0 ∷ Runs 0 ∷ Runs 0 ∷ Runs 0 ∷ Brings 0 First ∷ Runs 0 ∷ Runs 0 ∷ Prints 0 0 ∷ Enters 0 ∷ Fails 0
+    ∷ Ticks 1 0 ∷ Brings 0 Second ∷ []
 
 pub ahead : CanLeave echo_site ahead_events ahead_acts (Acting ∷ []) ((Ahead ∷ []) ∷ [])
 unfolding out-What shown-the_row-Statement-0 shown out int_wrap

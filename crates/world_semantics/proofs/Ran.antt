@@ -1,5 +1,6 @@
 -- A process that runs makes the one change that is computed, and none where none is.
-use Rattle.std.proofs.Common.{◌≡◌, ℕ, ◌||◌, Bool, true, false, nat_lt, List, Option, Some, None, slice_get, slice_set, refl, subst, sym, ap, ◌∙◌}
+use Rattle.std.proofs.Common.{◌≡◌, ℕ, ◌||◌, Bool, true, false, nat_lt, List, Option, Some, None, slice_get, slice_set}
+use Rattle.std.proofs.Common.{refl, subst, sym, ap, ◌∙◌}
 use Rattle.std.proofs.lemmas.Bool.{lt-ltb, ltb-true, le-ltb, ltb-false}
 use Rattle.tal_tree.specs.declared.act.Act.{Act}
 use Rattle.tal_tree.specs.declared.site.Site.{Site}
@@ -8,13 +9,16 @@ use Rattle.process_semantics.specs.declared.point.Point.TheVariants as point
 use Rattle.process_semantics.specs.Process as process
 use Rattle.world_semantics.specs.declared.role.Role.{Role}
 use Rattle.world_semantics.specs.declared.role.Role.TheVariants.{Acting, Watching, Gone}
-use Rattle.world_semantics.specs.World.{Copy, Pair, Down, World, Which, First, Second, copy_of, other_of, may_pass, has_noted}
+use Rattle.world_semantics.specs.World.{Copy, Pair, Down, World, Which, First, Second, copy_of, other_of, may_pass}
+use Rattle.world_semantics.specs.World.{has_noted}
 use Rattle.world_semantics.specs.Kept.{own_acts}
 use Rattle.world_semantics.specs.Core.{Core, Deed}
 use Rattle.world_semantics.specs.Messages.{Message, Sending, sent_at, Cause, Running}
-use Rattle.world_semantics.specs.Own.{Around, around, Causes, by_inner, by_take, by_ask, by_answer, by_device, by_write, by_reply}
+use Rattle.world_semantics.specs.Own.{Around, around, Causes, by_inner, by_take, by_ask, by_answer, by_device, by_write}
+use Rattle.world_semantics.specs.Own.{by_reply}
 use Rattle.world_semantics.specs.Passes.{Passes, by_send, by_pass_again, by_pass, by_apply, by_acknowledge}
-use Rattle.world_semantics.specs.Rules.{Change, by_own, by_checkpoint, by_request, by_early_request, by_enter, by_print, by_stop, by_mark, after_own}
+use Rattle.world_semantics.specs.Rules.{Change, by_own, by_checkpoint, by_request, by_early_request, by_enter, by_print}
+use Rattle.world_semantics.specs.Rules.{by_stop, by_mark, after_own}
 use Rattle.world_semantics.specs.Follows.{IsIdleFor}
 use Rattle.world_semantics.specs.Records.{records_of}
 use Rattle.world_semantics.specs.Running.{Done, Own, Stepped, first_step, own_at, run_done, run_pair, step_of_copy}
@@ -33,39 +37,55 @@ either-not : (a b : Bool) → (a || b) ≡ false → b ≡ false
 either-not true b e = absurd (cc)
 either-not false b e = e
 
-passed-may : (site : Site) (number : ℕ) (k : Which) (pair : Pair) (w : World) → slice_get w.processes number ≡ Some pair → (copy_of k pair).role ≡ Acting
+passed-may : (site : Site) (number : ℕ) (k : Which) (pair : Pair) (w : World)
+    → slice_get w.processes number ≡ Some pair → (copy_of k pair).role ≡ Acting
     → process.point (copy_of k pair).core.state ≡ point.AtCheckpoint → may_pass w.marks k pair ≡ true
-    → (again : Bool) → nat_lt (copy_of k pair).position (own_acts number w.kept) ≡ again → MayRun site number w (passed_done number k pair w again)
-passed-may site number k pair w there role p m true e = by_checkpoint number pair there (by_pass_again k role p m (ltb-true _ _ e))
-passed-may site number k pair w there role p m false e = by_checkpoint number pair there (by_pass k role p m (ltb-false _ _ e))
+    → (again : Bool) → nat_lt (copy_of k pair).position (own_acts number w.kept) ≡ again
+    → MayRun site number w (passed_done number k pair w again)
+passed-may site number k pair w there role p m true e =
+    by_checkpoint number pair there (by_pass_again k role p m (ltb-true _ _ e))
+passed-may site number k pair w there role p m false e =
+    by_checkpoint number pair there (by_pass k role p m (ltb-false _ _ e))
 
-mark-may : (site : Site) (number : ℕ) (k : Which) (pair : Pair) (w : World) → slice_get w.processes number ≡ Some pair → (copy_of k pair).role ≡ Acting
-    → process.point (copy_of k pair).core.state ≡ point.AtCheckpoint → (free sent : Bool) → may_pass w.marks k pair ≡ free → (copy_of k pair).sent ≡ sent
+mark-may : (site : Site) (number : ℕ) (k : Which) (pair : Pair) (w : World) → slice_get w.processes number ≡ Some pair
+    → (copy_of k pair).role ≡ Acting
+    → process.point (copy_of k pair).core.state ≡ point.AtCheckpoint → (free sent : Bool)
+    → may_pass w.marks k pair ≡ free → (copy_of k pair).sent ≡ sent
     → (done : Done) → mark_done number k pair w free sent ≡ Some done → MayRun site number w done
 mark-may site number k pair w there role p true sent m s done e =
-    subst (MayRun site number w) (some-same e) (passed-may site number k pair w there role p m (nat_lt (copy_of k pair).position (own_acts number w.kept)) refl)
+    subst (MayRun site number w) (some-same e)
+    (passed-may site number k pair w there role p m (nat_lt (copy_of k pair).position (own_acts number w.kept))
+    refl)
 mark-may site number k pair w there role p false true m s done e = absurd (cc)
 mark-may site number k pair w there role p false false m s done e =
-    subst (MayRun site number w) (some-same e) (by_checkpoint number pair there (by_send k role p s (either-not (copy_of k pair).acknowledged _ m)))
+    subst (MayRun site number w) (some-same e)
+    (by_checkpoint number pair there (by_send k role p s (either-not (copy_of k pair).acknowledged _ m)))
 
-own-may : (site : Site) (number : ℕ) (k : Which) (pair : Pair) (w : World) → slice_get w.processes number ≡ Some pair → (copy_of k pair).role ≡ Acting
+own-may : (site : Site) (number : ℕ) (k : Which) (pair : Pair) (w : World) → slice_get w.processes number ≡ Some pair
+    → (copy_of k pair).role ≡ Acting
     → (p : Point) → process.point (copy_of k pair).core.state ≡ p → (o : Option Own)
-    → own_at site number (copy_of k pair).core (around (copy_of k pair) pair w) p ≡ o → (done : Done) → own_made number k pair w o ≡ Some done
+    → own_at site number (copy_of k pair).core (around (copy_of k pair) pair w) p ≡ o → (done : Done)
+    → own_made number k pair w o ≡ Some done
     → MayRun site number w done
 own-may site number k pair w there role p stands None a done e = absurd (cc)
 own-may site number k pair w there role p stands (Some o) a done e =
-    let can = own-can site number (copy_of k pair).processor (copy_of k pair).core (around (copy_of k pair) pair w) o p stands a in
+    let can = own-can site number (copy_of k pair).processor (copy_of k pair).core (around (copy_of k pair) pair w) o p
+    stands a in
     subst (MayRun site number w) (some-same e)
     (by_own number k pair there role can.causes can.advances (enters-as number o.done w.kept (copy_of k pair)))
 
-at-may : (site : Site) (number : ℕ) (k : Which) (pair : Pair) (w : World) → slice_get w.processes number ≡ Some pair → (copy_of k pair).role ≡ Acting
-    → (p : Point) → process.point (copy_of k pair).core.state ≡ p → (done : Done) → run_at site number k pair w p ≡ Some done → MayRun site number w done
+at-may : (site : Site) (number : ℕ) (k : Which) (pair : Pair) (w : World) → slice_get w.processes number ≡ Some pair
+    → (copy_of k pair).role ≡ Acting
+    → (p : Point) → process.point (copy_of k pair).core.state ≡ p → (done : Done)
+    → run_at site number k pair w p ≡ Some done → MayRun site number w done
 at-may site number k pair w there role point.AtCheckpoint stands done e =
     mark-may site number k pair w there role stands (may_pass w.marks k pair) (copy_of k pair).sent refl refl done e
 at-may site number k pair w there role p stands done e = own-may site number k pair w there role p stands _ refl done e
 
-as-may : (site : Site) (number : ℕ) (k : Which) (pair : Pair) (w : World) → slice_get w.processes number ≡ Some pair → (role : Role)
-    → (copy_of k pair).role ≡ role → (done : Done) → run_as site number k pair w role ≡ Some done → MayRun site number w done
+as-may : (site : Site) (number : ℕ) (k : Which) (pair : Pair) (w : World) → slice_get w.processes number ≡ Some pair
+    → (role : Role)
+    → (copy_of k pair).role ≡ role → (done : Done) → run_as site number k pair w role ≡ Some done
+    → MayRun site number w done
 as-may site number k pair w there Acting role done e = at-may site number k pair w there role _ refl done e
 as-may site number k pair w there Watching role done e = absurd (cc)
 as-may site number k pair w there Gone role done e = absurd (cc)
@@ -77,14 +97,18 @@ two-may : (site : Site) (number : ℕ) (w : World) (first second : Option Steppe
 two-may site number w None second done a b e = b done e
 two-may site number w (Some one) second done a b e = a done e
 
-pair-may : (site : Site) (number : ℕ) (w : World) (pair : Option Pair) → slice_get w.processes number ≡ pair → (done : Done)
+pair-may : (site : Site) (number : ℕ) (w : World) (pair : Option Pair) → slice_get w.processes number ≡ pair
+    → (done : Done)
     → run_pair site number w pair ≡ Some done → MayRun site number w done
 pair-may site number w None there done e = absurd (cc)
 pair-may site number w (Some pair) there done e =
-    two-may site number w (step_of_copy site number pair w.marks (records_of w) First) (step_of_copy site number pair w.marks (records_of w) Second) done
-    (λ one. as-may site number First pair w there pair.first.role refl one) (λ one. as-may site number Second pair w there pair.second.role refl one) e
+    two-may site number w (step_of_copy site number pair w.marks (records_of w) First)
+    (step_of_copy site number pair w.marks (records_of w) Second) done
+    (λ one. as-may site number First pair w there pair.first.role refl one)
+    (λ one. as-may site number Second pair w there pair.second.role refl one) e
 
-pub run-may : (site : Site) (number : ℕ) (w : World) (done : Done) → run_done site number w ≡ Some done → Change site w (Running number) done.sendings done.world
+pub run-may : (site : Site) (number : ℕ) (w : World) (done : Done) → run_done site number w ≡ Some done
+    → Change site w (Running number) done.sendings done.world
 run-may site number w done e = pair-may site number w (slice_get w.processes number) refl done e
 
 -- No other change is permitted
@@ -99,11 +123,13 @@ record Ran (site : Site) (number : ℕ) (w : World) (done : Done) : Type 0 where
   pub k : Which
   pub there : slice_get w.processes number ≡ Some pair
   pub role : (copy_of k pair).role ≡ Acting
-  pub exact : IsSettled (copy_of k pair) → run_at site number k pair w (process.point (copy_of k pair).core.state) ≡ Some done
+  pub exact : IsSettled (copy_of k pair) → run_at site number k pair w (process.point (copy_of k pair).core.state)
+      ≡ Some done
   pub some : run_at site number k pair w (process.point (copy_of k pair).core.state) ≡ None → ⊥
 
 own-run : (site : Site) (number : ℕ) (k : Which) (pair : Pair) (w : World) (p : Point) (o : Own)
-    → own_at site number (copy_of k pair).core (around (copy_of k pair) pair w) p ≡ Some o → run_at site number k pair w p ≡ Some (own_done number k pair w o)
+    → own_at site number (copy_of k pair).core (around (copy_of k pair) pair w) p ≡ Some o
+    → run_at site number k pair w p ≡ Some (own_done number k pair w o)
 own-run site number k pair w point.AtCheckpoint o e = absurd (cc)
 own-run site number k pair w p o e = ap (own_made number k pair w) e
 
@@ -111,16 +137,22 @@ not-none : {A : Type 0} {o : Option A} {x : A} → o ≡ Some x → o ≡ None �
 not-none e n = cc
 
 free-or : (marks : List Down) (k : Which) (pair : Pair) → IsSettled (copy_of k pair) → (copy_of k pair).sent ≡ false
-    → has_noted marks (copy_of k pair).processor (copy_of (other_of k) pair).processor ≡ false → may_pass marks k pair ≡ false
+    → has_noted marks (copy_of k pair).processor (copy_of (other_of k) pair).processor ≡ false
+    → may_pass marks k pair ≡ false
 free-or marks k pair settled s m = rw (settled s, m) refl
 
-mark-some : (number : ℕ) (k : Which) (pair : Pair) (w : World) (free : Bool) → mark_done number k pair w free false ≡ None → ⊥
+mark-some : (number : ℕ) (k : Which) (pair : Pair) (w : World) (free : Bool)
+    → mark_done number k pair w free false ≡ None → ⊥
 mark-some number k pair w true e = cc
 mark-some number k pair w false e = cc
 
-pass-ran : (site : Site) (number : ℕ) (w : World) (pair : Pair) → slice_get w.processes number ≡ Some pair → {cause : Cause} {sendings : List Sending} {next : Pair}
+pass-ran : (site : Site) (number : ℕ) (w : World) (pair : Pair) → slice_get w.processes number ≡ Some pair
+    → {cause : Cause} {sendings : List Sending} {next : Pair}
     {kept : List Act} → cause ≡ Running number → Passes number w.marks w.kept pair cause sendings next kept
-    → Ran site number w (record { world = record w { processes = slice_set w.processes number next; kept = kept }; sendings = sendings })
+    → Ran site number w (record {
+      world = record w { processes = slice_set w.processes number next; kept = kept };
+      sendings = sendings;
+    })
 pass-ran site number w pair there r (by_send k role p s m) = record {
   pair = pair;
   k = k;
@@ -132,20 +164,28 @@ pass-ran site number w pair there r (by_send k role p s m) = record {
   some = rw (p, s) (mark-some number k pair w (may_pass w.marks k pair));
 }
 pass-ran site number w pair there r (by_pass_again k role p m l) =
-    let e : run_at site number k pair w (process.point (copy_of k pair).core.state) ≡ Some (passed_done number k pair w true) = rw (p, m, lt-ltb _ _ l) refl in
+    let e : run_at site number k pair w (process.point (copy_of k pair).core.state)
+    ≡ Some (passed_done number k pair w true) = rw (p, m, lt-ltb _ _ l) refl in
     record { pair = pair; k = k; there = there; role = role; exact = λ _. e; some = not-none e }
 pass-ran site number w pair there r (by_pass k role p m l) =
-    let e : run_at site number k pair w (process.point (copy_of k pair).core.state) ≡ Some (passed_done number k pair w false) = rw (p, m, le-ltb _ _ l) refl in
+    let e : run_at site number k pair w (process.point (copy_of k pair).core.state)
+    ≡ Some (passed_done number k pair w false) = rw (p, m, le-ltb _ _ l) refl in
     record { pair = pair; k = k; there = there; role = role; exact = λ _. e; some = not-none e }
 pass-ran site number w pair there r (by_apply k message applied role i e n a) = absurd (cc)
 pass-ran site number w pair there r (by_acknowledge k taken role s i e n) = absurd (cc)
 
-own-ran : (site : Site) (number : ℕ) (k : Which) (pair : Pair) (w : World) → slice_get w.processes number ≡ Some pair → (copy_of k pair).role ≡ Acting
+own-ran : (site : Site) (number : ℕ) (k : Which) (pair : Pair) (w : World) → slice_get w.processes number ≡ Some pair
+    → (copy_of k pair).role ≡ Acting
     → (done : Act) (messages : List Message) (after : Around) (core : Core) (next : Copy) (kept : List Act)
-    → own_at site number (copy_of k pair).core (around (copy_of k pair) pair w) (process.point (copy_of k pair).core.state)
+    → own_at site number (copy_of k pair).core (around (copy_of k pair) pair w)
+    (process.point (copy_of k pair).core.state)
     ≡ Some (record { done = done; messages = messages; after = after; core = core })
-    → (after_entering number done w.kept (copy_of k pair) ≡ next) × ((share_after_act number done w.kept (share_of (copy_of k pair))).kept ≡ kept)
-    → Ran site number w (record { world = after_own number k pair core next after kept w; sendings = sent_at (copy_of k pair).processor messages })
+    → (after_entering number done w.kept (copy_of k pair) ≡ next)
+    × ((share_after_act number done w.kept (share_of (copy_of k pair))).kept ≡ kept)
+    → Ran site number w (record {
+      world = after_own number k pair core next after kept w;
+      sendings = sent_at (copy_of k pair).processor messages;
+    })
 own-ran site number k pair w there role done messages after core next kept e s =
     let run = own-run site number k pair w (process.point (copy_of k pair).core.state) _ e in
     record {
@@ -160,7 +200,8 @@ own-ran site number k pair w there role done messages after core next kept e s =
 same-number : {one other : ℕ} → Running one ≡ Running other → one ≡ other
 same-number e = cc
 
-own-number : {site : Site} {number one node : ℕ} {core : Core} {before after : Around} {cause : Cause} {deed : Deed} {done : Act} {messages : List Message}
+own-number : {site : Site} {number one node : ℕ} {core : Core} {before after : Around} {cause : Cause} {deed : Deed}
+    {done : Act} {messages : List Message}
     → cause ≡ Running number → Causes site one node core before cause deed done messages after → one ≡ number
 own-number r by_inner = same-number r
 own-number r (by_take e) = same-number r
@@ -170,7 +211,8 @@ own-number r (by_device e) = same-number r
 own-number r (by_write e) = same-number r
 own-number r (by_reply i o m e) = absurd (cc)
 
-pass-number : {number one : ℕ} {marks : List Down} {kept after : List Act} {pair next : Pair} {cause : Cause} {sendings : List Sending}
+pass-number : {number one : ℕ} {marks : List Down} {kept after : List Act} {pair next : Pair} {cause : Cause}
+    {sendings : List Sending}
     → cause ≡ Running number → Passes one marks kept pair cause sendings next after → one ≡ number
 pass-number r (by_send k role p s m) = same-number r
 pass-number r (by_pass_again k role p m l) = same-number r
@@ -179,15 +221,25 @@ pass-number r (by_apply k message applied role i e n a) = absurd (cc)
 pass-number r (by_acknowledge k taken role s i e n) = absurd (cc)
 
 -- the change by which a process runs
-change-ran : {site : Site} (number : ℕ) (w next : World) (cause : Cause) (sendings : List Sending) → cause ≡ Running number
+change-ran : {site : Site} (number : ℕ) (w next : World) (cause : Cause) (sendings : List Sending)
+    → cause ≡ Running number
     → Change site w cause sendings next → Ran site number w (record { world = next; sendings = sendings })
-change-ran {site = site} number w next cause sendings r (by_own {done = done} {messages = messages} {after = after} {core = core} {entered = copy} {kept = kept} one k pair there role c a e) =
+change-ran {site = site} number w next cause sendings r
+    (by_own {done = done} {messages = messages} {after = after} {core = core} {entered = copy} {kept = kept} one k pair
+    there role c a e) =
     let same = own-number r c in
-    subst (λ n. Ran site n w (record { world = after_own one k pair core copy after kept w; sendings = sent_at (copy_of k pair).processor messages })) same
-    (own-ran site one k pair w there role done messages after core copy kept (own-only (r ∙ ap Running (sym same)) c a) (enters-only e))
+    subst (λ n. Ran site n w (record {
+      world = after_own one k pair core copy after kept w;
+      sendings = sent_at (copy_of k pair).processor messages;
+    })) same
+    (own-ran site one k pair w there role done messages after core copy kept (own-only (r ∙ ap Running (sym same)) c a)
+    (enters-only e))
 change-ran {site = site} number w next cause sendings r (by_checkpoint {next = pair'} {kept = kept} one pair there p) =
     let same = pass-number r p in
-    subst (λ n. Ran site n w (record { world = record w { processes = slice_set w.processes one pair'; kept = kept }; sendings = sendings })) same
+    subst (λ n. Ran site n w (record {
+      world = record w { processes = slice_set w.processes one pair'; kept = kept };
+      sendings = sendings;
+    })) same
     (pass-ran site one w pair there (r ∙ ap Running (sym same)) p)
 change-ran number w next cause sendings r (by_request request k pair i there role) = absurd (cc)
 change-ran number w next cause sendings r (by_early_request request k pair i there role) = absurd (cc)
@@ -196,26 +248,31 @@ change-ran number w next cause sendings r (by_print one terminal reply t e i o n
 change-ran number w next cause sendings r (by_stop x s) = absurd (cc)
 change-ran number w next cause sendings r (by_mark node x s run n) = absurd (cc)
 
-none-of-two : (number : ℕ) (w : World) (first second : Option Stepped) → lifted number w (first_step first second) ≡ None
+none-of-two : (number : ℕ) (w : World) (first second : Option Stepped)
+    → lifted number w (first_step first second) ≡ None
     → (lifted number w first ≡ None) × (lifted number w second ≡ None)
 none-of-two number w None second e = (refl, e)
 none-of-two number w (Some one) second e = absurd (cc)
 
-copy-none : (site : Site) (number : ℕ) (pair : Pair) (w : World) (k : Which) → (run_copy site number pair w First ≡ None) × (run_copy site number pair w Second ≡ None)
+copy-none : (site : Site) (number : ℕ) (pair : Pair) (w : World) (k : Which)
+    → (run_copy site number pair w First ≡ None) × (run_copy site number pair w Second ≡ None)
     → run_copy site number pair w k ≡ None
 copy-none site number pair w First n = n.0
 copy-none site number pair w Second n = n.1
 
 -- where nothing is computed, nothing is permitted
-pub run-idle : (site : Site) (number : ℕ) (w : World) → run_done site number w ≡ None → IsIdleFor site w (Running number)
+pub run-idle : (site : Site) (number : ℕ) (w : World) → run_done site number w ≡ None
+    → IsIdleFor site w (Running number)
 run-idle site number w none sendings next c =
     let ran = change-ran number w next (Running number) sendings refl c in
     let two : run_pair site number w (Some ran.pair) ≡ None = ap (run_pair site number w) (sym ran.there) ∙ none in
     let copy = copy-none site number ran.pair w ran.k
-    (none-of-two number w (step_of_copy site number ran.pair w.marks (records_of w) First) (step_of_copy site number ran.pair w.marks (records_of w) Second) two) in
+    (none-of-two number w (step_of_copy site number ran.pair w.marks (records_of w) First)
+    (step_of_copy site number ran.pair w.marks (records_of w) Second) two) in
     ran.some (ap (run_as site number ran.k ran.pair w) (sym ran.role) ∙ copy)
 
-not-acting : (site : Site) (number : ℕ) (k : Which) (pair : Pair) (w : World) (role : Role) → (role ≡ Acting → ⊥) → run_as site number k pair w role ≡ None
+not-acting : (site : Site) (number : ℕ) (k : Which) (pair : Pair) (w : World) (role : Role) → (role ≡ Acting → ⊥)
+    → run_as site number k pair w role ≡ None
 not-acting site number k pair w Acting n = absurd (n refl)
 not-acting site number k pair w Watching n = refl
 not-acting site number k pair w Gone n = refl
@@ -225,23 +282,30 @@ first-made : (number : ℕ) (w : World) (first second : Option Stepped) (done : 
 first-made number w None second done e = absurd (cc)
 first-made number w (Some one) second done e = e
 
-second-made : (number : ℕ) (w : World) (first second : Option Stepped) (done : Done) → lifted number w first ≡ None → lifted number w second ≡ Some done
+second-made : (number : ℕ) (w : World) (first second : Option Stepped) (done : Done) → lifted number w first ≡ None
+    → lifted number w second ≡ Some done
     → lifted number w (first_step first second) ≡ Some done
 second-made number w None second done n e = e
 second-made number w (Some one) second done n e = absurd (cc)
 
-pair-only : (site : Site) (number : ℕ) (pair : Pair) (w : World) (done : Done) (k : Which) → (pair.first.role ≡ Acting → pair.second.role ≡ Acting → ⊥)
-    → (copy_of k pair).role ≡ Acting → run_copy site number pair w k ≡ Some done → run_pair site number w (Some pair) ≡ Some done
+pair-only : (site : Site) (number : ℕ) (pair : Pair) (w : World) (done : Done) (k : Which)
+    → (pair.first.role ≡ Acting → pair.second.role ≡ Acting → ⊥)
+    → (copy_of k pair).role ≡ Acting → run_copy site number pair w k ≡ Some done
+    → run_pair site number w (Some pair) ≡ Some done
 pair-only site number pair w done First alone role e =
-    first-made number w (step_of_copy site number pair w.marks (records_of w) First) (step_of_copy site number pair w.marks (records_of w) Second) done e
+    first-made number w (step_of_copy site number pair w.marks (records_of w) First)
+    (step_of_copy site number pair w.marks (records_of w) Second) done e
 pair-only site number pair w done Second alone role e =
-    second-made number w (step_of_copy site number pair w.marks (records_of w) First) (step_of_copy site number pair w.marks (records_of w) Second) done
+    second-made number w (step_of_copy site number pair w.marks (records_of w) First)
+    (step_of_copy site number pair w.marks (records_of w) Second) done
     (not-acting site number First pair w pair.first.role (λ a. alone a role)) e
 
 -- where at most one copy acts, and none is acknowledged that hasn't sent, the computed change alone is permitted
 pub run-only : (site : Site) (number : ℕ) (w next : World) (sendings : List Sending)
-    → ((pair : Pair) → slice_get w.processes number ≡ Some pair → (pair.first.role ≡ Acting → pair.second.role ≡ Acting → ⊥) × ((k : Which) → IsSettled (copy_of k pair)))
-    → Change site w (Running number) sendings next → run_done site number w ≡ Some (record { world = next; sendings = sendings })
+    → ((pair : Pair) → slice_get w.processes number ≡ Some pair
+    → (pair.first.role ≡ Acting → pair.second.role ≡ Acting → ⊥) × ((k : Which) → IsSettled (copy_of k pair)))
+    → Change site w (Running number) sendings next
+    → run_done site number w ≡ Some (record { world = next; sendings = sendings })
 run-only site number w next sendings ok c =
     let ran = change-ran number w next (Running number) sendings refl c in
     let known = ok ran.pair ran.there in

@@ -25,23 +25,32 @@ run-bounds {site = site} run = holds-on AllBounds change-bounds run (bounds-begi
 pub leads-grow : {site : Site} {events : List Event} {w end : World} → Leads site w events end → Grows w end
 leads-grow {site = site} l = leads-keep (growth site) l
 
-pub gone-is : (stopped : _) (pair : Pair) → RolesOf stopped pair → (k : Which) → ((copy_of k pair).role ≡ Gone ↔ slice_get stopped (copy_of k pair).processor ≡ Some true)
+pub gone-is : (stopped : _) (pair : Pair) → RolesOf stopped pair → (k : Which)
+    → ((copy_of k pair).role ≡ Gone ↔ slice_get stopped (copy_of k pair).processor ≡ Some true)
 gone-is stopped pair ok First = (ok.first_lost, ok.first_gone)
 gone-is stopped pair ok Second = (ok.second_lost, ok.second_gone)
 
-pub one-acts : (stopped : _) (pair : Pair) → RolesOf stopped pair → pair.first.role ≡ Acting → pair.second.role ≡ Acting → ⊥
+pub one-acts : (stopped : _) (pair : Pair) → RolesOf stopped pair → pair.first.role ≡ Acting
+    → pair.second.role ≡ Acting → ⊥
 one-acts stopped pair ok one two = let g = ok.first_gone (ok.second_alone two) in cc
 
-pub pair-later : {site : Site} {events : List Event} {w end : World} → Leads site w events end → (number : ℕ) (before after : Pair)
-    → slice_get w.processes number ≡ Some before → slice_get end.processes number ≡ Some after → IsLaterPair before after
+pub pair-later : {site : Site} {events : List Event} {w end : World} → Leads site w events end
+    → (number : ℕ) (before after : Pair)
+    → slice_get w.processes number ≡ Some before → slice_get end.processes number ≡ Some after
+    → IsLaterPair before after
 pair-later {site = site} l number before after there then =
-    let a = leads-keep (pairs-go-on site) l number before there in subst (IsLaterPair before) (some-same (sym a.1 ∙ then)) a.2
+    let a = leads-keep (pairs-go-on site) l number before there in
+    subst (IsLaterPair before) (some-same (sym a.1 ∙ then)) a.2
 
-pub copy-later : (k : Which) (before after : Pair) → IsLaterPair before after → IsLater (copy_of k before) (copy_of k after)
+pub copy-later : (k : Which) (before after : Pair) → IsLaterPair before after
+    → IsLater (copy_of k before) (copy_of k after)
 copy-later First before after l = l.first
 copy-later Second before after l = l.second
 
-pub terminal-later : {site : Site} {events : List Event} {w end : World} → Leads site w events end → (number : ℕ) (before after : Terminal)
-    → slice_get w.terminals number ≡ Some before → slice_get end.terminals number ≡ Some after → IsLaterTerminal before after
+pub terminal-later : {site : Site} {events : List Event} {w end : World} → Leads site w events end
+    → (number : ℕ) (before after : Terminal)
+    → slice_get w.terminals number ≡ Some before → slice_get end.terminals number ≡ Some after
+    → IsLaterTerminal before after
 terminal-later {site = site} l number before after there then =
-    let a = leads-keep (terminals-go-on site) l number before there in subst (IsLaterTerminal before) (some-same (sym a.1 ∙ then)) a.2
+    let a = leads-keep (terminals-go-on site) l number before there in
+    subst (IsLaterTerminal before) (some-same (sym a.1 ∙ then)) a.2

@@ -1,5 +1,6 @@
 -- Which copies act: those whose processor hasn't stopped, and of one process at most one.
-use Rattle.std.proofs.Common.{◌≡◌, ◌⊎◌, inl, inr, ℕ, zero, suc, ◌==◌, ◌&&◌, Bool, true, false, if◌then◌else◌, List, [], ◌∷◌, replicate, Option, Some, None, slice_get, slice_set, refl, sym, ap, ◌∙◌}
+use Rattle.std.proofs.Common.{◌≡◌, ◌⊎◌, inl, inr, ℕ, zero, suc, ◌==◌, ◌&&◌, Bool, true, false, if◌then◌else◌, List, []}
+use Rattle.std.proofs.Common.{◌∷◌, replicate, Option, Some, None, slice_get, slice_set, refl, sym, ap, ◌∙◌}
 use Rattle.std.proofs.lemmas.Bool.{eq-eqb, eqb-true}
 use Rattle.gd_words.specs.declared.message.Request.{Request}
 use Rattle.tal_tree.specs.declared.act.Act.{Act}
@@ -8,17 +9,20 @@ use Rattle.disc_device.specs.declared.stored.Stored.{Stored}
 use Rattle.world_semantics.specs.declared.role.Role.{Role}
 use Rattle.world_semantics.specs.declared.role.Role.TheVariants.{Acting, Watching, Gone}
 use Rattle.world_semantics.specs.Core.{Core}
-use Rattle.world_semantics.specs.World.{Copy, Pair, Down, World, Which, First, Second, copy_of, other_of, with_copy, boot, is_running, runs_by}
+use Rattle.world_semantics.specs.World.{Copy, Pair, Down, World, Which, First, Second, copy_of, other_of, with_copy}
+use Rattle.world_semantics.specs.World.{boot, is_running, runs_by}
 use Rattle.world_semantics.specs.Kept.{Enters, holds_on, repeats, begins, keeps}
 use Rattle.world_semantics.specs.Messages.{Sending, Cause}
 use Rattle.world_semantics.specs.Passes.{Passes, by_send, by_pass_again, by_pass, by_apply, by_acknowledge}
-use Rattle.world_semantics.specs.Rules.{Change, by_own, by_checkpoint, by_request, by_early_request, by_enter, by_print, by_stop, by_mark, stopped_pair, is_watching, takes_over, taker, pair_after_down, pair_at_down}
+use Rattle.world_semantics.specs.Rules.{Change, by_own, by_checkpoint, by_request, by_early_request, by_enter, by_print}
+use Rattle.world_semantics.specs.Rules.{by_stop, by_mark, stopped_pair, is_watching, takes_over, taker, pair_after_down}
+use Rattle.world_semantics.specs.Rules.{pair_at_down}
 use Rattle.world_semantics.proofs.Beginning.{all-begin}
 use Rattle.world_semantics.proofs.Lists.{some-same, set-all, map-all}
 use Rattle.world_semantics.proofs.Growing.{stop-stays}
 
--- the roles of two copies in two processors: a copy is gone exactly where its processor has stopped, the first copy doesn't watch, and the second acts only
--- where the first one's processor has stopped
+-- the roles of two copies in two processors: a copy is gone exactly where its processor has stopped, the first copy
+-- doesn't watch, and the second acts only where the first one's processor has stopped
 pub record Roles (stopped : List Bool) (one : ℕ) (first : Role) (two : ℕ) (second : Role) : Type 0 where
   pub first_gone : slice_get stopped one ≡ Some true → first ≡ Gone
   pub first_lost : first ≡ Gone → slice_get stopped one ≡ Some true
@@ -53,9 +57,12 @@ roles-begin site =
 
 -- Acts and checkpoints change no role
 
-own-roles : (stopped : List Bool) (k : Which) (pair : Pair) (core : Core) (waiting : List Request) (sectors : List Stored) {number : ℕ} {act : Act}
-    {kept after : List Act} {entered : Copy} → Enters number act kept (copy_of k pair) entered after → RolesOf stopped pair
-    → RolesOf stopped (with_copy k (record entered { core = core; waiting = waiting }) (record pair { sectors = sectors }))
+own-roles : (stopped : List Bool) (k : Which) (pair : Pair) (core : Core) (waiting : List Request)
+    (sectors : List Stored) {number : ℕ} {act : Act}
+    {kept after : List Act} {entered : Copy} → Enters number act kept (copy_of k pair) entered after
+    → RolesOf stopped pair
+    → RolesOf stopped (with_copy k (record entered { core = core; waiting = waiting })
+    (record pair { sectors = sectors }))
 own-roles stopped First pair core waiting sectors (holds_on e) ok = ok
 own-roles stopped First pair core waiting sectors (repeats e l) ok = ok
 own-roles stopped First pair core waiting sectors (begins e l t) ok = ok
@@ -65,7 +72,8 @@ own-roles stopped Second pair core waiting sectors (repeats e l) ok = ok
 own-roles stopped Second pair core waiting sectors (begins e l t) ok = ok
 own-roles stopped Second pair core waiting sectors (keeps e l t) ok = ok
 
-passes-roles : {number : ℕ} {marks : List Down} {kept after : List Act} {pair next : Pair} {cause : Cause} {sendings : List Sending} (stopped : List Bool)
+passes-roles : {number : ℕ} {marks : List Down} {kept after : List Act} {pair next : Pair} {cause : Cause}
+    {sendings : List Sending} (stopped : List Bool)
     → Passes number marks kept pair cause sendings next after → RolesOf stopped pair → RolesOf stopped next
 passes-roles stopped (by_send First r p s m) ok = ok
 passes-roles stopped (by_send Second r p s m) ok = ok
@@ -85,26 +93,32 @@ waiting-roles stopped Second pair waiting ok = ok
 
 -- Stops
 
-stop-there : (stopped : List Bool) (x : ℕ) → slice_get stopped x ≡ Some false → slice_get (slice_set stopped x true) x ≡ Some true
+stop-there : (stopped : List Bool) (x : ℕ) → slice_get stopped x ≡ Some false
+    → slice_get (slice_set stopped x true) x ≡ Some true
 stop-there [] x e = absurd (cc)
 stop-there (s ∷ stopped) zero e = refl
 stop-there (s ∷ stopped) (suc x) e = stop-there stopped x e
 
-stop-elsewhere : (stopped : List Bool) (x processor : ℕ) → (processor ≡ x → ⊥) → slice_get (slice_set stopped x true) processor ≡ Some true
+stop-elsewhere : (stopped : List Bool) (x processor : ℕ) → (processor ≡ x → ⊥)
+    → slice_get (slice_set stopped x true) processor ≡ Some true
     → slice_get stopped processor ≡ Some true
 stop-elsewhere [] x processor n e = e
 stop-elsewhere (s ∷ stopped) zero zero n e = absurd (n refl)
 stop-elsewhere (s ∷ stopped) zero (suc processor) n e = e
 stop-elsewhere (s ∷ stopped) (suc x) zero n e = e
-stop-elsewhere (s ∷ stopped) (suc x) (suc processor) n e = stop-elsewhere stopped x processor (λ same. n (ap suc same)) e
+stop-elsewhere (s ∷ stopped) (suc x) (suc processor) n e =
+    stop-elsewhere stopped x processor (λ same. n (ap suc same)) e
 
 -- a copy in a processor, and after one stops
 record Stood (stopped : List Bool) (x processor : ℕ) (role next : Role) : Type 0 where
-  pub gone : (slice_get stopped processor ≡ Some true → role ≡ Gone) → slice_get (slice_set stopped x true) processor ≡ Some true → next ≡ Gone
-  pub lost : (role ≡ Gone → slice_get stopped processor ≡ Some true) → next ≡ Gone → slice_get (slice_set stopped x true) processor ≡ Some true
+  pub gone : (slice_get stopped processor ≡ Some true → role ≡ Gone)
+      → slice_get (slice_set stopped x true) processor ≡ Some true → next ≡ Gone
+  pub lost : (role ≡ Gone → slice_get stopped processor ≡ Some true) → next ≡ Gone
+      → slice_get (slice_set stopped x true) processor ≡ Some true
   pub same : (next ≡ Gone) ⊎ (next ≡ role)
 
-stood : (stopped : List Bool) (x processor : ℕ) (role : Role) → slice_get stopped x ≡ Some false → (here : Bool) → (processor == x) ≡ here
+stood : (stopped : List Bool) (x processor : ℕ) (role : Role) → slice_get stopped x ≡ Some false → (here : Bool)
+    → (processor == x) ≡ here
     → Stood stopped x processor role (if here then Gone else role)
 stood stopped x processor role runs true e = record {
   gone = λ h s. refl;
@@ -156,22 +170,27 @@ pub both-true : (a b : Bool) → (a && b) ≡ true → (a ≡ true) × (b ≡ tr
 both-true true b e = (refl, e)
 both-true false b e = absurd (cc)
 
-pub takes-is : (node processor : ℕ) (k : Which) (pair : Pair) → takes_over node processor k pair ≡ true → Takes node processor k pair
+pub takes-is : (node processor : ℕ) (k : Which) (pair : Pair) → takes_over node processor k pair ≡ true
+    → Takes node processor k pair
 takes-is node processor k pair e =
     let last = both-true (is_watching (copy_of k pair).role && (copy_of k pair).processor == node) _ e in
     let first = both-true (is_watching (copy_of k pair).role) _ last.0 in
     record { watching = watching-is _ first.0; there = eqb-true _ _ first.1; lost = eqb-true _ _ last.1 }
 
-taker-by : (first second : Bool) (k : Which) → (if first then Some First else if second then Some Second else None) ≡ Some k
+taker-by : (first second : Bool) (k : Which)
+    → (if first then Some First else if second then Some Second else None) ≡ Some k
     → ((k ≡ First) × (first ≡ true)) ⊎ ((k ≡ Second) × (second ≡ true))
 taker-by true second k e = inl (sym (some-same e), refl)
 taker-by false true k e = inr (sym (some-same e), refl)
 taker-by false false k e = absurd (cc)
 
-pub taker-is : (node processor : ℕ) (pair : Pair) (k : Which) → taker node processor pair ≡ Some k → Takes node processor k pair
-taker-is node processor pair k e = of-cases (taker-by (takes_over node processor First pair) (takes_over node processor Second pair) k e)
+pub taker-is : (node processor : ℕ) (pair : Pair) (k : Which) → taker node processor pair ≡ Some k
+    → Takes node processor k pair
+taker-is node processor pair k e =
+    of-cases (taker-by (takes_over node processor First pair) (takes_over node processor Second pair) k e)
   where
-    of-cases : ((k ≡ First) × (takes_over node processor First pair ≡ true)) ⊎ ((k ≡ Second) × (takes_over node processor Second pair ≡ true))
+    of-cases : ((k ≡ First) × (takes_over node processor First pair ≡ true))
+        ⊎ ((k ≡ Second) × (takes_over node processor Second pair ≡ true))
         → Takes node processor k pair
     of-cases (inl (same, t)) = rw same (takes-is node processor First pair t)
     of-cases (inr (same, t)) = rw same (takes-is node processor Second pair t)
@@ -181,16 +200,20 @@ not-running node None r s = cc
 not-running node (Some true) r s = cc
 not-running node (Some false) r s = cc
 
-mark-roles : (stopped : List Bool) (node processor : ℕ) → slice_get stopped processor ≡ Some true → is_running stopped node ≡ true
-    → (pair : Pair) (k : Option Which) → taker node processor pair ≡ k → RolesOf stopped pair → RolesOf stopped (pair_after_down k pair)
+mark-roles : (stopped : List Bool) (node processor : ℕ) → slice_get stopped processor ≡ Some true
+    → is_running stopped node ≡ true
+    → (pair : Pair) (k : Option Which) → taker node processor pair ≡ k → RolesOf stopped pair
+    → RolesOf stopped (pair_after_down k pair)
 mark-roles stopped node processor s r pair None e ok = ok
-mark-roles stopped node processor s r pair (Some First) e ok = absurd (ok.first_leads (taker-is node processor pair First e).watching)
+mark-roles stopped node processor s r pair (Some First) e ok =
+    absurd (ok.first_leads (taker-is node processor pair First e).watching)
 mark-roles stopped node processor s r pair (Some Second) e ok =
     let t = taker-is node processor pair Second e in
     record {
       first_gone = ok.first_gone;
       first_lost = ok.first_lost;
-      second_gone = λ g. absurd (not-running node (slice_get stopped node) r (ap (slice_get stopped) (sym t.there) ∙ g));
+      second_gone =
+          λ g. absurd (not-running node (slice_get stopped node) r (ap (slice_get stopped) (sym t.there) ∙ g));
       second_lost = λ g. absurd (cc);
       first_leads = ok.first_leads;
       second_alone = λ a. ap (slice_get stopped) t.lost ∙ s;
@@ -198,19 +221,24 @@ mark-roles stopped node processor s r pair (Some Second) e ok =
 
 -- All changes
 
-pub change-roles : {site : Site} (w next : World) (cause : Cause) (sendings : List Sending) → Change site w cause sendings next → AllRoles w → AllRoles next
+pub change-roles : {site : Site} (w next : World) (cause : Cause) (sendings : List Sending)
+    → Change site w cause sendings next → AllRoles w → AllRoles next
 change-roles w next cause sendings (by_own number k pair there acts c a e) ok =
-    set-all (λ n p. RolesOf w.stopped p) w.processes number _ ok (own-roles w.stopped k pair _ _ _ e (ok number pair there))
+    set-all (λ n p. RolesOf w.stopped p) w.processes number _ ok
+    (own-roles w.stopped k pair _ _ _ e (ok number pair there))
 change-roles w next cause sendings (by_checkpoint number pair there p) ok =
     set-all (λ n p. RolesOf w.stopped p) w.processes number _ ok (passes-roles w.stopped p (ok number pair there))
 change-roles w next cause sendings (by_request request k pair i there r) ok =
-    set-all (λ n p. RolesOf w.stopped p) w.processes request.process _ ok (waiting-roles w.stopped k pair _ (ok request.process pair there))
+    set-all (λ n p. RolesOf w.stopped p) w.processes request.process _ ok
+    (waiting-roles w.stopped k pair _ (ok request.process pair there))
 change-roles w next cause sendings (by_early_request request k pair i there r) ok =
-    set-all (λ n p. RolesOf w.stopped p) w.processes request.process _ ok (waiting-roles w.stopped k pair _ (ok request.process pair there))
+    set-all (λ n p. RolesOf w.stopped p) w.processes request.process _ ok
+    (waiting-roles w.stopped k pair _ (ok request.process pair there))
 change-roles w next cause sendings (by_enter number terminal opener t e r o) ok = ok
 change-roles w next cause sendings (by_print number terminal reply t e i o n) ok = ok
 change-roles w next cause sendings (by_stop x r) ok =
-    map-all (λ n p. RolesOf (slice_set w.stopped x true) p) (stopped_pair x) w.processes (λ n p there. stop-roles w.stopped x r p (ok n p there))
+    map-all (λ n p. RolesOf (slice_set w.stopped x true) p) (stopped_pair x) w.processes
+    (λ n p there. stop-roles w.stopped x r p (ok n p there))
 change-roles w next cause sendings (by_mark node x s r n) ok =
     map-all (λ n p. RolesOf w.stopped p) (pair_at_down node x) w.processes
     (λ n p there. mark-roles w.stopped node x s r p (taker node x p) refl (ok n p there))

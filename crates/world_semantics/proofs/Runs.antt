@@ -5,7 +5,9 @@ use Rattle.schedule.specs.declared.event.Event.{Event}
 use Rattle.world_semantics.specs.World.{World}
 use Rattle.world_semantics.specs.Messages.{Sending, Cause}
 use Rattle.world_semantics.specs.Rules.{Change}
-use Rattle.world_semantics.specs.Follows.{NotesDowns, marks_none, marks_one, Follows, runs, cannot_run, enters, cannot_enter, delivers_none, delivers, delivers_mark, loses, doubles, ticks_none, ticks, ticks_stop, fails, cannot_fail, Leads, stays, goes_on}
+use Rattle.world_semantics.specs.Follows.{NotesDowns, marks_none, marks_one, Follows, runs, cannot_run, enters}
+use Rattle.world_semantics.specs.Follows.{cannot_enter, delivers_none, delivers, delivers_mark, loses, doubles}
+use Rattle.world_semantics.specs.Follows.{ticks_none, ticks, ticks_stop, fails, cannot_fail, Leads, stays, goes_on}
 
 -- a relation between worlds that holds of a world and itself, goes from one to the next, and holds of each change
 pub record IsKept (site : Site) (R : World → World → Type 0) : Type 0 where
@@ -13,11 +15,14 @@ pub record IsKept (site : Site) (R : World → World → Type 0) : Type 0 where
   pub both : (u v w : World) → R u v → R v w → R u w
   pub change : (w next : World) (cause : Cause) (sendings : List Sending) → Change site w cause sendings next → R w next
 
-marks-keep : {site : Site} {R : World → World → Type 0} → IsKept site R → {node : _} {w end : World} {sendings : List Sending} → NotesDowns site node w sendings end → R w end
+marks-keep : {site : Site} {R : World → World → Type 0} → IsKept site R
+    → {node : _} {w end : World} {sendings : List Sending} → NotesDowns site node w sendings end → R w end
 marks-keep k (marks_none {w = w}) = k.same w
-marks-keep k (marks_one {w = w} {next = next} {end = end} processor c m) = k.both w next end (k.change w next _ _ c) (marks-keep k m)
+marks-keep k (marks_one {w = w} {next = next} {end = end} processor c m) =
+    k.both w next end (k.change w next _ _ c) (marks-keep k m)
 
-pub follows-keeps : {site : Site} {R : World → World → Type 0} → IsKept site R → {w next : World} {event : Event} {sendings : List Sending}
+pub follows-keeps : {site : Site} {R : World → World → Type 0} → IsKept site R
+    → {w next : World} {event : Event} {sendings : List Sending}
     → Follows site w event sendings next → R w next
 follows-keeps k {w = w} {next = next} (runs c) = k.change w next _ _ c
 follows-keeps k {w = w} (cannot_run n) = k.same w
@@ -30,16 +35,19 @@ follows-keeps k {w = w} loses = k.same w
 follows-keeps k {w = w} doubles = k.same w
 follows-keeps k {w = w} ticks_none = k.same w
 follows-keeps k (ticks r m) = marks-keep k m
-follows-keeps k {w = w} {next = next} (ticks_stop {between = between} processor r d c m) = k.both w between next (k.change w between _ _ c) (marks-keep k m)
+follows-keeps k {w = w} {next = next} (ticks_stop {between = between} processor r d c m) =
+    k.both w between next (k.change w between _ _ c) (marks-keep k m)
 follows-keeps k {w = w} {next = next} (fails c) = k.change w next _ _ c
 follows-keeps k {w = w} (cannot_fail n) = k.same w
 
-pub leads-keep : {site : Site} {R : World → World → Type 0} → IsKept site R → {w end : World} {events : List Event} → Leads site w events end → R w end
+pub leads-keep : {site : Site} {R : World → World → Type 0} → IsKept site R → {w end : World} {events : List Event}
+    → Leads site w events end → R w end
 leads-keep k (stays {w = w}) = k.same w
 leads-keep k (goes_on {w = w} {next = next} {end = end} f l) = k.both w next end (follows-keeps k f) (leads-keep k l)
 
 -- a property of worlds that each change keeps
-pub holds-on : {site : Site} (P : World → Type 0) → ((w next : World) (cause : Cause) (sendings : List Sending) → Change site w cause sendings next → P w → P next)
+pub holds-on : {site : Site} (P : World → Type 0)
+    → ((w next : World) (cause : Cause) (sendings : List Sending) → Change site w cause sendings next → P w → P next)
     → {w end : World} {events : List Event} → Leads site w events end → P w → P end
 holds-on P keeps l = leads-keep (record {
   same = λ w p. p;

@@ -10,10 +10,12 @@ use Rattle.process_semantics.specs.declared.point.Point.TheVariants as point
 use Rattle.process_semantics.specs.Process as process
 use Rattle.checkpoint_image.specs.declared.message.ImageMessage.{ImageMessage}
 use Rattle.world_semantics.specs.declared.role.Role.TheVariants.{Acting, Watching}
-use Rattle.world_semantics.specs.Core.{Core, Deed, Checkpointed, Advances, goes, marks, takes, asks, gets, answers, acts}
+use Rattle.world_semantics.specs.Core.{Core, Deed, Checkpointed, Advances, goes, marks, takes, asks, gets, answers}
+use Rattle.world_semantics.specs.Core.{acts}
 use Rattle.world_semantics.specs.World.{Copy, Pair, World, Which, First, Second, copy_of, pair_at_boot, boot}
 use Rattle.world_semantics.specs.Messages.{Message, Sending, Cause}
-use Rattle.world_semantics.specs.Own.{Around, Causes, by_inner, by_take, by_ask, by_answer, by_device, by_write, by_reply}
+use Rattle.world_semantics.specs.Own.{Around, Causes, by_inner, by_take, by_ask, by_answer, by_device, by_write}
+use Rattle.world_semantics.specs.Own.{by_reply}
 use Rattle.world_semantics.specs.Rules.{Change}
 use Rattle.world_semantics.specs.Follows.{IsRun}
 use Rattle.world_semantics.specs.Laws.{HasGrown, last_checkpoint}
@@ -27,17 +29,20 @@ use Rattle.world_semantics.proofs.Becoming.{Becomes, entered-same, was-role, cha
 
 -- what a copy that has sent has, where these are the checkpoints that were sent
 abbrev IsAtMark : ℕ → List ImageMessage → Copy → Type 0
-IsAtMark number sent copy = (process.point copy.core.state ≡ point.AtCheckpoint) × IsAmong (last_checkpoint number copy) sent
+IsAtMark number sent copy =
+    (process.point copy.core.state ≡ point.AtCheckpoint) × IsAmong (last_checkpoint number copy) sent
 
 pub record HasSent (number : ℕ) (sent : List ImageMessage) (copy : Copy) : Type 0 where
   pub watching : copy.role ≡ Watching → copy.sent ≡ false
   pub acting : copy.role ≡ Acting → copy.sent ≡ true → IsAtMark number sent copy
 
-among-more : {before after : List ImageMessage} (message : ImageMessage) → HasGrown before after → IsAmong message before → IsAmong message after
+among-more : {before after : List ImageMessage} (message : ImageMessage) → HasGrown before after
+    → IsAmong message before → IsAmong message after
 among-more {before = before} message g i = subst (IsAmong message) (sym g.1) (among-right message g.0 before i)
 
 -- only the step at the checkpoint is done at a checkpoint
-mark-deed : {openers : List OpenerSpec} {core next : Core} {deed : Deed} → Advances openers core deed next → process.point core.state ≡ point.AtCheckpoint → deed ≡ Checkpointed
+mark-deed : {openers : List OpenerSpec} {core next : Core} {deed : Deed} → Advances openers core deed next
+    → process.point core.state ≡ point.AtCheckpoint → deed ≡ Checkpointed
 mark-deed (goes p) m = absurd (cc)
 mark-deed (marks p) m = refl
 mark-deed (takes block p s) m = absurd (cc)
@@ -46,7 +51,8 @@ mark-deed (gets p f) m = absurd (cc)
 mark-deed (answers opener block p h o s w) m = absurd (cc)
 mark-deed (acts p c) m = absurd (cc)
 
-not-marked : {site : Site} {number node : ℕ} {core : Core} {before after : Around} {cause : Cause} {deed : Deed} {done : Act} {messages : List Message}
+not-marked : {site : Site} {number node : ℕ} {core : Core} {before after : Around} {cause : Cause} {deed : Deed}
+    {done : Act} {messages : List Message}
     → Causes site number node core before cause deed done messages after → deed ≡ Checkpointed → ⊥
 not-marked by_inner e = cc
 not-marked (by_take c) e = cc
@@ -56,8 +62,10 @@ not-marked (by_device n) e = cc
 not-marked (by_write n) e = cc
 not-marked (by_reply i o n u) e = cc
 
-becomes-sent : {site : Site} {w : World} {number : ℕ} {pair : Pair} {sent : List ImageMessage} {k : Which} {cause : Cause} {after : Copy}
-    → Becomes site w number pair sent k cause after → HasGrown pair.checkpoints sent → HasSent number pair.checkpoints (copy_of k pair) → HasSent number sent after
+becomes-sent : {site : Site} {w : World} {number : ℕ} {pair : Pair} {sent : List ImageMessage} {k : Which}
+    {cause : Cause} {after : Copy}
+    → Becomes site w number pair sent k cause after → HasGrown pair.checkpoints sent
+    → HasSent number pair.checkpoints (copy_of k pair) → HasSent number sent after
 becomes-sent becoming.stays g ok =
     record { watching = ok.watching; acting = λ r s. let at = ok.acting r s in (at.0, among-more _ g at.1) }
 becomes-sent (becoming.acts r c a e) g ok =
@@ -88,19 +96,24 @@ becomes-sent (becoming.takes_over node processor t) g ok =
 
 -- of both copies of all processes
 abbrev pub AllSent : World → Type 0
-AllSent w = (number : ℕ) (pair : Pair) → slice_get w.processes number ≡ Some pair → (k : Which) → HasSent number pair.checkpoints (copy_of k pair)
+AllSent w = (number : ℕ) (pair : Pair) → slice_get w.processes number ≡ Some pair → (k : Which)
+    → HasSent number pair.checkpoints (copy_of k pair)
 
-change-sent : {site : Site} (w next : World) (cause : Cause) (sendings : List Sending) → Change site w cause sendings next → AllSent w → AllSent next
+change-sent : {site : Site} (w next : World) (cause : Cause) (sendings : List Sending)
+    → Change site w cause sendings next → AllSent w → AllSent next
 change-sent w next cause sendings c ok number after now k =
     let was = change-was w next cause sendings c number after now in
     let later = change-later w next cause sendings c number was.before was.there in
-    let grown = subst (λ (p : Pair). HasGrown was.before.checkpoints p.checkpoints) (some-same (sym later.1 ∙ now)) later.2.checkpoints in
+    let grown = subst (λ (p : Pair). HasGrown was.before.checkpoints p.checkpoints) (some-same (sym later.1 ∙ now))
+    later.2.checkpoints in
     becomes-sent (was.copies k) grown (ok number was.before was.there k)
 
 sent-begin : (site : Site) → AllSent (boot site)
-sent-begin site = all-begin (λ number pair. (k : Which) → HasSent number pair.checkpoints (copy_of k pair)) site by-which
+sent-begin site =
+    all-begin (λ number pair. (k : Which) → HasSent number pair.checkpoints (copy_of k pair)) site by-which
   where
-    by-which : (number from : ℕ) (spec : ProcessSpec) (k : Which) → HasSent number [] (copy_of k (pair_at_boot site from spec))
+    by-which : (number from : ℕ) (spec : ProcessSpec) (k : Which)
+        → HasSent number [] (copy_of k (pair_at_boot site from spec))
     by-which number from spec First = record { watching = λ _. refl; acting = λ _ s. absurd (cc) }
     by-which number from spec Second = record { watching = λ _. refl; acting = λ _ s. absurd (cc) }
 

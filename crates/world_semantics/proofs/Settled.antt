@@ -9,7 +9,8 @@ use Rattle.world_semantics.specs.World.{Copy, Pair, Down, World, Which, First, S
 use Rattle.world_semantics.specs.Kept.{Enters, holds_on, repeats, begins, keeps}
 use Rattle.world_semantics.specs.Messages.{Sending, Cause}
 use Rattle.world_semantics.specs.Passes.{Passes, by_send, by_pass_again, by_pass, by_apply, by_acknowledge}
-use Rattle.world_semantics.specs.Rules.{Change, by_own, by_checkpoint, by_request, by_early_request, by_enter, by_print, by_stop, by_mark, stopped_pair, taker, pair_after_down, pair_at_down}
+use Rattle.world_semantics.specs.Rules.{Change, by_own, by_checkpoint, by_request, by_early_request, by_enter, by_print}
+use Rattle.world_semantics.specs.Rules.{by_stop, by_mark, stopped_pair, taker, pair_after_down, pair_at_down}
 use Rattle.world_semantics.proofs.Beginning.{all-begin}
 use Rattle.world_semantics.proofs.Lists.{set-all, map-all}
 use Rattle.world_semantics.proofs.Ran.{IsSettled}
@@ -22,20 +23,26 @@ pub record AreSettled (pair : Pair) : Type 0 where
 abbrev pub AllSettled : World → Type 0
 AllSettled w = (number : ℕ) (pair : Pair) → slice_get w.processes number ≡ Some pair → AreSettled pair
 
-enters-settled : {number : ℕ} {act : Act} {kept after : List Act} {copy entered : Copy} (core : Core) (waiting : List Request)
-    → Enters number act kept copy entered after → IsSettled copy → IsSettled (record entered { core = core; waiting = waiting })
+enters-settled : {number : ℕ} {act : Act} {kept after : List Act} {copy entered : Copy} (core : Core)
+    (waiting : List Request)
+    → Enters number act kept copy entered after → IsSettled copy
+    → IsSettled (record entered { core = core; waiting = waiting })
 enters-settled core waiting (holds_on e) ok = ok
 enters-settled core waiting (repeats e l) ok = ok
 enters-settled core waiting (begins e l t) ok = ok
 enters-settled core waiting (keeps e l t) ok = ok
 
-own-settled : (k : Which) (pair : Pair) (core : Core) (waiting : List Request) (sectors : List Stored) {number : ℕ} {act : Act} {kept after : List Act}
+own-settled : (k : Which) (pair : Pair) (core : Core) (waiting : List Request) (sectors : List Stored) {number : ℕ}
+    {act : Act} {kept after : List Act}
     {entered : Copy} → Enters number act kept (copy_of k pair) entered after → AreSettled pair
     → AreSettled (with_copy k (record entered { core = core; waiting = waiting }) (record pair { sectors = sectors }))
-own-settled First pair core waiting sectors e ok = record { first = enters-settled core waiting e ok.first; second = ok.second }
-own-settled Second pair core waiting sectors e ok = record { first = ok.first; second = enters-settled core waiting e ok.second }
+own-settled First pair core waiting sectors e ok =
+    record { first = enters-settled core waiting e ok.first; second = ok.second }
+own-settled Second pair core waiting sectors e ok =
+    record { first = ok.first; second = enters-settled core waiting e ok.second }
 
-passes-settled : {number : ℕ} {marks : List Down} {kept after : List Act} {pair next : Pair} {cause : Cause} {sendings : List Sending}
+passes-settled : {number : ℕ} {marks : List Down} {kept after : List Act} {pair next : Pair} {cause : Cause}
+    {sendings : List Sending}
     → Passes number marks kept pair cause sendings next after → AreSettled pair → AreSettled next
 passes-settled (by_send First r p s m) ok = record { first = λ _. refl; second = ok.second }
 passes-settled (by_send Second r p s m) ok = record { first = ok.first; second = λ _. refl }
@@ -48,7 +55,8 @@ passes-settled (by_apply Second message applied r i e n a) ok = record { first =
 passes-settled (by_acknowledge First taken r s i e n) ok = record { first = λ not. absurd (cc); second = ok.second }
 passes-settled (by_acknowledge Second taken r s i e n) ok = record { first = ok.first; second = λ not. absurd (cc) }
 
-waiting-settled : (k : Which) (pair : Pair) (waiting : List Request) → AreSettled pair → AreSettled (with_copy k (record (copy_of k pair) { waiting = waiting }) pair)
+waiting-settled : (k : Which) (pair : Pair) (waiting : List Request) → AreSettled pair
+    → AreSettled (with_copy k (record (copy_of k pair) { waiting = waiting }) pair)
 waiting-settled First pair waiting ok = record { first = ok.first; second = ok.second }
 waiting-settled Second pair waiting ok = record { first = ok.first; second = ok.second }
 
@@ -57,25 +65,30 @@ marking-settled None pair ok = ok
 marking-settled (Some First) pair ok = record { first = ok.first; second = ok.second }
 marking-settled (Some Second) pair ok = record { first = ok.first; second = ok.second }
 
-pub change-settled : {site : Site} (w next : World) (cause : Cause) (sendings : List Sending) → Change site w cause sendings next → AllSettled w → AllSettled next
+pub change-settled : {site : Site} (w next : World) (cause : Cause) (sendings : List Sending)
+    → Change site w cause sendings next → AllSettled w → AllSettled next
 change-settled w next cause sendings (by_own number k pair there acts c a e) ok =
     set-all (λ n p. AreSettled p) w.processes number _ ok (own-settled k pair _ _ _ e (ok number pair there))
 change-settled w next cause sendings (by_checkpoint number pair there p) ok =
     set-all (λ n p. AreSettled p) w.processes number _ ok (passes-settled p (ok number pair there))
 change-settled w next cause sendings (by_request request k pair i there r) ok =
-    set-all (λ n p. AreSettled p) w.processes request.process _ ok (waiting-settled k pair _ (ok request.process pair there))
+    set-all (λ n p. AreSettled p) w.processes request.process _ ok
+    (waiting-settled k pair _ (ok request.process pair there))
 change-settled w next cause sendings (by_early_request request k pair i there r) ok =
-    set-all (λ n p. AreSettled p) w.processes request.process _ ok (waiting-settled k pair _ (ok request.process pair there))
+    set-all (λ n p. AreSettled p) w.processes request.process _ ok
+    (waiting-settled k pair _ (ok request.process pair there))
 change-settled w next cause sendings (by_enter number terminal opener t e r o) ok = ok
 change-settled w next cause sendings (by_print number terminal reply t e i o n) ok = ok
 change-settled w next cause sendings (by_stop x r) ok =
     map-all (λ n p. AreSettled p) (stopped_pair x) w.processes
     (λ n p there. record { first = (ok n p there).first; second = (ok n p there).second })
 change-settled w next cause sendings (by_mark node x s r n) ok =
-    map-all (λ n p. AreSettled p) (pair_at_down node x) w.processes (λ n p there. marking-settled (taker node x p) p (ok n p there))
+    map-all (λ n p. AreSettled p) (pair_at_down node x) w.processes
+    (λ n p there. marking-settled (taker node x p) p (ok n p there))
 
 pub settled-begin : (site : Site) → AllSettled (boot site)
-settled-begin site = all-begin (λ n p. AreSettled p) site (λ number from spec. record { first = λ _. refl; second = λ _. refl })
+settled-begin site =
+    all-begin (λ n p. AreSettled p) site (λ number from spec. record { first = λ _. refl; second = λ _. refl })
 
 pub settled-of : (pair : Pair) → AreSettled pair → (k : Which) → IsSettled (copy_of k pair)
 settled-of pair ok First = ok.first

@@ -1,4 +1,5 @@
--- The core of a copy: what its checkpoints carry and restore, as in Bartlett's "A NonStop Kernel". Each act of a process is a step of the core.
+-- The core of a copy: what its checkpoints carry and restore, as in Bartlett's "A NonStop Kernel". Each act of a
+-- process is a step of the core.
 use Rattle.std.specs.Prelude.{◌≡◌, ℕ, ◌+◌, ℤ, List, [], ◌∷◌, map, is_some, slice_get, slice_set, Option, Some, None}
 use Rattle.std.specs.Option.{option_map, unwrap_or}
 use Rattle.gd_words.specs.declared.device.DeviceCall.{DeviceCall}
@@ -15,7 +16,8 @@ use Rattle.checkpoint_image.specs.declared.message.FileNumber.{FileNumber}
 use Rattle.checkpoint_image.specs.declared.message.Image.{Image}
 use Rattle.checkpoint_image.specs.Receive.{after_taking, after_answering}
 
--- what a process is with its files and openers: its state, the number of the next request on each of its files, and its receive table
+-- what a process is with its files and openers: its state, the number of the next request on each of its files, and its
+-- receive table
 pub record Core : Type 0 where
   pub state : process.ProcessState
   pub next : List ℕ
@@ -26,7 +28,10 @@ abbrev pub core_at_boot : Site → ℕ → ProcessSpec → Core
 core_at_boot site number spec = record {
   state = process.start_of spec.what;
   next = map (λ file. 1) (files_of spec.what);
-  receive = record { openers = map (λ opener. record { taken = 0; kept = [] }) (openers_of site number); in_hand = None };
+  receive = record {
+    openers = map (λ opener. record { taken = 0; kept = [] }) (openers_of site number);
+    in_hand = None;
+  };
 }
 
 -- the number of the next request on a file
@@ -60,23 +65,29 @@ core_going core = record core { state = process.after_inner core.state }
 abbrev pub after_passing : Core → Core
 after_passing core = record core { state = process.after_checkpoint core.state }
 
--- after a request of these words was taken, of the opener at a place where this block stands: that is noted in the receive table
+-- after a request of these words was taken, of the opener at a place where this block stands: that is noted in the
+-- receive table
 abbrev pub core_taken : ℕ → List ℤ → OpenerBlock → Core → Core
 core_taken place words block core =
     record core { state = process.after_took core.state words; receive = after_taking place block core.receive }
 
 -- after a request was asked on a file: that raises the next number of the file
 abbrev pub core_asked : ℕ → Core → Core
-core_asked file core = record core { state = process.after_asked core.state; next = slice_set core.next file (next_on core file + 1) }
+core_asked file core =
+    record core { state = process.after_asked core.state; next = slice_set core.next file (next_on core file + 1) }
 
 -- after the reply to it was got
 abbrev pub core_getting : List ℤ → Core → Core
 core_getting words core = record core { state = process.after_got core.state words }
 
--- after the opener at a place was answered, of which so many replies are kept, and where this block stands: that is noted in the receive table
+-- after the opener at a place was answered, of which so many replies are kept, and where this block stands: that is
+-- noted in the receive table
 abbrev pub core_replied : ℕ → ℕ → OpenerBlock → List ℤ → Core → Core
 core_replied depth place block words core =
-    record core { state = process.after_answered core.state; receive = after_answering depth place block words core.receive }
+    record core {
+      state = process.after_answered core.state;
+      receive = after_answering depth place block words core.receive;
+    }
 
 -- after an act on the device, with the words that stood on the sector
 abbrev pub core_acting : List ℤ → Core → Core
@@ -86,23 +97,28 @@ core_acting found core = record core { state = process.after_device core.state f
 pub data Advances (openers : List OpenerSpec) (core : Core) : Deed → Core → Type 0 where
   goes : process.point core.state ≡ point.Inner → Advances openers core Went (core_going core)
   marks : process.point core.state ≡ point.AtCheckpoint → Advances openers core Checkpointed (after_passing core)
-  takes : {place : ℕ} {words : List ℤ} (block : OpenerBlock) → process.point core.state ≡ point.Take → slice_get core.receive.openers place ≡ Some block
+  takes : {place : ℕ} {words : List ℤ} (block : OpenerBlock) → process.point core.state ≡ point.Take
+      → slice_get core.receive.openers place ≡ Some block
       → Advances openers core (Took place words) (core_taken place words block core)
-  asks : {file : ℕ} {words : List ℤ} → process.point core.state ≡ point.Ask → file ≡ process.asked_file core.state → words ≡ process.asked_words core.state
+  asks : {file : ℕ} {words : List ℤ} → process.point core.state ≡ point.Ask → file ≡ process.asked_file core.state
+      → words ≡ process.asked_words core.state
       → Advances openers core (Asked file words) (core_asked file core)
   gets : {file : ℕ} {words : List ℤ} → process.point core.state ≡ point.Await → file ≡ process.asked_file core.state
       → Advances openers core (Got file words) (core_getting words core)
-  answers : {place : ℕ} {words : List ℤ} (opener : OpenerSpec) (block : OpenerBlock) → process.point core.state ≡ point.Answer
-      → core.receive.in_hand ≡ Some place → slice_get openers place ≡ Some opener → slice_get core.receive.openers place ≡ Some block
+  answers : {place : ℕ} {words : List ℤ} (opener : OpenerSpec) (block : OpenerBlock)
+      → process.point core.state ≡ point.Answer
+      → core.receive.in_hand ≡ Some place → slice_get openers place ≡ Some opener
+      → slice_get core.receive.openers place ≡ Some block
       → words ≡ process.answer_of core.state
       → Advances openers core (Answered place words) (core_replied opener.depth place block words core)
-  acts : {call : DeviceCall} {found : List ℤ} → process.point core.state ≡ point.Device → call ≡ process.call_of core.state
+  acts : {call : DeviceCall} {found : List ℤ} → process.point core.state ≡ point.Device
+      → call ≡ process.call_of core.state
       → Advances openers core (Acted call found) (core_acting found core)
 
 -- Checkpoints
 
--- what a checkpoint of a core carries: the words of its image with the items named there, the next numbers of the files named there, and the
--- receive table
+-- what a checkpoint of a core carries: the words of its image with the items named there, the next numbers of the files
+-- named there, and the receive table
 abbrev pub carried : Core → Image
 carried core = record {
   body = image_of (listed_items core.state) core.state;
@@ -114,8 +130,8 @@ abbrev pub with_files : List FileNumber → List ℕ → List ℕ
 with_files [] next = next
 with_files (named ∷ files) next = with_files files (slice_set next named.file named.next)
 
--- the core after what a checkpoint carries was put into it: the state that the image restores, the next numbers of the named files, and the table; none
--- where the words are no image of the process
+-- the core after what a checkpoint carries was put into it: the state that the image restores, the next numbers of the
+-- named files, and the table; none where the words are no image of the process
 abbrev pub put_in : Core → Image → Option Core
 put_in core image =
     option_map (λ state. record { state = state; next = with_files image.files core.next; receive = image.receive })

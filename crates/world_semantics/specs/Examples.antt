@@ -5,7 +5,8 @@ use Rattle.tal_tree.specs.declared.act.Act.{Act}
 use Rattle.tal_tree.specs.declared.act.Act.TheVariants as act
 use Rattle.tal_tree.specs.declared.act.Shown.{Shown}
 use Rattle.tal_tree.specs.declared.act.Shown.TheVariants as shown
-use Rattle.tal_tree.specs.declared.expression.Expr.{Expr, Number, Read', Two', more_of-Spot, end_of-Spot, more_of-Expr, end_of-Expr}
+use Rattle.tal_tree.specs.declared.expression.Expr.{Expr, Number, Read', Two', more_of-Spot, end_of-Spot, more_of-Expr}
+use Rattle.tal_tree.specs.declared.expression.Expr.{end_of-Expr}
 use Rattle.tal_tree.specs.declared.expression.Op.TheVariants.{Add}
 use Rattle.tal_tree.specs.declared.expression.Cond.{Truth}
 use Rattle.tal_tree.specs.declared.expression.Spot.{Spot}
@@ -68,7 +69,8 @@ server serving = record {
         gives = false;
         parameters = 0;
         locals = [];
-        body = line 1 what.CheckMonitor ∷ line 2 (what.Open 0) ∷ line 3 (what.While' (Truth (Number (pos 1))) (places serving) (rows serving)) ∷ [];
+        body = line 1 what.CheckMonitor ∷ line 2 (what.Open 0)
+            ∷ line 3 (what.While' (Truth (Number (pos 1))) (places serving) (rows serving)) ∷ [];
       }
       ∷ [];
   main = 0;
@@ -94,47 +96,54 @@ delivery = event.Deliver false 0
 abbrev pub run : Event
 run = event.Run 0
 
--- The takeover: a request of 5 is entered, the program comes to READUPDATE, and the request is delivered to both copies. The first one takes it, adds it, and
--- sends its checkpoint, which is delivered, as is that it was taken. It passes its checkpoint and answers, and its processor stops. Both nodes that run mark it, and
--- the second copy takes over. It answers anew, the request comes once more, and its reply, which is sent again, is printed
+-- The takeover: a request of 5 is entered, the program comes to READUPDATE, and the request is delivered to both
+-- copies. The first one takes it, adds it, and sends its checkpoint, which is delivered, as is that it was taken. It
+-- passes its checkpoint and answers, and its processor stops. Both nodes that run mark it, and the second copy takes
+-- over. It answers anew, the request comes once more, and its reply, which is sent again, is printed
 
 -- the events of the takeover
 abbrev pub takeover_events : List Event
 takeover_events =
-    event.Enter 0 ∷ run ∷ run ∷ run ∷ delivery ∷ delivery ∷ run ∷ run ∷ run ∷ run ∷ delivery ∷ delivery ∷ run ∷ run ∷ event.Fail 0 ∷ event.Tick 1
+    event.Enter 0 ∷ run ∷ run ∷ run ∷ delivery ∷ delivery ∷ run ∷ run ∷ run ∷ run ∷ delivery ∷ delivery ∷ run ∷ run
+    ∷ event.Fail 0 ∷ event.Tick 1
     ∷ event.Tick 16 ∷ run ∷ delivery ∷ delivery ∷ run ∷ []
 
 -- what the takeover keeps: the acts of one process that doesn't fail
 abbrev pub takeover_acts : List Act
 takeover_acts =
-    act.Enter 0 ∷ act.Step 0 ∷ act.Step 0 ∷ act.Step 0 ∷ act.Take 0 0 ∷ act.Step 0 ∷ act.Step 0 ∷ act.Step 0 ∷ act.Step 0 ∷ act.Print 0
+    act.Enter 0 ∷ act.Step 0 ∷ act.Step 0 ∷ act.Step 0 ∷ act.Take 0 0 ∷ act.Step 0 ∷ act.Step 0 ∷ act.Step 0
+    ∷ act.Step 0 ∷ act.Print 0
     ∷ act.Step 0 ∷ []
 
 -- what it shows
 abbrev pub takeover_shown : List Shown
 takeover_shown = reply 0 (pos 5) ∷ []
 
--- The lost take: requests of 5 and 7 are entered. The first copy takes that of 5, adds it, and is lost with its processor before it sent a checkpoint. The
--- second copy takes over at the beginning, and takes that of 7 first, which it answers by 7
+-- The lost take: requests of 5 and 7 are entered. The first copy takes that of 5, adds it, and is lost with its
+-- processor before it sent a checkpoint. The second copy takes over at the beginning, and takes that of 7 first, which
+-- it answers by 7
 
 -- the events of the lost take
 abbrev pub lost_take_events : List Event
 lost_take_events =
-    event.Enter 0 ∷ event.Enter 1 ∷ run ∷ run ∷ run ∷ delivery ∷ run ∷ run ∷ event.Fail 0 ∷ event.Tick 1 ∷ delivery ∷ run ∷ run ∷ run ∷ run ∷ run ∷ run
+    event.Enter 0 ∷ event.Enter 1 ∷ run ∷ run ∷ run ∷ delivery ∷ run ∷ run ∷ event.Fail 0 ∷ event.Tick 1 ∷ delivery
+    ∷ run ∷ run ∷ run ∷ run ∷ run ∷ run
     ∷ run ∷ run ∷ delivery ∷ []
 
 -- what the lost take keeps: nothing of the take that was lost, and the first steps once
 abbrev pub lost_take_acts : List Act
 lost_take_acts =
-    act.Enter 0 ∷ act.Enter 1 ∷ act.Step 0 ∷ act.Step 0 ∷ act.Step 0 ∷ act.Take 0 1 ∷ act.Step 0 ∷ act.Step 0 ∷ act.Step 0 ∷ act.Step 0
+    act.Enter 0 ∷ act.Enter 1 ∷ act.Step 0 ∷ act.Step 0 ∷ act.Step 0 ∷ act.Take 0 1 ∷ act.Step 0 ∷ act.Step 0
+    ∷ act.Step 0 ∷ act.Step 0
     ∷ act.Print 1 ∷ []
 
 -- what it shows
 abbrev pub lost_take_shown : List Shown
 lost_take_shown = reply 1 (pos 7) ∷ []
 
--- The write that is done: a disc is asked to write 5 to its sector 0. The first copy takes the request, its checkpoint is delivered, and it writes. Its processor
--- stops, and the second copy, behind the checkpoint, finds the number of its write on the sector, and answers
+-- The write that is done: a disc is asked to write 5 to its sector 0. The first copy takes the request, its checkpoint
+-- is delivered, and it writes. Its processor stops, and the second copy, behind the checkpoint, finds the number of its
+-- write on the sector, and answers
 
 -- a disc of four sectors in the processors 0 and 1, and a terminal that asks it to write
 abbrev pub disc_site : Site
@@ -146,7 +155,8 @@ disc_site = record {
 
 -- the events of the write that is done
 abbrev pub disc_events : List Event
-disc_events = event.Enter 0 ∷ delivery ∷ run ∷ run ∷ delivery ∷ delivery ∷ run ∷ run ∷ event.Fail 0 ∷ event.Tick 1 ∷ run ∷ run ∷ delivery ∷ []
+disc_events = event.Enter 0 ∷ delivery ∷ run ∷ run ∷ delivery ∷ delivery ∷ run ∷ run ∷ event.Fail 0 ∷ event.Tick 1
+    ∷ run ∷ run ∷ delivery ∷ []
 
 -- what the write that is done keeps
 abbrev pub disc_acts : List Act
@@ -156,8 +166,9 @@ disc_acts = act.Enter 0 ∷ act.Take 0 0 ∷ act.Step 0 ∷ act.Step 0 ∷ act.S
 abbrev pub disc_shown : List Shown
 disc_shown = reply 0 (pos 0) ∷ shown.Write 0 0 (pos 5 ∷ pos 0 ∷ pos 0 ∷ pos 0 ∷ pos 0 ∷ pos 0 ∷ pos 0 ∷ pos 0 ∷ []) ∷ []
 
--- The repeated request: a bank adds what it is sent, checkpoints, writes the total to a disc, and answers. Its first copy is lost while it awaits the disc, which has
--- written and answered. The second copy takes over and asks again; the disc, which keeps its reply, sends it again
+-- The repeated request: a bank adds what it is sent, checkpoints, writes the total to a disc, and answers. Its first
+-- copy is lost while it awaits the disc, which has written and answered. The second copy takes over and asks again; the
+-- disc, which keeps its reply, sends it again
 
 -- the three words that ask the disc to write the total to its sector 0
 abbrev pub out : ℕ → Spot
@@ -186,7 +197,8 @@ bank = record {
       ∷ record { name = codes "BUF"; shape = shape.Array (pos 0) (pos 0) }
       ∷ record { name = codes "OUT"; shape = shape.Array (pos 0) (pos 2) }
       ∷ [];
-  files = record { item = 2; target = target.Receive; depth = 1 } ∷ record { item = 3; target = target.Process (codes "$DATA"); depth = 1 } ∷ [];
+  files = record { item = 2; target = target.Receive; depth = 1 }
+      ∷ record { item = 3; target = target.Process (codes "$DATA"); depth = 1 } ∷ [];
   procedures =
       record {
         name = codes "BANK";
@@ -218,22 +230,28 @@ banks = event.Run 1
 -- the events of the repeated request
 abbrev pub repeat_events : List Event
 repeat_events =
-    event.Enter 0 ∷ banks ∷ banks ∷ banks ∷ banks ∷ delivery ∷ banks ∷ banks ∷ banks ∷ delivery ∷ delivery ∷ banks ∷ banks ∷ banks ∷ banks ∷ banks
-    ∷ delivery ∷ run ∷ run ∷ delivery ∷ delivery ∷ run ∷ run ∷ run ∷ event.Fail 0 ∷ event.Tick 1 ∷ banks ∷ banks ∷ banks ∷ banks ∷ delivery ∷ delivery
+    event.Enter 0 ∷ banks ∷ banks ∷ banks ∷ banks ∷ delivery ∷ banks ∷ banks ∷ banks ∷ delivery ∷ delivery ∷ banks
+    ∷ banks ∷ banks ∷ banks ∷ banks
+    ∷ delivery ∷ run ∷ run ∷ delivery ∷ delivery ∷ run ∷ run ∷ run ∷ event.Fail 0 ∷ event.Tick 1 ∷ banks ∷ banks
+    ∷ banks ∷ banks ∷ delivery ∷ delivery
     ∷ banks ∷ banks ∷ delivery ∷ banks ∷ []
 
 -- what the repeated request keeps: what was done before the stop once
 abbrev pub repeat_acts : List Act
 repeat_acts =
-    act.Enter 0 ∷ act.Step 1 ∷ act.Step 1 ∷ act.Step 1 ∷ act.Step 1 ∷ act.Take 1 0 ∷ act.Step 1 ∷ act.Step 1 ∷ act.Step 1 ∷ act.Step 1 ∷ act.Step 1
-    ∷ act.Step 1 ∷ act.Take 0 0 ∷ act.Step 0 ∷ act.Step 0 ∷ act.Step 0 ∷ act.Step 1 ∷ act.Step 1 ∷ act.Step 1 ∷ act.Print 0 ∷ act.Step 1 ∷ []
+    act.Enter 0 ∷ act.Step 1 ∷ act.Step 1 ∷ act.Step 1 ∷ act.Step 1 ∷ act.Take 1 0 ∷ act.Step 1 ∷ act.Step 1
+    ∷ act.Step 1 ∷ act.Step 1 ∷ act.Step 1
+    ∷ act.Step 1 ∷ act.Take 0 0 ∷ act.Step 0 ∷ act.Step 0 ∷ act.Step 0 ∷ act.Step 1 ∷ act.Step 1 ∷ act.Step 1
+    ∷ act.Print 0 ∷ act.Step 1 ∷ []
 
 -- what it shows, the newest first
 abbrev pub repeat_shown : List Shown
-repeat_shown = reply 0 (pos 5) ∷ shown.Write 0 0 (pos 5 ∷ pos 0 ∷ pos 0 ∷ pos 0 ∷ pos 0 ∷ pos 0 ∷ pos 0 ∷ pos 0 ∷ []) ∷ []
+repeat_shown =
+    reply 0 (pos 5) ∷ shown.Write 0 0 (pos 5 ∷ pos 0 ∷ pos 0 ∷ pos 0 ∷ pos 0 ∷ pos 0 ∷ pos 0 ∷ pos 0 ∷ []) ∷ []
 
--- The request ahead: an echo takes a request and answers it with no checkpoint between. Its first copy is lost when the reply to the first request is printed
--- and the second request entered. The second copy takes over at the beginning, where the first request is the next one, and the second comes
+-- The request ahead: an echo takes a request and answers it with no checkpoint between. Its first copy is lost when the
+-- reply to the first request is printed and the second request entered. The second copy takes over at the beginning,
+-- where the first request is the next one, and the second comes
 
 abbrev pub echoing : List Statement
 echoing = line 4 (what.ReadUpdate 3 (Number (pos 1)) (variable.Simple 1)) ∷ line 5 (what.Reply 3 (Number (pos 1))) ∷ []
@@ -249,7 +267,8 @@ echo_site = record {
 -- the events of the request ahead
 abbrev pub ahead_events : List Event
 ahead_events =
-    event.Enter 0 ∷ run ∷ run ∷ run ∷ delivery ∷ run ∷ run ∷ delivery ∷ event.Enter 0 ∷ event.Fail 0 ∷ event.Tick 1 ∷ delivery ∷ []
+    event.Enter 0 ∷ run ∷ run ∷ run ∷ delivery ∷ run ∷ run ∷ delivery ∷ event.Enter 0 ∷ event.Fail 0 ∷ event.Tick 1
+    ∷ delivery ∷ []
 
 -- what the request ahead keeps: that a reply was printed to a request which nothing took
 abbrev pub ahead_acts : List Act
@@ -263,7 +282,8 @@ standings copy = map (standing copy.core.receive) copy.waiting
 abbrev pub CanKeep : Site → List Event → List Act → List Shown → Type 0
 CanKeep site events acts shown = (w : World) × IsRun site events w × (closed w ≡ acts) × (w.shown ≡ shown)
 
--- a run of these events can keep these acts, the oldest first, and leave the second copies of the processes in these roles, with what waits at them standing so
+-- a run of these events can keep these acts, the oldest first, and leave the second copies of the processes in these
+-- roles, with what waits at them standing so
 abbrev pub CanLeave : Site → List Event → List Act → List Role → List (List RequestStanding) → Type 0
 CanLeave site events acts roles waits =
     (w : World) × IsRun site events w × (closed w ≡ acts) × (map (λ pair. pair.second.role) w.processes ≡ roles)

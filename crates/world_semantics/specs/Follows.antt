@@ -14,14 +14,17 @@ IsIdleFor site w cause = (sendings : List Sending) (next : World) → Change sit
 -- any number of marks that a node makes, one after the other
 pub data NotesDowns (site : Site) (node : ℕ) : World → List Sending → World → Type 0 where
   marks_none : {w : World} → NotesDowns site node w [] w
-  marks_one : {w next end : World} {sendings more : List Sending} → (processor : ℕ) → Change site w (NotingDown node processor) sendings next
+  marks_one : {w next end : World} {sendings more : List Sending} → (processor : ℕ)
+      → Change site w (NotingDown node processor) sendings next
       → NotesDowns site node next more end → NotesDowns site node w (sendings ++ more) end
 
--- what an event permits: `Run` makes the change for which its process can run, `Enter` that of its terminal, and `Fail` the stop, each where one is possible,
--- and else nothing; `Deliver` does nothing, hands over one message, or makes one mark; `Lose` and `Repeat` do nothing; and the `Tick` of a node that runs stops
--- at most one other processor, and then makes marks at that node
+-- what an event permits: `Run` makes the change for which its process can run, `Enter` that of its terminal, and `Fail`
+-- the stop, each where one is possible, and else nothing; `Deliver` does nothing, hands over one message, or makes one
+-- mark; `Lose` and `Repeat` do nothing; and the `Tick` of a node that runs stops at most one other processor, and then
+-- makes marks at that node
 pub data Follows (site : Site) (w : World) : Event → List Sending → World → Type 0 where
-  runs : {number : ℕ} {sendings : List Sending} {next : World} → Change site w (Running number) sendings next → Follows site w (Run number) sendings next
+  runs : {number : ℕ} {sendings : List Sending} {next : World} → Change site w (Running number) sendings next
+      → Follows site w (Run number) sendings next
   cannot_run : {number : ℕ} → IsIdleFor site w (Running number) → Follows site w (Run number) [] w
   enters : {number : ℕ} {sendings : List Sending} {next : World} → Change site w (Entering number) sendings next
       → Follows site w (Enter number) sendings next
@@ -29,22 +32,28 @@ pub data Follows (site : Site) (w : World) : Event → List Sending → World �
   delivers_none : {y : Bool} {k : ℕ} → Follows site w (Deliver y k) [] w
   delivers : {y : Bool} {k : ℕ} {sendings : List Sending} {next : World} → (node : ℕ) (message : Message)
       → Change site w (Handing node message) sendings next → Follows site w (Deliver y k) sendings next
-  delivers_mark : {y : Bool} {k : ℕ} {sendings : List Sending} {next : World} → (node processor : ℕ) → Change site w (NotingDown node processor) sendings next
+  delivers_mark : {y : Bool} {k : ℕ} {sendings : List Sending} {next : World} → (node processor : ℕ)
+      → Change site w (NotingDown node processor) sendings next
       → Follows site w (Deliver y k) sendings next
   loses : {y : Bool} {k : ℕ} → Follows site w (Lose y k) [] w
   doubles : {y : Bool} {k : ℕ} → Follows site w (Repeat y k) [] w
   ticks_none : {node : ℕ} → Follows site w (Tick node) [] w
-  ticks : {node : ℕ} {sendings : List Sending} {next : World} → is_running w.stopped node ≡ true → NotesDowns site node w sendings next
+  ticks : {node : ℕ} {sendings : List Sending} {next : World} → is_running w.stopped node ≡ true
+      → NotesDowns site node w sendings next
       → Follows site w (Tick node) sendings next
-  ticks_stop : {node : ℕ} {sendings : List Sending} {between next : World} → (processor : ℕ) → is_running w.stopped node ≡ true → processor ≢ node
-      → Change site w (Stopping processor) [] between → NotesDowns site node between sendings next → Follows site w (Tick node) sendings next
-  fails : {processor : ℕ} {next : World} → Change site w (Stopping processor) [] next → Follows site w (Fail processor) [] next
+  ticks_stop : {node : ℕ} {sendings : List Sending} {between next : World} → (processor : ℕ)
+      → is_running w.stopped node ≡ true → processor ≢ node
+      → Change site w (Stopping processor) [] between → NotesDowns site node between sendings next
+      → Follows site w (Tick node) sendings next
+  fails : {processor : ℕ} {next : World} → Change site w (Stopping processor) [] next
+      → Follows site w (Fail processor) [] next
   cannot_fail : {processor : ℕ} → IsIdleFor site w (Stopping processor) → Follows site w (Fail processor) [] w
 
 -- events, one after the other, lead from one world to another
 pub data Leads (site : Site) : World → List Event → World → Type 0 where
   stays : {w : World} → Leads site w [] w
-  goes_on : {w next end : World} {event : Event} {events : List Event} {sendings : List Sending} → Follows site w event sendings next
+  goes_on : {w next end : World} {event : Event} {events : List Event} {sendings : List Sending}
+      → Follows site w event sendings next
       → Leads site next events end → Leads site w (event ∷ events) end
 
 -- a run of a site: events lead to a world from the one at the beginning

@@ -43,8 +43,10 @@ pub record IsLaterPair (before after : Pair) : Type 0 where
 abbrev pub WasSent : World → Message → Type 0
 WasSent w (Asking request) = IsAmong request w.requests
 WasSent w (Replying reply) = IsAmong reply w.replies
-WasSent w (Checkpointing message) = (number : ℕ) × (pair : Pair) × (slice_get w.processes number ≡ Some pair) × IsAmong message pair.checkpoints
-WasSent w (Taking taken) = (number : ℕ) × (pair : Pair) × (slice_get w.processes number ≡ Some pair) × IsAmong taken pair.takens
+WasSent w (Checkpointing message) =
+    (number : ℕ) × (pair : Pair) × (slice_get w.processes number ≡ Some pair) × IsAmong message pair.checkpoints
+WasSent w (Taking taken) =
+    (number : ℕ) × (pair : Pair) × (slice_get w.processes number ≡ Some pair) × IsAmong taken pair.takens
 
 -- Checkpoints
 
@@ -70,8 +72,8 @@ pub record Acknowledges (copy : Copy) (taken : TakenMessage) : Type 0 where
   pub era : taken.era ≡ copy.era
   pub number : taken.number ≡ copy.number
 
--- a copy that watches keeps up with the other one: it is of the same era and at most one checkpoint behind, and not behind where the other's last one is
--- acknowledged
+-- a copy that watches keeps up with the other one: it is of the same era and at most one checkpoint behind, and not
+-- behind where the other's last one is acknowledged
 pub record KeepsUp (copy other : Copy) : Type 0 where
   pub era : copy.era ≡ other.era
   pub not_past : copy.number ≤ other.number
@@ -80,9 +82,11 @@ pub record KeepsUp (copy other : Copy) : Type 0 where
 
 -- the checkpoint that a copy of a process sent last: it has the copy's era and number, and carries what the copy has
 abbrev pub last_checkpoint : ℕ → Copy → ImageMessage
-last_checkpoint number copy = record { process = number; era = copy.era; number = copy.number; image = carried copy.core }
+last_checkpoint number copy =
+    record { process = number; era = copy.era; number = copy.number; image = carried copy.core }
 
--- a copy after it took over: it has the core that it had, is in the next era, with checkpoint number 0, stands at the base of its process, and holds nothing
+-- a copy after it took over: it has the core that it had, is in the next era, with checkpoint number 0, stands at the
+-- base of its process, and holds nothing
 pub record HasTakenOver (base : ℕ) (before after : Copy) : Type 0 where
   pub core : after.core ≡ before.core
   pub era : after.era ≡ before.era + 1
@@ -92,15 +96,18 @@ pub record HasTakenOver (base : ℕ) (before after : Copy) : Type 0 where
 
 -- Replies
 
--- a copy of a process awaits a reply: it acts and stands where a reply to what it asked comes, the file on which it asked is open to the reply's server at the
--- reply's place, and the reply's number is that of the request asked last on this file
+-- a copy of a process awaits a reply: it acts and stands where a reply to what it asked comes, the file on which it
+-- asked is open to the reply's server at the reply's place, and the reply's number is that of the request asked last on
+-- this file
 pub record Awaits (site : Site) (number : ℕ) (copy : Copy) (reply : Reply) : Type 0 where
   pub acting : copy.role ≡ Acting
   pub stands : process.point copy.core.state ≡ point.Await
-  pub file : opener_of site (who.File number (process.asked_file copy.core.state)) ≡ Some (record { server = reply.process; place = reply.opener })
+  pub file : opener_of site (who.File number (process.asked_file copy.core.state))
+      ≡ Some (record { server = reply.process; place = reply.opener })
   pub last : next_on copy.core (process.asked_file copy.core.state) ≡ reply.number + 1
 
--- a terminal awaits a reply: it is to the terminal's own server and place, and its number is that of the request entered last, which isn't printed yet
+-- a terminal awaits a reply: it is to the terminal's own server and place, and its number is that of the request
+-- entered last, which isn't printed yet
 pub record AwaitsAt (site : Site) (w : World) (number : ℕ) (reply : Reply) : Type 0 where
   pub terminal : Terminal
   pub there : slice_get w.terminals number ≡ Some terminal
@@ -119,7 +126,8 @@ pub record KeepsReplyTo (w : World) (node : ℕ) (request : Request) (words : Li
   pub acting : (copy_of k pair).role ≡ Acting
   pub kept : standing (copy_of k pair).core.receive request ≡ Kept words
 
--- a request is the next one of a terminal: to its own server and place, numbered next to the one that was entered last, and with the words that come next
+-- a request is the next one of a terminal: to its own server and place, numbered next to the one that was entered last,
+-- and with the words that come next
 pub record IsNextOf (site : Site) (number : ℕ) (terminal : Terminal) (request : Request) : Type 0 where
   pub opens : opener_of site (who.Terminal number) ≡ Some (record { server = request.process; place = request.opener })
   pub next : request.number ≡ terminal.entered + 1

@@ -1,4 +1,5 @@
--- How a checkpoint goes from one copy of a process to the other: Bartlett's checkpoint, applied whole. That era and number choose it is our own rule.
+-- How a checkpoint goes from one copy of a process to the other: Bartlett's checkpoint, applied whole. That era and
+-- number choose it is our own rule.
 use Rattle.std.specs.Prelude.{◌≡◌, ◌≤◌, ◌<◌, ℕ, ◌+◌, true, false, List, [], ◌∷◌, Some}
 use Rattle.gd_words.specs.Members.{IsAmong}
 use Rattle.tal_tree.specs.declared.act.Act.{Act}
@@ -15,7 +16,8 @@ use Rattle.world_semantics.specs.Messages.{Checkpointing, Taking, Sending, sent_
 
 -- the next checkpoint of an era, behind that of a number, which carries what it does of a core
 abbrev pub next_checkpoint : ℕ → ℕ → ℕ → Core → ImageMessage
-next_checkpoint process era number core = record { process = process; era = era; number = number + 1; image = carried core }
+next_checkpoint process era number core =
+    record { process = process; era = era; number = number + 1; image = carried core }
 
 -- the checkpoint that a copy of a process sends: the next one of its era
 abbrev pub checkpoint_of : ℕ → Copy → ImageMessage
@@ -37,40 +39,55 @@ copy_at_checkpoint copy = record copy { core = after_passing copy.core; sent = f
 abbrev pub kept_at_checkpoint : ℕ → Copy → List Act → List Act
 kept_at_checkpoint number copy kept = kept_with_checkpoint number kept (share_of copy)
 
--- the process after one of its copies applied a checkpoint, by which it has this core: the other copy's held acts and its checkpoint are kept, the base is behind
--- them, and the other copy stands before that checkpoint. It is so too where the other copy is gone: what a copy that is gone keeps is all but its role, its
--- position and its held acts
+-- the process after one of its copies applied a checkpoint, by which it has this core: the other copy's held acts and
+-- its checkpoint are kept, the base is behind them, and the other copy stands before that checkpoint. It is so too
+-- where the other copy is gone: what a copy that is gone keeps is all but its role, its position and its held acts
 abbrev pub after_applying : ℕ → Which → ImageMessage → Core → List Act → Pair → Pair
 after_applying number k message applied kept pair =
     with_copy k (record (copy_of k pair) { core = applied; number = message.number })
-    (with_copy (other_of k) (with_share (share_after_cover number kept (share_of (copy_of (other_of k) pair))).share (copy_of (other_of k) pair))
-    (record pair { base = covered_count number kept (share_of (copy_of (other_of k) pair)); takens = taken_of message ∷ pair.takens }))
+    (with_copy (other_of k) (with_share (share_after_cover number kept (share_of (copy_of (other_of k) pair))).share
+    (copy_of (other_of k) pair))
+    (record pair {
+      base = covered_count number kept (share_of (copy_of (other_of k) pair));
+      takens = taken_of message ∷ pair.takens;
+    }))
 
--- how a checkpoint goes from one copy of a process to the other. A copy that acts at a checkpoint sends its checkpoint, unless it did or its node has marked the
--- other copy's processor; a watching copy applies a sent checkpoint whose era is its own and whose number is the next; a copy that acts is told that the
--- checkpoint which it has sent was taken; and it passes its checkpoint, which it did already, or which is kept now with its held acts before it
-pub data Passes (number : ℕ) (marks : List Down) (kept : List Act) (pair : Pair) : Cause → List Sending → Pair → List Act → Type 0 where
-  by_send : (k : Which) → (copy_of k pair).role ≡ Acting → process.point (copy_of k pair).core.state ≡ point.AtCheckpoint → (copy_of k pair).sent ≡ false
+-- how a checkpoint goes from one copy of a process to the other. A copy that acts at a checkpoint sends its checkpoint,
+-- unless it did or its node has marked the other copy's processor; a watching copy applies a sent checkpoint whose era
+-- is its own and whose number is the next; a copy that acts is told that the checkpoint which it has sent was taken;
+-- and it passes its checkpoint, which it did already, or which is kept now with its held acts before it
+pub data Passes (number : ℕ) (marks : List Down) (kept : List Act) (pair : Pair) : Cause → List Sending → Pair
+    → List Act → Type 0 where
+  by_send : (k : Which) → (copy_of k pair).role ≡ Acting
+      → process.point (copy_of k pair).core.state ≡ point.AtCheckpoint → (copy_of k pair).sent ≡ false
       → has_noted marks (copy_of k pair).processor (copy_of (other_of k) pair).processor ≡ false
       → Passes number marks kept pair (Running number)
       (sent_at (copy_of k pair).processor (Checkpointing (checkpoint_of number (copy_of k pair)) ∷ []))
-      (with_copy k (after_sending (copy_of k pair)) (record pair { checkpoints = checkpoint_of number (copy_of k pair) ∷ pair.checkpoints })) kept
-  by_pass_again : (k : Which) → (copy_of k pair).role ≡ Acting → process.point (copy_of k pair).core.state ≡ point.AtCheckpoint → may_pass marks k pair ≡ true
+      (with_copy k (after_sending (copy_of k pair))
+      (record pair { checkpoints = checkpoint_of number (copy_of k pair) ∷ pair.checkpoints })) kept
+  by_pass_again : (k : Which) → (copy_of k pair).role ≡ Acting
+      → process.point (copy_of k pair).core.state ≡ point.AtCheckpoint → may_pass marks k pair ≡ true
       → (copy_of k pair).position < own_acts number kept
       → Passes number marks kept pair (Running number) []
-      (with_copy k (record (copy_at_checkpoint (copy_of k pair)) { position = (copy_of k pair).position + 1 }) pair) kept
-  by_pass : (k : Which) → (copy_of k pair).role ≡ Acting → process.point (copy_of k pair).core.state ≡ point.AtCheckpoint → may_pass marks k pair ≡ true
+      (with_copy k (record (copy_at_checkpoint (copy_of k pair)) { position = (copy_of k pair).position + 1 }) pair)
+      kept
+  by_pass : (k : Which) → (copy_of k pair).role ≡ Acting
+      → process.point (copy_of k pair).core.state ≡ point.AtCheckpoint → may_pass marks k pair ≡ true
       → own_acts number kept ≤ (copy_of k pair).position
       → Passes number marks kept pair (Running number) []
-      (with_copy k (record (copy_at_checkpoint (copy_of k pair)) { position = own_acts number (kept_at_checkpoint number (copy_of k pair) kept); held = [] }) pair)
+      (with_copy k (record (copy_at_checkpoint (copy_of k pair))
+      { position = own_acts number (kept_at_checkpoint number (copy_of k pair) kept); held = [] }) pair)
       (kept_at_checkpoint number (copy_of k pair) kept)
-  by_apply : (k : Which) (message : ImageMessage) (applied : Core) → (copy_of k pair).role ≡ Watching → IsAmong message pair.checkpoints
-      → message.era ≡ (copy_of k pair).era → message.number ≡ (copy_of k pair).number + 1 → put_in (copy_of k pair).core message.image ≡ Some applied
+  by_apply : (k : Which) (message : ImageMessage) (applied : Core) → (copy_of k pair).role ≡ Watching
+      → IsAmong message pair.checkpoints
+      → message.era ≡ (copy_of k pair).era → message.number ≡ (copy_of k pair).number + 1
+      → put_in (copy_of k pair).core message.image ≡ Some applied
       → Passes number marks kept pair (Handing (copy_of k pair).processor (Checkpointing message))
       (sent_at (copy_of k pair).processor (Taking (taken_of message) ∷ []))
       (after_applying number k message applied kept pair)
       (kept_at_checkpoint number (copy_of (other_of k) pair) kept)
-  by_acknowledge : (k : Which) (taken : TakenMessage) → (copy_of k pair).role ≡ Acting → (copy_of k pair).sent ≡ true → IsAmong taken pair.takens
+  by_acknowledge : (k : Which) (taken : TakenMessage) → (copy_of k pair).role ≡ Acting → (copy_of k pair).sent ≡ true
+      → IsAmong taken pair.takens
       → taken.era ≡ (copy_of k pair).era → taken.number ≡ (copy_of k pair).number
       → Passes number marks kept pair (Handing (copy_of k pair).processor (Taking taken)) []
       (with_copy k (record (copy_of k pair) { acknowledged = true }) pair) kept

@@ -6,7 +6,8 @@ use Rattle.tal_tree.specs.declared.act.Act.{Act}
 use Rattle.tal_tree.specs.declared.act.Shown.{Shown}
 use Rattle.world_semantics.specs.World.{World}
 
--- what happened in a run: the requests and replies ever sent, what was shown, and the acts that are kept, each the newest first
+-- what happened in a run: the requests and replies ever sent, what was shown, and the acts that are kept, each the
+-- newest first
 pub record Records : Type 0 where
   pub requests : List Request
   pub replies : List Reply

@@ -1,7 +1,9 @@
--- The rules of the world, after Bartlett's account of process pairs: what may change in it, where, and what is sent or sent again. Each rule is one
--- constructor: of `Causes` where a copy does an act of its own (inner, take, ask, answer, device, write, reply), of `Passes` where a checkpoint goes from
--- copy to copy (send, pass, apply, acknowledge), and else of `Change` (request, early request, enter, print, stop, and mark with the takeovers).
-use Rattle.std.specs.Prelude.{◌≡◌, ℕ, ◌+◌, ◌==◌, ◌&&◌, ℤ, Bool, true, false, if◌then◌else◌, List, [], ◌∷◌, map, slice_get, slice_set, Some, Option, None}
+-- The rules of the world, after Bartlett's account of process pairs: what may change in it, where, and what is sent or
+-- sent again. Each rule is one constructor: of `Causes` where a copy does an act of its own (inner, take, ask, answer,
+-- device, write, reply), of `Passes` where a checkpoint goes from copy to copy (send, pass, apply, acknowledge), and
+-- else of `Change` (request, early request, enter, print, stop, and mark with the takeovers).
+use Rattle.std.specs.Prelude.{◌≡◌, ℕ, ◌+◌, ◌==◌, ◌&&◌, ℤ, Bool, true, false, if◌then◌else◌, List, [], ◌∷◌, map}
+use Rattle.std.specs.Prelude.{slice_get, slice_set, Some, Option, None}
 use Rattle.std.specs.List.{flat_map}
 use Rattle.gd_words.specs.declared.message.Request.{Request}
 use Rattle.gd_words.specs.declared.message.Reply.{Reply}
@@ -18,9 +20,11 @@ use Rattle.world_semantics.specs.declared.role.Role.{Role}
 use Rattle.world_semantics.specs.declared.role.Role.TheVariants.{Acting, Watching, Gone}
 use Rattle.checkpoint_image.specs.Receive.{waits, came, repeated, still_waiting, all_repeated}
 use Rattle.world_semantics.specs.Core.{Core, Deed, Advances}
-use Rattle.world_semantics.specs.World.{Copy, Pair, Terminal, World, terminal_node, is_running, has_noted, Which, First, Second, other_of, copy_of, with_copy, with_pair}
+use Rattle.world_semantics.specs.World.{Copy, Pair, Terminal, World, terminal_node, is_running, has_noted, Which, First}
+use Rattle.world_semantics.specs.World.{Second, other_of, copy_of, with_copy, with_pair}
 use Rattle.world_semantics.specs.Kept.{Enters}
-use Rattle.world_semantics.specs.Messages.{Message, Asking, Replying, Sending, sent_at, Cause, Entering, Handing, Stopping, NotingDown}
+use Rattle.world_semantics.specs.Messages.{Message, Asking, Replying, Sending, sent_at, Cause, Entering, Handing}
+use Rattle.world_semantics.specs.Messages.{Stopping, NotingDown}
 use Rattle.world_semantics.specs.Own.{Around, around, Causes}
 use Rattle.world_semantics.specs.Passes.{Passes}
 use Rattle.world_semantics.specs.Shares.{without_held}
@@ -32,7 +36,8 @@ stopped_copy processor copy = record copy { role = if copy.processor == processo
 
 -- a process after a processor stopped: its copy there is gone, and all else of that copy stays as it was
 abbrev pub stopped_pair : ℕ → Pair → Pair
-stopped_pair processor pair = record pair { first = stopped_copy processor pair.first; second = stopped_copy processor pair.second }
+stopped_pair processor pair =
+    record pair { first = stopped_copy processor pair.first; second = stopped_copy processor pair.second }
 
 -- Takeovers
 
@@ -41,10 +46,12 @@ is_watching Watching = true
 is_watching Acting = false
 is_watching Gone = false
 
--- whether a copy takes over when a node marks a processor: it watches on that node, and the other copy's processor is the one that is marked
+-- whether a copy takes over when a node marks a processor: it watches on that node, and the other copy's processor is
+-- the one that is marked
 abbrev pub takes_over : ℕ → ℕ → Which → Pair → Bool
 takes_over node processor k pair =
-    is_watching (copy_of k pair).role && (copy_of k pair).processor == node && (copy_of (other_of k) pair).processor == processor
+    is_watching (copy_of k pair).role && (copy_of k pair).processor == node
+    && (copy_of (other_of k) pair).processor == processor
 
 -- the copy after it took over: it acts in the next era, from the base on, with no checkpoint sent and nothing held
 abbrev pub taken_over : ℕ → Copy → Copy
@@ -61,12 +68,14 @@ taken_over base copy =
 -- the process after one of its copies took over: the acts that the lost copy held are dropped
 abbrev pub after_takeover : Which → Pair → Pair
 after_takeover k pair =
-    with_copy k (taken_over pair.base (copy_of k pair)) (with_copy (other_of k) (without_held (copy_of (other_of k) pair)) pair)
+    with_copy k (taken_over pair.base (copy_of k pair))
+    (with_copy (other_of k) (without_held (copy_of (other_of k) pair)) pair)
 
 -- which copy of a process takes over when a node marks a processor
 abbrev pub taker : ℕ → ℕ → Pair → Option Which
 taker node processor pair =
-    if takes_over node processor First pair then Some First else if takes_over node processor Second pair then Some Second else None
+    if takes_over node processor First pair then Some First else if takes_over node processor Second pair then Some
+    Second else None
 
 abbrev pub pair_after_down : Option Which → Pair → Pair
 pair_after_down None pair = pair
@@ -93,7 +102,8 @@ told_at_down node processor pair = takeover_sendings (taker node processor pair)
 -- the world after an act of a copy
 abbrev pub after_own : ℕ → Which → Pair → Core → Copy → Around → List Act → World → World
 after_own number k pair core entered after kept w =
-    record (with_pair number (with_copy k (record entered { core = core; waiting = after.waiting }) (record pair { sectors = after.sectors })) w) {
+    record (with_pair number (with_copy k (record entered { core = core; waiting = after.waiting })
+    (record pair { sectors = after.sectors })) w) {
       requests = after.requests;
       replies = after.replies;
       shown = after.shown;
@@ -106,31 +116,44 @@ entered_request opener terminal words =
     record { process = opener.server; opener = opener.place; number = terminal.entered + 1; words = words }
 
 -- what may change in the world, for which cause, with what is sent or sent again.
--- A copy that acts does an act of its own. A checkpoint goes from copy to copy. A sent request comes to a copy that acts, where it waits or its kept reply is
--- sent again, or early to one that watches, where it waits. A terminal that has a request left and awaits no reply enters it. A sent reply that a terminal
--- awaits, to the last request that it entered, is printed. A processor that hasn't stopped stops. A node that runs marks a processor that has stopped, if it
--- hasn't marked it, and each copy there that watches one in that processor takes over, in the order of the deck
+-- A copy that acts does an act of its own. A checkpoint goes from copy to copy. A sent request comes to a copy that
+-- acts, where it waits or its kept reply is sent again, or early to one that watches, where it waits. A terminal that
+-- has a request left and awaits no reply enters it. A sent reply that a terminal awaits, to the last request that it
+-- entered, is printed. A processor that hasn't stopped stops. A node that runs marks a processor that has stopped, if
+-- it hasn't marked it, and each copy there that watches one in that processor takes over, in the order of the deck
 pub data Change (site : Site) (w : World) : Cause → List Sending → World → Type 0 where
-  by_own : {cause : Cause} {deed : Deed} {done : Act} {messages : List Message} {after : Around} {core : Core} {entered : Copy} {kept : List Act}
-      → (number : ℕ) (k : Which) (pair : Pair) → slice_get w.processes number ≡ Some pair → (copy_of k pair).role ≡ Acting
-      → Causes site number (copy_of k pair).processor (copy_of k pair).core (around (copy_of k pair) pair w) cause deed done messages after
+  by_own : {cause : Cause} {deed : Deed} {done : Act} {messages : List Message} {after : Around} {core : Core}
+      {entered : Copy} {kept : List Act}
+      → (number : ℕ) (k : Which) (pair : Pair) → slice_get w.processes number ≡ Some pair
+      → (copy_of k pair).role ≡ Acting
+      → Causes site number (copy_of k pair).processor (copy_of k pair).core (around (copy_of k pair) pair w) cause deed
+      done messages after
       → Advances (openers_of site number) (copy_of k pair).core deed core
       → Enters number done w.kept (copy_of k pair) entered kept
-      → Change site w cause (sent_at (copy_of k pair).processor messages) (after_own number k pair core entered after kept w)
-  by_checkpoint : {cause : Cause} {sendings : List Sending} {next : Pair} {kept : List Act} → (number : ℕ) (pair : Pair) → slice_get w.processes number ≡ Some pair
+      → Change site w cause (sent_at (copy_of k pair).processor messages)
+      (after_own number k pair core entered after kept w)
+  by_checkpoint : {cause : Cause} {sendings : List Sending} {next : Pair} {kept : List Act}
+      → (number : ℕ) (pair : Pair) → slice_get w.processes number ≡ Some pair
       → Passes number w.marks w.kept pair cause sendings next kept
       → Change site w cause sendings (record (with_pair number next w) { kept = kept })
-  by_request : (request : Request) (k : Which) (pair : Pair) → IsAmong request w.requests → slice_get w.processes request.process ≡ Some pair
+  by_request : (request : Request) (k : Which) (pair : Pair) → IsAmong request w.requests
+      → slice_get w.processes request.process ≡ Some pair
       → (copy_of k pair).role ≡ Acting
       → Change site w (Handing (copy_of k pair).processor (Asking request))
       (sent_at (copy_of k pair).processor (map Replying (repeated (copy_of k pair).core.receive request)))
       (with_pair request.process
-      (with_copy k (record (copy_of k pair) { waiting = came (copy_of k pair).core.receive (copy_of k pair).waiting request }) pair) w)
-  by_early_request : (request : Request) (k : Which) (pair : Pair) → IsAmong request w.requests → slice_get w.processes request.process ≡ Some pair
+      (with_copy k (record (copy_of k pair) {
+        waiting =
+            came (copy_of k pair).core.receive (copy_of k pair).waiting request;
+      }) pair) w)
+  by_early_request : (request : Request) (k : Which) (pair : Pair) → IsAmong request w.requests
+      → slice_get w.processes request.process ≡ Some pair
       → (copy_of k pair).role ≡ Watching
       → Change site w (Handing (copy_of k pair).processor (Asking request)) []
-      (with_pair request.process (with_copy k (record (copy_of k pair) { waiting = waits (copy_of k pair).waiting request }) pair) w)
-  by_enter : {words : List ℤ} → (number : ℕ) (terminal : Terminal) (opener : Opener) → slice_get w.terminals number ≡ Some terminal
+      (with_pair request.process (with_copy k
+      (record (copy_of k pair) { waiting = waits (copy_of k pair).waiting request }) pair) w)
+  by_enter : {words : List ℤ} → (number : ℕ) (terminal : Terminal) (opener : Opener)
+      → slice_get w.terminals number ≡ Some terminal
       → terminal.entered ≡ terminal.printed → next_request site number terminal.entered ≡ Some words
       → opener_of site (who.Terminal number) ≡ Some opener
       → Change site w (Entering number) (sent_at terminal_node (Asking (entered_request opener terminal words) ∷ []))
@@ -141,7 +164,8 @@ pub data Change (site : Site) (w : World) : Cause → List Sending → World →
       })
   by_print : (number : ℕ) (terminal : Terminal) (reply : Reply) → slice_get w.terminals number ≡ Some terminal
       → terminal.entered ≡ terminal.printed + 1 → IsAmong reply w.replies
-      → opener_of site (who.Terminal number) ≡ Some (record { server = reply.process; place = reply.opener }) → reply.number ≡ terminal.entered
+      → opener_of site (who.Terminal number) ≡ Some (record { server = reply.process; place = reply.opener })
+      → reply.number ≡ terminal.entered
       → Change site w (Handing terminal_node (Replying reply)) []
       (record w {
         terminals = slice_set w.terminals number (record terminal { printed = terminal.printed + 1 });
@@ -151,7 +175,8 @@ pub data Change (site : Site) (w : World) : Cause → List Sending → World →
   by_stop : (processor : ℕ) → slice_get w.stopped processor ≡ Some false
       → Change site w (Stopping processor) []
       (record w { stopped = slice_set w.stopped processor true; processes = map (stopped_pair processor) w.processes })
-  by_mark : (node processor : ℕ) → slice_get w.stopped processor ≡ Some true → is_running w.stopped node ≡ true → has_noted w.marks node processor ≡ false
+  by_mark : (node processor : ℕ) → slice_get w.stopped processor ≡ Some true → is_running w.stopped node ≡ true
+      → has_noted w.marks node processor ≡ false
       → Change site w (NotingDown node processor) (flat_map (told_at_down node processor) w.processes)
       (record w {
         marks = record { node = node; down = processor } ∷ w.marks;

@@ -1,6 +1,7 @@
--- What a process does where it runs, computed: told of the process alone, its two copies and the records of what happened, and then of the world in which it
--- stands. `Follows` says what is permitted, and laws relate both.
-use Rattle.std.specs.Prelude.{ℕ, ℤ, Bool, true, false, if◌then◌else◌, List, [], ◌∷◌, ◌++◌, map, slice_get, Option, Some, None}
+-- What a process does where it runs, computed: told of the process alone, its two copies and the records of what
+-- happened, and then of the world in which it stands. `Follows` says what is permitted, and laws relate both.
+use Rattle.std.specs.Prelude.{ℕ, ℤ, Bool, true, false, if◌then◌else◌, List, [], ◌∷◌, ◌++◌, map, slice_get, Option, Some}
+use Rattle.std.specs.Prelude.{None}
 use Rattle.std.specs.Option.{option_map}
 use Rattle.gd_words.specs.declared.device.DeviceCall.{DeviceCall}
 use Rattle.gd_words.specs.declared.device.DeviceCall.TheVariants.{Write}
@@ -19,7 +20,8 @@ use Rattle.world_semantics.specs.declared.role.Role.{Role}
 use Rattle.world_semantics.specs.declared.role.Role.TheVariants.{Acting, Watching, Gone}
 use Rattle.checkpoint_image.specs.Receive.{Chosen, chosen}
 use Rattle.world_semantics.specs.Core.{Core, core_acting, core_asked, core_going, core_replied, core_taken}
-use Rattle.world_semantics.specs.World.{Copy, Down, Pair, World, Which, First, Second, copy_of, with_copy, may_pass, with_pair}
+use Rattle.world_semantics.specs.World.{Copy, Down, Pair, World, Which, First, Second, copy_of, with_copy, may_pass}
+use Rattle.world_semantics.specs.World.{with_pair}
 use Rattle.world_semantics.specs.Messages.{Message, Asking, Replying, Checkpointing, Sending, sent_at}
 use Rattle.world_semantics.specs.Own.{Around, around_with, asked_on, is_new_write, found_on}
 use Rattle.world_semantics.specs.Passes.{checkpoint_of, after_sending, copy_at_checkpoint}
@@ -94,7 +96,10 @@ abbrev pub own_answered : ℕ → Core → Around → ℕ → List ℤ → Opene
 own_answered number core before place words opener block = record {
   done = act.Step number;
   messages = Replying (record { process = number; opener = place; number = block.taken; words = words }) ∷ [];
-  after = record before { replies = record { process = number; opener = place; number = block.taken; words = words } ∷ before.replies };
+  after = record before {
+    replies = record { process = number; opener = place; number = block.taken; words = words }
+        ∷ before.replies;
+  };
   core = core_replied opener.depth place block words core;
 }
 
@@ -106,7 +111,8 @@ own_answer_at number core before place (Some opener) block =
 abbrev pub own_answer : Site → ℕ → Core → Around → Option ℕ → Option Own
 own_answer site number core before None = None
 own_answer site number core before (Some place) =
-    own_answer_at number core before place (slice_get (openers_of site number) place) (slice_get core.receive.openers place)
+    own_answer_at number core before place (slice_get (openers_of site number) place)
+    (slice_get core.receive.openers place)
 
 abbrev pub around_write : ℕ → Around → DeviceCall → Around
 around_write number before (Write sector words write) = record before {
@@ -115,7 +121,8 @@ around_write number before (Write sector words write) = record before {
 }
 around_write number before call = before
 
--- what a call of the device leaves around a copy: a new write puts its words and is shown, and any other call changes nothing
+-- what a call of the device leaves around a copy: a new write puts its words and is shown, and any other call changes
+-- nothing
 abbrev pub after_call : ℕ → Around → DeviceCall → Around
 after_call number before call = if is_new_write before.sectors call then around_write number before call else before
 
@@ -142,7 +149,8 @@ own_at site number core before point.Ended = None
 
 -- a copy of a process after an act of its own
 abbrev pub copy_acted : ℕ → List Act → Own → Copy → Copy
-copy_acted number kept own copy = record (after_entering number own.done kept copy) { core = own.core; waiting = own.after.waiting }
+copy_acted number kept own copy =
+    record (after_entering number own.done kept copy) { core = own.core; waiting = own.after.waiting }
 
 -- and the records after it
 abbrev pub records_acted : ℕ → List Act → Own → Copy → Records
@@ -156,7 +164,8 @@ records_acted number kept own copy = record {
 -- the step that an act of a copy's own is
 abbrev pub own_step : ℕ → Which → Pair → Records → Own → Stepped
 own_step number k pair records own = record {
-  pair = with_copy k (copy_acted number records.kept own (copy_of k pair)) (record pair { sectors = own.after.sectors });
+  pair = with_copy k (copy_acted number records.kept own (copy_of k pair))
+      (record pair { sectors = own.after.sectors });
   records = records_acted number records.kept own (copy_of k pair);
   sendings = sent_at (copy_of k pair).processor own.messages;
 }
@@ -172,17 +181,20 @@ own_of site number k pair records stands =
 abbrev pub sending_step : ℕ → Which → Pair → Records → Stepped
 sending_step number k pair records = record {
   pair =
-      with_copy k (after_sending (copy_of k pair)) (record pair { checkpoints = checkpoint_of number (copy_of k pair) ∷ pair.checkpoints });
+      with_copy k (after_sending (copy_of k pair))
+      (record pair { checkpoints = checkpoint_of number (copy_of k pair) ∷ pair.checkpoints });
   records = records;
   sendings = sent_at (copy_of k pair).processor (Checkpointing (checkpoint_of number (copy_of k pair)) ∷ []);
 }
 
 -- a copy after its checkpoint, which it did already, or which is kept now, and the records then
 abbrev pub copy_passed : ℕ → Records → Copy → Copy
-copy_passed number records copy = with_share (share_after_pass number records.kept (share_of copy)).share (copy_at_checkpoint copy)
+copy_passed number records copy =
+    with_share (share_after_pass number records.kept (share_of copy)).share (copy_at_checkpoint copy)
 
 abbrev pub records_passed : ℕ → Records → Copy → Records
-records_passed number records copy = record records { kept = (share_after_pass number records.kept (share_of copy)).kept }
+records_passed number records copy =
+    record records { kept = (share_after_pass number records.kept (share_of copy)).kept }
 
 -- a copy passes its checkpoint
 abbrev pub passing_step : ℕ → Which → Pair → Records → Stepped
@@ -202,11 +214,14 @@ mark_step number k pair records false false = Some (sending_step number k pair r
 
 -- the step of a copy that acts and stands at this point; none where it can't go on
 abbrev pub step_at : Site → ℕ → Which → Pair → List Down → Records → Point → Option Stepped
-step_at site number k pair marks records point.AtCheckpoint = mark_step number k pair records (may_pass marks k pair) (copy_of k pair).sent
-step_at site number k pair marks records stands = option_map (own_step number k pair records) (own_of site number k pair records stands)
+step_at site number k pair marks records point.AtCheckpoint =
+    mark_step number k pair records (may_pass marks k pair) (copy_of k pair).sent
+step_at site number k pair marks records stands =
+    option_map (own_step number k pair records) (own_of site number k pair records stands)
 
 abbrev pub step_as : Site → ℕ → Which → Pair → List Down → Records → Role → Option Stepped
-step_as site number k pair marks records Acting = step_at site number k pair marks records (process.point (copy_of k pair).core.state)
+step_as site number k pair marks records Acting =
+    step_at site number k pair marks records (process.point (copy_of k pair).core.state)
 step_as site number k pair marks records Watching = None
 step_as site number k pair marks records Gone = None
 

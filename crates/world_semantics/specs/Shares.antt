@@ -1,12 +1,14 @@
--- What the kept acts ask of a copy, by itself: its position in them and the acts that it holds back. How they change is our own rule: a copy that does anew
--- what its process did already adds nothing, and a take and the acts after it are held back until the next checkpoint.
+-- What the kept acts ask of a copy, by itself: its position in them and the acts that it holds back. How they change is
+-- our own rule: a copy that does anew what its process did already adds nothing, and a take and the acts after it are
+-- held back until the next checkpoint.
 use Rattle.std.specs.Prelude.{ℕ, ◌+◌, Bool, true, false, nat_lt, List, [], ◌∷◌, ◌++◌}
 use Rattle.tal_tree.specs.declared.act.Act.{Act}
 use Rattle.tal_tree.specs.declared.act.Act.TheVariants.{Step}
 use Rattle.world_semantics.specs.World.{Copy, Pair}
 use Rattle.world_semantics.specs.Kept.{own_acts, is_take}
 
--- a copy's share: how many of its process's kept acts it has done, and the acts that it did beyond them, the newest first
+-- a copy's share: how many of its process's kept acts it has done, and the acts that it did beyond them, the newest
+-- first
 pub record Share : Type 0 where
   pub position : ℕ
   pub held : List Act
@@ -38,11 +40,13 @@ entering_free done kept share false true = record { share = record share { held 
 entering_free done kept share false false = record { share = one_further share; kept = done ∷ kept }
 
 abbrev pub entering_behind : ℕ → Act → List Act → Share → List Act → Sharing
-entering_behind number done kept share [] = entering_free done kept share (nat_lt share.position (own_acts number kept)) (is_take done)
-entering_behind number done kept share (first ∷ rest) = record { share = record share { held = done ∷ share.held }; kept = kept }
+entering_behind number done kept share [] =
+    entering_free done kept share (nat_lt share.position (own_acts number kept)) (is_take done)
+entering_behind number done kept share (first ∷ rest) =
+    record { share = record share { held = done ∷ share.held }; kept = kept }
 
--- how an act of a copy enters the kept acts: behind held acts it is held too; else a copy that is behind the kept acts only comes one further; else a take is
--- held; else the act is kept
+-- how an act of a copy enters the kept acts: behind held acts it is held too; else a copy that is behind the kept acts
+-- only comes one further; else a take is held; else the act is kept
 abbrev pub share_after_act : ℕ → Act → List Act → Share → Sharing
 share_after_act number done kept share = entering_behind number done kept share share.held
 
@@ -59,13 +63,17 @@ kept_with_checkpoint number kept share = Step number ∷ (share.held ++ kept)
 abbrev pub passing_where : ℕ → List Act → Share → Bool → Sharing
 passing_where number kept share true = record { share = one_further share; kept = kept }
 passing_where number kept share false =
-    record { share = share_from (own_acts number (kept_with_checkpoint number kept share)); kept = kept_with_checkpoint number kept share }
+    record {
+      share = share_from (own_acts number (kept_with_checkpoint number kept share));
+      kept = kept_with_checkpoint number kept share;
+    }
 
 -- a copy passes its checkpoint: which it did already, or which is kept now, with its held acts before it
 abbrev pub share_after_pass : ℕ → List Act → Share → Sharing
 share_after_pass number kept share = passing_where number kept share (nat_lt share.position (own_acts number kept))
 
--- the other copy applied this copy's checkpoint: the held acts and the checkpoint are kept, and this copy stands before the checkpoint
+-- the other copy applied this copy's checkpoint: the held acts and the checkpoint are kept, and this copy stands before
+-- the checkpoint
 abbrev pub share_after_cover : ℕ → List Act → Share → Sharing
 share_after_cover number kept share =
     record { share = share_from (own_acts number (share.held ++ kept)); kept = kept_with_checkpoint number kept share }

@@ -1,7 +1,9 @@
--- The world of copies: all that it has. Pairs in two processors, checkpoints and takeover are Bartlett's; eras, bases, positions and held acts are our
--- own. Lists of what happened (acts, what is shown, messages, marks) have the newest first, so what is added stands before what was there; processes,
--- terminals, sectors and waiting requests stand in their order.
-use Rattle.std.specs.Prelude.{ℕ, ◌+◌, ◌==◌, ◌&&◌, Bool, false, not, ◌||◌, List, [], ◌∷◌, map, replicate, slice_get, slice_set, Option, Some, None}
+-- The world of copies: all that it has. Pairs in two processors, checkpoints and takeover are Bartlett's; eras, bases,
+-- positions and held acts are our own. Lists of what happened (acts, what is shown, messages, marks) have the newest
+-- first, so what is added stands before what was there; processes, terminals, sectors and waiting requests stand in
+-- their order.
+use Rattle.std.specs.Prelude.{ℕ, ◌+◌, ◌==◌, ◌&&◌, Bool, false, not, ◌||◌, List, [], ◌∷◌, map, replicate, slice_get}
+use Rattle.std.specs.Prelude.{slice_set, Option, Some, None}
 use Rattle.std.specs.List.{list_any}
 use Rattle.gd_words.specs.declared.message.Request.{Request}
 use Rattle.gd_words.specs.declared.message.Reply.{Reply}
@@ -21,9 +23,10 @@ pub use Rattle.world_semantics.specs.declared.which.Which.{Which}
 pub use Rattle.world_semantics.specs.declared.which.Which.TheVariants.{First, Second}
 use Rattle.world_semantics.specs.Core.{Core, core_at_boot}
 
--- a copy of a process: the processor in which it is, its role, its era, the number of the last checkpoint sent or applied in that era, whether it has sent
--- the checkpoint at which it stands, whether that was acknowledged, its core, and the requests that wait. Its position is how many of the
--- process's kept acts it has done, and its held acts are those that it did beyond them
+-- a copy of a process: the processor in which it is, its role, its era, the number of the last checkpoint sent or
+-- applied in that era, whether it has sent the checkpoint at which it stands, whether that was acknowledged, its core,
+-- and the requests that wait. Its position is how many of the process's kept acts it has done, and its held acts are
+-- those that it did beyond them
 pub record Copy : Type 0 where
   pub processor : ℕ
   pub role : Role
@@ -36,8 +39,8 @@ pub record Copy : Type 0 where
   pub position : ℕ
   pub held : List Act
 
--- a process: its copies in its two processors, how many of its kept acts the last applied checkpoint covers, the checkpoints that its copies ever sent and
--- the messages that those were taken, and the sectors of its device
+-- a process: its copies in its two processors, how many of its kept acts the last applied checkpoint covers, the
+-- checkpoints that its copies ever sent and the messages that those were taken, and the sectors of its device
 pub record Pair : Type 0 where
   pub first : Copy
   pub second : Copy
@@ -56,8 +59,8 @@ pub record Down : Type 0 where
   pub node : ℕ
   pub down : ℕ
 
--- the world: which processors have stopped, which node has marked which, the requests and replies ever sent, the processes, the terminals, what was shown,
--- and the acts that are kept
+-- the world: which processors have stopped, which node has marked which, the requests and replies ever sent, the
+-- processes, the terminals, what was shown, and the acts that are kept
 pub record World : Type 0 where
   pub stopped : List Bool
   pub marks : List Down
@@ -88,7 +91,8 @@ abbrev pub device_at_boot : Kind → List Stored
 device_at_boot (kind.Disc sectors) = replicate sectors blank
 device_at_boot (kind.Pair program) = []
 
--- a process at the beginning: the copy in its first-named processor acts, the other one watches, and both are at the beginning of the program
+-- a process at the beginning: the copy in its first-named processor acts, the other one watches, and both are at the
+-- beginning of the program
 abbrev pub pair_at_boot : Site → ℕ → ProcessSpec → Pair
 pair_at_boot site number spec = record {
   first = copy_at_boot Acting spec.primary (core_at_boot site number spec);
@@ -147,7 +151,8 @@ abbrev pub with_copy : Which → Copy → Pair → Pair
 with_copy First copy pair = record pair { first = copy }
 with_copy Second copy pair = record pair { second = copy }
 
--- whether a copy may go on after its checkpoint: its checkpoint was acknowledged, or its node has marked the other copy's processor
+-- whether a copy may go on after its checkpoint: its checkpoint was acknowledged, or its node has marked the other
+-- copy's processor
 abbrev pub may_pass : List Down → Which → Pair → Bool
 may_pass marks k pair =
     (copy_of k pair).acknowledged || has_noted marks (copy_of k pair).processor (copy_of (other_of k) pair).processor

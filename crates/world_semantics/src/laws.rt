@@ -15,7 +15,8 @@ ghost use Rattle.world_semantics.specs.Laws.{IsLater, IsLaterTerminal, HasGrown,
 
 /// In a run only processors that have stopped are marked.
 pub fn marked_have_stopped()
-    ensures { (site : Site) (events : List Event) (w : World) (mark : Down) → IsRun site events w → IsAmong mark w.marks → slice_get w.stopped mark.down ≡ Some true }
+    ensures { (site : Site) (events : List Event) (w : World) (mark : Down) → IsRun site events w
+        → IsAmong mark w.marks → slice_get w.stopped mark.down ≡ Some true }
 {}
 
 /// Where at most one processor has stopped, all marks of a run name the same one.
@@ -27,24 +28,28 @@ pub fn marks_name_one_processor()
 
 /// A processor that has stopped stays so.
 pub fn stops_stay()
-    ensures { (site : Site) (events : List Event) (w end : World) (processor : ℕ) → Leads site w events end → slice_get w.stopped processor ≡ Some true → slice_get end.stopped processor ≡ Some true }
+    ensures { (site : Site) (events : List Event) (w end : World) (processor : ℕ) → Leads site w events end
+        → slice_get w.stopped processor ≡ Some true → slice_get end.stopped processor ≡ Some true }
 {}
 
 /// In a run a copy is gone exactly where its processor has stopped.
 pub fn copies_go_with_their_processor()
-    ensures { (site : Site) (events : List Event) (w : World) (number : ℕ) (pair : Pair) (k : Which) → IsRun site events w → slice_get w.processes number ≡ Some pair
+    ensures { (site : Site) (events : List Event) (w : World) (number : ℕ) (pair : Pair) (k : Which)
+        → IsRun site events w → slice_get w.processes number ≡ Some pair
         → ((copy_of k pair).role ≡ Gone ↔ slice_get w.stopped (copy_of k pair).processor ≡ Some true) }
 {}
 
 /// In a run at most one copy of a process acts.
 pub fn one_copy_acts()
-    ensures { (site : Site) (events : List Event) (w : World) (number : ℕ) (pair : Pair) → IsRun site events w → slice_get w.processes number ≡ Some pair
+    ensures { (site : Site) (events : List Event) (w : World) (number : ℕ) (pair : Pair) → IsRun site events w
+        → slice_get w.processes number ≡ Some pair
         → pair.first.role ≡ Acting → pair.second.role ≡ Acting → ⊥ }
 {}
 
 /// In a run no position of a copy, and no base, is past the kept acts of its process.
 pub fn positions_are_kept()
-    ensures position { (site : Site) (events : List Event) (w : World) (number : ℕ) (pair : Pair) (k : Which) → IsRun site events w
+    ensures position { (site : Site) (events : List Event) (w : World) (number : ℕ) (pair : Pair) (k : Which)
+        → IsRun site events w
         → slice_get w.processes number ≡ Some pair → (copy_of k pair).position ≤ own_acts number w.kept }
     ensures base { (site : Site) (events : List Event) (w : World) (number : ℕ) (pair : Pair) → IsRun site events w
         → slice_get w.processes number ≡ Some pair → pair.base ≤ own_acts number w.kept }
@@ -52,60 +57,81 @@ pub fn positions_are_kept()
 
 /// No era falls, and no number of checkpoints while the era stays; no terminal's numbers fall.
 pub fn numbers_never_fall()
-    ensures copies { (site : Site) (events : List Event) (w end : World) (number : ℕ) (before after : Pair) (k : Which) → Leads site w events end
-        → slice_get w.processes number ≡ Some before → slice_get end.processes number ≡ Some after → IsLater (copy_of k before) (copy_of k after) }
-    ensures terminals { (site : Site) (events : List Event) (w end : World) (number : ℕ) (before after : Terminal) → Leads site w events end
-        → slice_get w.terminals number ≡ Some before → slice_get end.terminals number ≡ Some after → IsLaterTerminal before after }
+    ensures copies { (site : Site) (events : List Event) (w end : World) (number : ℕ) (before after : Pair) (k : Which)
+        → Leads site w events end
+        → slice_get w.processes number ≡ Some before → slice_get end.processes number ≡ Some after
+        → IsLater (copy_of k before) (copy_of k after) }
+    ensures terminals { (site : Site) (events : List Event) (w end : World) (number : ℕ) (before after : Terminal)
+        → Leads site w events end
+        → slice_get w.terminals number ≡ Some before → slice_get end.terminals number ≡ Some after
+        → IsLaterTerminal before after }
 {}
 
 /// The messages ever sent only grow.
 pub fn messages_stay()
-    ensures requests { (site : Site) (events : List Event) (w end : World) → Leads site w events end → HasGrown w.requests end.requests }
-    ensures replies { (site : Site) (events : List Event) (w end : World) → Leads site w events end → HasGrown w.replies end.replies }
-    ensures checkpoints { (site : Site) (events : List Event) (w end : World) (number : ℕ) (before after : Pair) → Leads site w events end
-        → slice_get w.processes number ≡ Some before → slice_get end.processes number ≡ Some after → HasGrown before.checkpoints after.checkpoints }
-    ensures takens { (site : Site) (events : List Event) (w end : World) (number : ℕ) (before after : Pair) → Leads site w events end
-        → slice_get w.processes number ≡ Some before → slice_get end.processes number ≡ Some after → HasGrown before.takens after.takens }
+    ensures requests { (site : Site) (events : List Event) (w end : World) → Leads site w events end
+        → HasGrown w.requests end.requests }
+    ensures replies { (site : Site) (events : List Event) (w end : World) → Leads site w events end
+        → HasGrown w.replies end.replies }
+    ensures checkpoints { (site : Site) (events : List Event) (w end : World) (number : ℕ) (before after : Pair)
+        → Leads site w events end
+        → slice_get w.processes number ≡ Some before → slice_get end.processes number ≡ Some after
+        → HasGrown before.checkpoints after.checkpoints }
+    ensures takens { (site : Site) (events : List Event) (w end : World) (number : ℕ) (before after : Pair)
+        → Leads site w events end
+        → slice_get w.processes number ≡ Some before → slice_get end.processes number ≡ Some after
+        → HasGrown before.takens after.takens }
 {}
 
 /// What was shown and the acts that are kept only grow.
 pub fn shown_and_kept_stay()
-    ensures shown { (site : Site) (events : List Event) (w end : World) → Leads site w events end → HasGrown w.shown end.shown }
-    ensures kept { (site : Site) (events : List Event) (w end : World) → Leads site w events end → HasGrown w.kept end.kept }
+    ensures shown { (site : Site) (events : List Event) (w end : World) → Leads site w events end
+        → HasGrown w.shown end.shown }
+    ensures kept { (site : Site) (events : List Event) (w end : World) → Leads site w events end
+        → HasGrown w.kept end.kept }
 {}
 
 /// A message that is handed over was sent.
 pub fn what_comes_was_sent()
-    ensures { (site : Site) (w next : World) (node : ℕ) (message : Message) (sendings : List Sending) → Change site w (Handing node message) sendings next → WasSent w message }
+    ensures { (site : Site) (w next : World) (node : ℕ) (message : Message) (sendings : List Sending)
+        → Change site w (Handing node message) sendings next → WasSent w message }
 {}
 
 /// In a run a copy's receive table has a request in hand exactly where the state of its process has.
 pub fn hands_agree()
-    ensures { (site : Site) (events : List Event) (w : World) (number : ℕ) (pair : Pair) (k : Which) → IsRun site events w → slice_get w.processes number ≡ Some pair
+    ensures { (site : Site) (events : List Event) (w : World) (number : ℕ) (pair : Pair) (k : Which)
+        → IsRun site events w → slice_get w.processes number ≡ Some pair
         → in_hand (copy_of k pair).core.state ≡ is_some (copy_of k pair).core.receive.in_hand }
 {}
 
 /// In a run all that a change sends, or sends again, is among the messages ever sent after it.
 pub fn what_is_sent_stays()
-    ensures { (site : Site) (events : List Event) (w next : World) (cause : Cause) (sendings : List Sending) (sending : Sending) → IsRun site events w
+    ensures { (site : Site) (events : List Event) (w next : World) (cause : Cause) (sendings : List Sending)
+        (sending : Sending) → IsRun site events w
         → Change site w cause sendings next → IsAmong sending sendings → WasSent next sending.message }
 {}
 
 /// In a run of a site with at most 16 processors nothing is handed over at a processor that has stopped.
 pub fn nothing_comes_to_a_stopped_node()
-    ensures { (site : Site) (events : List Event) (w next : World) (node : ℕ) (message : Message) (sendings : List Sending) → IsRun site events w → site.processors ≤ 16
+    ensures { (site : Site) (events : List Event) (w next : World) (node : ℕ) (message : Message)
+        (sendings : List Sending) → IsRun site events w → site.processors ≤ 16
         → Change site w (Handing node message) sendings next → slice_get w.stopped node ≡ Some true → ⊥ }
 {}
 
 /// A process that runs makes the change that is computed, and none where none is.
 pub fn a_run_is_computed()
-    ensures made { (site : Site) (w : World) (number : ℕ) (done : Done) → run_done site number w ≡ Some done → Change site w (Running number) done.sendings done.world }
-    ensures none { (site : Site) (w : World) (number : ℕ) → run_done site number w ≡ None → IsIdleFor site w (Running number) }
-    ensures follows { (site : Site) (w : World) (number : ℕ) → Follows site w (Run number) (sendings_of (run_done site number w)) (world_after w (run_done site number w)) }
+    ensures made { (site : Site) (w : World) (number : ℕ) (done : Done) → run_done site number w ≡ Some done
+        → Change site w (Running number) done.sendings done.world }
+    ensures none { (site : Site) (w : World) (number : ℕ) → run_done site number w ≡ None
+        → IsIdleFor site w (Running number) }
+    ensures follows { (site : Site) (w : World) (number : ℕ)
+        → Follows site w (Run number) (sendings_of (run_done site number w)) (world_after w (run_done site number w)) }
 {}
 
 /// In a run nothing else than what is computed follows where a process runs.
 pub fn a_run_has_one_outcome()
-    ensures { (site : Site) (events : List Event) (w next : World) (number : ℕ) (sendings : List Sending) → IsRun site events w
-        → Follows site w (Run number) sendings next → (next ≡ world_after w (run_done site number w)) × (sendings ≡ sendings_of (run_done site number w)) }
+    ensures { (site : Site) (events : List Event) (w next : World) (number : ℕ) (sendings : List Sending)
+        → IsRun site events w
+        → Follows site w (Run number) sendings next
+        → (next ≡ world_after w (run_done site number w)) × (sendings ≡ sendings_of (run_done site number w)) }
 {}

@@ -1,10 +1,11 @@
-//! The world of copies: each process as two copies in two processors, the messages that were ever sent between them, the
-//! processors that stopped, and what may change in it. It says what the machines do, and has no packets, channels or ticks.
+//! The world of copies: each process as two copies in two processors, the messages that were ever sent between them,
+//! the processors that stopped, and what may change in it. It says what the machines do, and has no packets, channels
+//! or ticks.
 //!
-//! Below stand `process_semantics` with the states and steps of processes, `checkpoint_image` with checkpoints and receive
-//! tables, `plain_semantics` with acts and openers, `disc_device` with the sectors of discs, and `schedule` with the events of a
-//! run. The layer above shows that one event of its machine `Follows` here, and uses the laws of this crate's public functions
-//! over whole runs.
+//! Below stand `process_semantics` with the states and steps of processes, `checkpoint_image` with checkpoints and
+//! receive tables, `plain_semantics` with acts and openers, `disc_device` with the sectors of discs, and `schedule`
+//! with the events of a run. The layer above shows that one event of its machine `Follows` here, and uses the laws of
+//! this crate's public functions over whole runs.
 #![tactic(auto)]
 
 pub mod examples;

@@ -16,78 +16,100 @@ ghost use Rattle.world_semantics.specs.declared.role.Role.TheVariants.{Acting, W
 ghost use Rattle.world_semantics.specs.World.{Pair, Terminal, World, Which, copy_of, other_of, terminal_node};
 ghost use Rattle.checkpoint_image.specs.Receive.{standing, reply_to};
 ghost use Rattle.world_semantics.specs.Follows.{IsRun};
-ghost use Rattle.world_semantics.specs.Messages.{Asking, Replying, Checkpointing, Taking, Cause, Sending, Entering, Handing, NotingDown};
+ghost use Rattle.world_semantics.specs.Messages.{Asking, Replying, Checkpointing, Taking, Cause, Sending, Entering};
+ghost use Rattle.world_semantics.specs.Messages.{Handing, NotingDown};
 ghost use Rattle.world_semantics.specs.Rules.{Change};
-ghost use Rattle.world_semantics.specs.Laws.{HasStayed, IsNextFor, HasApplied, Acknowledges, KeepsUp, HasTakenOver, last_checkpoint, Awaits, AwaitsAt, KeepsReplyTo, IsNextOf, waiting_of};
+ghost use Rattle.world_semantics.specs.Laws.{HasStayed, IsNextFor, HasApplied, Acknowledges, KeepsUp, HasTakenOver};
+ghost use Rattle.world_semantics.specs.Laws.{last_checkpoint, Awaits, AwaitsAt, KeepsReplyTo, IsNextOf, waiting_of};
 
-/// A checkpoint of another era, or of another number than the next, is never applied: what a copy that watches has, and the number
-/// of its last checkpoint, change only by a checkpoint of its process that comes to it, is of its own era and has the number next
-/// to its own. A checkpoint that comes changes no other copy's.
+/// A checkpoint of another era, or of another number than the next, is never applied: what a copy that watches has, and
+/// the number of its last checkpoint, change only by a checkpoint of its process that comes to it, is of its own era
+/// and has the number next to its own. A checkpoint that comes changes no other copy's.
 pub fn checkpoints_are_applied_in_order()
-    ensures watching { (site : Site) (w next : World) (cause : Cause) (sendings : List Sending) (number : ℕ) (before after : Pair) (k : Which)
-        → Change site w cause sendings next → slice_get w.processes number ≡ Some before → slice_get next.processes number ≡ Some after → (copy_of k before).role ≡ Watching
+    ensures watching { (site : Site) (w next : World) (cause : Cause) (sendings : List Sending) (number : ℕ)
+        (before after : Pair) (k : Which)
+        → Change site w cause sendings next → slice_get w.processes number ≡ Some before
+        → slice_get next.processes number ≡ Some after → (copy_of k before).role ≡ Watching
         → HasStayed (copy_of k before) (copy_of k after)
         ⊎ ((message : ImageMessage) × (cause ≡ Handing (copy_of k before).processor (Checkpointing message)) × IsAmong message before.checkpoints
         × IsNextFor (copy_of k before) message × HasApplied (copy_of k before) message (copy_of k after)) }
-    ensures others { (site : Site) (w next : World) (node : ℕ) (message : ImageMessage) (sendings : List Sending) (number : ℕ) (before after : Pair) (k : Which)
-        → Change site w (Handing node (Checkpointing message)) sendings next → slice_get w.processes number ≡ Some before → slice_get next.processes number ≡ Some after
+    ensures others { (site : Site) (w next : World) (node : ℕ) (message : ImageMessage) (sendings : List Sending)
+        (number : ℕ) (before after : Pair) (k : Which)
+        → Change site w (Handing node (Checkpointing message)) sendings next
+        → slice_get w.processes number ≡ Some before → slice_get next.processes number ≡ Some after
         → ((copy_of k before).role ≡ Watching → ⊥) → HasStayed (copy_of k before) (copy_of k after) }
 {}
 
-/// A copy's checkpoint becomes acknowledged only where the copy acts and has sent it, and a message comes that the checkpoint of just
-/// this era and number was taken.
+/// A copy's checkpoint becomes acknowledged only where the copy acts and has sent it, and a message comes that the
+/// checkpoint of just this era and number was taken.
 pub fn only_a_sent_checkpoint_is_acknowledged()
-    ensures { (site : Site) (w next : World) (cause : Cause) (sendings : List Sending) (number : ℕ) (before after : Pair) (k : Which)
-        → Change site w cause sendings next → slice_get w.processes number ≡ Some before → slice_get next.processes number ≡ Some after
+    ensures { (site : Site) (w next : World) (cause : Cause) (sendings : List Sending) (number : ℕ)
+        (before after : Pair) (k : Which)
+        → Change site w cause sendings next → slice_get w.processes number ≡ Some before
+        → slice_get next.processes number ≡ Some after
         → (copy_of k before).acknowledged ≡ false → (copy_of k after).acknowledged ≡ true
-        → (taken : TakenMessage) × (cause ≡ Handing (copy_of k before).processor (Taking taken)) × IsAmong taken before.takens × Acknowledges (copy_of k before) taken }
+        → (taken : TakenMessage) × (cause ≡ Handing (copy_of k before).processor (Taking taken))
+        × IsAmong taken before.takens × Acknowledges (copy_of k before) taken }
 {}
 
-/// In a run a copy that acts and has sent stands at its checkpoint, and that, with all that it has, is among those sent.
+/// In a run a copy that acts and has sent stands at its checkpoint, and that, with all that it has, is among those
+/// sent.
 pub fn a_copy_has_sent_what_it_has()
-    ensures { (site : Site) (events : List Event) (w : World) (number : ℕ) (pair : Pair) (k : Which) → IsRun site events w → slice_get w.processes number ≡ Some pair
+    ensures { (site : Site) (events : List Event) (w : World) (number : ℕ) (pair : Pair) (k : Which)
+        → IsRun site events w → slice_get w.processes number ≡ Some pair
         → (copy_of k pair).role ≡ Acting → (copy_of k pair).sent ≡ true
-        → (point (copy_of k pair).core.state ≡ AtCheckpoint) × IsAmong (last_checkpoint number (copy_of k pair)) pair.checkpoints }
+        → (point (copy_of k pair).core.state ≡ AtCheckpoint)
+        × IsAmong (last_checkpoint number (copy_of k pair)) pair.checkpoints }
 {}
 
-/// In a run a copy that watches is at most one checkpoint behind the other copy of its process, and has applied what is acknowledged.
+/// In a run a copy that watches is at most one checkpoint behind the other copy of its process, and has applied what is
+/// acknowledged.
 pub fn a_watching_copy_keeps_up()
-    ensures { (site : Site) (events : List Event) (w : World) (number : ℕ) (pair : Pair) (k : Which) → IsRun site events w → slice_get w.processes number ≡ Some pair
+    ensures { (site : Site) (events : List Event) (w : World) (number : ℕ) (pair : Pair) (k : Which)
+        → IsRun site events w → slice_get w.processes number ≡ Some pair
         → (copy_of k pair).role ≡ Watching → KeepsUp (copy_of k pair) (copy_of (other_of k) pair) }
 {}
 
-/// A copy that watches acts only where its node marks the other copy's processor: in the next era, with checkpoint number 0, from the
-/// base on, and with nothing held.
+/// A copy that watches acts only where its node marks the other copy's processor: in the next era, with checkpoint
+/// number 0, from the base on, and with nothing held.
 pub fn a_takeover_begins_an_era()
-    ensures { (site : Site) (w next : World) (cause : Cause) (sendings : List Sending) (number : ℕ) (before after : Pair) (k : Which)
-        → Change site w cause sendings next → slice_get w.processes number ≡ Some before → slice_get next.processes number ≡ Some after
+    ensures { (site : Site) (w next : World) (cause : Cause) (sendings : List Sending) (number : ℕ)
+        (before after : Pair) (k : Which)
+        → Change site w cause sendings next → slice_get w.processes number ≡ Some before
+        → slice_get next.processes number ≡ Some after
         → (copy_of k before).role ≡ Watching → (copy_of k after).role ≡ Acting
         → (cause ≡ NotingDown (copy_of k before).processor (copy_of (other_of k) before).processor)
         × HasTakenOver before.base (copy_of k before) (copy_of k after) }
 {}
 
-/// A reply that comes changes what a copy has only where it comes to a copy that acts and awaits the reply of this number on the file on
-/// which it asked, and gives it the reply's words.
+/// A reply that comes changes what a copy has only where it comes to a copy that acts and awaits the reply of this
+/// number on the file on which it asked, and gives it the reply's words.
 pub fn only_the_awaited_reply_is_got()
-    ensures { (site : Site) (w next : World) (node : ℕ) (reply : Reply) (sendings : List Sending) (number : ℕ) (before after : Pair) (k : Which)
-        → Change site w (Handing node (Replying reply)) sendings next → slice_get w.processes number ≡ Some before → slice_get next.processes number ≡ Some after
+    ensures { (site : Site) (w next : World) (node : ℕ) (reply : Reply) (sendings : List Sending) (number : ℕ)
+        (before after : Pair) (k : Which)
+        → Change site w (Handing node (Replying reply)) sendings next → slice_get w.processes number ≡ Some before
+        → slice_get next.processes number ≡ Some after
         → ((copy_of k after).core ≡ (copy_of k before).core)
         ⊎ (((copy_of k before).processor ≡ node) × Awaits site number (copy_of k before) reply
         × ((copy_of k after).core.state ≡ after_got (copy_of k before).core.state reply.words)) }
 {}
 
-/// A reply is shown only where it comes to a terminal that awaits the reply of this number from its own server, and the terminal then awaits
-/// it no more.
+/// A reply is shown only where it comes to a terminal that awaits the reply of this number from its own server, and the
+/// terminal then awaits it no more.
 pub fn only_the_awaited_reply_is_printed()
-    ensures { (site : Site) (w next : World) (cause : Cause) (sendings : List Sending) (more : List Shown) (terminal number : ℕ) (words : List ℤ)
-        → Change site w cause sendings next → next.shown ≡ more ++ w.shown → IsAmong (shown.Reply terminal number words) more
-        → (reply : Reply) × (cause ≡ Handing terminal_node (Replying reply)) × (number ≡ reply.number) × (words ≡ reply.words) × AwaitsAt site w terminal reply
+    ensures { (site : Site) (w next : World) (cause : Cause) (sendings : List Sending) (more : List Shown)
+        (terminal number : ℕ) (words : List ℤ)
+        → Change site w cause sendings next → next.shown ≡ more ++ w.shown
+        → IsAmong (shown.Reply terminal number words) more
+        → (reply : Reply) × (cause ≡ Handing terminal_node (Replying reply)) × (number ≡ reply.number)
+        × (words ≡ reply.words) × AwaitsAt site w terminal reply
         × (AwaitsAt site next terminal reply → ⊥) }
 {}
 
 /// What is sent where a request comes is the reply to just this request which a copy that acts there keeps.
 pub fn only_a_kept_reply_is_sent_again()
-    ensures { (site : Site) (w next : World) (node : ℕ) (request : Request) (sendings : List Sending) (sending : Sending)
+    ensures { (site : Site) (w next : World) (node : ℕ) (request : Request) (sendings : List Sending)
+        (sending : Sending)
         → Change site w (Handing node (Asking request)) sendings next → IsAmong sending sendings
         → (words : List ℤ) × KeepsReplyTo w node request words
         × (sending ≡ record { node = node; message = Replying (reply_to request words) }) }
@@ -95,26 +117,34 @@ pub fn only_a_kept_reply_is_sent_again()
 
 /// What a terminal enters is its next request.
 pub fn a_terminal_enters_its_next_request()
-    ensures { (site : Site) (w next : World) (number : ℕ) (terminal : Terminal) (sendings : List Sending) (sending : Sending) → Change site w (Entering number) sendings next
+    ensures { (site : Site) (w next : World) (number : ℕ) (terminal : Terminal) (sendings : List Sending)
+        (sending : Sending) → Change site w (Entering number) sendings next
         → slice_get w.terminals number ≡ Some terminal → IsAmong sending sendings
-        → (request : Request) × (sending ≡ record { node = terminal_node; message = Asking request }) × IsNextOf site number terminal request }
+        → (request : Request) × (sending ≡ record { node = terminal_node; message = Asking request })
+        × IsNextOf site number terminal request }
 {}
 
 /// In a run of one opener at most one request waits at a copy.
 pub fn one_request_of_an_opener_waits()
-    ensures { (site : Site) (events : List Event) (w : World) (number opener : ℕ) (pair : Pair) (k : Which) → IsRun site events w
+    ensures { (site : Site) (events : List Event) (w : World) (number opener : ℕ) (pair : Pair) (k : Which)
+        → IsRun site events w
         → slice_get w.processes number ≡ Some pair → waiting_of opener (copy_of k pair).waiting ≤ 1 }
 {}
 
 /// In a run what waits at a copy that acts stands next, or is ahead of the next: what was taken doesn't wait.
 pub fn what_was_taken_does_not_wait()
-    ensures { (site : Site) (events : List Event) (w : World) (number : ℕ) (pair : Pair) (k : Which) (request : Request) → IsRun site events w
-        → slice_get w.processes number ≡ Some pair → (copy_of k pair).role ≡ Acting → IsAmong request (copy_of k pair).waiting
-        → (standing (copy_of k pair).core.receive request ≡ Next) ⊎ (standing (copy_of k pair).core.receive request ≡ Ahead) }
+    ensures { (site : Site) (events : List Event) (w : World) (number : ℕ) (pair : Pair) (k : Which)
+        (request : Request) → IsRun site events w
+        → slice_get w.processes number ≡ Some pair → (copy_of k pair).role ≡ Acting
+        → IsAmong request (copy_of k pair).waiting
+        → (standing (copy_of k pair).core.receive request ≡ Next)
+        ⊎ (standing (copy_of k pair).core.receive request ≡ Ahead) }
 {}
 
-/// In a run a terminal awaits at most one reply: it has printed as many replies as it has entered requests, or one less.
+/// In a run a terminal awaits at most one reply: it has printed as many replies as it has entered requests, or one
+/// less.
 pub fn a_terminal_awaits_one_reply()
     ensures { (site : Site) (events : List Event) (w : World) (number : ℕ) (terminal : Terminal) → IsRun site events w
-        → slice_get w.terminals number ≡ Some terminal → (terminal.printed ≤ terminal.entered) × (terminal.entered ≤ terminal.printed + 1) }
+        → slice_get w.terminals number ≡ Some terminal
+        → (terminal.printed ≤ terminal.entered) × (terminal.entered ≤ terminal.printed + 1) }
 {}

@@ -26,7 +26,8 @@ abbrev pub bounds_after : List Token → Found At → Found g.Bounds
 bounds_after ks None = Some (g.unbounded, ks)
 bounds_after ks (Some (start, us)) =
     option_and_then (λ l. option_and_then (λ c. option_and_then (λ h. option_map (λ e.
-    (g.bounded start l.0 c.0 h.0 e.0, e.1)) (plain_of mark.CloseIndex h.1)) (constant_at c.1)) (plain_of mark.Colon l.1)) (constant_at us)
+    (g.bounded start l.0 c.0 h.0 e.0, e.1)) (plain_of mark.CloseIndex h.1)) (constant_at c.1))
+    (plain_of mark.Colon l.1)) (constant_at us)
 
 abbrev pub bounds_at : List Token → Found g.Bounds
 bounds_at ks = bounds_after ks (plain_of mark.OpenIndex ks)
@@ -39,7 +40,9 @@ items_at ks = rest_by g.no_items g.more_items (plain_of mark.Comma) item_at (len
 
 abbrev pub literal_at : List Token → Found g.Literal
 literal_at ks =
-    option_and_then (λ w. option_and_then (λ e. option_map (λ c. (g.literal w.0.0 w.0.1 e.0 c.0, c.1)) (constant_at e.1)) (plain_of mark.Equal w.1)) (name_of ks)
+    option_and_then (λ w. option_and_then (λ e.
+    option_map (λ c. (g.literal w.0.0 w.0.1 e.0 c.0, c.1)) (constant_at e.1)) (plain_of mark.Equal w.1))
+    (name_of ks)
 
 abbrev pub literals_at : List Token → Found g.Literals
 literals_at ks = rest_by g.no_literals g.more_literals (plain_of mark.Comma) literal_at (length ks) ks
@@ -47,12 +50,15 @@ literals_at ks = rest_by g.no_literals g.more_literals (plain_of mark.Comma) lit
 -- item items ";", after INT
 abbrev pub int_line_at : At → List Token → Found g.Globals
 int_line_at int ks =
-    option_and_then (λ f. option_and_then (λ m. option_map (λ e. (g.int_line int f.0 m.0 e.0, e.1)) (plain_of mark.Semicolon m.1)) (items_at f.1)) (item_at ks)
+    option_and_then (λ f. option_and_then (λ m.
+    option_map (λ e. (g.int_line int f.0 m.0 e.0, e.1)) (plain_of mark.Semicolon m.1)) (items_at f.1)) (item_at ks)
 
 -- literal literals ";", after LITERAL
 abbrev pub literal_line_at : At → List Token → Found g.Globals
 literal_line_at word ks =
-    option_and_then (λ f. option_and_then (λ m. option_map (λ e. (g.literal_line word f.0 m.0 e.0, e.1)) (plain_of mark.Semicolon m.1)) (literals_at f.1)) (literal_at ks)
+    option_and_then (λ f. option_and_then (λ m.
+    option_map (λ e. (g.literal_line word f.0 m.0 e.0, e.1)) (plain_of mark.Semicolon m.1)) (literals_at f.1))
+    (literal_at ks)
 
 abbrev pub line_after : List Token → Found At → Found g.Globals
 line_after ks None = option_and_then (λ w. literal_line_at w.0 w.1) (plain_of mark.Literal ks)
@@ -74,7 +80,9 @@ names_at ks = rest_by g.no_names link_name (plain_of mark.Comma) name_of (length
 abbrev pub parameters_after : List Token → Found At → Found g.Parameters
 parameters_after ks None = Some (g.no_parameters, ks)
 parameters_after ks (Some (start, us)) =
-    option_and_then (λ w. option_and_then (λ m. option_map (λ c. (g.parameters start w.0.0 w.0.1 m.0 c.0, c.1)) (plain_of mark.Close m.1)) (names_at w.1)) (name_of us)
+    option_and_then (λ w. option_and_then (λ m.
+    option_map (λ c. (g.parameters start w.0.0 w.0.1 m.0 c.0, c.1)) (plain_of mark.Close m.1)) (names_at w.1))
+    (name_of us)
 
 abbrev pub parameters_at : List Token → Found g.Parameters
 parameters_at ks = parameters_after ks (plain_of mark.Open ks)
@@ -82,7 +90,8 @@ parameters_at ks = parameters_after ks (plain_of mark.Open ks)
 abbrev pub local_at : List Token → Found g.Local
 local_at ks =
     option_and_then (λ i. option_and_then (λ w. option_and_then (λ m. option_map (λ e.
-    (g.local i.0 w.0.0 w.0.1 m.0 e.0, e.1)) (plain_of mark.Semicolon m.1)) (names_at w.1)) (name_of i.1)) (plain_of mark.Int ks)
+    (g.local i.0 w.0.0 w.0.1 m.0 e.0, e.1)) (plain_of mark.Semicolon m.1)) (names_at w.1)) (name_of i.1))
+    (plain_of mark.Int ks)
 
 abbrev pub locals_at : List Token → Found g.Locals
 locals_at ks = row_by g.no_locals g.more_locals is_local local_at (length ks) ks
@@ -103,5 +112,7 @@ main_at ks = main_after ks (plain_of mark.Main ks)
 
 abbrev pub heading_at : List Token → Found g.Heading
 heading_at ks =
-    option_and_then (λ i. option_and_then (λ p. option_and_then (λ w. option_and_then (λ a. option_and_then (λ m. option_map (λ e.
-    (g.heading i.0 p.0 w.0.0 w.0.1 a.0 m.0 e.0, e.1)) (plain_of mark.Semicolon m.1)) (main_at a.1)) (parameters_at w.1)) (name_of p.1)) (plain_of mark.Proc i.1)) (gives_at ks)
+    option_and_then (λ i. option_and_then (λ p.
+    option_and_then (λ w. option_and_then (λ a. option_and_then (λ m. option_map (λ e.
+    (g.heading i.0 p.0 w.0.0 w.0.1 a.0 m.0 e.0, e.1)) (plain_of mark.Semicolon m.1)) (main_at a.1))
+    (parameters_at w.1)) (name_of p.1)) (plain_of mark.Proc i.1)) (gives_at ks)

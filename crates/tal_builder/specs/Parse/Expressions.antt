@@ -55,17 +55,20 @@ abbrev pub factors_by : (List Token → Found g.Factor) → List Token → Found
 factors_by factor ks = rest_by g.no_factors g.more_factors scale_of factor (length ks) ks
 
 abbrev pub product_by : (List Token → Found g.Factor) → List Token → Found g.Product
-product_by factor ks = option_and_then (λ f. option_map (λ r. (g.product f.0 r.0, r.1)) (factors_by factor f.1)) (factor ks)
+product_by factor ks =
+    option_and_then (λ f. option_map (λ r. (g.product f.0 r.0, r.1)) (factors_by factor f.1)) (factor ks)
 
 abbrev pub index_after : (List Token → Found g.Expr) → List Token → Found At → Found g.Index
 index_after expr ks None = Some (g.no_index, ks)
-index_after expr ks (Some (start, us)) = option_and_then (λ e. option_map (λ c. (g.index start e.0 c.0, c.1)) (plain_of mark.CloseIndex e.1)) (expr us)
+index_after expr ks (Some (start, us)) =
+    option_and_then (λ e. option_map (λ c. (g.index start e.0 c.0, c.1)) (plain_of mark.CloseIndex e.1)) (expr us)
 
 abbrev pub index_by : (List Token → Found g.Expr) → List Token → Found g.Index
 index_by expr ks = index_after expr ks (plain_of mark.OpenIndex ks)
 
 abbrev pub spot_by : (List Token → Found g.Expr) → List Token → Found g.Spot
-spot_by expr ks = option_and_then (λ w. option_map (λ i. (g.spot w.0.0 w.0.1 i.0, i.1)) (index_by expr w.1)) (name_of ks)
+spot_by expr ks =
+    option_and_then (λ w. option_map (λ i. (g.spot w.0.0 w.0.1 i.0, i.1)) (index_by expr w.1)) (name_of ks)
 
 -- factor, after "-"
 abbrev pub minus_by : (List Token → Found g.Factor) → At → List Token → Found g.Factor
@@ -73,7 +76,8 @@ minus_by inner at ks = option_map (λ f. (g.minus at f.0, f.1)) (inner ks)
 
 -- expr ")", after "("
 abbrev pub parens_by : (List Token → Found g.Expr) → At → List Token → Found g.Factor
-parens_by expr start ks = option_and_then (λ e. option_map (λ c. (g.parens start e.0 c.0, c.1)) (plain_of mark.Close e.1)) (expr ks)
+parens_by expr start ks =
+    option_and_then (λ e. option_map (λ c. (g.parens start e.0 c.0, c.1)) (plain_of mark.Close e.1)) (expr ks)
 
 -- a factor, where `inner` finds that of a minus and `expr` what stands in parentheses or as an index
 abbrev pub factor_by : (List Token → Found g.Factor) → (List Token → Found g.Expr) → List Token → Found g.Factor
@@ -94,7 +98,8 @@ abbrev mutual
 
   pub expr_in : ℕ → List Token → Found g.Expr
   expr_in zero ks = None
-  expr_in (suc n) ks = expr_by (both_by (neg_by (neg_in n) (sum_by (product_by (factor_by (factor_in n) (expr_in n)))))) ks
+  expr_in (suc n) ks =
+      expr_by (both_by (neg_by (neg_in n) (sum_by (product_by (factor_by (factor_in n) (expr_in n)))))) ks
 
 -- `x_at n` finds an x in which n levels may be opened
 abbrev pub factor_at : ℕ → List Token → Found g.Factor

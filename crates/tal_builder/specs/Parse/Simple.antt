@@ -23,7 +23,9 @@ further_at n ks = rest_by g.no_further g.more_further (plain_of mark.Comma) (arg
 -- argument further ")", after "("
 abbrev pub listed_at : ℕ → At → List Token → Found g.Arguments
 listed_at n start ks =
-    option_and_then (λ a. option_and_then (λ f. option_map (λ c. (g.listed start a.0 f.0 c.0, c.1)) (plain_of mark.Close f.1)) (further_at n a.1)) (argument_at n ks)
+    option_and_then (λ a. option_and_then (λ f.
+    option_map (λ c. (g.listed start a.0 f.0 c.0, c.1)) (plain_of mark.Close f.1)) (further_at n a.1))
+    (argument_at n ks)
 
 -- the same where "(" opens the first of n levels
 abbrev pub listed_in : ℕ → At → List Token → Found g.Arguments
@@ -39,7 +41,8 @@ arguments_at n ks = arguments_after n ks (plain_of mark.Open ks)
 
 -- name arguments, after CALL
 abbrev pub call_at : ℕ → At → List Token → Found g.Statement
-call_at n head ks = option_and_then (λ w. option_map (λ l. (g.call head w.0.0 w.0.1 l.0, l.1)) (arguments_at n w.1)) (name_of ks)
+call_at n head ks =
+    option_and_then (λ w. option_map (λ l. (g.call head w.0.0 w.0.1 l.0, l.1)) (arguments_at n w.1)) (name_of ks)
 
 abbrev pub answer_at : ℕ → List Token → Found g.Answer
 answer_at n ks = if is_value ks then option_map (λ e. (g.answer e.0, e.1)) (expr_at n ks) else Some (g.no_answer, ks)
@@ -54,7 +57,8 @@ values_at n ks = rest_by g.no_values g.more_values (plain_of mark.Comma) (expr_a
 -- expr values ")", after "("
 abbrev pub value_list_at : ℕ → List Token → Found (g.Expr × g.Values × At)
 value_list_at n ks =
-    option_and_then (λ f. option_and_then (λ m. option_map (λ c. ((f.0, m.0, c.0), c.1)) (plain_of mark.Close m.1)) (values_at n f.1)) (expr_at n ks)
+    option_and_then (λ f. option_and_then (λ m. option_map (λ c. ((f.0, m.0, c.0), c.1)) (plain_of mark.Close m.1))
+    (values_at n f.1)) (expr_at n ks)
 
 -- the same where "(" opens the first of n levels
 abbrev pub value_list_in : ℕ → List Token → Found (g.Expr × g.Values × At)
@@ -64,10 +68,12 @@ value_list_in (suc n) ks = value_list_at n ks
 -- what stands behind `:=`: a call where a name stands directly before "(", or else an expr
 abbrev pub right_after : ℕ → g.Spot → At → List Token → Option (At × List ℕ × At × List Token) → Found g.Statement
 right_after n target at ks None = option_map (λ e. (g.assign target at e.0, e.1)) (expr_at n ks)
-right_after n target at ks (Some w) = option_map (λ v. (g.assign_call target at w.0 w.1 w.2 v.0.0 v.0.1 v.0.2, v.1)) (value_list_in n w.3)
+right_after n target at ks (Some w) =
+    option_map (λ v. (g.assign_call target at w.0 w.1 w.2 v.0.0 v.0.1 v.0.2, v.1)) (value_list_in n w.3)
 
 abbrev pub right_at : ℕ → g.Spot → At → List Token → Found g.Statement
 right_at n target at ks = right_after n target at ks (called_of ks)
 
 abbrev pub assign_at : ℕ → List Token → Found g.Statement
-assign_at n ks = option_and_then (λ s. option_and_then (λ a. right_at n s.0 a.0 a.1) (plain_of mark.Assign s.1)) (spot_at n ks)
+assign_at n ks =
+    option_and_then (λ s. option_and_then (λ a. right_at n s.0 a.0 a.1) (plain_of mark.Assign s.1)) (spot_at n ks)

@@ -18,7 +18,8 @@ rows_by inner ks = rest_by g.no_row g.more_row (plain_of mark.Semicolon) inner (
 -- statement row END, after BEGIN
 abbrev pub block_by : (List Token → Found g.Statement) → At → List Token → Found g.Statement
 block_by inner begin ks =
-    option_and_then (λ f. option_and_then (λ r. option_map (λ e. (g.block begin f.0 r.0 e.0, e.1)) (plain_of mark.End r.1)) (rows_by inner f.1)) (inner ks)
+    option_and_then (λ f. option_and_then (λ r.
+    option_map (λ e. (g.block begin f.0 r.0 e.0, e.1)) (plain_of mark.End r.1)) (rows_by inner f.1)) (inner ks)
 
 abbrev pub otherwise_after : (List Token → Found g.Statement) → List Token → Found At → Found g.Otherwise
 otherwise_after inner ks None = Some (g.no_else, ks)
@@ -31,18 +32,22 @@ otherwise_by inner ks = otherwise_after inner ks (plain_of mark.Else ks)
 abbrev pub if_by : (List Token → Found g.Statement) → ℕ → At → List Token → Found g.Statement
 if_by inner n head ks =
     option_and_then (λ t. option_and_then (λ h. option_and_then (λ s. option_map (λ o.
-    (g.if_then head t.0 h.0 s.0 o.0, o.1)) (otherwise_by inner s.1)) (inner h.1)) (plain_of mark.Then t.1)) (expr_at n ks)
+    (g.if_then head t.0 h.0 s.0 o.0, o.1)) (otherwise_by inner s.1)) (inner h.1)) (plain_of mark.Then t.1))
+    (expr_at n ks)
 
 -- expr DO statement, after WHILE
 abbrev pub while_by : (List Token → Found g.Statement) → ℕ → At → List Token → Found g.Statement
 while_by inner n head ks =
-    option_and_then (λ t. option_and_then (λ d. option_map (λ s. (g.while_do head t.0 d.0 s.0, s.1)) (inner d.1)) (plain_of mark.Do t.1)) (expr_at n ks)
+    option_and_then (λ t. option_and_then (λ d. option_map (λ s. (g.while_do head t.0 d.0 s.0, s.1)) (inner d.1))
+    (plain_of mark.Do t.1)) (expr_at n ks)
 
 -- name ":=" expr TO expr DO statement, after FOR
 abbrev pub for_by : (List Token → Found g.Statement) → ℕ → At → List Token → Found g.Statement
 for_by inner n head ks =
-    option_and_then (λ w. option_and_then (λ a. option_and_then (λ f. option_and_then (λ t. option_and_then (λ e. option_and_then (λ d. option_map (λ s.
-    (g.for_do head w.0.0 w.0.1 a.0 f.0 t.0 e.0 d.0 s.0, s.1)) (inner d.1)) (plain_of mark.Do e.1)) (expr_at n t.1)) (plain_of mark.To f.1)) (expr_at n a.1))
+    option_and_then (λ w. option_and_then (λ a.
+    option_and_then (λ f. option_and_then (λ t. option_and_then (λ e. option_and_then (λ d. option_map (λ s.
+    (g.for_do head w.0.0 w.0.1 a.0 f.0 t.0 e.0 d.0 s.0, s.1)) (inner d.1)) (plain_of mark.Do e.1)) (expr_at n t.1))
+    (plain_of mark.To f.1)) (expr_at n a.1))
     (plain_of mark.Assign w.1)) (name_of ks)
 
 -- a statement that isn't empty, in which n levels may be opened

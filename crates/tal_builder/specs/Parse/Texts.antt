@@ -13,8 +13,11 @@ use Rattle.tal_builder.specs.Parse.Statements.{statement_at, row_at}
 -- a procedure: its own statements are the first of 33 levels
 abbrev pub procedure_at : List Token → Found g.Procedure
 procedure_at ks =
-    option_and_then (λ h. option_and_then (λ o. option_and_then (λ b. option_and_then (λ i. option_and_then (λ f. option_and_then (λ m. option_and_then (λ e. option_map (λ l.
-    (g.procedure h.0 o.0 b.0 i.0 f.0 m.0 e.0 l.0, l.1)) (plain_of mark.Semicolon e.1)) (plain_of mark.End m.1)) (row_at 33 f.1)) (statement_at 33 i.1))
+    option_and_then (λ h. option_and_then (λ o.
+    option_and_then (λ b. option_and_then (λ i.
+    option_and_then (λ f. option_and_then (λ m. option_and_then (λ e. option_map (λ l.
+    (g.procedure h.0 o.0 b.0 i.0 f.0 m.0 e.0 l.0, l.1)) (plain_of mark.Semicolon e.1)) (plain_of mark.End m.1))
+    (row_at 33 f.1)) (statement_at 33 i.1))
     (locals_at b.1)) (plain_of mark.Begin o.1)) (locals_at h.1)) (heading_at ks)
 
 abbrev pub procedures_at : List Token → Found g.Procedures
@@ -26,4 +29,6 @@ ended t [] = Some t
 ended t (k ∷ ks) = None
 
 abbrev pub text_at : List Token → Option g.Text
-text_at ks = option_and_then (λ l. option_and_then (λ p. option_and_then (λ f. ended (g.text l.0 p.0 f.0) f.1) (plain_of mark.Finish p.1)) (procedures_at l.1)) (lines_at ks)
+text_at ks = option_and_then (λ l. option_and_then
+    (λ p. option_and_then (λ f. ended (g.text l.0 p.0 f.0) f.1) (plain_of mark.Finish p.1)) (procedures_at l.1))
+    (lines_at ks)

@@ -14,7 +14,8 @@ pub record AreFaultless (lines : g.Lines) (ps : g.Procedures) (finish : At) : Ty
   pub bodies : bodies_faults (headed_text lines ps) ps ≡ []
   pub main : main_missing (headed_text lines ps).main finish ≡ []
 
-pub faultless : (lines : g.Lines) (ps : g.Procedures) (finish : At) → faults (g.text lines ps finish) ≡ [] → AreFaultless lines ps finish
+pub faultless : (lines : g.Lines) (ps : g.Procedures) (finish : At) → faults (g.text lines ps finish) ≡ []
+    → AreFaultless lines ps finish
 faultless lines ps finish fine =
     let parts = split fine in
     let three = split parts.0 in

@@ -1,5 +1,6 @@
 -- An item without faults can be declared after those before it, and has the words of its shape.
-use Rattle.std.proofs.Common.{◌≡◌, ℕ, ◌+◌, Bool, true, false, nat_le, nat_lt, List, [], length, refl, sym, ap, ◌∙◌, subst, if◌then◌else◌}
+use Rattle.std.proofs.Common.{◌≡◌, ℕ, ◌+◌, Bool, true, false, nat_le, nat_lt, List, [], length, refl, sym, ap, ◌∙◌}
+use Rattle.std.proofs.Common.{subst, if◌then◌else◌}
 use Rattle.std.specs.Prelude.{ℤ, int_lt, Option, Some, None, option_map}
 use Rattle.std.proofs.lemmas.Bool.{true≢false}
 use Rattle.tal_tokens.specs.declared.token.At.{At}
@@ -14,7 +15,10 @@ use Rattle.tal_names.specs.declared.meaning.Meaning.TheVariants as m
 use Rattle.tal_declarations.specs.declared.table.Declared.{Declared}
 use Rattle.tal_declarations.specs.declared.table.Extent.{Extent}
 use Rattle.tal_names.specs.Faults.{fault_at, if_so}
-use Rattle.tal_declarations.specs.Globals.{is_taken, taken_faults, bounds_faults, extent_of, array_by, bounds_by, is_reversed, negated, constant_value, constant_meaning, constant_faults, first_of_constant, atom_faults, atom_value, literal_faults, literal_value, item_limits, item_faults}
+use Rattle.tal_declarations.specs.Globals.{is_taken, taken_faults, bounds_faults, extent_of, array_by, bounds_by}
+use Rattle.tal_declarations.specs.Globals.{is_reversed, negated, constant_value, constant_meaning, constant_faults}
+use Rattle.tal_declarations.specs.Globals.{first_of_constant, atom_faults, atom_value, literal_faults, literal_value}
+use Rattle.tal_declarations.specs.Globals.{item_limits, item_faults}
 use Rattle.tal_names.specs.Names.{Declarations}
 use Rattle.tal_faultless.proofs.Common.Faultless.{refuted, three}
 
@@ -67,13 +71,15 @@ array_shaped : (a b : Option ℤ) → HasValue a → HasValue b → is_reversed 
 array_shaped a b low high fine =
     let not_reversed : int_lt high.0 low.0 ≡ false = sym (λ i. is_reversed (low.1 i) (high.1 i)) ∙ fine in
     let is : array_by (bounds_by a b) ≡ extent_by (shape.Array low.0 high.0) =
-    (λ i. array_by (bounds_by (low.1 i) (high.1 i))) ∙ ap (λ t. array_by (if t then None else Some (low.0, high.0))) not_reversed in
+    (λ i. array_by (bounds_by (low.1 i) (high.1 i)))
+    ∙ ap (λ t. array_by (if t then None else Some (low.0, high.0))) not_reversed in
     subst Shaped (sym is) (record { is = refl; fine = not_reversed })
 
 shaped : (names : Declarations) (b : g.Bounds) → bounds_faults names b ≡ [] → Shaped (extent_of names b)
 shaped names g.unbounded fine = record { is = refl; fine = tt }
 shaped names (g.bounded start low colon high close) fine =
-    let reversed : Bool = is_reversed (constant_value low (constant_meaning names low)) (constant_value high (constant_meaning names high)) in
+    let reversed : Bool = is_reversed (constant_value low (constant_meaning names low))
+    (constant_value high (constant_meaning names high)) in
     let parts =
     three (constant_faults low (constant_meaning names low)) (constant_faults high (constant_meaning names high))
     (if_so reversed (fault_at (first_of_constant high) WrongKind)) fine in
@@ -86,13 +92,15 @@ pub record DeclaresItem (d : Declared) (name : List ℕ) (x : Extent) : Type 0 w
   pub is : x ≡ extent_by x.shape
   pub declarable : IsDeclarable d (record { name = name; shape = x.shape })
 
-pub item_declarable : (d : Declared) (at : At) (name : List ℕ) (b : g.Bounds) → item_faults d (g.item at name b) ≡ [] → DeclaresItem d name (extent_of d.names b)
+pub item_declarable : (d : Declared) (at : At) (name : List ℕ) (b : g.Bounds) → item_faults d (g.item at name b) ≡ []
+    → DeclaresItem d name (extent_of d.names b)
 item_declarable d at name b fine =
     let x : Extent = extent_of d.names b in
     let parts = three (taken_faults d.names at name) (bounds_faults d.names b) (item_limits d at x.words) fine in
     let s = shaped d.names b parts.1 in
     let sizes =
-    three (if_so (nat_le 64 (length d.items)) (fault_at at (Limit 1))) (if_so (nat_lt 512 (d.words + x.words)) (fault_at at (Limit 2)))
+    three (if_so (nat_le 64 (length d.items)) (fault_at at (Limit 1)))
+    (if_so (nat_lt 512 (d.words + x.words)) (fault_at at (Limit 2)))
     (if_so (nat_lt 256 x.words) (fault_at at (Limit 3))) parts.2 in
     record {
       is = s.is;
@@ -100,7 +108,8 @@ item_declarable d at name b fine =
         free = refuted (is_taken d.names name) at Twice parts.0;
         is_ordered = s.fine;
         few = refuted (nat_le 64 (length d.items)) at (Limit 1) sizes.0;
-        room = sym (ap (λ e. nat_lt 512 (d.words + e.words)) s.is) ∙ refuted (nat_lt 512 (d.words + x.words)) at (Limit 2) sizes.1;
+        room = sym (ap (λ e. nat_lt 512 (d.words + e.words)) s.is)
+            ∙ refuted (nat_lt 512 (d.words + x.words)) at (Limit 2) sizes.1;
         small = sym (ap (λ e. nat_lt 256 e.words) s.is) ∙ refuted (nat_lt 256 x.words) at (Limit 3) sizes.2;
       };
     }

@@ -31,7 +31,8 @@ opens_file s (g.quoted at) faultless = no_fault faultless
 opens_file s (g.value e) faultless = no_fault (split faultless).1
 
 -- where the name isn't that of a file before, one file goes last
-pub new_file : (f : Files) (name : List ℕ) (item : ℕ) (string : g.Argument) (depth : ℕ) → is_declared name f.names ≡ false
+pub new_file : (f : Files) (name : List ℕ) (item : ℕ) (string : g.Argument) (depth : ℕ)
+    → is_declared name f.names ≡ false
     → with_file f name item string depth ≡ record {
       names = f.names ++ (name, file_by string item (min 8 (length f.uses))) ∷ [];
       uses = f.uses ++ record { item = item; target = target_of string; depth = depth } ∷ [];
@@ -39,5 +40,6 @@ pub new_file : (f : Files) (name : List ℕ) (item : ℕ) (string : g.Argument) 
 new_file f name item string depth e = rw e refl
 
 -- where it is, there is none more
-pub old_file : (f : Files) (name : List ℕ) (item : ℕ) (string : g.Argument) (depth : ℕ) → is_declared name f.names ≡ true → with_file f name item string depth ≡ f
+pub old_file : (f : Files) (name : List ℕ) (item : ℕ) (string : g.Argument) (depth : ℕ)
+    → is_declared name f.names ≡ true → with_file f name item string depth ≡ f
 old_file f name item string depth e = rw e refl

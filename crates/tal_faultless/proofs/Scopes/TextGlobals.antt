@@ -15,5 +15,6 @@ module _ (lines : g.Lines) (ps : g.Procedures) (finish : At) (fine : faults (g.t
   pub are_globals : AreGlobals (headed_text lines ps).names (with_lines nothing_declared lines).items (heading_names ps)
   are_globals = global_names lines ps parts.lines_fine parts.headings
 
-  pub at_end : AtEnd (headed_text lines ps).names (files_by (headed_text lines ps) ps).names (files_by (headed_text lines ps) ps)
+  pub at_end : AtEnd (headed_text lines ps).names (files_by (headed_text lines ps) ps).names
+      (files_by (headed_text lines ps) ps)
   at_end = files_opened lines ps parts.bodies

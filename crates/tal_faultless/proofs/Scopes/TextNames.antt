@@ -35,7 +35,8 @@ opened_is_file target.Receive item number = refl
 opened_is_file (target.Process name) item number = refl
 
 -- a global isn't a file
-no_file : (items : List Item) (procedures : List (List ℕ)) (name : List ℕ) (x : Meaning) → Means items procedures name x → is_file x ≡ false
+no_file : (items : List Item) (procedures : List (List ℕ)) (name : List ℕ) (x : Meaning)
+    → Means items procedures name x → is_file x ≡ false
 no_file items procedures name (m.Literal value) e = refl
 no_file items procedures name (m.Simple item) e = refl
 no_file items procedures name (m.Array item) e = refl
@@ -45,7 +46,8 @@ no_file items procedures name (m.ReceiveFile item number) e = absurd e
 no_file items procedures name (m.ProcessFile item number) e = absurd e
 no_file items procedures name (m.StrayFile item number) e = absurd e
 
-module _ (lines : g.Lines) (ps : g.Procedures) (finish : At) (fine : faults (g.text lines ps finish) ≡ []) (number : ℕ) (h : g.Heading) (outer inner : g.Locals)
+module _ (lines : g.Lines) (ps : g.Procedures) (finish : At) (fine : faults (g.text lines ps finish) ≡ []) (number : ℕ)
+    (h : g.Heading) (outer inner : g.Locals)
     (local_fine : heading_locals_faults h outer inner ≡ []) where
   abbrev scope : Scope
   scope = scope_in lines ps number h inner
@@ -56,13 +58,15 @@ module _ (lines : g.Lines) (ps : g.Procedures) (finish : At) (fine : faults (g.t
   abbrev files : Files
   files = files_by (headed_text lines ps) ps
 
-  local_is : (name : List ℕ) (x : Meaning) → meaning_in name scope.locals ≡ Some x → IsLocal (texts_of (parameters_by h ++ locals_of inner)) name x
+  local_is : (name : List ℕ) (x : Meaning) → meaning_in name scope.locals ≡ Some x
+      → IsLocal (texts_of (parameters_by h ++ locals_of inner)) name x
   local_is name x e = (local_names h outer inner local_fine).local name x e
 
   file_is : (name : List ℕ) (x : Meaning) → meaning_in name files.names ≡ Some x → is_file x ≡ true
   file_is name x e =
       let at : (i : ℕ) × (slice_get files.names i ≡ Some (name, x)) = meaning_there name files.names x e in
-      let o : IsOpened globals files.uses at.0 (name, x) = (at_end lines ps finish fine).opened.each at.0 (name, x) at.1 in
+      let o : IsOpened globals files.uses at.0 (name, x) =
+      (at_end lines ps finish fine).opened.each at.0 (name, x) at.1 in
       ap is_file o.is ∙ opened_is_file o.use_of.target o.use_of.item at.0
 
   free : (name : List ℕ) (x : Meaning) → meaning_in name globals ≡ Some x → system_of name ≡ None
@@ -72,20 +76,28 @@ module _ (lines : g.Lines) (ps : g.Procedures) (finish : At) (fine : faults (g.t
   source_names = record {
     file = λ name x e f. by_file name x (meaning_in name scope.locals) (meaning_in name files.names) refl refl e f;
     listed = λ name x e. file_is name x e;
-    procedure = λ k gives count name e. by_procedure k gives count name (meaning_in name scope.locals) (meaning_in name files.names) refl refl e;
+    procedure = λ k gives count name e. by_procedure k gives count name (meaning_in name scope.locals)
+        (meaning_in name files.names) refl refl e;
   }
     where
-      by_file : (name : List ℕ) (x : Meaning) (l f : Option Meaning) → meaning_in name scope.locals ≡ l → meaning_in name files.names ≡ f
-          → or_else l (or_else f (meaning_in name globals)) ≡ Some x → is_file x ≡ true → (item : ℕ) × (simple_global scope name ≡ Some item)
+      by_file : (name : List ℕ) (x : Meaning) (l f : Option Meaning) → meaning_in name scope.locals ≡ l
+          → meaning_in name files.names ≡ f
+          → or_else l (or_else f (meaning_in name globals)) ≡ Some x → is_file x ≡ true
+          → (item : ℕ) × (simple_global scope name ≡ Some item)
       by_file name x (Some y) f local opened e is = absurd (cc (is, ap is_file (local_is name x (local ∙ e)).is))
       by_file name x None (Some y) local opened e is =
           let at : (i : ℕ) × (slice_get files.names i ≡ Some (name, y)) = meaning_there name files.names y opened in
-          let simple : (item : ℕ) × (meaning_in name globals ≡ Some (m.Simple item)) = files_are_globals lines ps at.0 (name, y) at.1 in
+          let simple : (item : ℕ) × (meaning_in name globals ≡ Some (m.Simple item)) =
+          files_are_globals lines ps at.0 (name, y) at.1 in
           (simple.0, rw (ap is_some local) (ap simple_by simple.1))
-      by_file name x None None local opened e is = absurd (cc (is, no_file _ _ name x ((are_globals lines ps finish fine).means name x e)))
+      by_file name x None None local opened e is =
+          absurd (cc (is, no_file _ _ name x ((are_globals lines ps finish fine).means name x e)))
 
-      by_procedure : (k : ℕ) (gives : Bool) (count : ℕ) (name : List ℕ) (l f : Option Meaning) → meaning_in name scope.locals ≡ l → meaning_in name files.names ≡ f
+      by_procedure : (k : ℕ) (gives : Bool) (count : ℕ) (name : List ℕ) (l f : Option Meaning)
+          → meaning_in name scope.locals ≡ l → meaning_in name files.names ≡ f
           → or_else l (or_else f (meaning_in name globals)) ≡ Some (m.Procedure k gives count) → system_of name ≡ None
-      by_procedure k gives count name (Some y) f local opened e = absurd (cc (local_is name (m.Procedure k gives count) (local ∙ e)).is)
-      by_procedure k gives count name None (Some y) local opened e = absurd (cc (file_is name (m.Procedure k gives count) (opened ∙ e)))
+      by_procedure k gives count name (Some y) f local opened e =
+          absurd (cc (local_is name (m.Procedure k gives count) (local ∙ e)).is)
+      by_procedure k gives count name None (Some y) local opened e =
+          absurd (cc (file_is name (m.Procedure k gives count) (opened ∙ e)))
       by_procedure k gives count name None None local opened e = free name (m.Procedure k gives count) e

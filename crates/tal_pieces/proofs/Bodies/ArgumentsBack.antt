@@ -49,11 +49,13 @@ count_further_of : (x : g.Values) → length (further_arguments (further_of x)) 
 count_further_of g.no_values = refl
 count_further_of (g.more_values comma e rest) = omega (arith, count_further_of rest)
 
-values_further_of : (s : Scope) (x : g.Values) → values_of_arguments s (further_arguments (further_of x)) ≡ values_of s x
+values_further_of : (s : Scope) (x : g.Values)
+    → values_of_arguments s (further_arguments (further_of x)) ≡ values_of s x
 values_further_of s g.no_values = refl
 values_further_of s (g.more_values comma e rest) = ap (λ es. value_of_expr s e ∷ es) (values_further_of s rest)
 
-faults_further_of : (s : Scope) (x : g.Values) → values_faults s x ≡ [] → arguments_faults s (further_arguments (further_of x)) ≡ []
+faults_further_of : (s : Scope) (x : g.Values) → values_faults s x ≡ []
+    → arguments_faults s (further_arguments (further_of x)) ≡ []
 faults_further_of s x h = same x ∙ h
   where
     same : (y : g.Values) → arguments_faults s (further_arguments (further_of y)) ≡ values_faults s y
@@ -61,7 +63,8 @@ faults_further_of s x h = same x ∙ h
     same (g.more_values comma e rest) = ap (λ fs. value_faults s e ++ fs) (same rest)
 
 -- the tokens begin with a list of values in parentheses, which is these
-pub record ListBack (s : Scope) (n : ℕ) (e : Expr) (es : List Expr) (ks : List Piece) (tokens : List Token) : Type 0 where
+pub record ListBack (s : Scope) (n : ℕ) (e : Expr) (es : List Expr) (ks : List Piece) (tokens : List Token) :
+    Type 0 where
   pub start : At
   pub head : g.Expr
   pub more : g.Values
@@ -75,13 +78,17 @@ pub record ListBack (s : Scope) (n : ℕ) (e : Expr) (es : List Expr) (ks : List
   pub faultless : value_faults s head ≡ []
   pub more_faultless : values_faults s more ≡ []
   pub room : suc n ≤ 33
-  pub shallow : (ls : List ℕ) → AllAtMost 33 ls → AllAtMost 33 (nest_expr (suc n) head (nest_values (suc n) more (suc n ∷ ls)))
+  pub shallow : (ls : List ℕ) → AllAtMost 33 ls
+      → AllAtMost 33 (nest_expr (suc n) head (nest_values (suc n) more (suc n ∷ ls)))
 
-pub list_back : (p : Program) (locals : List (List ℕ)) (s : Scope) (n : ℕ) (e : Expr) (es : List Expr) (ks : List Piece) (tokens : List Token)
-    → FitsArguments p locals s n (e ∷ es) → AreTokens (arguments p locals (e ∷ es) ks) tokens → ListBack s n e es ks tokens
+pub list_back : (p : Program) (locals : List (List ℕ)) (s : Scope) (n : ℕ) (e : Expr) (es : List Expr)
+    (ks : List Piece) (tokens : List Token)
+    → FitsArguments p locals s n (e ∷ es) → AreTokens (arguments p locals (e ∷ es) ks) tokens
+    → ListBack s n e es ks tokens
 list_back p locals s n e es ks tokens h a =
     let o = first a in
-    let v = value_back p locals s (suc n) e (more_values p locals es (piece.Symbol sign.Close ∷ ks)) o.rest (record { named = h.0.0; low = omega (arith, h.1) }) o.later in
+    let v = value_back p locals s (suc n) e (more_values p locals es (piece.Symbol sign.Close ∷ ks)) o.rest
+    (record { named = h.0.0; low = omega (arith, h.1) }) o.later in
     let more = lists_read_back p locals s es (piece.Symbol sign.Close ∷ ks) v.rest h.0.1 v.later in
     let c = first more.later in
     let low : suc n ≤ 33 = omega (arith, h.1) in
@@ -99,7 +106,8 @@ list_back p locals s n e es ks tokens h a =
       faultless = v.faultless;
       more_faultless = more.faultless;
       room = low;
-      shallow = λ ls held. v.shallow (nest_values (suc n) more.syntax (suc n ∷ ls)) (more.shallow (suc n) 33 (suc n ∷ ls) low (omega (arith, h.1)) (low, held));
+      shallow = λ ls held. v.shallow (nest_values (suc n) more.syntax (suc n ∷ ls))
+          (more.shallow (suc n) 33 (suc n ∷ ls) low (omega (arith, h.1)) (low, held));
     }
 
 -- the tokens begin with arguments that are these values
@@ -113,7 +121,8 @@ pub record ArgumentsBack (s : Scope) (n : ℕ) (es : List Expr) (ks : List Piece
   pub faultless : arguments_faults s (arguments_of syntax) ≡ []
   pub shallow : (ls : List ℕ) → AllAtMost 33 ls → AllAtMost 33 (nest_arguments n syntax ls)
 
-pub arguments_back : (p : Program) (locals : List (List ℕ)) (s : Scope) (n : ℕ) (es : List Expr) (ks : List Piece) (tokens : List Token)
+pub arguments_back : (p : Program) (locals : List (List ℕ)) (s : Scope) (n : ℕ) (es : List Expr) (ks : List Piece)
+    (tokens : List Token)
     → FitsArguments p locals s n es → AreTokens (arguments p locals es ks) tokens → ArgumentsBack s n es ks tokens
 arguments_back p locals s n [] ks tokens h a = record {
   syntax = g.unlisted;
@@ -130,18 +139,26 @@ arguments_back p locals s n (e ∷ es) ks tokens h a =
     record {
       syntax = g.listed b.start (g.value b.head) (further_of b.more) b.close;
       rest = b.rest;
-      front = b.front ∙ ap (λ ts. tok.Open b.start ∷ g.of_expr b.head ts) (of_further_of b.more (tok.Close b.close ∷ b.rest));
+      front = b.front ∙ ap (λ ts. tok.Open b.start ∷ g.of_expr b.head ts)
+          (of_further_of b.more (tok.Close b.close ∷ b.rest));
       later = b.later;
       same = (λ i. b.same i ∷ (values_further_of s b.more ∙ b.same_more) i);
       count = ap suc (count_further_of b.more ∙ b.count);
       faultless = nils b.faultless (faults_further_of s b.more b.more_faultless);
-      shallow = λ ls held. (b.room, subst (λ xs. AllAtMost 33 (nest_expr (suc n) b.head xs)) (nest_further_of (suc n) b.more (suc n ∷ ls)) (b.shallow ls held));
+      shallow = λ ls held. (
+        b.room,
+        subst (λ xs. AllAtMost 33 (nest_expr (suc n) b.head xs))
+            (nest_further_of (suc n) b.more (suc n ∷ ls)) (b.shallow ls held),
+      );
     }
 
 -- a procedure that is called with as many values as it has parameters, after its declaration
-pub called_fine : (s : Scope) (wants gives : Bool) (count number parameters : ℕ) (at : At) (name : List ℕ) → meaning_of s name ≡ Some (m.Procedure number gives parameters)
-    → count ≡ parameters → (wants && not gives) ≡ false → nat_le s.number number ≡ false → called_faults s wants at count (meaning_of s name) ≡ []
+pub called_fine : (s : Scope) (wants gives : Bool) (count number parameters : ℕ) (at : At) (name : List ℕ)
+    → meaning_of s name ≡ Some (m.Procedure number gives parameters)
+    → count ≡ parameters → (wants && not gives) ≡ false → nat_le s.number number ≡ false
+    → called_faults s wants at count (meaning_of s name) ≡ []
 called_fine s wants gives count number parameters at name means same given before =
     ap (called_faults s wants at count) means
-    ∙ nils (ap (λ x. if_so (not x || (wants && not gives)) (fault_at at WrongKind)) (eq-eqb count parameters same) ∙ ap (λ x. if_so x (fault_at at WrongKind)) given)
+    ∙ nils (ap (λ x. if_so (not x || (wants && not gives)) (fault_at at WrongKind)) (eq-eqb count parameters same)
+    ∙ ap (λ x. if_so x (fault_at at WrongKind)) given)
     (ap (λ x. if_so x (fault_at at NotBefore)) before)

@@ -46,10 +46,12 @@ module _ (p : Program) (locals : List (List ℕ)) (s : Scope) (f : Files) where
 
   -- an assignment of a value
   pub assign_back : (n : ℕ) (w : Walk) (line : ℕ) (to : Spot) (e : Expr) (ks : List Piece) (tokens : List Token)
-      → IsCounted w → FitsSpot p locals s (suc n) to → FitsValue p locals s (suc n) e → AreTokens (what_pieces p locals (what.Assign to e) ks) tokens
+      → IsCounted w → FitsSpot p locals s (suc n) to → FitsValue p locals s (suc n) e
+      → AreTokens (what_pieces p locals (what.Assign to e) ks) tokens
       → Back n w (record { number = w.number; line = line; what = what.Assign to e }) ks tokens
   assign_back n w line to e ks tokens count fits_to fits a =
-      let t = target_back p locals s (suc n) to (piece.Symbol sign.Assign ∷ value_pieces p locals value.Sum e ks) tokens fits_to a in
+      let t = target_back p locals s (suc n) to (piece.Symbol sign.Assign ∷ value_pieces p locals value.Sum e ks)
+      tokens fits_to a in
       let b = first t.later in
       let v = value_back p locals s (suc n) e ks b.rest fits b.later in
       let room : suc n ≤ 33 = omega (arith, fits.low) in
@@ -58,7 +60,8 @@ module _ (p : Program) (locals : List (List ℕ)) (s : Scope) (f : Files) where
         rest = v.rest;
         front = past_spot t.syntax t.front (behind b.is v.front);
         later = v.later;
-        same = ap (λ x. record { number = w.number; line = 0; what = unlined_what x } ∷ []) (v.kept t.syntax ∙ (λ i. what.Assign (t.same i) (v.same i)));
+        same = ap (λ x. record { number = w.number; line = 0; what = unlined_what x } ∷ [])
+            (v.kept t.syntax ∙ (λ i. what.Assign (t.same i) (v.same i)));
         next = refl;
         faultless = nils (nils (counted w (first_of_spot t.syntax) count) t.faultless) v.right;
         nearest = tt;
@@ -73,7 +76,8 @@ module _ (p : Program) (locals : List (List ℕ)) (s : Scope) (f : Files) where
       → AreTokens (what_pieces p locals (what.AssignCall to number []) ks) tokens
       → Back n w (record { number = w.number; line = line; what = what.AssignCall to number [] }) ks tokens
   assign_name_back n w line to number ks tokens count fits_to callable room a =
-      let t = target_back p locals s (suc n) to (piece.Symbol sign.Assign ∷ named (procedure_name p number) ks) tokens fits_to a in
+      let t = target_back p locals s (suc n) to (piece.Symbol sign.Assign ∷ named (procedure_name p number) ks) tokens
+      fits_to a in
       let b = first t.later in
       let x = first (subst (λ o. AreTokens (named o ks) b.rest) callable.named b.later) in
       record {
@@ -82,11 +86,13 @@ module _ (p : Program) (locals : List (List ℕ)) (s : Scope) (f : Files) where
         front = past_spot t.syntax t.front (behind b.is x.is);
         later = x.later;
         same = ap (λ y. record { number = w.number; line = 0; what = unlined_what y } ∷ [])
-            (ap (assign_by s t.syntax (lone_name x.at callable.name)) callable.means ∙ ap (λ spot. what.AssignCall spot number []) t.same);
+            (ap (assign_by s t.syntax (lone_name x.at callable.name)) callable.means
+            ∙ ap (λ spot. what.AssignCall spot number []) t.same);
         next = refl;
         faultless = nils (nils (counted w (first_of_spot t.syntax) count) t.faultless)
             (ap (right_by s (lone_name x.at callable.name) x.at) callable.means
-            ∙ sym (ap (called_faults s true x.at 0) callable.means) ∙ called_fine s true true 0 number 0 x.at callable.name callable.means refl refl callable.before);
+            ∙ sym (ap (called_faults s true x.at 0) callable.means)
+            ∙ called_fine s true true 0 number 0 x.at callable.name callable.means refl refl callable.before);
         nearest = tt;
         closed = refl;
         shallow = λ ls held. t.shallow (suc n ∷ suc n ∷ ls) (room, (room, held));
@@ -94,12 +100,16 @@ module _ (p : Program) (locals : List (List ℕ)) (s : Scope) (f : Files) where
       }
 
   -- a right side that is a call with values
-  assign_list_back : (n : ℕ) (w : Walk) (line : ℕ) (to : Spot) (number : ℕ) (e : Expr) (es : List Expr) (ks : List Piece) (tokens : List Token)
-      → IsCounted w → FitsSpot p locals s (suc n) to → IsCallable p locals s number true (length (e ∷ es)) → FitsArguments p locals s (suc n) (e ∷ es)
+  assign_list_back : (n : ℕ) (w : Walk) (line : ℕ) (to : Spot) (number : ℕ) (e : Expr) (es : List Expr)
+      (ks : List Piece) (tokens : List Token)
+      → IsCounted w → FitsSpot p locals s (suc n) to → IsCallable p locals s number true (length (e ∷ es))
+      → FitsArguments p locals s (suc n) (e ∷ es)
       → AreTokens (what_pieces p locals (what.AssignCall to number (e ∷ es)) ks) tokens
       → Back n w (record { number = w.number; line = line; what = what.AssignCall to number (e ∷ es) }) ks tokens
   assign_list_back n w line to number e es ks tokens count fits_to callable fits a =
-      let t = target_back p locals s (suc n) to (piece.Symbol sign.Assign ∷ named (procedure_name p number) (arguments p locals (e ∷ es) ks)) tokens fits_to a in
+      let t = target_back p locals s (suc n) to
+      (piece.Symbol sign.Assign ∷ named (procedure_name p number) (arguments p locals (e ∷ es) ks)) tokens fits_to
+      a in
       let b = first t.later in
       let x = first (subst (λ o. AreTokens (named o (arguments p locals (e ∷ es) ks)) b.rest) callable.named b.later) in
       let l = list_back p locals s (suc n) e es ks x.rest fits x.later in
@@ -114,27 +124,34 @@ module _ (p : Program) (locals : List (List ℕ)) (s : Scope) (f : Files) where
             (λ i. what.AssignCall (t.same i) (procedure_by (callable.means i)) (l.same i ∷ l.same_more i));
         next = refl;
         faultless = nils (nils (nils (nils (counted w (first_of_spot t.syntax) count) t.faultless)
-            (called_fine s true true (values_count l.more + 1) number (length (e ∷ es)) x.at callable.name callable.means (omega (arith, l.count)) refl callable.before))
+            (called_fine s true true (values_count l.more + 1) number (length (e ∷ es)) x.at callable.name
+            callable.means (omega (arith, l.count)) refl callable.before))
             l.faultless) l.more_faultless;
         nearest = tt;
         closed = refl;
-        shallow = λ ls held. t.shallow (suc n ∷ suc n ∷ suc (suc n) ∷ nest_expr (suc (suc n)) l.head (nest_values (suc (suc n)) l.more (suc (suc n) ∷ ls)))
+        shallow = λ ls held. t.shallow (suc n ∷ suc n ∷ suc (suc n)
+            ∷ nest_expr (suc (suc n)) l.head (nest_values (suc (suc n)) l.more (suc (suc n) ∷ ls)))
             (room, (room, (deep, l.shallow ls held)));
         opened = refl;
       }
 
-  pub assign_call_back : (n : ℕ) (w : Walk) (line : ℕ) (to : Spot) (number : ℕ) (es : List Expr) (ks : List Piece) (tokens : List Token)
-      → IsCounted w → FitsSpot p locals s (suc n) to → IsCallable p locals s number true (length es) → FitsArguments p locals s (suc n) es
+  pub assign_call_back : (n : ℕ) (w : Walk) (line : ℕ) (to : Spot) (number : ℕ) (es : List Expr) (ks : List Piece)
+      (tokens : List Token)
+      → IsCounted w → FitsSpot p locals s (suc n) to → IsCallable p locals s number true (length es)
+      → FitsArguments p locals s (suc n) es
       → AreTokens (what_pieces p locals (what.AssignCall to number es) ks) tokens
       → Back n w (record { number = w.number; line = line; what = what.AssignCall to number es }) ks tokens
-  assign_call_back n w line to number [] ks tokens count fits_to callable fits a = assign_name_back n w line to number ks tokens count fits_to callable fits a
-  assign_call_back n w line to number (e ∷ es) ks tokens count fits_to callable fits a = assign_list_back n w line to number e es ks tokens count fits_to callable fits a
+  assign_call_back n w line to number [] ks tokens count fits_to callable fits a =
+      assign_name_back n w line to number ks tokens count fits_to callable fits a
+  assign_call_back n w line to number (e ∷ es) ks tokens count fits_to callable fits a =
+      assign_list_back n w line to number e es ks tokens count fits_to callable fits a
 
   fits_level : (n : ℕ) (es : List Expr) → FitsArguments p locals s n es → n ≤ 33
   fits_level n [] h = h
   fits_level n (e ∷ es) h = omega (arith, h.1)
 
-  pub procedure_call_back : (n : ℕ) (w : Walk) (line number : ℕ) (gives : Bool) (es : List Expr) (ks : List Piece) (tokens : List Token)
+  pub procedure_call_back : (n : ℕ) (w : Walk) (line number : ℕ) (gives : Bool) (es : List Expr) (ks : List Piece)
+      (tokens : List Token)
       → IsCounted w → IsCallable p locals s number gives (length es) → FitsArguments p locals s (suc n) es
       → AreTokens (what_pieces p locals (what.Call number es) ks) tokens
       → Back n w (record { number = w.number; line = line; what = what.Call number es }) ks tokens
@@ -149,10 +166,13 @@ module _ (p : Program) (locals : List (List ℕ)) (s : Scope) (f : Files) where
         front = behind h.is (behind x.is l.front);
         later = l.later;
         same = ap (λ y. record { number = w.number; line = 0; what = unlined_what y } ∷ [])
-            (ap (call_what s callable.name (arguments_of l.syntax)) callable.free ∙ (λ i. what.Call (procedure_by (callable.means i)) (l.same i)));
+            (ap (call_what s callable.name (arguments_of l.syntax)) callable.free
+            ∙ (λ i. what.Call (procedure_by (callable.means i)) (l.same i)));
         next = ap (after_call w (arguments_of l.syntax)) callable.free;
-        faultless = nils (counted w h.at count) (ap (call_faults s w x.at callable.name (arguments_of l.syntax)) callable.free
-            ∙ nils (called_fine s false gives (length (arguments_of l.syntax)) number (length es) x.at callable.name callable.means l.count refl callable.before) l.faultless);
+        faultless = nils (counted w h.at count)
+            (ap (call_faults s w x.at callable.name (arguments_of l.syntax)) callable.free
+            ∙ nils (called_fine s false gives (length (arguments_of l.syntax)) number (length es) x.at callable.name
+            callable.means l.count refl callable.before) l.faultless);
         nearest = tt;
         closed = refl;
         shallow = λ ls held. (room, (room, l.shallow ls held));
@@ -179,7 +199,8 @@ module _ (p : Program) (locals : List (List ℕ)) (s : Scope) (f : Files) where
       }
 
   pub answer_back : (n : ℕ) (w : Walk) (line : ℕ) (e : Expr) (ks : List Piece) (tokens : List Token)
-      → IsCounted w → s.gives ≡ true → FitsValue p locals s (suc n) e → AreTokens (what_pieces p locals (what.Return (Some e)) ks) tokens
+      → IsCounted w → s.gives ≡ true → FitsValue p locals s (suc n) e
+      → AreTokens (what_pieces p locals (what.Return (Some e)) ks) tokens
       → Back n w (record { number = w.number; line = line; what = what.Return (Some e) }) ks tokens
   answer_back n w line e ks tokens count given fits a =
       let h = first a in
@@ -192,7 +213,8 @@ module _ (p : Program) (locals : List (List ℕ)) (s : Scope) (f : Files) where
         later = v.later;
         same = ap (λ x. record { number = w.number; line = 0; what = what.Return (Some x) } ∷ []) v.same;
         next = refl;
-        faultless = nils (counted w h.at count) (nils (ap (λ x. if_so (not x) (fault_at h.at WrongKind)) given) v.faultless);
+        faultless = nils (counted w h.at count)
+            (nils (ap (λ x. if_so (not x) (fault_at h.at WrongKind)) given) v.faultless);
         nearest = tt;
         closed = refl;
         shallow = λ ls held. (room, v.shallow ls held);

@@ -40,7 +40,8 @@ kept_item : (at : At) (number : ℕ) (found : Option Meaning) → IsItem number 
 kept_item at number _ simple = refl
 kept_item at number _ array = refl
 
-one_item : (number : ℕ) (rest : List ℕ) (found : Option Meaning) → IsItem number found → with_item found rest ≡ number ∷ rest
+one_item : (number : ℕ) (rest : List ℕ) (found : Option Meaning) → IsItem number found
+    → with_item found rest ≡ number ∷ rest
 one_item number rest _ simple = refl
 one_item number rest _ array = refl
 
@@ -49,13 +50,15 @@ no_file number rest _ simple = refl
 no_file number rest _ array = refl
 
 -- the pieces of a name that is there
-as_name : {found : Option (List ℕ)} {name : List ℕ} {ks : List Piece} {tokens : List Token} → found ≡ Some name → AreTokens (named found ks) tokens
+as_name : {found : Option (List ℕ)} {name : List ℕ} {ks : List Piece} {tokens : List Token} → found ≡ Some name
+    → AreTokens (named found ks) tokens
     → AreTokens (piece.Name name ∷ ks) tokens
 as_name {ks = ks} {tokens = tokens} is a = subst (λ o. AreTokens (named o ks) tokens) is a
 
 module _ (p : Program) (locals : List (List ℕ)) (s : Scope) where
   -- the tokens begin with further names, of these items and files, with these names before them
-  record MentionsBack (before : Declarations) (items files : List ℕ) (ks : List Piece) (tokens : List Token) : Type 0 where
+  record MentionsBack (before : Declarations) (items files : List ℕ) (ks : List Piece) (tokens : List Token) :
+      Type 0 where
     syntax : g.Further
     rest : List Token
     front : tokens ≡ g.of_further syntax rest
@@ -65,7 +68,8 @@ module _ (p : Program) (locals : List (List ℕ)) (s : Scope) where
     faultless : checkpoint_faults s before (further_arguments syntax) ≡ []
     shallow : (n : ℕ) (ls : List ℕ) → n ≤ 33 → AllAtMost 33 ls → AllAtMost 33 (nest_further n syntax ls)
 
-  mentions_back : {before : Declarations} {items files : List ℕ} → Mentions p locals s before items files → (ks : List Piece) (tokens : List Token)
+  mentions_back : {before : Declarations} {items files : List ℕ} → Mentions p locals s before items files
+      → (ks : List Piece) (tokens : List Token)
       → AreTokens (more_items p items (more_files p files ks)) tokens → MentionsBack before items files ks tokens
   mentions_back none ks tokens a = record {
     syntax = g.no_further;
@@ -88,7 +92,8 @@ module _ (p : Program) (locals : List (List ℕ)) (s : Scope) where
         later = b.later;
         same_items = ap (λ found. with_item found (items_named s (further_arguments b.syntax))) means ∙ b.same_items;
         same_files = λ i. with_process (means i) (b.same_files i);
-        faultless = nils (nils (ap (kind_faults need.Kept x.at) means) (ap (λ twice. if_so twice (fault_at x.at Twice)) new)) b.faultless;
+        faultless = nils (nils (ap (kind_faults need.Kept x.at) means)
+            (ap (λ twice. if_so twice (fault_at x.at Twice)) new)) b.faultless;
         shallow = λ n ls room held. (room, (room, b.shallow n ls room held));
       }
   mentions_back (item {number = number} name is means new others) ks tokens a =
@@ -100,9 +105,12 @@ module _ (p : Program) (locals : List (List ℕ)) (s : Scope) where
         rest = b.rest;
         front = behind c.is (behind x.is b.front);
         later = b.later;
-        same_items = one_item number (items_named s (further_arguments b.syntax)) (meaning_of s name) means ∙ ap (λ xs. number ∷ xs) b.same_items;
-        same_files = no_file number (files_named s (further_arguments b.syntax)) (meaning_of s name) means ∙ b.same_files;
-        faultless = nils (nils (kept_item x.at number (meaning_of s name) means) (ap (λ twice. if_so twice (fault_at x.at Twice)) new)) b.faultless;
+        same_items = one_item number (items_named s (further_arguments b.syntax)) (meaning_of s name) means
+            ∙ ap (λ xs. number ∷ xs) b.same_items;
+        same_files =
+            no_file number (files_named s (further_arguments b.syntax)) (meaning_of s name) means ∙ b.same_files;
+        faultless = nils (nils (kept_item x.at number (meaning_of s name) means)
+            (ap (λ twice. if_so twice (fault_at x.at Twice)) new)) b.faultless;
         shallow = λ n ls room held. (room, (room, b.shallow n ls room held));
       }
 
@@ -110,7 +118,8 @@ module _ (p : Program) (locals : List (List ℕ)) (s : Scope) (f : Files) where
   -- a CHECKPOINT of these reads back
   abbrev Back : ℕ → Walk → ℕ → List ℕ → List ℕ → List Piece → List Token → Type 0
   Back n w line items files ks tokens =
-      StatementBack s f n w (record { number = w.number; line = line; what = what.Checkpoint items files } ∷ []) (stepped w) ks tokens
+      StatementBack s f n w (record { number = w.number; line = line; what = what.Checkpoint items files } ∷ [])
+      (stepped w) ks tokens
 
   pub checkpoint_none : (n : ℕ) (w : Walk) (line : ℕ) (ks : List Piece) (tokens : List Token) → IsCounted w → suc n ≤ 33
       → AreTokens (what_pieces p locals (what.Checkpoint [] []) ks) tokens → Back n w line [] [] ks tokens
@@ -128,23 +137,29 @@ module _ (p : Program) (locals : List (List ℕ)) (s : Scope) (f : Files) where
         opened = refl;
       })
 
-  pub checkpoint_back : {items files : List ℕ} (n : ℕ) (w : Walk) (line : ℕ) (ks : List Piece) (tokens : List Token) → IsCounted w → suc (suc n) ≤ 33
-      → Mentions p locals s [] items files → AreTokens (what_pieces p locals (what.Checkpoint items files) ks) tokens → Back n w line items files ks tokens
-  checkpoint_back n w line ks tokens count deep none a = checkpoint_none n w line ks tokens count (omega (arith, deep)) a
+  pub checkpoint_back : {items files : List ℕ} (n : ℕ) (w : Walk) (line : ℕ) (ks : List Piece) (tokens : List Token)
+      → IsCounted w → suc (suc n) ≤ 33
+      → Mentions p locals s [] items files → AreTokens (what_pieces p locals (what.Checkpoint items files) ks) tokens
+      → Back n w line items files ks tokens
+  checkpoint_back n w line ks tokens count deep none a =
+      checkpoint_none n w line ks tokens count (omega (arith, deep)) a
   checkpoint_back n w line ks tokens count deep (file {number = number} place name is means new others) a =
       let c = called_back system.Checkpoint _ tokens a in
       let o = first c.later in
       let x = first (as_name is o.later) in
       let b = mentions_back p locals s others (close ks) x.rest x.later in
       let z = first b.later in
-      system_back s f n w (stepped w) line system.Checkpoint (what.Checkpoint _ _) ks _ tokens count (omega (arith, deep)) c (record {
+      system_back s f n w (stepped w) line system.Checkpoint (what.Checkpoint _ _) ks _ tokens count
+      (omega (arith, deep)) c (record {
         syntax = g.listed o.at (g.value (lone_name x.at name)) b.syntax z.at;
         rest = z.rest;
         front = behind o.is (behind x.is (b.front ∙ ap (g.of_further b.syntax) z.is));
         later = z.later;
-        same = λ i. what.Checkpoint ((ap (λ found. with_item found (items_named s (further_arguments b.syntax))) means ∙ b.same_items) i) (with_process (means i) (b.same_files i));
+        same = λ i. what.Checkpoint ((ap (λ found. with_item found (items_named s (further_arguments b.syntax))) means
+            ∙ b.same_items) i) (with_process (means i) (b.same_files i));
         next = refl;
-        faultless = λ at. nils (nils (ap (kind_faults need.Kept x.at) means) (ap (λ twice. if_so twice (fault_at x.at Twice)) new)) b.faultless;
+        faultless = λ at. nils (nils (ap (kind_faults need.Kept x.at) means)
+            (ap (λ twice. if_so twice (fault_at x.at Twice)) new)) b.faultless;
         shallow = λ ls held. (deep, (deep, b.shallow (suc (suc n)) (suc (suc n) ∷ ls) deep (deep, held)));
         opened = refl;
       })
@@ -154,15 +169,18 @@ module _ (p : Program) (locals : List (List ℕ)) (s : Scope) (f : Files) where
       let x = first (as_name is o.later) in
       let b = mentions_back p locals s others (close ks) x.rest x.later in
       let z = first b.later in
-      system_back s f n w (stepped w) line system.Checkpoint (what.Checkpoint _ _) ks _ tokens count (omega (arith, deep)) c (record {
+      system_back s f n w (stepped w) line system.Checkpoint (what.Checkpoint _ _) ks _ tokens count
+      (omega (arith, deep)) c (record {
         syntax = g.listed o.at (g.value (lone_name x.at name)) b.syntax z.at;
         rest = z.rest;
         front = behind o.is (behind x.is (b.front ∙ ap (g.of_further b.syntax) z.is));
         later = z.later;
-        same = λ i. what.Checkpoint ((one_item number (items_named s (further_arguments b.syntax)) (meaning_of s name) means ∙ ap (λ xs. number ∷ xs) b.same_items) i)
+        same = λ i. what.Checkpoint ((one_item number (items_named s (further_arguments b.syntax)) (meaning_of s name)
+            means ∙ ap (λ xs. number ∷ xs) b.same_items) i)
             ((no_file number (files_named s (further_arguments b.syntax)) (meaning_of s name) means ∙ b.same_files) i);
         next = refl;
-        faultless = λ at. nils (nils (kept_item x.at number (meaning_of s name) means) (ap (λ twice. if_so twice (fault_at x.at Twice)) new)) b.faultless;
+        faultless = λ at. nils (nils (kept_item x.at number (meaning_of s name) means)
+            (ap (λ twice. if_so twice (fault_at x.at Twice)) new)) b.faultless;
         shallow = λ ls held. (deep, (deep, b.shallow (suc (suc n)) (suc (suc n) ∷ ls) deep (deep, held)));
         opened = refl;
       })

@@ -11,8 +11,10 @@ use Rattle.tal_names.specs.declared.meaning.Wanted.{Wanted}
 use Rattle.tal_names.specs.declared.meaning.Wanted.TheVariants.{Value}
 use Rattle.tal_names.specs.declared.scope.Named.{Named}
 use Rattle.tal_names.specs.declared.scope.Scope.{Scope}
-use Rattle.tal_rules.specs.Expressions.{expr_faults, both_faults, neg_faults, sum_faults, product_faults, factor_faults, value_faults}
-use Rattle.tal_names.specs.Places.{first_of_expr, name_of_expr, name_of_factor, factor_of_expr, factor_of_both, factor_of_neg, factor_of_sum, factor_of_product}
+use Rattle.tal_rules.specs.Expressions.{expr_faults, both_faults, neg_faults, sum_faults, product_faults, factor_faults}
+use Rattle.tal_rules.specs.Expressions.{value_faults}
+use Rattle.tal_names.specs.Places.{first_of_expr, name_of_expr, name_of_factor, factor_of_expr, factor_of_both}
+use Rattle.tal_names.specs.Places.{factor_of_neg, factor_of_sum, factor_of_product}
 use Rattle.tal_names.specs.Scopes.{meaning_of, kind_faults}
 use Rattle.tal_rules.specs.Statements.{right_faults, right_named, right_by}
 use Rattle.tal_meaning.specs.Calls.{meaning_by}
@@ -33,7 +35,8 @@ module _ (s : Scope) where
   readable_factor : (w : Wanted) (f : g.Factor) → factor_faults s w f ≡ [] → IsReadableFactor (Some f)
   readable_factor w (g.minus at f) h = tt
   readable_factor w (g.number at n) h = tt
-  readable_factor w (g.read (g.spot at name g.no_index)) h = first_nil (kind_faults need.Readable at (meaning_of s name)) [] h
+  readable_factor w (g.read (g.spot at name g.no_index)) h =
+      first_nil (kind_faults need.Readable at (meaning_of s name)) [] h
   readable_factor w (g.read (g.spot at name (g.index start e close))) h = tt
   readable_factor w (g.parens start e close) h = tt
 
@@ -58,7 +61,8 @@ module _ (s : Scope) where
   readable_expr w (g.expr b g.no_ors) h = readable_both w b (first_nil (both_faults s w b) [] h)
   readable_expr w (g.expr b (g.more_ors at x os)) h = tt
 
-  right_readable : (e : g.Expr) (at : At) (found : Option Meaning) → kind_faults need.Readable at found ≡ [] → right_by s e at found ≡ value_faults s e
+  right_readable : (e : g.Expr) (at : At) (found : Option Meaning) → kind_faults need.Readable at found ≡ []
+      → right_by s e at found ≡ value_faults s e
   right_readable e at None h = refl
   right_readable e at (Some (m.Local place)) h = refl
   right_readable e at (Some (m.Simple item)) h = refl
@@ -73,7 +77,8 @@ module _ (s : Scope) where
   right_lone e None h = refl
   right_lone e (Some x) h = right_readable e x.at (meaning_of s x.name) h
 
-  assign_readable : (target : g.Spot) (e : g.Expr) (at : At) (found : Option Meaning) → kind_faults need.Readable at found ≡ []
+  assign_readable : (target : g.Spot) (e : g.Expr) (at : At) (found : Option Meaning)
+      → kind_faults need.Readable at found ≡ []
       → assign_by s target e found ≡ what.Assign (target_of_spot s target) (value_of_expr s e)
   assign_readable target e at None h = refl
   assign_readable target e at (Some (m.Local place)) h = refl

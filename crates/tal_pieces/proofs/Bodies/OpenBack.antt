@@ -56,7 +56,8 @@ record StringBack (s : Scope) (t : Target) (ks : List Piece) (tokens : List Toke
   by : (item number : ℕ) → files.file_by syntax item number ≡ file_meaning t item number
   shallow : (n : ℕ) (ls : List ℕ) → n ≤ 33 → AllAtMost 33 ls → AllAtMost 33 (nest_argument n syntax ls)
 
-string_back : (s : Scope) (t : Target) (ks : List Piece) (tokens : List Token) → AreTokens (target_piece t ∷ ks) tokens → StringBack s t ks tokens
+string_back : (s : Scope) (t : Target) (ks : List Piece) (tokens : List Token) → AreTokens (target_piece t ∷ ks) tokens
+    → StringBack s t ks tokens
 string_back s target.Receive ks tokens a =
     let h = first a in
     record {
@@ -89,7 +90,8 @@ number_of : (t : Target) (item number : ℕ) → file_number (Some (file_meaning
 number_of target.Receive item number = refl
 number_of (target.Process name) item number = refl
 
-file_fine : (t : Target) (item number : ℕ) (at : At) → kind_faults need.FileVariable at (Some (file_meaning t item number)) ≡ []
+file_fine : (t : Target) (item number : ℕ) (at : At)
+    → kind_faults need.FileVariable at (Some (file_meaning t item number)) ≡ []
 file_fine target.Receive item number at = refl
 file_fine (target.Process name) item number at = refl
 
@@ -98,12 +100,15 @@ abbrev lone_number : At → ℕ → g.Expr
 lone_number at n = only (g.sum (g.product (g.number at (pos n)) g.no_factors) g.no_terms)
 
 module _ (p : Program) (locals : List (List ℕ)) (s : Scope) (f : Files) where
-  pub monitor_back : (n : ℕ) (w : Walk) (line : ℕ) (ks : List Piece) (tokens : List Token) → IsCounted w → suc n ≤ 33 → w.stage ≡ stage.Start
+  pub monitor_back : (n : ℕ) (w : Walk) (line : ℕ) (ks : List Piece) (tokens : List Token) → IsCounted w → suc n ≤ 33
+      → w.stage ≡ stage.Start
       → AreTokens (what_pieces p locals what.CheckMonitor ks) tokens
-      → StatementBack s f n w (record { number = w.number; line = line; what = what.CheckMonitor } ∷ []) (record w { number = next_number w.number; stage = stage.Opens }) ks tokens
+      → StatementBack s f n w (record { number = w.number; line = line; what = what.CheckMonitor } ∷ [])
+      (record w { number = next_number w.number; stage = stage.Opens }) ks tokens
   monitor_back n w line ks tokens counted room start a =
       let c = called_back system.CheckMonitor ks tokens a in
-      system_back s f n w (record w { number = next_number w.number; stage = stage.Opens }) line system.CheckMonitor what.CheckMonitor ks ks tokens counted room c (record {
+      system_back s f n w (record w { number = next_number w.number; stage = stage.Opens }) line system.CheckMonitor
+      what.CheckMonitor ks ks tokens counted room c (record {
         syntax = g.unlisted;
         rest = c.rest;
         front = refl;
@@ -115,10 +120,16 @@ module _ (p : Program) (locals : List (List ℕ)) (s : Scope) (f : Files) where
         opened = refl;
       })
 
-  pub open_back : (n : ℕ) (w : Walk) (line file : ℕ) (ks : List Piece) (tokens : List Token) → IsCounted w → suc (suc n) ≤ 33 → (o : Opens p locals s f w file)
+  pub open_back : (n : ℕ) (w : Walk) (line file : ℕ) (ks : List Piece) (tokens : List Token) → IsCounted w
+      → suc (suc n) ≤ 33 → (o : Opens p locals s f w file)
       → AreTokens (what_pieces p locals (what.Open file) ks) tokens
       → StatementBack s f n w (record { number = w.number; line = line; what = what.Open file } ∷ [])
-      (record { number = next_number w.number; stage = stage.Opens; files = next_file w.files; receive = w.receive || is_receive o.opened.target }) ks tokens
+      (record {
+        number = next_number w.number;
+        stage = stage.Opens;
+        files = next_file w.files;
+        receive = w.receive || is_receive o.opened.target;
+      }) ks tokens
   open_back n w line file ks tokens counted deep o a =
       let last = comma (piece.Number (pos o.opened.depth) ∷ close ks) in
       let c = called_back system.Open _ tokens (subst (λ found. AreTokens (open_pieces p found ks) tokens) o.there a) in
@@ -130,11 +141,14 @@ module _ (p : Program) (locals : List (List ℕ)) (s : Scope) (f : Files) where
       let q = first e.later in
       let z = first q.later in
       system_back s f n w _ line system.Open (what.Open file) ks _ tokens counted (omega (arith, deep)) c (record {
-        syntax = g.listed h.at b.syntax (g.more_further d.at (g.value (lone_name x.at o.name)) (g.more_further e.at (g.value (lone_number q.at o.opened.depth)) g.no_further)) z.at;
+        syntax = g.listed h.at b.syntax (g.more_further d.at (g.value (lone_name x.at o.name))
+            (g.more_further e.at (g.value (lone_number q.at o.opened.depth)) g.no_further)) z.at;
         rest = z.rest;
-        front = behind h.is (b.front ∙ ap (g.of_argument b.syntax) (behind d.is (behind x.is (behind e.is (behind q.is z.is)))));
+        front = behind h.is (b.front ∙ ap (g.of_argument b.syntax)
+            (behind d.is (behind x.is (behind e.is (behind q.is z.is)))));
         later = z.later;
-        same = ap (λ found. what.Open (file_by found)) o.means ∙ ap (λ k. what.Open (unwrap_or k 0)) (number_of o.opened.target o.opened.item file);
+        same = ap (λ found. what.Open (file_by found)) o.means
+            ∙ ap (λ k. what.Open (unwrap_or k 0)) (number_of o.opened.target o.opened.item file);
         next = λ i. record {
           number = next_number w.number;
           stage = stage_after_open (o.ready i);
@@ -142,7 +156,8 @@ module _ (p : Program) (locals : List (List ℕ)) (s : Scope) (f : Files) where
           receive = w.receive || b.receives i;
         };
         faultless = λ at. nils (nils (nils (nils (nils (nils
-            (ap (λ r. if_so (w.receive && r) (fault_at at Twice)) b.receives ∙ ap (λ r. if_so r (fault_at at Twice)) o.alone)
+            (ap (λ r. if_so (w.receive && r) (fault_at at Twice)) b.receives
+            ∙ ap (λ r. if_so r (fault_at at Twice)) o.alone)
             refl)
             (stands_next at o))
             b.fine)
@@ -150,29 +165,42 @@ module _ (p : Program) (locals : List (List ℕ)) (s : Scope) (f : Files) where
             (ap (λ r. if_so r (fault_at x.at (Limit 4))) o.few))
             (ap (λ r. if_so (not (is_depth r (pos o.opened.depth))) (fault_at q.at (Limit 9))) b.receives
             ∙ ap (λ r. if_so (not r) (fault_at q.at (Limit 9))) o.depth);
-        shallow = λ ls held. (deep, b.shallow (suc (suc n)) (suc (suc n) ∷ suc (suc n) ∷ suc (suc n) ∷ suc (suc n) ∷ suc (suc n) ∷ ls) deep (deep, (deep, (deep, (deep, (deep, held))))));
+        shallow = λ ls held. (
+          deep,
+          b.shallow (suc (suc n))
+              (suc (suc n) ∷ suc (suc n) ∷ suc (suc n) ∷ suc (suc n) ∷ suc (suc n) ∷ ls) deep
+              (deep, (deep, (deep, (deep, (deep, held))))),
+        );
         opened = is_opened b.syntax q.at b.is b.by;
       })
     where
       stands_next : (at : At) (u : Opens p locals s f w file)
-          → if_so (not (takes_open w.stage) || number_below (file_number (meaning_of s u.name)) w.files) (fault_at at Prologue) ≡ []
+          → if_so (not (takes_open w.stage) || number_below (file_number (meaning_of s u.name)) w.files)
+          (fault_at at Prologue) ≡ []
       stands_next at u =
-          ap (λ x. if_so (not (takes_open x) || number_below (file_number (meaning_of s u.name)) w.files) (fault_at at Prologue)) u.ready
+          ap (λ x. if_so (not (takes_open x) || number_below (file_number (meaning_of s u.name)) w.files)
+          (fault_at at Prologue)) u.ready
           ∙ ap (λ found. if_so (number_below (file_number found) w.files) (fault_at at Prologue)) u.means
-          ∙ ap (λ k. if_so (number_below k w.files) (fault_at at Prologue)) (number_of u.opened.target u.opened.item file)
+          ∙ ap (λ k. if_so (number_below k w.files) (fault_at at Prologue))
+          (number_of u.opened.target u.opened.item file)
           ∙ ap (λ r. if_so r (fault_at at Prologue)) (lt-leb (suc file) w.files (omega (arith, u.next)))
 
       -- the files with this one
       is_opened : (string : g.Argument) (at : At) → files.target_of string ≡ o.opened.target
           → ((item number : ℕ) → files.file_by string item number ≡ file_meaning o.opened.target item number)
-          → files.opened_as (without_files s) (first_files f w.files) string (g.value (lone_number at o.opened.depth)) o.name (files.simple_global (without_files s) o.name)
+          → files.opened_as (without_files s) (first_files f w.files) string (g.value (lone_number at o.opened.depth))
+          o.name (files.simple_global (without_files s) o.name)
           ≡ first_files f (next_file w.files)
       is_opened string at is by =
-          ap (λ x. files.opened_as (without_files s) (first_files f w.files) string (g.value (lone_number at o.opened.depth)) o.name
+          ap (λ x. files.opened_as (without_files s) (first_files f w.files) string
+          (g.value (lone_number at o.opened.depth)) o.name
           (if x then None else files.simple_by (meaning_in o.name s.globals))) o.unhidden
-          ∙ ap (λ x. files.opened_as (without_files s) (first_files f w.files) string (g.value (lone_number at o.opened.depth)) o.name (files.simple_by x)) o.global
-          ∙ ap (files.with_file (first_files f w.files) o.name o.opened.item string) (depth_is (is_receive o.opened.target) o.opened.depth o.depth)
-          ∙ with_next f w.files o.opened.item o.opened.depth o.name string (file_meaning o.opened.target o.opened.item file) o.opened
+          ∙ ap (λ x. files.opened_as (without_files s) (first_files f w.files) string
+          (g.value (lone_number at o.opened.depth)) o.name (files.simple_by x)) o.global
+          ∙ ap (files.with_file (first_files f w.files) o.name o.opened.item string)
+          (depth_is (is_receive o.opened.target) o.opened.depth o.depth)
+          ∙ with_next f w.files o.opened.item o.opened.depth o.name string
+          (file_meaning o.opened.target o.opened.item file) o.opened
           (ap (λ k. is_declared o.name (take k f.names)) (sym o.next) ∙ o.first)
           (ap (slice_get f.names) (sym o.next) ∙ o.listed)
           (ap (slice_get f.uses) (sym o.next) ∙ o.used)

@@ -54,7 +54,8 @@ pub record NameBack (s : Scope) (x : Meaning) (ks : List Piece) (tokens : List T
   pub later : AreTokens ks rest
   pub means : meaning_of s text ≡ Some x
 
-pub name_back : (s : Scope) (name : Option (List ℕ)) (x : Meaning) (ks : List Piece) (tokens : List Token) → StandsFor s name x → AreTokens (named name ks) tokens
+pub name_back : (s : Scope) (name : Option (List ℕ)) (x : Meaning) (ks : List Piece) (tokens : List Token)
+    → StandsFor s name x → AreTokens (named name ks) tokens
     → NameBack s x ks tokens
 name_back s name x ks tokens h a =
     let f = first (subst (λ o. AreTokens (named o ks) tokens) h.1 a) in
@@ -70,7 +71,8 @@ pub record VariableBack (s : Scope) (x : Variable) (ks : List Piece) (tokens : L
   pub fine : kind_faults need.Variable at (meaning_of s text) ≡ []
   pub same : variable_by (meaning_of s text) ≡ x
 
-pub variable_back : (p : Program) (locals : List (List ℕ)) (s : Scope) (x : Variable) (ks : List Piece) (tokens : List Token) → IsNamedVariable p locals s x
+pub variable_back : (p : Program) (locals : List (List ℕ)) (s : Scope) (x : Variable) (ks : List Piece)
+    (tokens : List Token) → IsNamedVariable p locals s x
     → AreTokens (named (variable_name p locals x) ks) tokens → VariableBack s x ks tokens
 variable_back p locals s (variable.Local place) ks tokens h a =
     let b = name_back s _ _ ks tokens h a in
@@ -105,7 +107,8 @@ module _ (s : Scope) (n : ℕ) where
     pub same : value_of_expr s syntax ≡ e
     pub faultless : value_faults s syntax ≡ []
     pub right : right_faults s syntax ≡ []
-    pub kept : (target : g.Spot) → assign_by s target syntax (meaning_by s (name_of_expr syntax)) ≡ what.Assign (target_of_spot s target) (value_of_expr s syntax)
+    pub kept : (target : g.Spot) → assign_by s target syntax (meaning_by s (name_of_expr syntax))
+        ≡ what.Assign (target_of_spot s target) (value_of_expr s syntax)
     pub shallow : (ls : List ℕ) → AllAtMost 33 ls → AllAtMost 33 (nest_expr n syntax ls)
 
   -- the tokens begin with a target that has no fault and is this one
@@ -119,7 +122,8 @@ module _ (s : Scope) (n : ℕ) where
     pub shallow : (ls : List ℕ) → AllAtMost 33 ls → AllAtMost 33 (nest_spot n syntax ls)
 
 module _ (p : Program) (locals : List (List ℕ)) (s : Scope) where
-  pub value_back : (n : ℕ) (e : Expr) (ks : List Piece) (tokens : List Token) → FitsValue p locals s n e → AreTokens (value_pieces p locals value.Sum e ks) tokens
+  pub value_back : (n : ℕ) (e : Expr) (ks : List Piece) (tokens : List Token) → FitsValue p locals s n e
+      → AreTokens (value_pieces p locals value.Sum e ks) tokens
       → ValueBack s n e ks tokens
   value_back n e ks tokens h a =
       let b = values_read_back p locals s e ks tokens h.named a in
@@ -131,13 +135,16 @@ module _ (p : Program) (locals : List (List ℕ)) (s : Scope) where
         same = b.same;
         faultless = ends (ends (ends (b.faultless (Value (first_of_sum b.syntax)))));
         right = no_call_faults s (only b.syntax) (ends (ends (ends (b.faultless (Value (first_of_sum b.syntax))))));
-        kept = λ target. no_call_what s target (only b.syntax) (ends (ends (ends (b.faultless (Value (first_of_sum b.syntax))))));
+        kept = λ target. no_call_what s target (only b.syntax)
+            (ends (ends (ends (b.faultless (Value (first_of_sum b.syntax))))));
         shallow = λ ls held. b.shallow n 33 ls h.low held;
       }
 
   -- a target that is a name alone
-  lone_back : (n : ℕ) (to : Spot) (x : Meaning) (ks : List Piece) (tokens : List Token) → n ≤ 33 → NameBack s x ks tokens
-      → ((at : At) → kind_faults need.Variable at (Some x) ≡ []) → target_by (Some x) None ≡ to → TargetBack s n to ks tokens
+  lone_back : (n : ℕ) (to : Spot) (x : Meaning) (ks : List Piece) (tokens : List Token) → n ≤ 33
+      → NameBack s x ks tokens
+      → ((at : At) → kind_faults need.Variable at (Some x) ≡ []) → target_by (Some x) None ≡ to
+      → TargetBack s n to ks tokens
   lone_back n to x ks tokens room b fine same = record {
     syntax = g.spot b.at b.text g.no_index;
     rest = b.rest;
@@ -148,22 +155,28 @@ module _ (p : Program) (locals : List (List ℕ)) (s : Scope) where
     shallow = λ ls held. (room, held);
   }
 
-  pub target_back : (n : ℕ) (to : Spot) (ks : List Piece) (tokens : List Token) → FitsSpot p locals s n to → AreTokens (spot_pieces p locals to ks) tokens
+  pub target_back : (n : ℕ) (to : Spot) (ks : List Piece) (tokens : List Token) → FitsSpot p locals s n to
+      → AreTokens (spot_pieces p locals to ks) tokens
       → TargetBack s n to ks tokens
   target_back n (Local place) ks tokens h a =
-      lone_back n (Local place) _ ks tokens (omega (arith, h.low)) (name_back s _ _ ks tokens h.named a) (λ at. refl) refl
+      lone_back n (Local place) _ ks tokens (omega (arith, h.low)) (name_back s _ _ ks tokens h.named a) (λ at. refl)
+      refl
   target_back n (Simple item) ks tokens h a =
-      lone_back n (Simple item) _ ks tokens (omega (arith, h.low)) (name_back s _ _ ks tokens h.named a) (λ at. refl) refl
+      lone_back n (Simple item) _ ks tokens (omega (arith, h.low)) (name_back s _ _ ks tokens h.named a) (λ at. refl)
+      refl
   target_back n (Element item index) ks tokens h a =
-      let b = name_back s _ _ (piece.Symbol sign.OpenIndex ∷ value_pieces p locals value.Sum index (piece.Symbol sign.CloseIndex ∷ ks)) tokens h.named.0 a in
+      let b = name_back s _ _ (piece.Symbol sign.OpenIndex
+      ∷ value_pieces p locals value.Sum index (piece.Symbol sign.CloseIndex ∷ ks)) tokens h.named.0 a in
       let o = first b.later in
-      let v = value_back (suc n) index (piece.Symbol sign.CloseIndex ∷ ks) o.rest (record { named = h.named.1; low = omega (arith, h.low) }) o.later in
+      let v = value_back (suc n) index (piece.Symbol sign.CloseIndex ∷ ks) o.rest
+      (record { named = h.named.1; low = omega (arith, h.low) }) o.later in
       let c = first v.later in
       let room : suc n ≤ 33 = omega (arith, h.low) in
       record {
         syntax = g.spot b.at b.text (g.index o.at v.syntax c.at);
         rest = c.rest;
-        front = b.front ∙ ap (λ ts. tok.Name b.at b.text ∷ ts) (o.is ∙ ap (λ ts. tok.OpenIndex o.at ∷ ts) (v.front ∙ ap (g.of_expr v.syntax) c.is));
+        front = b.front ∙ ap (λ ts. tok.Name b.at b.text ∷ ts)
+            (o.is ∙ ap (λ ts. tok.OpenIndex o.at ∷ ts) (v.front ∙ ap (g.of_expr v.syntax) c.is));
         later = c.later;
         same = λ i. target_by (b.means i) (Some (v.same i));
         faultless = nils (ap (kind_faults need.Array b.at) b.means) v.faultless;

@@ -21,7 +21,8 @@ use Rattle.tal_pieces.specs.Unlined.{unlined_statements}
 use Rattle.tal_pieces.proofs.Standing.Stands.{StandsIn, Row, first_files}
 use Rattle.tal_faultless.proofs.Scopes.SourceScopes.{without_files}
 
-module _ (s : Scope) (f : Files) (n : ℕ) (w : Walk) (xs : List Statement) (v : Walk) (ks : List Piece) (tokens : List Token) where
+module _ (s : Scope) (f : Files) (n : ℕ) (w : Walk) (xs : List Statement) (v : Walk) (ks : List Piece)
+    (tokens : List Token) where
   -- the tokens begin with one statement that has no fault and stands for these, and those after it are the later pieces
   pub record StatementBack : Type 0 where
     pub syntax : g.Statement
@@ -61,20 +62,25 @@ module _ (s : Scope) (f : Files) (n : ℕ) (w : Walk) (xs : List Statement) (v :
     pub faultless : body_faults s w first more ≡ []
     pub nearest : g.IsNearest first × g.IsNearestRow more
     pub shallow : (ls : List ℕ) → AllAtMost 33 ls → AllAtMost 33 (nest_statement n first (nest_row n more ls))
-    pub opened : row_files (without_files s) (statement_files (without_files s) (first_files f w.files) first) more ≡ first_files f v.files
+    pub opened : row_files (without_files s) (statement_files (without_files s) (first_files f w.files) first) more
+        ≡ first_files f v.files
 
--- printed statements that keep the rules read back as themselves: in the place of one, after one, and as those of a procedure
+-- printed statements that keep the rules read back as themselves: in the place of one, after one, and as those of a
+-- procedure
 abbrev pub InnerReadBack : Program → List (List ℕ) → Scope → Files → Type 0
 InnerReadBack p locals s f =
     (n : ℕ) (w : Walk) (xs : List Statement) (v : Walk) (ks : List Piece) (tokens : List Token)
-    → StandsIn p locals s f n w xs v → AreTokens (inner_pieces p locals xs ks) tokens → StatementBack s f n w xs v ks tokens
+    → StandsIn p locals s f n w xs v → AreTokens (inner_pieces p locals xs ks) tokens
+    → StatementBack s f n w xs v ks tokens
 
 abbrev pub RowsReadBack : Program → List (List ℕ) → Scope → Files → Type 0
 RowsReadBack p locals s f =
     (n : ℕ) (w : Walk) (xs : List Statement) (v : Walk) (ks : List Piece) (tokens : List Token)
-    → n ≤ 33 → Row p locals s f n w xs v → AreTokens (more_statements p locals xs ks) tokens → RowBack s f n w xs v ks tokens
+    → n ≤ 33 → Row p locals s f n w xs v → AreTokens (more_statements p locals xs ks) tokens
+    → RowBack s f n w xs v ks tokens
 
 abbrev pub BodiesReadBack : Program → List (List ℕ) → Scope → Files → Type 0
 BodiesReadBack p locals s f =
     (n : ℕ) (w : Walk) (xs : List Statement) (v : Walk) (ks : List Piece) (tokens : List Token)
-    → n ≤ 33 → Row p locals s f n w xs v → AreTokens (body_pieces p locals xs ks) tokens → BodyBack s f n w xs v ks tokens
+    → n ≤ 33 → Row p locals s f n w xs v → AreTokens (body_pieces p locals xs ks) tokens
+    → BodyBack s f n w xs v ks tokens

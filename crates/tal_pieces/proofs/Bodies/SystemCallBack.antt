@@ -50,14 +50,16 @@ pub record CallBack (x : System) (ks : List Piece) (tokens : List Token) : Type 
   pub front : tokens ≡ tok.Call head ∷ tok.Name at (system_text x) ∷ rest
   pub later : AreTokens ks rest
 
-pub called_back : (x : System) (ks : List Piece) (tokens : List Token) → AreTokens (called x ks) tokens → CallBack x ks tokens
+pub called_back : (x : System) (ks : List Piece) (tokens : List Token) → AreTokens (called x ks) tokens
+    → CallBack x ks tokens
 called_back x ks tokens a =
     let h = first a in
     let n = first h.later in
     record { head = h.at; at = n.at; rest = n.rest; front = behind h.is n.is; later = n.later }
 
 -- the arguments of a system call that have no faults and make it what it is to be
-pub record SystemArguments (s : Scope) (f : Files) (n : ℕ) (w v : Walk) (x : System) (y : What) (ks : List Piece) (tokens : List Token) : Type 0 where
+pub record SystemArguments (s : Scope) (f : Files) (n : ℕ) (w v : Walk) (x : System) (y : What) (ks : List Piece)
+    (tokens : List Token) : Type 0 where
   pub syntax : g.Arguments
   pub rest : List Token
   pub front : tokens ≡ g.of_arguments syntax rest
@@ -66,9 +68,11 @@ pub record SystemArguments (s : Scope) (f : Files) (n : ℕ) (w v : Walk) (x : S
   pub next : after_call w (arguments_of syntax) (Some x) ≡ v
   pub faultless : (at : At) → system_faults s w at (arguments_of syntax) x ≡ []
   pub shallow : (ls : List ℕ) → AllAtMost 33 ls → AllAtMost 33 (nest_arguments (suc n) syntax ls)
-  pub opened : call_files (without_files s) (first_files f w.files) (arguments_of syntax) (Some x) ≡ first_files f v.files
+  pub opened : call_files (without_files s) (first_files f w.files) (arguments_of syntax) (Some x)
+      ≡ first_files f v.files
 
-pub system_back : (s : Scope) (f : Files) (n : ℕ) (w v : Walk) (line : ℕ) (x : System) (y : What) (ks between : List Piece) (tokens : List Token)
+pub system_back : (s : Scope) (f : Files) (n : ℕ) (w v : Walk) (line : ℕ) (x : System) (y : What)
+    (ks between : List Piece) (tokens : List Token)
     → IsCounted w → suc n ≤ 33 → (c : CallBack x between tokens) → SystemArguments s f n w v x y ks c.rest
     → StatementBack s f n w (record { number = w.number; line = line; what = y } ∷ []) v ks tokens
 system_back s f n w v line x y ks between tokens count room c a = record {
@@ -79,9 +83,11 @@ system_back s f n w v line x y ks between tokens count room c a = record {
   same = ap (λ z. record { number = w.number; line = 0; what = unlined_what z } ∷ [])
       (ap (call_what s (system_text x) (arguments_of a.syntax)) (system_named x) ∙ a.same);
   next = ap (after_call w (arguments_of a.syntax)) (system_named x) ∙ a.next;
-  faultless = nils (counted w c.head count) (ap (call_faults s w c.at (system_text x) (arguments_of a.syntax)) (system_named x) ∙ a.faultless c.at);
+  faultless = nils (counted w c.head count)
+      (ap (call_faults s w c.at (system_text x) (arguments_of a.syntax)) (system_named x) ∙ a.faultless c.at);
   nearest = tt;
   closed = refl;
   shallow = λ ls held. (room, (room, a.shallow ls held));
-  opened = ap (call_files (without_files s) (first_files f w.files) (arguments_of a.syntax)) (system_named x) ∙ a.opened;
+  opened = ap (call_files (without_files s) (first_files f w.files) (arguments_of a.syntax)) (system_named x)
+      ∙ a.opened;
 }

@@ -37,8 +37,10 @@ module _ (p : Program) (locals : List (List ℕ)) (s : Scope) (f : Files) where
   abbrev Back : ℕ → Walk → Statement → List Piece → List Token → Type 0
   Back n w x ks tokens = StatementBack s f n w (x ∷ []) (stepped w) ks tokens
 
-  pub read_update_back : (n : ℕ) (w : Walk) (line : ℕ) (buffer : ℕ) (most : Expr) (got : Variable) (item number : ℕ) (ks : List Piece) (tokens : List Token)
-      → IsCounted w → StandsFor s (receive_name p) (m.ReceiveFile item number) → IsNamedArray p locals s buffer → FitsValue p locals s (suc (suc n)) most
+  pub read_update_back : (n : ℕ) (w : Walk) (line : ℕ) (buffer : ℕ) (most : Expr) (got : Variable) (item number : ℕ)
+      (ks : List Piece) (tokens : List Token)
+      → IsCounted w → StandsFor s (receive_name p) (m.ReceiveFile item number) → IsNamedArray p locals s buffer
+      → FitsValue p locals s (suc (suc n)) most
       → IsNamedVariable p locals s got → AreTokens (what_pieces p locals (what.ReadUpdate buffer most got) ks) tokens
       → Back n w (record { number = w.number; line = line; what = what.ReadUpdate buffer most got }) ks tokens
   read_update_back n w line buffer most got item number ks tokens count receive array fits variable a =
@@ -56,21 +58,35 @@ module _ (p : Program) (locals : List (List ℕ)) (s : Scope) (f : Files) where
       let x = variable_back p locals s got (close ks) h.rest variable h.later in
       let z = first x.later in
       let deep : suc (suc n) ≤ 33 = omega (arith, fits.low) in
-      system_back s f n w (stepped w) line system.ReadUpdate (what.ReadUpdate buffer most got) ks _ tokens count (omega (arith, deep)) c (record {
+      system_back s f n w (stepped w) line system.ReadUpdate (what.ReadUpdate buffer most got) ks _ tokens count
+      (omega (arith, deep)) c (record {
         syntax = g.listed o.at (g.value (lone_name r.at r.text)) (g.more_further d.at (g.value (lone_name b.at b.text))
-            (g.more_further e.at (g.value v.syntax) (g.more_further h.at (g.value (lone_name x.at x.text)) g.no_further))) z.at;
+            (g.more_further e.at (g.value v.syntax)
+            (g.more_further h.at (g.value (lone_name x.at x.text)) g.no_further))) z.at;
         rest = z.rest;
-        front = behind o.is (behind r.front (behind d.is (behind b.front (behind e.is (past v.syntax v.front (behind h.is (behind x.front z.is)))))));
+        front = behind o.is (behind r.front (behind d.is
+            (behind b.front (behind e.is (past v.syntax v.front (behind h.is (behind x.front z.is)))))));
         later = z.later;
         same = λ i. what.ReadUpdate (item_by (b.means i)) (v.same i) (x.same i);
         next = refl;
-        faultless = λ at. nils (nils (nils (ap (kind_faults need.Receive r.at) r.means) (ap (kind_faults need.Array b.at) b.means)) v.faultless) x.fine;
-        shallow = λ ls held. (deep, (deep, (deep, (deep, (deep, v.shallow (suc (suc n) ∷ suc (suc n) ∷ suc (suc n) ∷ ls) (deep, (deep, (deep, held))))))));
+        faultless = λ at. nils (nils (nils (ap (kind_faults need.Receive r.at) r.means)
+            (ap (kind_faults need.Array b.at) b.means)) v.faultless) x.fine;
+        shallow = λ ls held. (
+          deep,
+          (
+            deep,
+            (
+              deep,
+              (deep, (deep, v.shallow (suc (suc n) ∷ suc (suc n) ∷ suc (suc n) ∷ ls) (deep, (deep, (deep, held))))),
+            ),
+          ),
+        );
         opened = refl;
       })
 
   pub reply_back : (n : ℕ) (w : Walk) (line : ℕ) (buffer : ℕ) (sent : Expr) (ks : List Piece) (tokens : List Token)
-      → IsCounted w → IsNamedArray p locals s buffer → FitsValue p locals s (suc (suc n)) sent → AreTokens (what_pieces p locals (what.Reply buffer sent) ks) tokens
+      → IsCounted w → IsNamedArray p locals s buffer → FitsValue p locals s (suc (suc n)) sent
+      → AreTokens (what_pieces p locals (what.Reply buffer sent) ks) tokens
       → Back n w (record { number = w.number; line = line; what = what.Reply buffer sent }) ks tokens
   reply_back n w line buffer sent ks tokens count array fits a =
       let middle = value_pieces p locals value.Sum sent (close ks) in
@@ -81,8 +97,10 @@ module _ (p : Program) (locals : List (List ℕ)) (s : Scope) (f : Files) where
       let v = value_back p locals s (suc (suc n)) sent (close ks) e.rest fits e.later in
       let z = first v.later in
       let deep : suc (suc n) ≤ 33 = omega (arith, fits.low) in
-      system_back s f n w (stepped w) line system.Reply (what.Reply buffer sent) ks _ tokens count (omega (arith, deep)) c (record {
-        syntax = g.listed o.at (g.value (lone_name b.at b.text)) (g.more_further e.at (g.value v.syntax) g.no_further) z.at;
+      system_back s f n w (stepped w) line system.Reply (what.Reply buffer sent) ks _ tokens count
+      (omega (arith, deep)) c (record {
+        syntax = g.listed o.at (g.value (lone_name b.at b.text)) (g.more_further e.at (g.value v.syntax) g.no_further)
+            z.at;
         rest = z.rest;
         front = behind o.is (behind b.front (behind e.is (past v.syntax v.front z.is)));
         later = z.later;
@@ -93,9 +111,12 @@ module _ (p : Program) (locals : List (List ℕ)) (s : Scope) (f : Files) where
         opened = refl;
       })
 
-  pub write_read_back : (n : ℕ) (w : Walk) (line : ℕ) (file buffer : ℕ) (send room : Expr) (got : Variable) (item : ℕ) (ks : List Piece) (tokens : List Token)
-      → IsCounted w → StandsFor s (file_name p file) (m.ProcessFile item file) → IsNamedArray p locals s buffer → FitsValue p locals s (suc (suc n)) send
-      → FitsValue p locals s (suc (suc n)) room → IsNamedVariable p locals s got → AreTokens (what_pieces p locals (what.WriteRead file buffer send room got) ks) tokens
+  pub write_read_back : (n : ℕ) (w : Walk) (line : ℕ) (file buffer : ℕ) (send room : Expr) (got : Variable) (item : ℕ)
+      (ks : List Piece) (tokens : List Token)
+      → IsCounted w → StandsFor s (file_name p file) (m.ProcessFile item file) → IsNamedArray p locals s buffer
+      → FitsValue p locals s (suc (suc n)) send
+      → FitsValue p locals s (suc (suc n)) room → IsNamedVariable p locals s got
+      → AreTokens (what_pieces p locals (what.WriteRead file buffer send room got) ks) tokens
       → Back n w (record { number = w.number; line = line; what = what.WriteRead file buffer send room got }) ks tokens
   write_read_back n w line file buffer send room got item ks tokens count process array fits fits_room variable a =
       let last = named (variable_name p locals got) (close ks) in
@@ -115,16 +136,21 @@ module _ (p : Program) (locals : List (List ℕ)) (s : Scope) (f : Files) where
       let x = variable_back p locals s got (close ks) k.rest variable k.later in
       let z = first x.later in
       let deep : suc (suc n) ≤ 33 = omega (arith, fits.low) in
-      system_back s f n w (stepped w) line system.WriteRead (what.WriteRead file buffer send room got) ks _ tokens count (omega (arith, deep)) c (record {
+      system_back s f n w (stepped w) line system.WriteRead (what.WriteRead file buffer send room got) ks _ tokens
+      count (omega (arith, deep)) c (record {
         syntax = g.listed o.at (g.value (lone_name r.at r.text)) (g.more_further d.at (g.value (lone_name b.at b.text))
-            (g.more_further e.at (g.value v.syntax) (g.more_further h.at (g.value u.syntax) (g.more_further k.at (g.value (lone_name x.at x.text)) g.no_further)))) z.at;
+            (g.more_further e.at (g.value v.syntax)
+            (g.more_further h.at (g.value u.syntax)
+            (g.more_further k.at (g.value (lone_name x.at x.text)) g.no_further)))) z.at;
         rest = z.rest;
-        front = behind o.is (behind r.front (behind d.is (behind b.front (behind e.is (past v.syntax v.front (behind h.is (past u.syntax u.front
+        front = behind o.is (behind r.front (behind d.is
+            (behind b.front (behind e.is (past v.syntax v.front (behind h.is (past u.syntax u.front
             (behind k.is (behind x.front z.is)))))))));
         later = z.later;
         same = λ i. what.WriteRead (file_by (r.means i)) (item_by (b.means i)) (v.same i) (u.same i) (x.same i);
         next = refl;
-        faultless = λ at. nils (nils (nils (nils (ap (kind_faults need.Process r.at) r.means) (ap (kind_faults need.Array b.at) b.means)) v.faultless) u.faultless) x.fine;
+        faultless = λ at. nils (nils (nils (nils (ap (kind_faults need.Process r.at) r.means)
+            (ap (kind_faults need.Array b.at) b.means)) v.faultless) u.faultless) x.fine;
         shallow = λ ls held. (
           deep,
           (
@@ -135,7 +161,8 @@ module _ (p : Program) (locals : List (List ℕ)) (s : Scope) (f : Files) where
                 deep,
                 (
                   deep,
-                  v.shallow (suc (suc n) ∷ nest_expr (suc (suc n)) u.syntax (suc (suc n) ∷ suc (suc n) ∷ suc (suc n) ∷ ls))
+                  v.shallow (suc (suc n) ∷ nest_expr (suc (suc n)) u.syntax
+                      (suc (suc n) ∷ suc (suc n) ∷ suc (suc n) ∷ ls))
                       (deep, u.shallow (suc (suc n) ∷ suc (suc n) ∷ suc (suc n) ∷ ls) (deep, (deep, (deep, held)))),
                 ),
               ),
@@ -146,7 +173,8 @@ module _ (p : Program) (locals : List (List ℕ)) (s : Scope) (f : Files) where
       })
 
   pub stop_back : (n : ℕ) (w : Walk) (line : ℕ) (ks : List Piece) (tokens : List Token) → IsCounted w → suc n ≤ 33
-      → AreTokens (what_pieces p locals what.Stop ks) tokens → Back n w (record { number = w.number; line = line; what = what.Stop }) ks tokens
+      → AreTokens (what_pieces p locals what.Stop ks) tokens
+      → Back n w (record { number = w.number; line = line; what = what.Stop }) ks tokens
   stop_back n w line ks tokens count room a =
       let c = called_back system.Stop ks tokens a in
       system_back s f n w (stepped w) line system.Stop what.Stop ks ks tokens count room c (record {

@@ -10,18 +10,24 @@ use Rattle.tal_pieces.specs.Unlined.{unlined_what, unlined_row, unlined_statemen
 
 unlined_row_is : (xs : List Statement) → unlined_row (rows xs) ≡ unlined_statements xs
 unlined_row_is [] = refl
-unlined_row_is (x ∷ xs) = ap (λ rest. record { number = x.number; line = 0; what = unlined_what x.what } ∷ rest) (unlined_row_is xs)
+unlined_row_is (x ∷ xs) =
+    ap (λ rest. record { number = x.number; line = 0; what = unlined_what x.what } ∷ rest) (unlined_row_is xs)
 
-pub unlined_if : (c : Cond) (xs ys : List Statement) → unlined_what (what.If c xs ys) ≡ what.If c (unlined_statements xs) (unlined_statements ys)
+pub unlined_if : (c : Cond) (xs ys : List Statement)
+    → unlined_what (what.If c xs ys) ≡ what.If c (unlined_statements xs) (unlined_statements ys)
 unlined_if c xs ys = ap unlined_what (if-is c xs ys) ∙ (λ i. what.If c (unlined_row_is xs i) (unlined_row_is ys i))
 
-pub unlined_while : (c : Cond) (body : List Statement) → unlined_what (what.While c body) ≡ what.While c (unlined_statements body)
+pub unlined_while : (c : Cond) (body : List Statement)
+    → unlined_what (what.While c body) ≡ what.While c (unlined_statements body)
 unlined_while c body = ap unlined_what (while-is c body) ∙ ap (what.While c) (unlined_row_is body)
 
 pub unlined_for : (x : Variable) (from to : Expr) (body : List Statement) (last : ℕ)
     → unlined_what (what.For x from to body last) ≡ what.For x from to (unlined_statements body) last
-unlined_for x from to body last = ap unlined_what (for-is x from to body last) ∙ ap (λ xs. what.For x from to xs last) (unlined_row_is body)
+unlined_for x from to body last =
+    ap unlined_what (for-is x from to body last) ∙ ap (λ xs. what.For x from to xs last) (unlined_row_is body)
 
-pub unlined_append : (xs ys : List Statement) → unlined_statements (xs ++ ys) ≡ unlined_statements xs ++ unlined_statements ys
+pub unlined_append : (xs ys : List Statement)
+    → unlined_statements (xs ++ ys) ≡ unlined_statements xs ++ unlined_statements ys
 unlined_append [] ys = refl
-unlined_append (x ∷ xs) ys = ap (λ rest. record { number = x.number; line = 0; what = unlined_what x.what } ∷ rest) (unlined_append xs ys)
+unlined_append (x ∷ xs) ys =
+    ap (λ rest. record { number = x.number; line = 0; what = unlined_what x.what } ∷ rest) (unlined_append xs ys)

@@ -27,9 +27,11 @@ use Rattle.tal_pieces.proofs.Scopes.Agreement.{printed_declared, printed_headed}
 -- the variables of files are declared as simple items
 abbrev pub FilesAreSimple : Declarations → List Item → Type 0
 FilesAreSimple files items =
-    (k number : ℕ) (i : Item) → slice_get items k ≡ Some i → file_number (meaning_in i.name files) ≡ Some number → i.shape ≡ shape.Simple
+    (k number : ℕ) (i : Item) → slice_get items k ≡ Some i → file_number (meaning_in i.name files) ≡ Some number
+    → i.shape ≡ shape.Simple
 
--- the tokens begin with lines of globals that have no fault and declare all but the LITERALs, and those after them are the later pieces
+-- the tokens begin with lines of globals that have no fault and declare all but the LITERALs, and those after them are
+-- the later pieces
 pub record LinesBack (d : Declared) (ks : List Piece) (tokens : List Token) : Type 0 where
   pub syntax : g.Lines
   pub rest : List Token
@@ -41,13 +43,16 @@ pub record LinesBack (d : Declared) (ks : List Piece) (tokens : List Token) : Ty
 
 abbrev pub LinesReadBack : Type 0
 LinesReadBack =
-    (lines : g.Lines) (files : Declarations) (ks : List Piece) (tokens : List Token) → lines_faults nothing_declared lines ≡ []
+    (lines : g.Lines) (files : Declarations) (ks : List Piece) (tokens : List Token)
+    → lines_faults nothing_declared lines ≡ []
     → FilesAreSimple files (with_lines nothing_declared lines).items
     → AreTokens (items_pieces (items_with files (with_lines nothing_declared lines).items) ks) tokens
     → LinesBack (with_lines nothing_declared lines) ks tokens
 
--- the tokens begin with the heading of a procedure, BEGIN and its locals, which have no fault and declare the same as these
-pub record HeadingBack (hd : Headed) (h : g.Heading) (inner : g.Locals) (is_main : Bool) (ks : List Piece) (tokens : List Token) : Type 0 where
+-- the tokens begin with the heading of a procedure, BEGIN and its locals, which have no fault and declare the same as
+-- these
+pub record HeadingBack (hd : Headed) (h : g.Heading) (inner : g.Locals) (is_main : Bool) (ks : List Piece)
+    (tokens : List Token) : Type 0 where
   pub heading : g.Heading
   pub outer : g.Locals
   pub begin : At
@@ -64,12 +69,15 @@ pub record HeadingBack (hd : Headed) (h : g.Heading) (inner : g.Locals) (is_main
   pub next : with_heading (printed_headed hd) heading ≡ printed_headed (with_heading hd h)
   pub faultless : heading_faults (printed_headed hd) heading ≡ []
   pub fine : heading_locals_faults heading outer locals ≡ []
-  pub shallow : (ls : List ℕ) → AllAtMost 33 ls → AllAtMost 33 (nest_heading 0 heading (nest_locals 0 outer (0 ∷ nest_locals 0 locals ls)))
+  pub shallow : (ls : List ℕ) → AllAtMost 33 ls
+      → AllAtMost 33 (nest_heading 0 heading (nest_locals 0 outer (0 ∷ nest_locals 0 locals ls)))
 
 abbrev pub HeadingsReadBack : Type 0
 HeadingsReadBack =
-    (hd : Headed) (h : g.Heading) (outer inner : g.Locals) (body : List Statement) (ks : List Piece) (tokens : List Token)
+    (hd : Headed) (h : g.Heading) (outer inner : g.Locals) (body : List Statement) (ks : List Piece)
+    (tokens : List Token)
     → heading_faults hd h ≡ [] → heading_locals_faults h outer inner ≡ []
     → AreTokens (heading_pieces (has_word_main h) (procedure_with h inner body)
-    (piece.Keyword word.Begin ∷ locals_pieces (drop (procedure_with h inner body).parameters (procedure_with h inner body).locals) ks)) tokens
+    (piece.Keyword word.Begin ∷ locals_pieces
+    (drop (procedure_with h inner body).parameters (procedure_with h inner body).locals) ks)) tokens
     → HeadingBack hd h inner (has_word_main h) ks tokens

@@ -1,5 +1,6 @@
 -- The printed lines of items read back.
-use Rattle.std.proofs.Common.{◌≡◌, ℕ, ◌+◌, ◌≤◌, nat_le, nat_lt, List, [], ◌∷◌, length, refl, sym, ap, ◌∙◌, arith, subst, suc, zero, if◌then◌else◌}
+use Rattle.std.proofs.Common.{◌≡◌, ℕ, ◌+◌, ◌≤◌, nat_le, nat_lt, List, [], ◌∷◌, length, refl, sym, ap, ◌∙◌, arith, subst}
+use Rattle.std.proofs.Common.{suc, zero, if◌then◌else◌}
 use Rattle.std.specs.Prelude.{Option, Some, None}
 use Rattle.tal_tokens.specs.declared.token.At.{At}
 use Rattle.tal_tokens.specs.declared.token.Token.{Token}
@@ -13,7 +14,8 @@ use Rattle.tal_syntax.specs.Nesting.{nest_lines, nest_bounds}
 use Rattle.tal_names.specs.declared.fault.Rule.TheVariants.{Twice, WrongKind, Limit}
 use Rattle.tal_declarations.specs.declared.table.Declared.{Declared}
 use Rattle.tal_rules.specs.Calls.{file_number}
-use Rattle.tal_declarations.specs.Globals.{is_taken, bounds_faults, extent_of, array_by, item_limits, item_faults, with_extent, with_item, lines_faults, with_lines, nothing_declared}
+use Rattle.tal_declarations.specs.Globals.{is_taken, bounds_faults, extent_of, array_by, item_limits, item_faults}
+use Rattle.tal_declarations.specs.Globals.{with_extent, with_item, lines_faults, with_lines, nothing_declared}
 use Rattle.tal_names.specs.Names.{Declarations, meaning_in}
 use Rattle.tal_meaning.specs.Programs.{items_with, shape_by}
 use Rattle.tal_pieces.specs.declared.piece.Keyword.TheVariants as word
@@ -42,7 +44,8 @@ record BoundsBack (s : Shape) (ks : List Piece) (tokens : List Token) : Type 0 w
   faultless : (names : Declarations) → bounds_faults names syntax ≡ []
   shallow : (ls : List ℕ) → AllAtMost 33 ls → AllAtMost 33 (nest_bounds 0 syntax ls)
 
-bounds_back : (s : Shape) (ks : List Piece) (tokens : List Token) → IsOrdered s → AreTokens (shape_pieces s ks) tokens → BoundsBack s ks tokens
+bounds_back : (s : Shape) (ks : List Piece) (tokens : List Token) → IsOrdered s → AreTokens (shape_pieces s ks) tokens
+    → BoundsBack s ks tokens
 bounds_back shape.Simple ks tokens fine a = record {
   syntax = g.unbounded;
   rest = tokens;
@@ -59,11 +62,13 @@ bounds_back (shape.Array low high) ks tokens fine a =
     let above = first colon.later in
     let close = first above.later in
     record {
-      syntax = g.bounded start.at (g.positive (g.digits below.at low)) colon.at (g.positive (g.digits above.at high)) close.at;
+      syntax = g.bounded start.at (g.positive (g.digits below.at low)) colon.at (g.positive (g.digits above.at high))
+          close.at;
       rest = close.rest;
       front =
           start.is ∙ ap (λ ts. tok.OpenIndex start.at ∷ ts) (below.is ∙ ap (λ ts. tok.Number below.at low ∷ ts)
-          (colon.is ∙ ap (λ ts. tok.Colon colon.at ∷ ts) (above.is ∙ ap (λ ts. tok.Number above.at high ∷ ts) close.is)));
+          (colon.is ∙ ap (λ ts. tok.Colon colon.at ∷ ts)
+          (above.is ∙ ap (λ ts. tok.Number above.at high ∷ ts) close.is)));
       later = close.later;
       same = λ names. ap (λ t. array_by (if t then None else Some (low, high))) fine;
       faultless = λ names. silent _ above.at WrongKind fine;
@@ -82,7 +87,8 @@ record ItemsBack (d : Declared) (items : List Item) (ks : List Piece) (tokens : 
   shallow : (ls : List ℕ) → AllAtMost 33 ls → AllAtMost 33 (nest_lines 0 syntax ls)
 
 -- an item that can be declared has no fault where its bounds are read back
-item_fine : (d : Declared) (i : Item) (at : At) (b : g.Bounds) → extent_of d.names b ≡ extent_by i.shape → bounds_faults d.names b ≡ [] → IsDeclarable d i
+item_fine : (d : Declared) (i : Item) (at : At) (b : g.Bounds) → extent_of d.names b ≡ extent_by i.shape
+    → bounds_faults d.names b ≡ [] → IsDeclarable d i
     → item_faults d (g.item at i.name b) ≡ []
 item_fine d i at b x bounds fine =
     nils (nils (silent (is_taken d.names i.name) at Twice fine.free) bounds)
@@ -91,7 +97,8 @@ item_fine d i at b x bounds fine =
     (silent (nat_lt 512 (d.words + (extent_by i.shape).words)) at (Limit 2) fine.room))
     (silent (nat_lt 256 (extent_by i.shape).words) at (Limit 3) fine.small))
 
-items_back : (d : Declared) (items : List Item) (ks : List Piece) (tokens : List Token) → AreDeclarable d items → AreTokens (items_pieces items ks) tokens
+items_back : (d : Declared) (items : List Item) (ks : List Piece) (tokens : List Token) → AreDeclarable d items
+    → AreTokens (items_pieces items ks) tokens
     → ItemsBack d items ks tokens
 items_back d [] ks tokens fine a = record {
   syntax = g.no_lines;
@@ -105,7 +112,8 @@ items_back d [] ks tokens fine a = record {
 items_back d (i ∷ items) ks tokens fine a =
     let int = first a in
     let name = first int.later in
-    let b = bounds_back i.shape (piece.Symbol sign.Semicolon ∷ items_pieces items ks) name.rest fine.0.is_ordered name.later in
+    let b = bounds_back i.shape (piece.Symbol sign.Semicolon ∷ items_pieces items ks) name.rest fine.0.is_ordered
+    name.later in
     let end = first b.later in
     let more = items_back (with_declared d i) items ks end.rest fine.1 end.later in
     let x : extent_of d.names b.syntax ≡ extent_by i.shape = b.same d.names in
@@ -118,27 +126,39 @@ items_back d (i ∷ items) ks tokens fine a =
           (b.front ∙ ap (g.of_bounds b.syntax) (end.is ∙ ap (λ ts. tok.Semicolon end.at ∷ ts) more.front)));
       later = more.later;
       same = ap (λ e. with_lines e more.syntax) is ∙ more.same;
-      faultless = nils (ends (item_fine d i name.at b.syntax x (b.faultless d.names) fine.0)) (ap (λ e. lines_faults e more.syntax) is ∙ more.faultless);
-      shallow = λ ls held. (low_level, (low_level, b.shallow (0 ∷ nest_lines 0 more.syntax ls) (low_level, more.shallow ls held)));
+      faultless = nils (ends (item_fine d i name.at b.syntax x (b.faultless d.names) fine.0))
+          (ap (λ e. lines_faults e more.syntax) is ∙ more.faultless);
+      shallow = λ ls held. (
+        low_level,
+        (
+          low_level,
+          b.shallow (0 ∷ nest_lines 0 more.syntax ls) (low_level, more.shallow ls held),
+        ),
+      );
     }
 
 -- the variables of files are printed as simple items
-printed_shape : (s : Shape) (number : Option ℕ) (ks : List Piece) → ((n : ℕ) → number ≡ Some n → s ≡ shape.Simple) → shape_pieces (shape_by s number) ks ≡ shape_pieces s ks
+printed_shape : (s : Shape) (number : Option ℕ) (ks : List Piece) → ((n : ℕ) → number ≡ Some n → s ≡ shape.Simple)
+    → shape_pieces (shape_by s number) ks ≡ shape_pieces s ks
 printed_shape s None ks simple = refl
 printed_shape s (Some n) ks simple = ap (λ x. shape_pieces x ks) (sym (simple n refl))
 
-printed_items : (files : Declarations) (items : List Item) (ks : List Piece) → FilesAreSimple files items → items_pieces (items_with files items) ks ≡ items_pieces items ks
+printed_items : (files : Declarations) (items : List Item) (ks : List Piece) → FilesAreSimple files items
+    → items_pieces (items_with files items) ks ≡ items_pieces items ks
 printed_items files [] ks simple = refl
 printed_items files (i ∷ items) ks simple =
-    ap (λ rest. piece.Keyword word.Int ∷ piece.Name i.name ∷ shape_pieces (shape_by i.shape (file_number (meaning_in i.name files))) (piece.Symbol sign.Semicolon ∷ rest))
+    ap (λ rest. piece.Keyword word.Int ∷ piece.Name i.name
+    ∷ shape_pieces (shape_by i.shape (file_number (meaning_in i.name files))) (piece.Symbol sign.Semicolon ∷ rest))
     (printed_items files items ks (λ k number j got opened. simple (suc k) number j got opened))
     ∙ ap (λ rest. piece.Keyword word.Int ∷ piece.Name i.name ∷ rest)
-    (printed_shape i.shape (file_number (meaning_in i.name files)) (piece.Symbol sign.Semicolon ∷ items_pieces items ks) (λ number opened. simple zero number i refl opened))
+    (printed_shape i.shape (file_number (meaning_in i.name files))
+    (piece.Symbol sign.Semicolon ∷ items_pieces items ks) (λ number opened. simple zero number i refl opened))
 
 pub lines_read_back : LinesReadBack
 lines_read_back lines files ks tokens fine simple a =
     let s = lines_declare nothing_declared lines fine in
-    let pieces = printed_items files (with_lines nothing_declared lines).items ks simple ∙ ap (λ xs. items_pieces xs ks) s.front in
+    let pieces = printed_items files (with_lines nothing_declared lines).items ks simple
+    ∙ ap (λ xs. items_pieces xs ks) s.front in
     let b = items_back nothing_declared s.items ks tokens s.declarable (subst (λ ps. AreTokens ps tokens) pieces a) in
     record {
       syntax = b.syntax;

@@ -26,8 +26,10 @@ record NamesBack (names : List (List ℕ)) (ks : List Piece) (tokens : List Toke
   texts : texts_of (names_of syntax) ≡ names
   shallow : (ls : List ℕ) → AllAtMost 33 ls → AllAtMost 33 (nest_names 0 syntax ls)
 
-names_back : (names : List (List ℕ)) (ks : List Piece) (tokens : List Token) → AreTokens (more_names names ks) tokens → NamesBack names ks tokens
-names_back [] ks tokens a = record { syntax = g.no_names; rest = tokens; front = refl; later = a; texts = refl; shallow = λ ls held. held }
+names_back : (names : List (List ℕ)) (ks : List Piece) (tokens : List Token) → AreTokens (more_names names ks) tokens
+    → NamesBack names ks tokens
+names_back [] ks tokens a =
+    record { syntax = g.no_names; rest = tokens; front = refl; later = a; texts = refl; shallow = λ ls held. held }
 names_back (name ∷ names) ks tokens a =
     let comma = first a in
     let f = first comma.later in
@@ -50,8 +52,10 @@ pub record ParametersBack (names : List (List ℕ)) (ks : List Piece) (tokens : 
   pub texts : texts_of (parameters_of syntax) ≡ names
   pub shallow : (ls : List ℕ) → AllAtMost 33 ls → AllAtMost 33 (nest_parameters 0 syntax ls)
 
-pub parameters_back : (names : List (List ℕ)) (ks : List Piece) (tokens : List Token) → AreTokens (parameters_pieces names ks) tokens → ParametersBack names ks tokens
-parameters_back [] ks tokens a = record { syntax = g.no_parameters; rest = tokens; front = refl; later = a; texts = refl; shallow = λ ls held. held }
+pub parameters_back : (names : List (List ℕ)) (ks : List Piece) (tokens : List Token)
+    → AreTokens (parameters_pieces names ks) tokens → ParametersBack names ks tokens
+parameters_back [] ks tokens a =
+    record { syntax = g.no_parameters; rest = tokens; front = refl; later = a; texts = refl; shallow = λ ls held. held }
 parameters_back (name ∷ names) ks tokens a =
     let start = first a in
     let f = first start.later in
@@ -77,8 +81,10 @@ pub record LocalsBack (names : List (List ℕ)) (ks : List Piece) (tokens : List
   pub texts : texts_of (locals_of syntax) ≡ names
   pub shallow : (ls : List ℕ) → AllAtMost 33 ls → AllAtMost 33 (nest_locals 0 syntax ls)
 
-pub locals_back : (names : List (List ℕ)) (ks : List Piece) (tokens : List Token) → AreTokens (locals_pieces names ks) tokens → LocalsBack names ks tokens
-locals_back [] ks tokens a = record { syntax = g.no_locals; rest = tokens; front = refl; later = a; texts = refl; shallow = λ ls held. held }
+pub locals_back : (names : List (List ℕ)) (ks : List Piece) (tokens : List Token)
+    → AreTokens (locals_pieces names ks) tokens → LocalsBack names ks tokens
+locals_back [] ks tokens a =
+    record { syntax = g.no_locals; rest = tokens; front = refl; later = a; texts = refl; shallow = λ ls held. held }
 locals_back (name ∷ names) ks tokens a =
     let int = first a in
     let f = first int.later in
@@ -104,11 +110,20 @@ pub record GivesBack (gives : Bool) (ks : List Piece) (tokens : List Token) : Ty
   pub same : does_give syntax ≡ gives
   pub shallow : (ls : List ℕ) → AllAtMost 33 ls → AllAtMost 33 (nest_gives 0 syntax ls)
 
-pub gives_back : (gives : Bool) (ks : List Piece) (tokens : List Token) → AreTokens (word_if gives word.Int ks) tokens → GivesBack gives ks tokens
-gives_back false ks tokens a = record { syntax = g.gives_nothing; rest = tokens; front = refl; later = a; same = refl; shallow = λ ls held. held }
+pub gives_back : (gives : Bool) (ks : List Piece) (tokens : List Token) → AreTokens (word_if gives word.Int ks) tokens
+    → GivesBack gives ks tokens
+gives_back false ks tokens a =
+    record { syntax = g.gives_nothing; rest = tokens; front = refl; later = a; same = refl; shallow = λ ls held. held }
 gives_back true ks tokens a =
     let f = first a in
-    record { syntax = g.gives_int f.at; rest = f.rest; front = f.is; later = f.later; same = refl; shallow = λ ls held. (low_level, held) }
+    record {
+      syntax = g.gives_int f.at;
+      rest = f.rest;
+      front = f.is;
+      later = f.later;
+      same = refl;
+      shallow = λ ls held. (low_level, held);
+    }
 
 -- the tokens begin with MAIN, where it is the main procedure
 pub record MainBack (is_main : Bool) (ks : List Piece) (tokens : List Token) : Type 0 where
@@ -119,8 +134,17 @@ pub record MainBack (is_main : Bool) (ks : List Piece) (tokens : List Token) : T
   pub same : is_main_by syntax ≡ is_main
   pub shallow : (ls : List ℕ) → AllAtMost 33 ls → AllAtMost 33 (nest_main 0 syntax ls)
 
-pub main_back : (is_main : Bool) (ks : List Piece) (tokens : List Token) → AreTokens (word_if is_main word.Main ks) tokens → MainBack is_main ks tokens
-main_back false ks tokens a = record { syntax = g.not_main; rest = tokens; front = refl; later = a; same = refl; shallow = λ ls held. held }
+pub main_back : (is_main : Bool) (ks : List Piece) (tokens : List Token)
+    → AreTokens (word_if is_main word.Main ks) tokens → MainBack is_main ks tokens
+main_back false ks tokens a =
+    record { syntax = g.not_main; rest = tokens; front = refl; later = a; same = refl; shallow = λ ls held. held }
 main_back true ks tokens a =
     let f = first a in
-    record { syntax = g.is_main f.at; rest = f.rest; front = f.is; later = f.later; same = refl; shallow = λ ls held. (low_level, held) }
+    record {
+      syntax = g.is_main f.at;
+      rest = f.rest;
+      front = f.is;
+      later = f.later;
+      same = refl;
+      shallow = λ ls held. (low_level, held);
+    }

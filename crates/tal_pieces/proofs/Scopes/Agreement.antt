@@ -1,4 +1,5 @@
--- What the names of a text's procedure stand for, and what they stand for in the printed text, where the names of LITERALs are gone.
+-- What the names of a text's procedure stand for, and what they stand for in the printed text, where the names of
+-- LITERALs are gone.
 use Rattle.std.specs.Prelude.{◌≡◌, ℕ, Bool, true, false, List, [], ◌∷◌, ◌++◌, length, slice_get, Some}
 use Rattle.tal_tree.specs.declared.program.FileUse.{FileUse}
 use Rattle.tal_tree.specs.declared.program.Program.{Program}
@@ -38,16 +39,22 @@ printed_headed h = record h { names = without_literals h.names }
 
 -- the names of a scope are the program's, and all but those of LITERALs stand for the same in the printed text
 pub record Agreement (p : Program) (locals : List (List ℕ)) (s : Scope) : Type 0 where
-  pub lasting : (name : List ℕ) (x : Meaning) → is_literal x ≡ false → meaning_of s name ≡ Some x → meaning_of (printed_scope s) name ≡ Some x
-  pub local : (place : ℕ) (name : List ℕ) → meaning_of s name ≡ Some (m.Local place) → slice_get locals place ≡ Some name
+  pub lasting : (name : List ℕ) (x : Meaning) → is_literal x ≡ false → meaning_of s name ≡ Some x
+      → meaning_of (printed_scope s) name ≡ Some x
+  pub local : (place : ℕ) (name : List ℕ) → meaning_of s name ≡ Some (m.Local place)
+      → slice_get locals place ≡ Some name
   pub simple : (item : ℕ) (name : List ℕ) → meaning_of s name ≡ Some (m.Simple item) → item_name p item ≡ Some name
   pub array : (item : ℕ) (name : List ℕ) → meaning_of s name ≡ Some (m.Array item) → item_name p item ≡ Some name
-  pub procedure : (number : ℕ) (gives : Bool) (count : ℕ) (name : List ℕ) → meaning_of s name ≡ Some (m.Procedure number gives count)
+  pub procedure : (number : ℕ) (gives : Bool) (count : ℕ) (name : List ℕ)
+      → meaning_of s name ≡ Some (m.Procedure number gives count)
       → procedure_name p number ≡ Some name
-  pub receive : (item number : ℕ) (name : List ℕ) → meaning_of s name ≡ Some (m.ReceiveFile item number) → receive_name p ≡ Some name
-  pub process : (item number : ℕ) (name : List ℕ) → meaning_of s name ≡ Some (m.ProcessFile item number) → file_name p number ≡ Some name
+  pub receive : (item number : ℕ) (name : List ℕ) → meaning_of s name ≡ Some (m.ReceiveFile item number)
+      → receive_name p ≡ Some name
+  pub process : (item number : ℕ) (name : List ℕ) → meaning_of s name ≡ Some (m.ProcessFile item number)
+      → file_name p number ≡ Some name
   pub stray : (item number : ℕ) (name : List ℕ) → meaning_of s name ≡ Some (m.StrayFile item number) → ⊥
-  pub global : (item : ℕ) (name : List ℕ) → meaning_in name s.globals ≡ Some (m.Simple item) → item_name p item ≡ Some name
+  pub global : (item : ℕ) (name : List ℕ) → meaning_in name s.globals ≡ Some (m.Simple item)
+      → item_name p item ≡ Some name
   pub global_lasts : (item : ℕ) (name : List ℕ) → meaning_in name s.globals ≡ Some (m.Simple item)
       → meaning_in name (without_literals s.globals) ≡ Some (m.Simple item)
 

@@ -1,5 +1,6 @@
 -- What a declared name does to the names that are declared, and to those without the LITERALs'.
-use Rattle.std.proofs.Common.{◌≡◌, ℕ, ◌+◌, Bool, true, false, List, [], ◌∷◌, ◌++◌, length, length-append, append-nil, refl, sym, ap, ◌∙◌, if◌then◌else◌}
+use Rattle.std.proofs.Common.{◌≡◌, ℕ, ◌+◌, Bool, true, false, List, [], ◌∷◌, ◌++◌, length, length-append, append-nil}
+use Rattle.std.proofs.Common.{refl, sym, ap, ◌∙◌, if◌then◌else◌}
 use Rattle.std.proofs.lemmas.Bool.{true≢false, or_parts, or_from}
 use Rattle.std.specs.Prelude.{is_some, Some}
 use Rattle.tal_names.specs.declared.meaning.Meaning.{Meaning}
@@ -10,64 +11,80 @@ use Rattle.tal_pieces.proofs.Scopes.Agreement.{is_literal, kept_by, without_lite
 use Rattle.tal_faultless.proofs.Common.Names.{same_self}
 
 -- a name that isn't declared goes last
-pub appended : (ds : Declarations) (name : List ℕ) (m : Meaning) → is_declared name ds ≡ false → with_name ds name m ≡ ds ++ (name, m) ∷ []
+pub appended : (ds : Declarations) (name : List ℕ) (m : Meaning) → is_declared name ds ≡ false
+    → with_name ds name m ≡ ds ++ (name, m) ∷ []
 appended ds name m fresh = ap (λ b. if b then ds else ds ++ (name, m) ∷ []) fresh
 
-pub one_more : (ds : Declarations) (name : List ℕ) (m : Meaning) → is_declared name ds ≡ false → length (with_name ds name m) ≡ length ds + 1
+pub one_more : (ds : Declarations) (name : List ℕ) (m : Meaning) → is_declared name ds ≡ false
+    → length (with_name ds name m) ≡ length ds + 1
 one_more ds name m fresh = rw (appended ds name m fresh) (length-append ds ((name, m) ∷ []))
 
 -- a name that isn't declared isn't the first one, and the other way round
-pub fresh_first : (name : List ℕ) (d : List ℕ × Meaning) (ds : Declarations) → is_declared name (d ∷ ds) ≡ false → (same name d.0 ≡ false) × (is_declared name ds ≡ false)
+pub fresh_first : (name : List ℕ) (d : List ℕ × Meaning) (ds : Declarations) → is_declared name (d ∷ ds) ≡ false
+    → (same name d.0 ≡ false) × (is_declared name ds ≡ false)
 fresh_first name d ds fresh = by (same name d.0) refl
   where
     by : (b : Bool) → same name d.0 ≡ b → (same name d.0 ≡ false) × (is_declared name ds ≡ false)
     by true e = absurd (true≢false (rw e at fresh))
     by false e = (e, rw e at fresh)
 
-pub fresh_more : (name : List ℕ) (d : List ℕ × Meaning) (ds : Declarations) → same name d.0 ≡ false → is_declared name ds ≡ false → is_declared name (d ∷ ds) ≡ false
+pub fresh_more : (name : List ℕ) (d : List ℕ × Meaning) (ds : Declarations) → same name d.0 ≡ false
+    → is_declared name ds ≡ false → is_declared name (d ∷ ds) ≡ false
 fresh_more name d ds other fresh = rw other fresh
 
 -- a name that isn't declared isn't declared where the LITERALs are gone
-pub still_fresh : (name : List ℕ) (ds : Declarations) → is_declared name ds ≡ false → is_declared name (without_literals ds) ≡ false
+pub still_fresh : (name : List ℕ) (ds : Declarations) → is_declared name ds ≡ false
+    → is_declared name (without_literals ds) ≡ false
 still_fresh name [] fresh = refl
-still_fresh name (d ∷ ds) fresh = by (is_literal d.1) (fresh_first name d ds fresh).0 (still_fresh name ds (fresh_first name d ds fresh).1)
+still_fresh name (d ∷ ds) fresh =
+    by (is_literal d.1) (fresh_first name d ds fresh).0 (still_fresh name ds (fresh_first name d ds fresh).1)
   where
-    by : (l : Bool) → same name d.0 ≡ false → is_declared name (without_literals ds) ≡ false → is_declared name (kept_by l d (without_literals ds)) ≡ false
+    by : (l : Bool) → same name d.0 ≡ false → is_declared name (without_literals ds) ≡ false
+        → is_declared name (kept_by l d (without_literals ds)) ≡ false
     by true other more = more
     by false other more = fresh_more name d (without_literals ds) other more
 
 -- the last name, where the LITERALs are gone
-without_last : (ds : Declarations) (d : List ℕ × Meaning) → without_literals (ds ++ d ∷ []) ≡ without_literals ds ++ kept_by (is_literal d.1) d []
+without_last : (ds : Declarations) (d : List ℕ × Meaning)
+    → without_literals (ds ++ d ∷ []) ≡ without_literals ds ++ kept_by (is_literal d.1) d []
 without_last [] d = refl
 without_last (x ∷ ds) d = ap (kept_by (is_literal x.1) x) (without_last ds d) ∙ by (is_literal x.1)
   where
-    by : (l : Bool) → kept_by l x (without_literals ds ++ kept_by (is_literal d.1) d []) ≡ kept_by l x (without_literals ds) ++ kept_by (is_literal d.1) d []
+    by : (l : Bool) → kept_by l x (without_literals ds ++ kept_by (is_literal d.1) d [])
+        ≡ kept_by l x (without_literals ds) ++ kept_by (is_literal d.1) d []
     by true = refl
     by false = refl
 
 -- a new LITERAL leaves the other names as they are
-pub with_literal_name : (ds : Declarations) (name : List ℕ) (m : Meaning) → is_literal m ≡ true → is_declared name ds ≡ false
+pub with_literal_name : (ds : Declarations) (name : List ℕ) (m : Meaning) → is_literal m ≡ true
+    → is_declared name ds ≡ false
     → without_literals (with_name ds name m) ≡ without_literals ds
 with_literal_name ds name m literal fresh =
-    ap without_literals (appended ds name m fresh) ∙ without_last ds (name, m) ∙ ap (λ l. without_literals ds ++ kept_by l (name, m) []) literal ∙ append-nil (without_literals ds)
+    ap without_literals (appended ds name m fresh) ∙ without_last ds (name, m)
+    ∙ ap (λ l. without_literals ds ++ kept_by l (name, m) []) literal ∙ append-nil (without_literals ds)
 
 -- every other new name is one of them
-pub with_other_name : (ds : Declarations) (name : List ℕ) (m : Meaning) → is_literal m ≡ false → is_declared name ds ≡ false
+pub with_other_name : (ds : Declarations) (name : List ℕ) (m : Meaning) → is_literal m ≡ false
+    → is_declared name ds ≡ false
     → without_literals (with_name ds name m) ≡ with_name (without_literals ds) name m
 with_other_name ds name m other fresh =
-    ap without_literals (appended ds name m fresh) ∙ without_last ds (name, m) ∙ ap (λ l. without_literals ds ++ kept_by l (name, m) []) other
+    ap without_literals (appended ds name m fresh) ∙ without_last ds (name, m)
+    ∙ ap (λ l. without_literals ds ++ kept_by l (name, m) []) other
     ∙ sym (appended (without_literals ds) name m (still_fresh name ds fresh))
 
 -- a declared name stays declared
-stays_before : (name : List ℕ) (ds more : Declarations) → is_declared name ds ≡ true → is_declared name (ds ++ more) ≡ true
+stays_before : (name : List ℕ) (ds more : Declarations) → is_declared name ds ≡ true
+    → is_declared name (ds ++ more) ≡ true
 stays_before name [] more there = absurd (true≢false (sym there))
 stays_before name (d ∷ ds) more there = by (same name d.0) refl (stays_before name ds more)
   where
-    by : (b : Bool) → same name d.0 ≡ b → (is_declared name ds ≡ true → is_declared name (ds ++ more) ≡ true) → is_declared name ((d ∷ ds) ++ more) ≡ true
+    by : (b : Bool) → same name d.0 ≡ b → (is_declared name ds ≡ true → is_declared name (ds ++ more) ≡ true)
+        → is_declared name ((d ∷ ds) ++ more) ≡ true
     by true e rest = rw e refl
     by false e rest = rw e (rest (rw e at there))
 
-pub stays : (name : List ℕ) (ds : Declarations) (other : List ℕ) (m : Meaning) → is_declared name ds ≡ true → is_declared name (with_name ds other m) ≡ true
+pub stays : (name : List ℕ) (ds : Declarations) (other : List ℕ) (m : Meaning) → is_declared name ds ≡ true
+    → is_declared name (with_name ds other m) ≡ true
 stays name ds other m there = by (is_declared other ds) refl
   where
     by : (b : Bool) → is_declared other ds ≡ b → is_declared name (with_name ds other m) ≡ true
@@ -79,7 +96,8 @@ last_there : (ds : Declarations) (name : List ℕ) (m : Meaning) → is_declared
 last_there [] name m = rw (same_self name) refl
 last_there (d ∷ ds) name m = by (same name d.0) refl (last_there ds name m)
   where
-    by : (b : Bool) → same name d.0 ≡ b → is_declared name (ds ++ (name, m) ∷ []) ≡ true → is_declared name ((d ∷ ds) ++ (name, m) ∷ []) ≡ true
+    by : (b : Bool) → same name d.0 ≡ b → is_declared name (ds ++ (name, m) ∷ []) ≡ true
+        → is_declared name ((d ∷ ds) ++ (name, m) ∷ []) ≡ true
     by true e rest = rw e refl
     by false e rest = rw e rest
 
@@ -91,7 +109,8 @@ is_there ds name m = by (is_declared name ds) refl
     by false e = rw e (last_there ds name m)
 
 -- a name that can be declared can be declared where the LITERALs are gone
-pub still_free : (ds : Declarations) (name : List ℕ) → is_taken ds name ≡ false → is_taken (without_literals ds) name ≡ false
+pub still_free : (ds : Declarations) (name : List ℕ) → is_taken ds name ≡ false
+    → is_taken (without_literals ds) name ≡ false
 still_free ds name free =
     let parts = or_parts (is_some (system_of name)) (is_declared name ds) free in
     or_from (is_some (system_of name)) (is_declared name (without_literals ds)) parts.0 (still_fresh name ds parts.1)
@@ -101,11 +120,14 @@ fresh_of_free ds name free = (or_parts (is_some (system_of name)) (is_declared n
 
 module _ (name : List ℕ) where
   -- what isn't a LITERAL stays without the LITERALs
-  pub lasting_in : (ds : Declarations) (x : Meaning) → is_literal x ≡ false → meaning_in name ds ≡ Some x → meaning_in name (without_literals ds) ≡ Some x
+  pub lasting_in : (ds : Declarations) (x : Meaning) → is_literal x ≡ false → meaning_in name ds ≡ Some x
+      → meaning_in name (without_literals ds) ≡ Some x
   lasting_in [] x plain e = absurd (cc e)
   lasting_in (d ∷ ds) x plain e = by (lasting_in ds x plain) (same name d.0) refl (is_literal d.1) refl e
     where
-      by : (meaning_in name ds ≡ Some x → meaning_in name (without_literals ds) ≡ Some x) → (b : Bool) → same name d.0 ≡ b → (literal : Bool) → is_literal d.1 ≡ literal → (if b then Some d.1 else meaning_in name ds) ≡ Some x
+      by : (meaning_in name ds ≡ Some x → meaning_in name (without_literals ds) ≡ Some x) → (b : Bool)
+          → same name d.0 ≡ b → (literal : Bool) → is_literal d.1 ≡ literal
+          → (if b then Some d.1 else meaning_in name ds) ≡ Some x
           → meaning_in name (kept_by literal d (without_literals ds)) ≡ Some x
       by rest true s true l e = absurd (cc e)
       by rest true s false l e = rw s e

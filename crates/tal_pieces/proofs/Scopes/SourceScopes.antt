@@ -15,7 +15,8 @@ abbrev pub ScopesAgree : Type 0
 ScopesAgree =
     (lines : g.Lines) (ps : g.Procedures) (finish : At) → faults (g.text lines ps finish) ≡ []
     → (number : ℕ) (h : g.Heading) (outer inner : g.Locals) → heading_locals_faults h outer inner ≡ []
-    → Agreement (tree_of (g.text lines ps finish)) (texts_of (parameters_by h ++ locals_of inner)) (scope_in lines ps number h inner)
+    → Agreement (tree_of (g.text lines ps finish)) (texts_of (parameters_by h ++ locals_of inner))
+    (scope_in lines ps number h inner)
 
 -- the variables of files are declared as simple items
 abbrev pub FileItemsAreSimple : Type 0

@@ -1,5 +1,6 @@
 -- A text that begins with a spelled piece begins with the piece's token.
-use Rattle.std.proofs.Common.{◌≡◌, ℕ, Bool, true, false, not, ◌&&◌, ◌==◌, nat_le, List, [], ◌∷◌, ◌++◌, length, take, refl, sym, ap, ◌∙◌, if◌then◌else◌}
+use Rattle.std.proofs.Common.{◌≡◌, ℕ, Bool, true, false, not, ◌&&◌, ◌==◌, nat_le, List, [], ◌∷◌, ◌++◌, length, take}
+use Rattle.std.proofs.Common.{refl, sym, ap, ◌∙◌, if◌then◌else◌}
 use Rattle.std.specs.Prelude.{Some, None, codes, is_some}
 use Rattle.std.specs.List.{list_all}
 use Rattle.std.specs.Char.{is_ascii_digit}
@@ -12,7 +13,8 @@ use Rattle.tal_tokens.specs.declared.token.At.{At}
 use Rattle.tal_tokens.specs.declared.token.Token.{Token}
 use Rattle.tal_tokens.specs.declared.token.Token.TheVariants as tok
 use Rattle.tal_tokens.specs.Cursor.{at_front}
-use Rattle.tal_tokens.specs.Lexeme.{begun_of, is_blank, comment_of, decimal_begun, named, name_begun, octal_begun, string_begun, symbol_begun, run_of, word_token}
+use Rattle.tal_tokens.specs.Lexeme.{begun_of, is_blank, comment_of, decimal_begun, named, name_begun, octal_begun}
+use Rattle.tal_tokens.specs.Lexeme.{string_begun, symbol_begun, run_of, word_token}
 use Rattle.tal_names.specs.declared.system.System.{System}
 use Rattle.tal_names.specs.declared.system.System.TheVariants as system
 use Rattle.tal_pieces.specs.declared.piece.Keyword.{Keyword}
@@ -25,7 +27,8 @@ use Rattle.tal_pieces.proofs.Spelling.Runs.{run_is, take_front}
 
 -- the text begins with this token, which is all of `text`
 abbrev pub BeginsWith : Cursor → List ℕ → List ℕ → (At → Token) → Type 0
-BeginsWith here text rest token = begun_of here (text ++ rest) ≡ Whole (token (at_front here (length text))) (length text)
+BeginsWith here text rest token =
+    begun_of here (text ++ rest) ≡ Whole (token (at_front here (length text))) (length text)
 
 no_sign : (c : ℕ) → stops c ≡ true → not (is_ident_sign c) ≡ true
 no_sign c h = (and_parts (not (is_ident_sign c)) (not (c == 61) && not (c == 62)) h).0
@@ -46,19 +49,23 @@ by_first here c rest blank comment digit sign =
     symbol_begun here c rest
 
 -- a word whose first sign is no digit
-pub word_begun : (here : Cursor) (c : ℕ) (more rest : List ℕ) → is_blank c ≡ false → (c == 33) ≡ false → is_ascii_digit c ≡ false
+pub word_begun : (here : Cursor) (c : ℕ) (more rest : List ℕ) → is_blank c ≡ false → (c == 33) ≡ false
+    → is_ascii_digit c ≡ false
     → list_all is_ident_sign (c ∷ more) ≡ true → ident_of (c ∷ more) ≡ Some (c ∷ more) → heads stops rest ≡ true
     → BeginsWith here (c ∷ more) rest (λ at. word_token at (c ∷ more))
 word_begun here c more rest blank comment digit all kept ends =
     let sign : is_ident_sign c ≡ true = (and_parts (is_ident_sign c) (list_all is_ident_sign more) all).0 in
-    let run : run_of is_ident_sign ((c ∷ more) ++ rest) ≡ length (c ∷ more) = run_is is_ident_sign (c ∷ more) rest all (ends_word rest ends) in
+    let run : run_of is_ident_sign ((c ∷ more) ++ rest) ≡ length (c ∷ more) =
+    run_is is_ident_sign (c ∷ more) rest all (ends_word rest ends) in
     let front : take (length (c ∷ more)) ((c ∷ more) ++ rest) ≡ c ∷ more = take_front (c ∷ more) rest in
     (λ i. by_first here c (more ++ rest) (blank i) (comment i) (digit i) (sign i))
     ∙ ap (λ n. named here n (ident_of (take n ((c ∷ more) ++ rest)))) run
     ∙ ap (λ w. named here (length (c ∷ more)) (ident_of w)) front
     ∙ ap (λ w. named here (length (c ∷ more)) w) kept
 
-pub keyword_begun : (here : Cursor) (k : Keyword) (rest : List ℕ) → heads (parts (ending_of (piece.Keyword k))) rest ≡ true → BeginsWith here (keyword_text k) rest (λ at. keyword_token at k)
+pub keyword_begun : (here : Cursor) (k : Keyword) (rest : List ℕ)
+    → heads (parts (ending_of (piece.Keyword k))) rest ≡ true
+    → BeginsWith here (keyword_text k) rest (λ at. keyword_token at k)
 keyword_begun here word.And rest ends = word_begun here 65 (codes "ND") rest refl refl refl refl refl ends
 keyword_begun here word.Begin rest ends = word_begun here 66 (codes "EGIN") rest refl refl refl refl refl ends
 keyword_begun here word.Call rest ends = word_begun here 67 (codes "ALL") rest refl refl refl refl refl ends
@@ -77,11 +84,15 @@ keyword_begun here word.Then rest ends = word_begun here 84 (codes "HEN") rest r
 keyword_begun here word.To rest ends = word_begun here 84 (codes "O") rest refl refl refl refl refl ends
 keyword_begun here word.While rest ends = word_begun here 87 (codes "HILE") rest refl refl refl refl refl ends
 
-pub system_begun : (here : Cursor) (s : System) (rest : List ℕ) → heads stops rest ≡ true → BeginsWith here (system_text s) rest (λ at. tok.Name at (system_text s))
-system_begun here system.CheckMonitor rest ends = word_begun here 67 (codes "HECKMONITOR") rest refl refl refl refl refl ends
-system_begun here system.Checkpoint rest ends = word_begun here 67 (codes "HECKPOINT") rest refl refl refl refl refl ends
+pub system_begun : (here : Cursor) (s : System) (rest : List ℕ) → heads stops rest ≡ true
+    → BeginsWith here (system_text s) rest (λ at. tok.Name at (system_text s))
+system_begun here system.CheckMonitor rest ends =
+    word_begun here 67 (codes "HECKMONITOR") rest refl refl refl refl refl ends
+system_begun here system.Checkpoint rest ends =
+    word_begun here 67 (codes "HECKPOINT") rest refl refl refl refl refl ends
 system_begun here system.Open rest ends = word_begun here 79 (codes "PEN") rest refl refl refl refl refl ends
-system_begun here system.ReadUpdate rest ends = word_begun here 82 (codes "EADUPDATE") rest refl refl refl refl refl ends
+system_begun here system.ReadUpdate rest ends =
+    word_begun here 82 (codes "EADUPDATE") rest refl refl refl refl refl ends
 system_begun here system.Reply rest ends = word_begun here 82 (codes "EPLY") rest refl refl refl refl refl ends
 system_begun here system.Stop rest ends = word_begun here 83 (codes "TOP") rest refl refl refl refl refl ends
 system_begun here system.WriteRead rest ends = word_begun here 87 (codes "RITEREAD") rest refl refl refl refl refl ends
@@ -91,19 +102,24 @@ spelled_so true x y e = refl
 spelled_so false x y e = ap is_some e
 
 pub distinct : (c k : ℕ) → is_ident_sign c ≡ true → is_ident_sign k ≡ false → (c == k) ≡ false
-distinct c k sign none = false_from_ne_true (c == k) (λ e. true≢false (sym sign ∙ ap is_ident_sign (eqb-true c k e) ∙ none))
+distinct c k sign none =
+    false_from_ne_true (c == k) (λ e. true≢false (sym sign ∙ ap is_ident_sign (eqb-true c k e) ∙ none))
 
 pub no_blank : (c : ℕ) → is_ident_sign c ≡ true → is_blank c ≡ false
 no_blank c sign = rw (distinct c 32 sign refl, distinct c 9 sign refl, distinct c 10 sign refl) refl
 
-pub name_begun_is : (here : Cursor) (name rest : List ℕ) → ident_of name ≡ Some name → ((at : At) → word_token at name ≡ tok.Name at name) → heads stops rest ≡ true
+pub name_begun_is : (here : Cursor) (name rest : List ℕ) → ident_of name ≡ Some name
+    → ((at : At) → word_token at name ≡ tok.Name at name) → heads stops rest ≡ true
     → BeginsWith here name rest (λ at. tok.Name at name)
 name_begun_is here [] rest kept plain ends = absurd (true≢false (sym (ap is_some kept)))
 name_begun_is here (c ∷ more) rest kept plain ends =
     let ident : is_ident (c ∷ more) ≡ true = spelled_so (is_ident (c ∷ more)) (upper (c ∷ more)) (c ∷ more) kept in
-    let outer : ((not (is_ascii_digit c) && nat_le (length more) 30) ≡ true) × (list_all is_ident_sign (c ∷ more) ≡ true) =
+    let outer : ((not (is_ascii_digit c) && nat_le (length more) 30) ≡ true)
+    × (list_all is_ident_sign (c ∷ more) ≡ true) =
     and_parts (not (is_ascii_digit c) && nat_le (length more) 30) (list_all is_ident_sign (c ∷ more)) ident in
-    let inner : (not (is_ascii_digit c) ≡ true) × (nat_le (length more) 30 ≡ true) = and_parts (not (is_ascii_digit c)) (nat_le (length more) 30) outer.0 in
+    let inner : (not (is_ascii_digit c) ≡ true) × (nat_le (length more) 30 ≡ true) =
+    and_parts (not (is_ascii_digit c)) (nat_le (length more) 30) outer.0 in
     let sign : is_ident_sign c ≡ true = (and_parts (is_ident_sign c) (list_all is_ident_sign more) outer.1).0 in
-    word_begun here c more rest (no_blank c sign) (distinct c 33 sign refl) (not-true (is_ascii_digit c) inner.0) outer.1 kept ends
+    word_begun here c more rest (no_blank c sign) (distinct c 33 sign refl) (not-true (is_ascii_digit c) inner.0)
+    outer.1 kept ends
     ∙ ap (λ t. Whole t (length (c ∷ more))) (plain (at_front here (length (c ∷ more))))

@@ -1,5 +1,6 @@
 -- The text of pieces is cut into these pieces.
-use Rattle.std.proofs.Common.{◌≡◌, ℕ, ◌-◌, ◌*◌, ◌<◌, zero, suc, Bool, true, false, List, [], ◌∷◌, ◌++◌, length, replicate, refl, sym, ap, ◌∙◌, arith, append_assoc, if◌then◌else◌}
+use Rattle.std.proofs.Common.{◌≡◌, ℕ, ◌-◌, ◌*◌, ◌<◌, zero, suc, Bool, true, false, List, [], ◌∷◌, ◌++◌, length}
+use Rattle.std.proofs.Common.{replicate, refl, sym, ap, ◌∙◌, arith, append_assoc, if◌then◌else◌}
 use Rattle.std.specs.Prelude.{pos, negsuc, None, codes, is_some}
 use Rattle.std.specs.List.{list_all}
 use Rattle.std.proofs.lemmas.Bool.{and_parts, true≢false}
@@ -18,7 +19,8 @@ use Rattle.tal_pieces.specs.declared.piece.Symbol.TheVariants as sign
 use Rattle.tal_pieces.specs.declared.piece.Piece.{Piece}
 use Rattle.tal_pieces.specs.declared.piece.Piece.TheVariants as piece
 use Rattle.tal_names.specs.declared.system.System.TheVariants as system
-use Rattle.tal_pieces.specs.Spelling.{Sheet, text_of, keyword_text, symbol_text, system_text, ending_of, is_end, is_tight, line_at, depth_at, depth_after, gap, laid, lay, blank, spelled}
+use Rattle.tal_pieces.specs.Spelling.{Sheet, text_of, keyword_text, symbol_text, system_text, ending_of, is_end}
+use Rattle.tal_pieces.specs.Spelling.{is_tight, line_at, depth_at, depth_after, gap, laid, lay, blank, spelled}
 use Rattle.tal_pieces.specs.Cuts.{token_of, AreTokens, finished, followed, IsSpellable, AreSpellable, CutsInto}
 use Rattle.tal_pieces.proofs.Spelling.Begun.{BeginsWith, keyword_begun, system_begun, name_begun_is}
 use Rattle.tal_pieces.proofs.Spelling.Follow.{heads, parts, follow, word_below, text_positive}
@@ -35,7 +37,8 @@ lay_is : (s : Sheet) (ks : List Piece) → (lay s ks).text ++ 10 ∷ [] ≡ s.te
 lay_is s [] = refl
 lay_is s (k ∷ ks) =
     let rest : List ℕ = rest_text (depth_after s.depth k) (ending_of k) ks in
-    lay_is (laid s k) ks ∙ append_assoc (s.text ++ gap s.depth s.ending k) (text_of k) rest ∙ append_assoc s.text (gap s.depth s.ending k) (text_of k ++ rest)
+    lay_is (laid s k) ks ∙ append_assoc (s.text ++ gap s.depth s.ending k) (text_of k) rest
+    ∙ append_assoc s.text (gap s.depth s.ending k) (text_of k ++ rest)
 
 piece_begun : (here : Cursor) (k : Piece) (rest : List ℕ) → IsSpellable k → heads (parts (ending_of k)) rest ≡ true
     → BeginsWith here (text_of k) rest (λ at. token_of at k)
@@ -110,7 +113,8 @@ all_blank : (n : ℕ) → list_all is_blank (replicate n 32) ≡ true
 all_blank zero = refl
 all_blank (suc n) = all_blank n
 
-blank_choice : (ended tight : Bool) (depth : ℕ) → list_all is_blank (if ended then line_at depth else if tight then [] else codes " ") ≡ true
+blank_choice : (ended tight : Bool) (depth : ℕ)
+    → list_all is_blank (if ended then line_at depth else if tight then [] else codes " ") ≡ true
 blank_choice true tight depth = all_blank (2 * depth)
 blank_choice false true depth = refl
 blank_choice false false depth = refl
@@ -123,7 +127,8 @@ gap_is_blank depth ending.Name k = blank_choice (is_end k) (is_tight ending.Name
 gap_is_blank depth ending.Colon k = blank_choice (is_end k) (is_tight ending.Colon k) (depth - 1)
 gap_is_blank depth ending.Other k = blank_choice (is_end k) (is_tight ending.Other k) (depth - 1)
 
-follow_rest : (depth : ℕ) (e : Ending) (ks : List Piece) → AreSpellable ks → heads (parts e) (rest_text depth e ks) ≡ true
+follow_rest : (depth : ℕ) (e : Ending) (ks : List Piece) → AreSpellable ks
+    → heads (parts e) (rest_text depth e ks) ≡ true
 follow_rest depth ending.Nothing [] h = refl
 follow_rest depth ending.Line [] h = refl
 follow_rest depth ending.Bracket [] h = refl
@@ -132,20 +137,24 @@ follow_rest depth ending.Colon [] h = refl
 follow_rest depth ending.Other [] h = refl
 follow_rest depth e (k ∷ ks) h = follow depth e k (rest_text (depth_after depth k) (ending_of k) ks) h.0
 
-skip : (n : ℕ) (here : Cursor) (text rest : List ℕ) → n ≡ length text → lexed n here (text ++ rest) ≡ lexed 0 (passed here text) rest
+skip : (n : ℕ) (here : Cursor) (text rest : List ℕ) → n ≡ length text
+    → lexed n here (text ++ rest) ≡ lexed 0 (passed here text) rest
 skip zero here [] rest e = refl
 skip zero here (c ∷ text) rest e = absurd (omega (arith, e))
 skip (suc n) here [] rest e = absurd (omega (arith, e))
 skip (suc n) here (c ∷ text) rest e = skip n (after here c) text rest (omega (arith, e))
 
-blanks : (here : Cursor) (text rest : List ℕ) → list_all is_blank text ≡ true → lexed 0 here (text ++ rest) ≡ lexed 0 (passed here text) rest
+blanks : (here : Cursor) (text rest : List ℕ) → list_all is_blank text ≡ true
+    → lexed 0 here (text ++ rest) ≡ lexed 0 (passed here text) rest
 blanks here [] rest all = refl
 blanks here (c ∷ text) rest all =
-    let parts : (is_blank c ≡ true) × (list_all is_blank text ≡ true) = and_parts (is_blank c) (list_all is_blank text) all in
+    let parts : (is_blank c ≡ true) × (list_all is_blank text ≡ true) =
+    and_parts (is_blank c) (list_all is_blank text) all in
     let gap_here : begun_of here (c ∷ (text ++ rest)) ≡ Gap 1 = rw parts.0 refl in
     ap (λ b. lexed_by b (λ k. lexed k (after here c) (text ++ rest))) gap_here ∙ blanks (after here c) text rest parts.1
 
-token_front : (here : Cursor) (text rest : List ℕ) (token : Token) → 0 < length text → begun_of here (text ++ rest) ≡ Whole token (length text)
+token_front : (here : Cursor) (text rest : List ℕ) (token : Token) → 0 < length text
+    → begun_of here (text ++ rest) ≡ Whole token (length text)
     → lexed 0 here (text ++ rest) ≡ with_front token (lexed 0 (passed here text) rest)
 token_front here [] rest token some e = absurd (omega arith)
 token_front here (c ∷ text) rest token some e =
@@ -157,7 +166,8 @@ record Cut (ks : List Piece) (tokens : TokenList) : Type 0 where
   whole : tokens ≡ record { list = list; fault = None }
   pieces : AreTokens ks list
 
-cut : (depth : ℕ) (e : Ending) (ks : List Piece) (here : Cursor) → AreSpellable ks → Cut ks (lexed 0 here (rest_text depth e ks))
+cut : (depth : ℕ) (e : Ending) (ks : List Piece) (here : Cursor) → AreSpellable ks
+    → Cut ks (lexed 0 here (rest_text depth e ks))
 cut depth e [] here h = record { list = _; whole = refl; pieces = finished (at_front (after here 10) 0) }
 cut depth e (k ∷ ks) here h =
     let rest : List ℕ = rest_text (depth_after depth k) (ending_of k) ks in
@@ -168,7 +178,8 @@ cut depth e (k ∷ ks) here h =
       list = token ∷ later.list;
       whole =
           blanks here (gap depth e k) (text_of k ++ rest) (gap_is_blank depth e k)
-          ∙ token_front begin (text_of k) rest token (some_text k h.0) (piece_begun begin k rest h.0 (follow_rest (depth_after depth k) (ending_of k) ks h.1))
+          ∙ token_front begin (text_of k) rest token (some_text k h.0)
+          (piece_begun begin k rest h.0 (follow_rest (depth_after depth k) (ending_of k) ks h.1))
           ∙ ap (with_front token) later.whole;
       pieces = followed (at_front begin (length (text_of k))) k later.pieces;
     }
@@ -176,4 +187,8 @@ cut depth e (k ∷ ks) here h =
 pub cuts : (ks : List Piece) → AreSpellable ks → CutsInto ks (spelled ks)
 cuts ks h =
     let whole = cut 0 ending.Nothing ks start_of_text h in
-    record { list = whole.list; tokens = ap (lexed 0 start_of_text) (lay_is blank ks) ∙ whole.whole; pieces = whole.pieces }
+    record {
+      list = whole.list;
+      tokens = ap (lexed 0 start_of_text) (lay_is blank ks) ∙ whole.whole;
+      pieces = whole.pieces;
+    }

@@ -1,5 +1,6 @@
 -- What stands after a piece doesn't run together with it.
-use Rattle.std.proofs.Common.{◌≡◌, ℕ, ◌-◌, ◌<◌, ◌≤◌, ◌^◌, suc, Bool, true, false, not, ◌&&◌, ◌||◌, ◌==◌, List, [], ◌∷◌, ◌++◌, length, nat_le, refl, ap, ◌∙◌, arith, if◌then◌else◌}
+use Rattle.std.proofs.Common.{◌≡◌, ℕ, ◌-◌, ◌<◌, ◌≤◌, ◌^◌, suc, Bool, true, false, not, ◌&&◌, ◌||◌, ◌==◌, List, [], ◌∷◌}
+use Rattle.std.proofs.Common.{◌++◌, length, nat_le, refl, ap, ◌∙◌, arith, if◌then◌else◌}
 use Rattle.std.specs.Prelude.{ℤ, pos, negsuc, codes, FitsSigned}
 use Rattle.std.specs.Char.{is_ascii_digit}
 use Rattle.std.specs.Int.{cast_unsigned, w16}
@@ -15,7 +16,8 @@ use Rattle.tal_pieces.specs.declared.ending.Ending.TheVariants as ending
 use Rattle.tal_pieces.specs.declared.piece.Symbol.TheVariants as sign
 use Rattle.tal_pieces.specs.declared.piece.Piece.{Piece}
 use Rattle.tal_pieces.specs.declared.piece.Piece.TheVariants as piece
-use Rattle.tal_pieces.specs.Spelling.{text_of, hangs, begins_list, is_number, is_end, line_at, gap, number_text, octal_text}
+use Rattle.tal_pieces.specs.Spelling.{text_of, hangs, begins_list, is_number, is_end, line_at, gap, number_text}
+use Rattle.tal_pieces.specs.Spelling.{octal_text}
 use Rattle.tal_pieces.specs.Cuts.{IsSpellable}
 
 -- whether the first byte of a text, if it has one, passes
@@ -44,7 +46,8 @@ always : (e : Ending) (x : List ℕ) → ((c : ℕ) → parts e c ≡ true) → 
 always e [] h = refl
 always e (c ∷ rest) h = h c
 
-by_gap : (p : ℕ → Bool) → p 10 ≡ true → p 32 ≡ true → (ended tight : Bool) (depth : ℕ) (x : List ℕ) → implied tight (heads p x) ≡ true
+by_gap : (p : ℕ → Bool) → p 10 ≡ true → p 32 ≡ true → (ended tight : Bool) (depth : ℕ) (x : List ℕ)
+    → implied tight (heads p x) ≡ true
     → heads p ((if ended then line_at depth else if tight then [] else codes " ") ++ x) ≡ true
 by_gap p line space true tight depth x h = line
 by_gap p line space false true depth x h = h
@@ -111,12 +114,14 @@ not_equal c digit =
 pub word_below : (m : ℕ) → FitsSigned w16 (pos m) → m < 2 ^ 64
 word_below m fits = omega (arith, ints, fits)
 
-digits_first : (digits rest : List ℕ) → 0 < length digits → all_ascii_digits digits ≡ true → heads (parts ending.Colon) (digits ++ rest) ≡ true
+digits_first : (digits rest : List ℕ) → 0 < length digits → all_ascii_digits digits ≡ true
+    → heads (parts ending.Colon) (digits ++ rest) ≡ true
 digits_first [] rest some all = absurd (omega arith)
 digits_first (c ∷ cs) rest some all = not_equal c (and_parts (is_ascii_digit c) (all_ascii_digits cs) all).0
 
 pub text_positive : (m : ℕ) → number_text (pos m) ≡ decimal m
-text_positive m = ap (λ b. if b then 37 ∷ octal_text (cast_unsigned w16 (pos m)) else decimal m) (lt-leb (suc m) 0 (omega arith))
+text_positive m =
+    ap (λ b. if b then 37 ∷ octal_text (cast_unsigned w16 (pos m)) else decimal m) (lt-leb (suc m) 0 (omega arith))
 
 pub text_negative : (m : ℕ) → number_text (negsuc m) ≡ 37 ∷ octal_text (cast_unsigned w16 (negsuc m))
 text_negative m = refl
@@ -125,10 +130,12 @@ numbered : (n : ℤ) (rest : List ℕ) → FitsSigned w16 n → heads (parts end
 numbered (pos m) rest fits =
     let below : m < 2 ^ 64 = word_below m fits in
     ap (λ text. heads (parts ending.Colon) (text ++ rest)) (text_positive m)
-    ∙ digits_first (decimal m) rest (decimal_nonempty m below) (digits_decimal (numerals_by_value (λ ds. all_ascii_digits ds ≡ true) tells_all_ascii_digits) m below)
+    ∙ digits_first (decimal m) rest (decimal_nonempty m below)
+    (digits_decimal (numerals_by_value (λ ds. all_ascii_digits ds ≡ true) tells_all_ascii_digits) m below)
 numbered (negsuc m) rest fits = refl
 
-colon_next : (k : Piece) (rest : List ℕ) → IsSpellable k → implied (hangs k || is_number k) (heads (parts ending.Colon) (text_of k ++ rest)) ≡ true
+colon_next : (k : Piece) (rest : List ℕ) → IsSpellable k
+    → implied (hangs k || is_number k) (heads (parts ending.Colon) (text_of k ++ rest)) ≡ true
 colon_next (piece.Symbol sign.Assign) rest h = refl
 colon_next (piece.Symbol sign.Differs) rest h = refl
 colon_next (piece.Symbol sign.AtMost) rest h = refl
@@ -155,10 +162,15 @@ colon_next piece.Receive rest h = refl
 colon_next (piece.Process name) rest h = refl
 
 -- what the layout puts after an ending may stand right after it
-pub follow : (depth : ℕ) (e : Ending) (k : Piece) (rest : List ℕ) → IsSpellable k → heads (parts e) (gap depth e k ++ (text_of k ++ rest)) ≡ true
+pub follow : (depth : ℕ) (e : Ending) (k : Piece) (rest : List ℕ) → IsSpellable k
+    → heads (parts e) (gap depth e k ++ (text_of k ++ rest)) ≡ true
 follow depth ending.Nothing k rest h = always ending.Nothing (text_of k ++ rest) (λ c. refl)
 follow depth ending.Line k rest h = refl
-follow depth ending.Bracket k rest h = always ending.Bracket (gap depth ending.Bracket k ++ (text_of k ++ rest)) (λ c. refl)
-follow depth ending.Name k rest h = by_gap (parts ending.Name) refl refl (is_end k) (hangs k || begins_list k) (depth - 1) (text_of k ++ rest) (listing k rest)
-follow depth ending.Colon k rest h = by_gap (parts ending.Colon) refl refl (is_end k) (hangs k || is_number k) (depth - 1) (text_of k ++ rest) (colon_next k rest h)
-follow depth ending.Other k rest h = by_gap (parts ending.Other) refl refl (is_end k) (hangs k) (depth - 1) (text_of k ++ rest) (hanging k rest)
+follow depth ending.Bracket k rest h =
+    always ending.Bracket (gap depth ending.Bracket k ++ (text_of k ++ rest)) (λ c. refl)
+follow depth ending.Name k rest h = by_gap (parts ending.Name) refl refl (is_end k) (hangs k || begins_list k)
+    (depth - 1) (text_of k ++ rest) (listing k rest)
+follow depth ending.Colon k rest h = by_gap (parts ending.Colon) refl refl (is_end k) (hangs k || is_number k)
+    (depth - 1) (text_of k ++ rest) (colon_next k rest h)
+follow depth ending.Other k rest h =
+    by_gap (parts ending.Other) refl refl (is_end k) (hangs k) (depth - 1) (text_of k ++ rest) (hanging k rest)

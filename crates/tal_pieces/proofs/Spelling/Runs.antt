@@ -1,5 +1,6 @@
 -- How far a run of signs goes.
-use Rattle.std.proofs.Common.{◌≡◌, ℕ, ◌≤◌, Bool, true, not, nat_lt, List, [], ◌∷◌, ◌++◌, length, length-append, take, refl, ap, arith, cond}
+use Rattle.std.proofs.Common.{◌≡◌, ℕ, ◌≤◌, Bool, true, not, nat_lt, List, [], ◌∷◌, ◌++◌, length, length-append, take}
+use Rattle.std.proofs.Common.{refl, ap, arith, cond}
 use Rattle.std.specs.Prelude.{Some, None, unwrap_or}
 use Rattle.std.specs.List.{list_all, prefix_len}
 use Rattle.std.proofs.lemmas.Bool.{and_parts}
@@ -20,9 +21,11 @@ chosen : (n m : ℕ) → n ≤ m → unwrap_or (cond (nat_lt n m) (Some n) None)
 chosen n m within = grind (arith, nat_tests)
 
 -- a run goes on as far as its signs pass
-pub run_is : (p : ℕ → Bool) (word rest : List ℕ) → list_all p word ≡ true → heads (λ c. not (p c)) rest ≡ true → run_of p (word ++ rest) ≡ length word
+pub run_is : (p : ℕ → Bool) (word rest : List ℕ) → list_all p word ≡ true → heads (λ c. not (p c)) rest ≡ true
+    → run_of p (word ++ rest) ≡ length word
 run_is p word rest all ends =
-    rw (prefix_is p word rest all ends) (chosen (length word) (length (word ++ rest)) (omega (arith, length-append word rest)))
+    rw (prefix_is p word rest all ends) (chosen (length word) (length (word ++ rest))
+    (omega (arith, length-append word rest)))
 
 pub take_front : (word rest : List ℕ) → take (length word) (word ++ rest) ≡ word
 take_front [] rest = grind arith

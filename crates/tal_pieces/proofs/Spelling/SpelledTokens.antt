@@ -1,5 +1,6 @@
 -- Every token of a text can be spelled.
-use Rattle.std.proofs.Common.{◌≡◌, ℕ, ◌+◌, ◌-◌, ◌==◌, ◌&&◌, zero, suc, Bool, true, false, List, [], ◌∷◌, take, refl, sym, ap, ◌∙◌, subst, if◌then◌else◌}
+use Rattle.std.proofs.Common.{◌≡◌, ℕ, ◌+◌, ◌-◌, ◌==◌, ◌&&◌, zero, suc, Bool, true, false, List, [], ◌∷◌, take, refl}
+use Rattle.std.proofs.Common.{sym, ap, ◌∙◌, subst, if◌then◌else◌}
 use Rattle.std.specs.Prelude.{pos, codes, map, unwrap_or, slice_index, Option, Some, None, FitsSigned}
 use Rattle.std.specs.Int.{w16}
 use Rattle.std.specs.Char.{is_ascii_digit, to_ascii_lowercase}
@@ -15,7 +16,10 @@ use Rattle.tal_tokens.specs.declared.token.At.{At}
 use Rattle.tal_tokens.specs.declared.token.Token.{Token}
 use Rattle.tal_tokens.specs.declared.token.Token.TheVariants as tok
 use Rattle.tal_tokens.specs.Cursor.{after, at_front, start_of_text}
-use Rattle.tal_tokens.specs.Lexeme.{run_of, same, is_octal, keyword_first, keyword_second, keyword_third, word_token, named, name_begun, numbered, octal_begun, process_token, text_token, string_to, is_string_end, pair_token, mark_token, sign_token, paired, signed, longest, is_blank, begun_of}
+use Rattle.tal_tokens.specs.Lexeme.{run_of, same, is_octal, keyword_first, keyword_second, keyword_third, word_token}
+use Rattle.tal_tokens.specs.Lexeme.{named, name_begun, numbered, octal_begun, process_token, text_token, string_to}
+use Rattle.tal_tokens.specs.Lexeme.{is_string_end, pair_token, mark_token, sign_token, paired, signed, longest}
+use Rattle.tal_tokens.specs.Lexeme.{is_blank, begun_of}
 use Rattle.tal_tokens.specs.Lexer.{lexed, lexed_by, tokens_of}
 use Rattle.tal_pieces.specs.declared.piece.Piece.TheVariants as piece
 use Rattle.tal_pieces.specs.Cuts.{IsSpellable}
@@ -92,26 +96,34 @@ alike_third word =
     alike_if (same word (codes "WHILE")) (λ at. tok.While at) (λ at. None) (λ at. tt) (never (λ at. refl))))))))
 
 -- a word in upper case is a keyword, or a name that is none
-by_keyword : (word : List ℕ) (f : At → Option Token) → Alike f → ident_of word ≡ Some word → ((at : At) → word_token at word ≡ unwrap_or (f at) (tok.Name at word))
+by_keyword : (word : List ℕ) (f : At → Option Token) → Alike f → ident_of word ≡ Some word
+    → ((at : At) → word_token at word ≡ unwrap_or (f at) (tok.Name at word))
     → (at : At) → IsSpelled (word_token at word)
 by_keyword word f (never e) kept is at =
-    let plain : (here : At) → word_token here word ≡ tok.Name here word = λ here. is here ∙ ap (λ o. unwrap_or o (tok.Name here word)) (e here) in
+    let plain : (here : At) → word_token here word ≡ tok.Name here word =
+    λ here. is here ∙ ap (λ o. unwrap_or o (tok.Name here word)) (e here) in
     subst IsSpelled (sym (plain at)) (kept, plain)
-by_keyword word f (always token e h) kept is at = subst IsSpelled (sym (is at ∙ ap (λ o. unwrap_or o (tok.Name at word)) (e at))) (h at)
+by_keyword word f (always token e h) kept is at =
+    subst IsSpelled (sym (is at ∙ ap (λ o. unwrap_or o (tok.Name at word)) (e at))) (h at)
 
 word_well : (word : List ℕ) → ident_of word ≡ Some word → (at : At) → IsSpelled (word_token at word)
 word_well word kept at =
-    by_keyword word (λ here. option_or (keyword_first here word) (option_or (keyword_second here word) (keyword_third here word)))
-    (alike_or (λ here. keyword_first here word) (λ here. option_or (keyword_second here word) (keyword_third here word)) (alike_first word)
-    (alike_or (λ here. keyword_second here word) (λ here. keyword_third here word) (alike_second word) (alike_third word)))
+    by_keyword word (λ here. option_or (keyword_first here word)
+    (option_or (keyword_second here word) (keyword_third here word)))
+    (alike_or (λ here. keyword_first here word)
+    (λ here. option_or (keyword_second here word) (keyword_third here word)) (alike_first word)
+    (alike_or (λ here. keyword_second here word) (λ here. keyword_third here word) (alike_second word)
+    (alike_third word)))
     kept (λ here. refl) at
 
-by_ident : (here : Cursor) (n : ℕ) (text : List ℕ) (b : Bool) → is_ident text ≡ b → BeginsWell (named here n (if b then Some (upper text) else None))
+by_ident : (here : Cursor) (n : ℕ) (text : List ℕ) (b : Bool) → is_ident text ≡ b
+    → BeginsWell (named here n (if b then Some (upper text) else None))
 by_ident here n text true e = word_well (upper text) (ident_again text e) (at_front here n)
 by_ident here n text false e = tt
 
 name_well : (here : Cursor) (text : List ℕ) → BeginsWell (name_begun here text)
-name_well here text = let word : List ℕ = take (run_of is_ident_sign text) text in by_ident here (run_of is_ident_sign text) word (is_ident word) refl
+name_well here text = let word : List ℕ = take (run_of is_ident_sign text) text in
+    by_ident here (run_of is_ident_sign text) word (is_ident word) refl
 
 -- numbers are words
 number_well : (here : Cursor) (n : ℕ) (found : Option ℕ) → BeginsWell (numbered here n found)
@@ -119,22 +131,27 @@ number_well here n None = tt
 number_well here n (Some v) = SFits-int_wrap w16 (pos v)
 
 octal_well : (here : Cursor) (digits : List ℕ) → BeginsWell (octal_begun here digits)
-octal_well here digits = either BeginsWell (run_of is_octal digits == 0) _ _ tt (number_well here (run_of is_octal digits + 1) _)
+octal_well here digits =
+    either BeginsWell (run_of is_octal digits == 0) _ _ tt (number_well here (run_of is_octal digits + 1) _)
 
 -- strings
-by_name : (at : At) (text : List ℕ) (b : Bool) → is_name text ≡ b → IsSpelled (process_token at (if b then Some (upper text) else None))
+by_name : (at : At) (text : List ℕ) (b : Bool) → is_name text ≡ b
+    → IsSpelled (process_token at (if b then Some (upper text) else None))
 by_name at text true e = name_again text e
 by_name at text false e = tt
 
 text_well : (at : At) (text : List ℕ) → IsSpelled (text_token at text)
-text_well at text = either IsSpelled (same (map to_ascii_lowercase text) (codes "$receive")) _ _ tt (by_name at text (is_name text) refl)
+text_well at text = either IsSpelled (same (map to_ascii_lowercase text) (codes "$receive")) _ _ tt
+    (by_name at text (is_name text) refl)
 
 string_well : (here : Cursor) (rest : List ℕ) (found : Option ℕ) → BeginsWell (string_to here rest found)
 string_well here rest None = tt
-string_well here rest (Some k) = either BeginsWell (slice_index rest k == 34) _ _ (text_well (at_front here (k + 2)) (take k rest)) tt
+string_well here rest (Some k) =
+    either BeginsWell (slice_index rest k == 34) _ _ (text_well (at_front here (k + 2)) (take k rest)) tt
 
 -- symbols
-may_if : (b : Bool) (token : Token) (rest : Option Token) → IsSpelled token → MaySpell rest → MaySpell (if b then Some token else rest)
+may_if : (b : Bool) (token : Token) (rest : Option Token) → IsSpelled token → MaySpell rest
+    → MaySpell (if b then Some token else rest)
 may_if true token rest h k = h
 may_if false token rest h k = k
 
@@ -190,7 +207,8 @@ begins_well here (c ∷ rest) =
     (longest_well here c (paired (at_front here 2) c rest) (paired_well (at_front here 2) c rest)))))))
 
 -- all tokens
-all_by : (b : Begun) (go : ℕ → TokenList) → BeginsWell b → ((k : ℕ) → Each IsSpelled (go k).list) → Each IsSpelled (lexed_by b go).list
+all_by : (b : Begun) (go : ℕ → TokenList) → BeginsWell b → ((k : ℕ) → Each IsSpelled (go k).list)
+    → Each IsSpelled (lexed_by b go).list
 all_by (Gap n) go h all = all (n - 1)
 all_by (Whole token n) go h all = (h, all (n - 1))
 all_by (Broken f) go h all = tt
@@ -198,7 +216,8 @@ all_by (Broken f) go h all = tt
 all_lexed : (skip : ℕ) (here : Cursor) (text : List ℕ) → Each IsSpelled (lexed skip here text).list
 all_lexed skip here [] = (tt, tt)
 all_lexed zero here (c ∷ rest) =
-    all_by (begun_of here (c ∷ rest)) (λ k. lexed k (after here c) rest) (begins_well here (c ∷ rest)) (λ k. all_lexed k (after here c) rest)
+    all_by (begun_of here (c ∷ rest)) (λ k. lexed k (after here c) rest) (begins_well here (c ∷ rest))
+    (λ k. all_lexed k (after here c) rest)
 all_lexed (suc skip) here (c ∷ rest) = all_lexed skip (after here c) rest
 
 pub tokens_spelled : (source : List ℕ) → Each IsSpelled (tokens_of source).list

@@ -17,25 +17,30 @@ use Rattle.tal_pieces.proofs.Spelling.Begun.{BeginsWith}
 use Rattle.tal_pieces.proofs.Spelling.Follow.{heads, stops, parts}
 
 no_equal : (c : ℕ) → stops c ≡ true → (c == 61) ≡ false
-no_equal c h = not-true (c == 61) (and_parts (not (c == 61)) (not (c == 62)) (and_parts (not (is_ident_sign c)) (not (c == 61) && not (c == 62)) h).1).0
+no_equal c h = not-true (c == 61) (and_parts (not (c == 61)) (not (c == 62))
+    (and_parts (not (is_ident_sign c)) (not (c == 61) && not (c == 62)) h).1).0
 
 no_greater : (c : ℕ) → stops c ≡ true → (c == 62) ≡ false
-no_greater c h = not-true (c == 62) (and_parts (not (c == 61)) (not (c == 62)) (and_parts (not (is_ident_sign c)) (not (c == 61) && not (c == 62)) h).1).1
+no_greater c h = not-true (c == 62) (and_parts (not (c == 61)) (not (c == 62))
+    (and_parts (not (is_ident_sign c)) (not (c == 61) && not (c == 62)) h).1).1
 
-lone : (here : Cursor) (c : ℕ) (rest : List ℕ) → ((at : At) (d : ℕ) → pair_token at c d ≡ None) → paired (at_front here 2) c rest ≡ None
+lone : (here : Cursor) (c : ℕ) (rest : List ℕ) → ((at : At) (d : ℕ) → pair_token at c d ≡ None)
+    → paired (at_front here 2) c rest ≡ None
 lone here c [] none = refl
 lone here c (d ∷ rest) none = none (at_front here 2) d
 
 less : (here : Cursor) (rest : List ℕ) → heads stops rest ≡ true → paired (at_front here 2) 60 rest ≡ None
 less here [] h = refl
 less here (d ∷ rest) h =
-    ap₂ (λ x y. if x then Some (tok.Differs (at_front here 2)) else if y then Some (tok.AtMost (at_front here 2)) else None) (no_greater d h) (no_equal d h)
+    ap₂ (λ x y. if x then Some (tok.Differs (at_front here 2)) else if y then Some (tok.AtMost (at_front here 2)) else
+    None) (no_greater d h) (no_equal d h)
 
 greater : (here : Cursor) (rest : List ℕ) → heads stops rest ≡ true → paired (at_front here 2) 62 rest ≡ None
 greater here [] h = refl
 greater here (d ∷ rest) h = ap (λ x. if x then Some (tok.AtLeast (at_front here 2)) else None) (no_equal d h)
 
-colon : (here : Cursor) (rest : List ℕ) → heads (λ c. not (c == 61)) rest ≡ true → paired (at_front here 2) 58 rest ≡ None
+colon : (here : Cursor) (rest : List ℕ) → heads (λ c. not (c == 61)) rest ≡ true
+    → paired (at_front here 2) 58 rest ≡ None
 colon here [] h = refl
 colon here (d ∷ rest) h = ap (λ x. if x then Some (tok.Assign (at_front here 2)) else None) (not-true (d == 61) h)
 

@@ -1,11 +1,13 @@
 -- Names in upper case are kept as they are.
-use Rattle.std.proofs.Common.{◌≡◌, ℕ, ◌-◌, ◌≤◌, ◌==◌, Bool, true, false, not, ◌&&◌, ◌||◌, nat_le, nat_lt, List, [], ◌∷◌, length, refl, ap, ◌∙◌, arith, cond, if◌then◌else◌}
+use Rattle.std.proofs.Common.{◌≡◌, ℕ, ◌-◌, ◌≤◌, ◌==◌, Bool, true, false, not, ◌&&◌, ◌||◌, nat_le, nat_lt, List, [], ◌∷◌}
+use Rattle.std.proofs.Common.{length, refl, ap, ◌∙◌, arith, cond, if◌then◌else◌}
 use Rattle.std.specs.Prelude.{Some, None}
 use Rattle.std.specs.List.{list_all}
 use Rattle.std.specs.Int.{is_in_range}
 use Rattle.std.specs.Char.{is_ascii_alphabetic, is_ascii_alphanumeric, is_ascii_digit, to_ascii_uppercase}
 use Rattle.std.proofs.lemmas.List.{length-map}
-use Rattle.std.proofs.lemmas.Bool.{and_parts, and_from, and_right, le-leb, lt-leb, leb-true, ltb-true, ltb-false, eqb-true}
+use Rattle.std.proofs.lemmas.Bool.{and_parts, and_from, and_right, le-leb, lt-leb, leb-true, ltb-true, ltb-false}
+use Rattle.std.proofs.lemmas.Bool.{eqb-true}
 use Rattle.std.proofs.lemmas.Str.Ascii.{uppercase-uppercase}
 use Rattle.gd_words.specs.Spelling.{is_ident, is_ident_sign, ident_of, is_name, is_name_tail, name_of, upper}
 
@@ -15,9 +17,11 @@ data Raised (c : ℕ) : ℕ → Type 0 where
   letter : is_in_range 65 90 (c - 32) ≡ true → Raised c (c - 32)
 
 capital : (c : ℕ) → 97 ≤ c → c ≤ 122 → is_in_range 65 90 (c - 32) ≡ true
-capital c low high = and_from (nat_le 65 (c - 32)) (nat_le (c - 32) 90) (le-leb 65 (c - 32) (omega (arith, low))) (le-leb (c - 32) 90 (omega (arith, high)))
+capital c low high = and_from (nat_le 65 (c - 32)) (nat_le (c - 32) 90) (le-leb 65 (c - 32) (omega (arith, low)))
+    (le-leb (c - 32) 90 (omega (arith, high)))
 
-raised_by : (c : ℕ) (low high : Bool) → nat_lt c 97 ≡ low → nat_lt c 123 ≡ high → Raised c (cond low c (cond high (c - 32) c))
+raised_by : (c : ℕ) (low high : Bool) → nat_lt c 97 ≡ low → nat_lt c 123 ≡ high
+    → Raised c (cond low c (cond high (c - 32) c))
 raised_by c true high l h = same
 raised_by c false true l h = letter (capital c (ltb-false c 97 l) (omega (arith, ltb-true c 123 h)))
 raised_by c false false l h = same
@@ -72,7 +76,8 @@ still_ident [] h = h
 still_ident (c ∷ text) h =
     let outer = and_parts (not (is_ascii_digit c) && nat_le (length text) 30) (list_all is_ident_sign (c ∷ text)) h in
     let inner = and_parts (not (is_ascii_digit c)) (nat_le (length text) 30) outer.0 in
-    and_from (not (is_ascii_digit (to_ascii_uppercase c)) && nat_le (length (upper text)) 30) (list_all is_ident_sign (upper (c ∷ text)))
+    and_from (not (is_ascii_digit (to_ascii_uppercase c)) && nat_le (length (upper text)) 30)
+    (list_all is_ident_sign (upper (c ∷ text)))
     (and_from (not (is_ascii_digit (to_ascii_uppercase c))) (nat_le (length (upper text)) 30)
     (passes (λ x. not (is_ascii_digit x)) no_digit c inner.0) (few 30 text inner.1))
     (all_pass is_ident_sign ident_sign (c ∷ text) outer.1)
@@ -87,15 +92,18 @@ still_tail [] h = h
 still_tail (c ∷ text) h =
     let outer = and_parts (is_ascii_alphabetic c && nat_le (length text) 4) (list_all is_ascii_alphanumeric text) h in
     let inner = and_parts (is_ascii_alphabetic c) (nat_le (length text) 4) outer.0 in
-    and_from (is_ascii_alphabetic (to_ascii_uppercase c) && nat_le (length (upper text)) 4) (list_all is_ascii_alphanumeric (upper text))
-    (and_from (is_ascii_alphabetic (to_ascii_uppercase c)) (nat_le (length (upper text)) 4) (passes is_ascii_alphabetic alphabetic c inner.0) (few 4 text inner.1))
+    and_from (is_ascii_alphabetic (to_ascii_uppercase c) && nat_le (length (upper text)) 4)
+    (list_all is_ascii_alphanumeric (upper text))
+    (and_from (is_ascii_alphabetic (to_ascii_uppercase c)) (nat_le (length (upper text)) 4)
+    (passes is_ascii_alphabetic alphabetic c inner.0) (few 4 text inner.1))
     (all_pass is_ascii_alphanumeric alphanumeric text outer.1)
 
 still_name : (text : List ℕ) → is_name text ≡ true → is_name (upper text) ≡ true
 still_name [] h = h
 still_name (c ∷ text) h =
     let parts = and_parts (c == 36) (is_name_tail text) h in
-    and_from (to_ascii_uppercase c == 36) (is_name_tail (upper text)) (ap (λ x. to_ascii_uppercase x == 36) (eqb-true c 36 parts.0)) (still_tail text parts.1)
+    and_from (to_ascii_uppercase c == 36) (is_name_tail (upper text))
+    (ap (λ x. to_ascii_uppercase x == 36) (eqb-true c 36 parts.0)) (still_tail text parts.1)
 
 -- a process's name in upper case too
 pub name_again : (text : List ℕ) → is_name text ≡ true → name_of (upper text) ≡ Some (upper text)

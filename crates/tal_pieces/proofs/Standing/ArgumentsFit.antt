@@ -14,7 +14,8 @@ use Rattle.tal_names.specs.declared.scope.Scope.{Scope}
 use Rattle.tal_rules.specs.Calls.{named_faults}
 use Rattle.tal_names.specs.Places.{further_arguments, arguments_of}
 use Rattle.tal_names.specs.Scopes.{meaning_of, kind_faults}
-use Rattle.tal_meaning.specs.Calls.{value_of_argument, values_of_arguments, values_of, meaning_by, item_by, variable_by, file_by}
+use Rattle.tal_meaning.specs.Calls.{value_of_argument, values_of_arguments, values_of, meaning_by, item_by, variable_by}
+use Rattle.tal_meaning.specs.Calls.{file_by}
 use Rattle.tal_pieces.specs.declared.rank.ValueRank.TheVariants as value
 use Rattle.tal_pieces.proofs.Values.Depths.{value_depth}
 use Rattle.tal_pieces.specs.Printed.Names.{file_name, receive_name}
@@ -33,29 +34,37 @@ AreLow s n [] = Unit {0}
 AreLow s n (a ∷ rest) = (n + value_depth value.Sum (value_of_argument s a) ≤ 33) × AreLow s n rest
 
 module _ (s : Scope) where
-  low_argument : (a : g.Argument) (n : ℕ) (ls : List ℕ) → AllAtMost 33 (nest_argument n a ls) → n + value_depth value.Sum (value_of_argument s a) ≤ 33
+  low_argument : (a : g.Argument) (n : ℕ) (ls : List ℕ) → AllAtMost 33 (nest_argument n a ls)
+      → n + value_depth value.Sum (value_of_argument s a) ≤ 33
   low_argument (g.value e) n ls low = (low_expr s 33 e n ls low).0
   low_argument (g.receive at) n ls low = omega (arith, low.0)
   low_argument (g.process at name) n ls low = omega (arith, low.0)
   low_argument (g.quoted at) n ls low = omega (arith, low.0)
 
-  low_further : (a : g.Further) (n : ℕ) (ls : List ℕ) → AllAtMost 33 (nest_further n a ls) → AreLow s n (further_arguments a)
+  low_further : (a : g.Further) (n : ℕ) (ls : List ℕ) → AllAtMost 33 (nest_further n a ls)
+      → AreLow s n (further_arguments a)
   low_further g.no_further n ls low = tt
-  low_further (g.more_further comma a rest) n ls low =
-      (low_argument a n (nest_further n rest ls) low.1, low_further rest n ls (after_argument s 33 a n (nest_further n rest ls) low.1))
+  low_further (g.more_further comma a rest) n ls low = (
+    low_argument a n (nest_further n rest ls) low.1,
+    low_further rest n ls (after_argument s 33 a n (nest_further n rest ls) low.1),
+  )
 
-  pub low_arguments : (a : g.Arguments) (n : ℕ) (ls : List ℕ) → AllAtMost 33 (nest_arguments n a ls) → AreLow s (suc n) (arguments_of a)
+  pub low_arguments : (a : g.Arguments) (n : ℕ) (ls : List ℕ) → AllAtMost 33 (nest_arguments n a ls)
+      → AreLow s (suc n) (arguments_of a)
   low_arguments g.unlisted n ls low = tt
   low_arguments (g.listed start first more close) n ls low = (
     low_argument first (suc n) (nest_further (suc n) more (suc n ∷ ls)) low.1,
-    low_further more (suc n) (suc n ∷ ls) (after_argument s 33 first (suc n) (nest_further (suc n) more (suc n ∷ ls)) low.1),
+    low_further more (suc n) (suc n ∷ ls) (after_argument s 33 first (suc n) (nest_further (suc n) more (suc n ∷ ls))
+        low.1),
   )
 
-  low_all : (arguments : List g.Argument) (n : ℕ) → n ≤ 33 → AreLow s n arguments → n + values_depth (values_of_arguments s arguments) ≤ 33
+  low_all : (arguments : List g.Argument) (n : ℕ) → n ≤ 33 → AreLow s n arguments
+      → n + values_depth (values_of_arguments s arguments) ≤ 33
   low_all [] n room low = omega (arith, room)
   low_all (a ∷ rest) n room low = omega (arith, low.0, low_all rest n room low.1)
 
-  pub low_values : (vs : g.Values) (n : ℕ) (ls : List ℕ) → n ≤ 33 → AllAtMost 33 (nest_values n vs ls) → n + values_depth (values_of s vs) ≤ 33
+  pub low_values : (vs : g.Values) (n : ℕ) (ls : List ℕ) → n ≤ 33 → AllAtMost 33 (nest_values n vs ls)
+      → n + values_depth (values_of s vs) ≤ 33
   low_values g.no_values n ls room low = omega (arith, room)
   low_values (g.more_values comma e rest) n ls room low =
       let r = low_expr s 33 e n (nest_values n rest ls) low.1 in
@@ -76,7 +85,8 @@ module _ (p : Program) (locals : List (List ℕ)) (s : Scope) (agreed : Agreemen
   values_named g.no_values = tt
   values_named (g.more_values comma e rest) = (named_value p locals s agreed e, values_named rest)
 
-  pub fits_argument : (a : g.Argument) (n : ℕ) → n + value_depth value.Sum (value_of_argument s a) ≤ 33 → FitsValue p locals (printed_scope s) n (value_of_argument s a)
+  pub fits_argument : (a : g.Argument) (n : ℕ) → n + value_depth value.Sum (value_of_argument s a) ≤ 33
+      → FitsValue p locals (printed_scope s) n (value_of_argument s a)
   fits_argument a n low = record { named = named_argument a; low = low }
 
   pub fits_arguments : (arguments : List g.Argument) (n : ℕ) → n ≤ 33 → AreLow s (suc n) arguments
@@ -105,7 +115,8 @@ module _ (p : Program) (locals : List (List ℕ)) (s : Scope) (agreed : Agreemen
     pub item : ℕ
     pub stands : StandsFor (printed_scope s) (file_name p file) (m.ProcessFile item file)
 
-  receive_by : (at : At) (name : List ℕ) (found : Option Meaning) → meaning_of s name ≡ found → kind_faults need.Receive at found ≡ [] → ReceiveStands
+  receive_by : (at : At) (name : List ℕ) (found : Option Meaning) → meaning_of s name ≡ found
+      → kind_faults need.Receive at found ≡ [] → ReceiveStands
   receive_by at name None e faultless = no_fault faultless
   receive_by at name (Some (m.ReceiveFile item number)) e faultless = record {
     item = item;
@@ -114,7 +125,8 @@ module _ (p : Program) (locals : List (List ℕ)) (s : Scope) (agreed : Agreemen
   }
   receive_by at name (Some other) e faultless = no_fault faultless
 
-  process_by : (at : At) (name : List ℕ) (found : Option Meaning) → meaning_of s name ≡ found → kind_faults need.Process at found ≡ [] → ProcessStands (file_by found)
+  process_by : (at : At) (name : List ℕ) (found : Option Meaning) → meaning_of s name ≡ found
+      → kind_faults need.Process at found ≡ [] → ProcessStands (file_by found)
   process_by at name None e faultless = no_fault faultless
   process_by at name (Some (m.ProcessFile item number)) e faultless = record {
     item = item;
@@ -126,6 +138,7 @@ module _ (p : Program) (locals : List (List ℕ)) (s : Scope) (agreed : Agreemen
   receive_at a None faultless = no_fault (split faultless).1
   receive_at a (Some x) faultless = receive_by x.at x.name (meaning_of s x.name) refl faultless
 
-  pub process_at : (a : g.Argument) (found : Option Named) → named_faults s need.Process a found ≡ [] → ProcessStands (file_by (meaning_by s found))
+  pub process_at : (a : g.Argument) (found : Option Named) → named_faults s need.Process a found ≡ []
+      → ProcessStands (file_by (meaning_by s found))
   process_at a None faultless = no_fault (split faultless).1
   process_at a (Some x) faultless = process_by x.at x.name (meaning_of s x.name) refl faultless

@@ -2,7 +2,8 @@
 use Rattle.std.proofs.Common.{ℕ, suc, List, ◌∷◌}
 use Rattle.tal_syntax.specs.Grammar as g
 use Rattle.tal_syntax.specs.Expected.{AllAtMost}
-use Rattle.tal_syntax.specs.Nesting.{nest_expr, nest_spot, nest_argument, nest_further, nest_arguments, nest_values, nest_answer, nest_statement, nest_otherwise, nest_row}
+use Rattle.tal_syntax.specs.Nesting.{nest_expr, nest_spot, nest_argument, nest_further, nest_arguments, nest_values}
+use Rattle.tal_syntax.specs.Nesting.{nest_answer, nest_statement, nest_otherwise, nest_row}
 use Rattle.tal_names.specs.declared.scope.Scope.{Scope}
 use Rattle.tal_pieces.proofs.Values.Deepest.{low_expr, low_index}
 
@@ -13,7 +14,8 @@ module _ (s : Scope) (most : ℕ) where
   pub after_spot : (x : g.Spot) (n : ℕ) (ls : List ℕ) → AllAtMost most (nest_spot n x ls) → AllAtMost most ls
   after_spot (g.spot at name i) n ls h = (low_index s most i n ls h.0 h.1).1
 
-  pub after_argument : (a : g.Argument) (n : ℕ) (ls : List ℕ) → AllAtMost most (nest_argument n a ls) → AllAtMost most ls
+  pub after_argument : (a : g.Argument) (n : ℕ) (ls : List ℕ) → AllAtMost most (nest_argument n a ls)
+      → AllAtMost most ls
   after_argument (g.value e) n ls h = after_expr e n ls h
   after_argument (g.receive at) n ls h = h.1
   after_argument (g.process at name) n ls h = h.1
@@ -21,12 +23,14 @@ module _ (s : Scope) (most : ℕ) where
 
   after_further : (a : g.Further) (n : ℕ) (ls : List ℕ) → AllAtMost most (nest_further n a ls) → AllAtMost most ls
   after_further g.no_further n ls h = h
-  after_further (g.more_further comma a rest) n ls h = after_further rest n ls (after_argument a n (nest_further n rest ls) h.1)
+  after_further (g.more_further comma a rest) n ls h =
+      after_further rest n ls (after_argument a n (nest_further n rest ls) h.1)
 
   after_arguments : (a : g.Arguments) (n : ℕ) (ls : List ℕ) → AllAtMost most (nest_arguments n a ls) → AllAtMost most ls
   after_arguments g.unlisted n ls h = h
   after_arguments (g.listed start first more close) n ls h =
-      (after_further more (suc n) (suc n ∷ ls) (after_argument first (suc n) (nest_further (suc n) more (suc n ∷ ls)) h.1)).1
+      (after_further more (suc n) (suc n ∷ ls)
+      (after_argument first (suc n) (nest_further (suc n) more (suc n ∷ ls)) h.1)).1
 
   pub after_values : (vs : g.Values) (n : ℕ) (ls : List ℕ) → AllAtMost most (nest_values n vs ls) → AllAtMost most ls
   after_values g.no_values n ls h = h
@@ -37,7 +41,8 @@ module _ (s : Scope) (most : ℕ) where
   after_answer (g.answer e) n ls h = after_expr e n ls h
 
   mutual
-    pub after_statement : (x : g.Statement) (n : ℕ) (ls : List ℕ) → AllAtMost most (nest_statement n x ls) → AllAtMost most ls
+    pub after_statement : (x : g.Statement) (n : ℕ) (ls : List ℕ) → AllAtMost most (nest_statement n x ls)
+        → AllAtMost most ls
     after_statement g.nothing n ls h = h
     after_statement (g.block begin first more end) n ls h =
         (after_row more (suc n) (suc n ∷ ls) (after_statement first (suc n) (nest_row (suc n) more (suc n ∷ ls)) h.1)).1
@@ -51,12 +56,16 @@ module _ (s : Scope) (most : ℕ) where
         (after_expr from (suc n) (suc n ∷ nest_expr (suc n) to (suc n ∷ nest_statement (suc n) t ls)) h.1.1.1).1).1
     after_statement (g.call head at name a) n ls h = after_arguments a (suc n) ls h.1.1
     after_statement (g.return head a) n ls h = after_answer a (suc n) ls h.1
-    after_statement (g.assign target at e) n ls h = after_expr e (suc n) ls (after_spot target (suc n) (suc n ∷ nest_expr (suc n) e ls) h).1
+    after_statement (g.assign target at e) n ls h =
+        after_expr e (suc n) ls (after_spot target (suc n) (suc n ∷ nest_expr (suc n) e ls) h).1
     after_statement (g.assign_call target at name_at name start first more close) n ls h =
-        (after_values more (suc (suc n)) (suc (suc n) ∷ ls) (after_expr first (suc (suc n)) (nest_values (suc (suc n)) more (suc (suc n) ∷ ls))
-        (after_spot target (suc n) (suc n ∷ suc n ∷ suc (suc n) ∷ nest_expr (suc (suc n)) first (nest_values (suc (suc n)) more (suc (suc n) ∷ ls))) h).1.1.1)).1
+        (after_values more (suc (suc n)) (suc (suc n) ∷ ls)
+        (after_expr first (suc (suc n)) (nest_values (suc (suc n)) more (suc (suc n) ∷ ls))
+        (after_spot target (suc n) (suc n ∷ suc n ∷ suc (suc n)
+        ∷ nest_expr (suc (suc n)) first (nest_values (suc (suc n)) more (suc (suc n) ∷ ls))) h).1.1.1)).1
 
-    pub after_otherwise : (o : g.Otherwise) (n : ℕ) (ls : List ℕ) → AllAtMost most (nest_otherwise n o ls) → AllAtMost most ls
+    pub after_otherwise : (o : g.Otherwise) (n : ℕ) (ls : List ℕ) → AllAtMost most (nest_otherwise n o ls)
+        → AllAtMost most ls
     after_otherwise g.no_else n ls h = h
     after_otherwise (g.otherwise at t) n ls h = after_statement t n ls h.1
 

@@ -18,7 +18,8 @@ use Rattle.tal_faultless.proofs.Scopes.SourceScopes.{without_files}
 abbrev pub body_files : Scope → Files → g.Statement → g.Row → Files
 body_files s f first more = row_files (without_files s) (statement_files (without_files s) f first) more
 
-pub record BodyStands (p : Program) (locals : List (List ℕ)) (s : Scope) (all : Files) (n : ℕ) (w : Walk) (f : Files) (first : g.Statement) (more : g.Row) : Type 0 where
+pub record BodyStands (p : Program) (locals : List (List ℕ)) (s : Scope) (all : Files) (n : ℕ) (w : Walk) (f : Files)
+    (first : g.Statement) (more : g.Row) : Type 0 where
   pub row : Row p locals (printed_scope s) all n w (body_statements s w first more) (body_after s w first more)
   pub opened : OpenedSoFar (body_after s w first more).files (body_files s f first more)
 

@@ -1,6 +1,8 @@
--- Statements of a tree that keep the rules where they stand: at a level, after what stands before them and before what stands after
--- them. The names of the program stand in the scope for what they name in the tree, and no token stands deeper than 33 levels.
-use Rattle.std.specs.Prelude.{◌≡◌, ◌≤◌, ℕ, ◌+◌, suc, nat_lt, nat_le, ◌&&◌, ◌||◌, Bool, true, false, pos, List, [], ◌∷◌, length, take, slice_get, Option, Some, None}
+-- Statements of a tree that keep the rules where they stand: at a level, after what stands before them and before what
+-- stands after them. The names of the program stand in the scope for what they name in the tree, and no token stands
+-- deeper than 33 levels.
+use Rattle.std.specs.Prelude.{◌≡◌, ◌≤◌, ℕ, ◌+◌, suc, nat_lt, nat_le, ◌&&◌, ◌||◌, Bool, true, false, pos, List, [], ◌∷◌}
+use Rattle.std.specs.Prelude.{length, take, slice_get, Option, Some, None}
 use Rattle.tal_tree.specs.declared.expression.Cond.{Cond}
 use Rattle.tal_tree.specs.declared.expression.Expr.{Expr}
 use Rattle.tal_tree.specs.declared.expression.Spot.{Spot}
@@ -82,26 +84,33 @@ module _ (p : Program) (locals : List (List ℕ)) (s : Scope) where
   -- the names of a CHECKPOINT: none of them stands before
   pub data Mentions : Declarations → List ℕ → List ℕ → Type 0 where
     none : {before : Declarations} → Mentions before [] []
-    file : {before : Declarations} {number : ℕ} {files : List ℕ} (item : ℕ) (name : List ℕ) → file_name p number ≡ Some name
+    file : {before : Declarations} {number : ℕ} {files : List ℕ} (item : ℕ) (name : List ℕ)
+        → file_name p number ≡ Some name
         → meaning_of s name ≡ Some (m.ProcessFile item number) → is_declared name before ≡ false
         → Mentions (with_name before name (m.Literal (pos 0))) [] files → Mentions before [] (number ∷ files)
     item : {before : Declarations} {number : ℕ} {items files : List ℕ} (name : List ℕ) → item_name p number ≡ Some name
         → IsItem number (meaning_of s name) → is_declared name before ≡ false
         → Mentions (with_name before name (m.Literal (pos 0))) items files → Mentions before (number ∷ items) files
 
-  -- a statement with no statement inside that isn't of the prologue. Its tokens stand at level n + 1, and those in a list one deeper
+  -- a statement with no statement inside that isn't of the prologue. Its tokens stand at level n + 1, and those in a
+  -- list one deeper
   pub data Lone (n : ℕ) : What → Type 0 where
     assigns : {to : Spot} {e : Expr} → FitsSpot (suc n) to → FitsValue (suc n) e → Lone n (what.Assign to e)
     assigns_call : {to : Spot} {number : ℕ} {es : List Expr} → FitsSpot (suc n) to → IsCallable number true (length es)
         → FitsArguments (suc n) es → Lone n (what.AssignCall to number es)
-    calls : {number : ℕ} {es : List Expr} (gives : Bool) → IsCallable number gives (length es) → FitsArguments (suc n) es
+    calls : {number : ℕ} {es : List Expr} (gives : Bool) → IsCallable number gives (length es)
+        → FitsArguments (suc n) es
         → Lone n (what.Call number es)
     returns : s.gives ≡ false → suc n ≤ 33 → Lone n (what.Return None)
     gives : {e : Expr} → s.gives ≡ true → FitsValue (suc n) e → Lone n (what.Return (Some e))
-    reads : {buffer : ℕ} {most : Expr} {got : Variable} (item number : ℕ) → StandsFor s (receive_name p) (m.ReceiveFile item number)
-        → IsNamedArray buffer → FitsValue (suc (suc n)) most → IsNamedVariable got → Lone n (what.ReadUpdate buffer most got)
-    replies : {buffer : ℕ} {count : Expr} → IsNamedArray buffer → FitsValue (suc (suc n)) count → Lone n (what.Reply buffer count)
-    asks : {file buffer : ℕ} {send room : Expr} {got : Variable} (item : ℕ) → StandsFor s (file_name p file) (m.ProcessFile item file)
+    reads : {buffer : ℕ} {most : Expr} {got : Variable} (item number : ℕ)
+        → StandsFor s (receive_name p) (m.ReceiveFile item number)
+        → IsNamedArray buffer → FitsValue (suc (suc n)) most → IsNamedVariable got
+        → Lone n (what.ReadUpdate buffer most got)
+    replies : {buffer : ℕ} {count : Expr} → IsNamedArray buffer → FitsValue (suc (suc n)) count
+        → Lone n (what.Reply buffer count)
+    asks : {file buffer : ℕ} {send room : Expr} {got : Variable} (item : ℕ)
+        → StandsFor s (file_name p file) (m.ProcessFile item file)
         → IsNamedArray buffer → FitsValue (suc (suc n)) send → FitsValue (suc (suc n)) room → IsNamedVariable got
         → Lone n (what.WriteRead file buffer send room got)
     keeps_nothing : suc n ≤ 33 → Lone n (what.Checkpoint [] [])
@@ -133,28 +142,40 @@ module _ (p : Program) (locals : List (List ℕ)) (s : Scope) where
         lone : {n : ℕ} {w : Walk} {line : ℕ} {x : What} → IsCounted w → Lone n x
             → Stands n w (record { number = w.number; line = line; what = x }) (stepped w)
         monitors : {n : ℕ} {w : Walk} {line : ℕ} → IsCounted w → suc n ≤ 33 → w.stage ≡ stage.Start
-            → Stands n w (record { number = w.number; line = line; what = what.CheckMonitor }) (record w { number = next_number w.number; stage = stage.Opens })
+            → Stands n w (record { number = w.number; line = line; what = what.CheckMonitor })
+            (record w { number = next_number w.number; stage = stage.Opens })
         opens : {n : ℕ} {w : Walk} {line file : ℕ} → IsCounted w → suc (suc n) ≤ 33 → (o : Opens f w file)
             → Stands n w (record { number = w.number; line = line; what = what.Open file })
-            (record { number = next_number w.number; stage = stage.Opens; files = next_file w.files; receive = w.receive || is_receive o.opened.target })
-        tests : {n : ℕ} {w v u : Walk} {line : ℕ} {c : Cond} {yes no : List Statement} → IsCounted w → FitsTest (suc n) c
+            (record {
+              number = next_number w.number;
+              stage = stage.Opens;
+              files = next_file w.files;
+              receive = w.receive || is_receive o.opened.target;
+            })
+        tests : {n : ℕ} {w v u : Walk} {line : ℕ} {c : Cond} {yes no : List Statement} → IsCounted w
+            → FitsTest (suc n) c
             → StandsIn (suc n) (stepped w) yes v → StandsIn (suc n) v no u
             → Stands n w (record { number = w.number; line = line; what = what.If c yes no }) u
         loops : {n : ℕ} {w v : Walk} {line : ℕ} {c : Cond} {body : List Statement} → IsCounted w → FitsTest (suc n) c
             → StandsIn (suc n) (stepped w) body v
             → Stands n w (record { number = w.number; line = line; what = what.While c body }) v
-        counts : {n : ℕ} {w v : Walk} {line : ℕ} {x : Variable} {from to : Expr} {body : List Statement} → IsNamedVariable x
-            → FitsValue (suc n) from → FitsValue (suc n) to → StandsIn (suc n) (stepped (stepped w)) body v → IsCounted v
-            → Stands n w (record { number = w.number; line = line; what = what.For x from to body v.number }) (stepped v)
+        counts : {n : ℕ} {w v : Walk} {line : ℕ} {x : Variable} {from to : Expr} {body : List Statement}
+            → IsNamedVariable x
+            → FitsValue (suc n) from → FitsValue (suc n) to → StandsIn (suc n) (stepped (stepped w)) body v
+            → IsCounted v
+            → Stands n w (record { number = w.number; line = line; what = what.For x from to body v.number })
+            (stepped v)
 
       -- statements in the place of one
       pub data StandsIn : ℕ → Walk → List Statement → Walk → Type 0 where
         empty : {n : ℕ} {w : Walk} → StandsIn n w [] w
         one : {n : ℕ} {w v : Walk} {x : Statement} → Stands n w x v → StandsIn n w (x ∷ []) v
-        several : {n : ℕ} {w v : Walk} {x y : Statement} {rest : List Statement} → suc n ≤ 33 → Row (suc n) w (x ∷ y ∷ rest) v
+        several : {n : ℕ} {w v : Walk} {x y : Statement} {rest : List Statement} → suc n ≤ 33
+            → Row (suc n) w (x ∷ y ∷ rest) v
             → StandsIn n w (x ∷ y ∷ rest) v
 
       -- statements in a row
       pub data Row : ℕ → Walk → List Statement → Walk → Type 0 where
         ended : {n : ℕ} {w : Walk} → Row n w [] w
-        goes_on : {n : ℕ} {w v u : Walk} {x : Statement} {rest : List Statement} → Stands n w x v → Row n v rest u → Row n w (x ∷ rest) u
+        goes_on : {n : ℕ} {w v u : Walk} {x : Statement} {rest : List Statement} → Stands n w x v → Row n v rest u
+            → Row n w (x ∷ rest) u

@@ -2,7 +2,9 @@
 use Rattle.std.proofs.Common.{ℕ, List, ◌∷◌}
 use Rattle.tal_syntax.specs.Grammar as g
 use Rattle.tal_syntax.specs.Expected.{AllAtMost}
-use Rattle.tal_syntax.specs.Nesting.{nest_names, nest_parameters, nest_main, nest_heading, nest_local, nest_locals, nest_gives, nest_atom, nest_constant, nest_bounds, nest_item, nest_items, nest_literal, nest_literals, nest_globals, nest_lines}
+use Rattle.tal_syntax.specs.Nesting.{nest_names, nest_parameters, nest_main, nest_heading, nest_local, nest_locals}
+use Rattle.tal_syntax.specs.Nesting.{nest_gives, nest_atom, nest_constant, nest_bounds, nest_item, nest_items}
+use Rattle.tal_syntax.specs.Nesting.{nest_literal, nest_literals, nest_globals, nest_lines}
 
 module _ (most n : ℕ) where
   after_names : (x : g.Names) (ls : List ℕ) → AllAtMost most (nest_names n x ls) → AllAtMost most ls
@@ -23,7 +25,8 @@ module _ (most n : ℕ) where
 
   pub after_heading : (x : g.Heading) (ls : List ℕ) → AllAtMost most (nest_heading n x ls) → AllAtMost most ls
   after_heading (g.heading gives proc at name listed main end) ls h =
-      (after_main main (n ∷ ls) (after_parameters listed (nest_main n main (n ∷ ls)) (after_gives gives (n ∷ n ∷ nest_parameters n listed (nest_main n main (n ∷ ls))) h).1.1)).1
+      (after_main main (n ∷ ls) (after_parameters listed (nest_main n main (n ∷ ls))
+      (after_gives gives (n ∷ n ∷ nest_parameters n listed (nest_main n main (n ∷ ls))) h).1.1)).1
 
   after_local : (x : g.Local) (ls : List ℕ) → AllAtMost most (nest_local n x ls) → AllAtMost most ls
   after_local (g.local int at name more end) ls h = (after_names more (n ∷ ls) h.1.1).1
@@ -57,11 +60,14 @@ module _ (most n : ℕ) where
 
   after_literals : (x : g.Literals) (ls : List ℕ) → AllAtMost most (nest_literals n x ls) → AllAtMost most ls
   after_literals g.no_literals ls h = h
-  after_literals (g.more_literals comma l rest) ls h = after_literals rest ls (after_literal l (nest_literals n rest ls) h.1)
+  after_literals (g.more_literals comma l rest) ls h =
+      after_literals rest ls (after_literal l (nest_literals n rest ls) h.1)
 
   after_globals : (x : g.Globals) (ls : List ℕ) → AllAtMost most (nest_globals n x ls) → AllAtMost most ls
-  after_globals (g.int_line int first more end) ls h = (after_items more (n ∷ ls) (after_item first (nest_items n more (n ∷ ls)) h.1)).1
-  after_globals (g.literal_line word first more end) ls h = (after_literals more (n ∷ ls) (after_literal first (nest_literals n more (n ∷ ls)) h.1)).1
+  after_globals (g.int_line int first more end) ls h =
+      (after_items more (n ∷ ls) (after_item first (nest_items n more (n ∷ ls)) h.1)).1
+  after_globals (g.literal_line word first more end) ls h =
+      (after_literals more (n ∷ ls) (after_literal first (nest_literals n more (n ∷ ls)) h.1)).1
 
   pub after_lines : (x : g.Lines) (ls : List ℕ) → AllAtMost most (nest_lines n x ls) → AllAtMost most ls
   after_lines g.no_lines ls h = h

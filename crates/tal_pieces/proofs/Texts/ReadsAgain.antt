@@ -16,14 +16,26 @@ use Rattle.tal_pieces.proofs.Scopes.ScopesAgree.{scopes_agree, file_items_are_si
 use Rattle.tal_pieces.proofs.Texts.TextBack.{text_back}
 use Rattle.tal_pieces.proofs.Words.WordsOfTexts.{printed_can_be_spelled}
 
-pub reads_again : (program : Program) (source : List ℕ) → Reads source program → ReadsAgain (spelled (printed program)) program
+pub reads_again : (program : Program) (source : List ℕ) → Reads source program
+    → ReadsAgain (spelled (printed program)) program
 reads_again program source reads =
     let t = reads.0 in
     let cut = cuts (printed (tree_of t)) (printed_can_be_spelled source t reads.1.1 reads.2) in
-    let back = text_back bodies_read_back bodies_stand scopes_agree file_items_are_simple headings_read_back lines_read_back
+    let back = text_back bodies_read_back bodies_stand scopes_agree file_items_are_simple headings_read_back
+    lines_read_back
     t cut.list reads.2 reads.1.2 cut.pieces in
     subst (λ p. ReadsAgain (spelled (printed p)) p) (sym reads.3) (record {
       again = tree_of back.syntax;
-      reads = (back.syntax, (back.is, cut.tokens ∙ ap (λ ks. record { list = ks; fault = None }) back.front, back.shallow), back.faultless, refl);
+      reads = (
+        back.syntax,
+        (
+          back.is,
+          cut.tokens
+              ∙ ap (λ ks. record { list = ks; fault = None }) back.front,
+          back.shallow,
+        ),
+        back.faultless,
+        refl,
+      );
       same = back.same;
     })

@@ -1,4 +1,5 @@
--- The printed text of a program that a text reads as is a text without faults again, of a program that is the same but for lines.
+-- The printed text of a program that a text reads as is a text without faults again, of a program that is the same but
+-- for lines.
 use Rattle.std.proofs.Common.{◌≡◌, ℕ, List, [], ◌∷◌, ◌++◌, take, drop, refl, ap, ◌∙◌, arith, subst}
 use Rattle.std.proofs.lemmas.List.{take_all}
 use Rattle.std.specs.Prelude.{Option, Some, None, unwrap_or, map}
@@ -16,7 +17,8 @@ use Rattle.tal_declarations.specs.declared.table.Headed.{Headed}
 use Rattle.tal_names.specs.declared.scope.Scope.{Scope}
 use Rattle.tal_declarations.specs.Globals.{lines_faults, with_lines, nothing_declared}
 use Rattle.tal_declarations.specs.Headings.{headings_faults, with_headings}
-use Rattle.tal_rules.specs.Texts.{faults, headed_after, headed_text, files_by, files_from, no_files, bodies_faults, main_missing, procedures_faults, first_progress}
+use Rattle.tal_rules.specs.Texts.{faults, headed_after, headed_text, files_by, files_from, no_files, bodies_faults}
+use Rattle.tal_rules.specs.Texts.{main_missing, procedures_faults, first_progress}
 use Rattle.tal_meaning.specs.Programs.{tree_of, items_with, program_by, trees_of}
 use Rattle.tal_pieces.specs.Cuts.{AreTokens, finished}
 use Rattle.tal_pieces.specs.Printed.Procedures.{printed, items_pieces, procedures_pieces, main_pieces}
@@ -78,34 +80,50 @@ none_opened = record { names_count = refl; uses_count = refl; numbers = λ i d e
 
 -- a text has no fault where its parts have none
 module _ (lines : g.Lines) (ps : g.Procedures) (finish : At) (items : List Item) (before headed : Headed) (f : Files)
-    (items_are : (with_lines nothing_declared lines).items ≡ items) (before_is : headed_after (with_lines nothing_declared lines) ≡ before)
+    (items_are : (with_lines nothing_declared lines).items ≡ items)
+    (before_is : headed_after (with_lines nothing_declared lines) ≡ before)
     (headed_is : with_headings before ps ≡ headed) (files_are : files_from headed.names 0 no_files ps ≡ f) where
   whole : headed_text lines ps ≡ headed
   whole = ap (λ x. with_headings x ps) before_is ∙ headed_is
 
-  no_faults : lines_faults nothing_declared lines ≡ [] → headings_faults before ps ≡ [] → procedures_faults headed.names f.names first_progress ps ≡ []
+  no_faults : lines_faults nothing_declared lines ≡ [] → headings_faults before ps ≡ []
+      → procedures_faults headed.names f.names first_progress ps ≡ []
       → main_missing headed.main finish ≡ [] → faults (g.text lines ps finish) ≡ []
   no_faults lf hf pf mf =
       nils (nils (nils lf (ap (λ x. headings_faults x ps) before_is ∙ hf))
-      (ap (λ x. bodies_faults x ps) whole ∙ (ap (λ x. procedures_faults headed.names x.names first_progress ps) files_are ∙ pf)))
+      (ap (λ x. bodies_faults x ps) whole ∙ (ap (λ x. procedures_faults headed.names x.names first_progress ps)
+      files_are ∙ pf)))
       (ap (λ x. main_missing x.main finish) whole ∙ mf)
 
   -- and its tree has the trees of these
   abbrev built : Headed → Files → List Item → Program
   built x y is = unlined (program_by is x.main x.names y ps)
 
-  tree_by : (procedures : List Procedure) → map unlined_procedure (trees_of headed.names f.names first_progress ps) ≡ procedures
-      → unlined (tree_of (g.text lines ps finish)) ≡ record { items = items_with f.names items; files = f.uses; procedures = procedures; main = unwrap_or headed.main 0 }
+  tree_by : (procedures : List Procedure)
+      → map unlined_procedure (trees_of headed.names f.names first_progress ps) ≡ procedures
+      → unlined (tree_of (g.text lines ps finish))
+      ≡ record {
+        items = items_with f.names items;
+        files = f.uses;
+        procedures = procedures;
+        main = unwrap_or headed.main 0;
+      }
   tree_by procedures same =
       ap (λ is. built (headed_text lines ps) (files_by (headed_text lines ps) ps) is) items_are
       ∙ (ap (λ x. built x (files_by x ps) items) whole
       ∙ (ap (λ y. built headed y items) files_are
-      ∙ ap (λ xs. record { items = items_with f.names items; files = f.uses; procedures = xs; main = unwrap_or headed.main 0 }) same))
+      ∙ ap (λ xs. record {
+        items = items_with f.names items;
+        files = f.uses;
+        procedures = xs;
+        main = unwrap_or headed.main 0;
+      }) same))
 
 module _ (bodies : (p : Program) (locals : List (List ℕ)) (s : Scope) (f : Files) → BodiesReadBack p locals s f)
     (stand : (p : Program) (locals : List (List ℕ)) (s : Scope) (f : Files) → SourceNames s → BodiesStand p locals s f)
     (agree : ScopesAgree) (simple : FileItemsAreSimple) (headings : HeadingsReadBack) (read_lines : LinesReadBack) where
-  pub text_back : (t : g.Text) (tokens : List Token) → faults t ≡ [] → AllAtMost 33 (nest_text t) → AreTokens (printed (tree_of t)) tokens → TextBack t tokens
+  pub text_back : (t : g.Text) (tokens : List Token) → faults t ≡ [] → AllAtMost 33 (nest_text t)
+      → AreTokens (printed (tree_of t)) tokens → TextBack t tokens
   text_back (g.text lines ps finish) tokens fine deep a =
       let d = with_lines nothing_declared lines in
       let hd = headed_after d in
@@ -126,12 +144,18 @@ module _ (bodies : (p : Program) (locals : List (List ℕ)) (s : Scope) (f : Fil
       let at = main_at p globals opened.names first_progress hd ps main.number headings_fine refl main.is in
       let number : p.main ≡ at.place = ap (λ m. unwrap_or m 0) main.is ∙ omega (arith, at.is) in
       let trees = trees_of globals opened.names first_progress ps in
-      let main_pieces_are : (n : ℕ) → n ≡ at.place → procedures_pieces p (take n trees) (main_pieces p (drop n trees) []) ≡ flagged p (marked globals opened.names first_progress ps) []
+      let main_pieces_are : (n : ℕ) → n ≡ at.place
+      → procedures_pieces p (take n trees) (main_pieces p (drop n trees) [])
+      ≡ flagged p (marked globals opened.names first_progress ps) []
       = λ n e. ap (λ k. procedures_pieces p (take k trees) (main_pieces p (drop k trees) [])) e ∙ at.pieces [] in
-      let a' : AreTokens (items_pieces (items_with opened.names d.items) (flagged p (marked globals opened.names first_progress ps) [])) tokens
-      = subst (λ ks. AreTokens (items_pieces (items_with opened.names d.items) ks) tokens) (main_pieces_are p.main number) a in
-      let lb = read_lines lines opened.names (flagged p (marked globals opened.names first_progress ps) []) tokens lines_fine (simple lines ps finish fine) a' in
-      let pb = procedures_back lines ps finish fine bodies stand agree headings hd first_progress no_files ps (0 ∷ []) [] lb.rest
+      let a' : AreTokens (items_pieces (items_with opened.names d.items)
+      (flagged p (marked globals opened.names first_progress ps) [])) tokens
+      = subst (λ ks. AreTokens (items_pieces (items_with opened.names d.items) ks) tokens)
+      (main_pieces_are p.main number) a in
+      let lb = read_lines lines opened.names (flagged p (marked globals opened.names first_progress ps) []) tokens
+      lines_fine (simple lines ps finish fine) a' in
+      let pb = procedures_back lines ps finish fine bodies stand agree headings hd first_progress no_files ps (0 ∷ [])
+      [] lb.rest
       headings_fine bodies_fine none_opened (extends_itself opened)
       (after_lines 33 0 lines (nest_procedures 0 ps (0 ∷ [])) deep) lb.later in
       let done = ended pb.later in
@@ -145,8 +169,10 @@ module _ (bodies : (p : Program) (locals : List (List ℕ)) (s : Scope) (f : Fil
         is = pb.nearest;
         front = lb.front ∙ ap (g.of_lines lb.syntax) (pb.front ∙ ap (g.of_procedures pb.syntax) done.is);
         shallow = lb.shallow (nest_procedures 0 pb.syntax (0 ∷ [])) (pb.shallow (0 ∷ []) (low_level, tt));
-        faultless = no_faults lb.syntax pb.syntax done.at d.items (printed_headed hd) (printed_headed headed) opened items before pb.headed files_same
+        faultless = no_faults lb.syntax pb.syntax done.at d.items (printed_headed hd) (printed_headed headed) opened
+            items before pb.headed files_same
             lb.faultless pb.headings_fine pb.faultless (main_still headed.main main.number main.is done.at);
-        same = tree_by lb.syntax pb.syntax done.at d.items (printed_headed hd) (printed_headed headed) opened items before pb.headed files_same
+        same = tree_by lb.syntax pb.syntax done.at d.items (printed_headed hd) (printed_headed headed) opened items
+            before pb.headed files_same
             (map unlined_procedure trees) pb.same;
       }

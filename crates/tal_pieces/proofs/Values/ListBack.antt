@@ -35,6 +35,9 @@ lists_read_back p locals s (e ∷ es) ks tokens h a =
       same = λ i. b.same i ∷ more.same i;
       count = omega (arith, more.count);
       faultless = nils (ends (ends (ends (b.faultless (Value (first_of_sum b.syntax)))))) more.faultless;
-      shallow = λ n most levels room low held.
-          (room, b.shallow n most (nest_values n more.syntax levels) (omega (arith, low)) (more.shallow n most levels room (omega (arith, low)) held));
+      shallow = λ n most levels room low held. (
+        room,
+        b.shallow n most (nest_values n more.syntax levels) (omega (arith, low))
+            (more.shallow n most levels room (omega (arith, low)) held),
+      );
     }

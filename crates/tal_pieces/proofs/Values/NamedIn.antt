@@ -12,32 +12,44 @@ use Rattle.tal_names.specs.declared.meaning.Meaning.{Meaning}
 use Rattle.tal_names.specs.declared.meaning.Meaning.TheVariants as m
 use Rattle.tal_names.specs.declared.scope.Scope.{Scope}
 use Rattle.tal_names.specs.Scopes.{meaning_of}
-use Rattle.tal_meaning.specs.Expressions.{op_of_sign, op_of_scale, read_by, value_of_expr, value_of_both, value_of_neg, value_of_sum, value_of_terms, value_of_product, value_of_factors, value_of_factor, value_of_spot, value_of_index, cond_of_expr, cond_of_ors, cond_of_both, cond_of_ands, cond_of_neg, cond_of_sum, cond_of_product, cond_of_factor}
+use Rattle.tal_meaning.specs.Expressions.{op_of_sign, op_of_scale, read_by, value_of_expr, value_of_both, value_of_neg}
+use Rattle.tal_meaning.specs.Expressions.{value_of_sum, value_of_terms, value_of_product, value_of_factors}
+use Rattle.tal_meaning.specs.Expressions.{value_of_factor, value_of_spot, value_of_index, cond_of_expr, cond_of_ors}
+use Rattle.tal_meaning.specs.Expressions.{cond_of_both, cond_of_ands, cond_of_neg, cond_of_sum, cond_of_product}
+use Rattle.tal_meaning.specs.Expressions.{cond_of_factor}
 use Rattle.tal_pieces.proofs.Values.ReadsBack.{IsNamed, IsNamedSpot}
 use Rattle.tal_pieces.proofs.Values.TestsReadBack.{IsNamedTest}
 use Rattle.tal_pieces.proofs.Scopes.Agreement.{Agreement, printed_scope}
 
 module _ (p : Program) (locals : List (List ℕ)) (s : Scope) (agreed : Agreement p locals s) where
-  named_read : (spot : Spot) → IsNamedSpot p locals (printed_scope s) spot → IsNamed p locals (printed_scope s) (Read spot)
+  named_read : (spot : Spot) → IsNamedSpot p locals (printed_scope s) spot
+      → IsNamed p locals (printed_scope s) (Read spot)
   named_read spot h = subst (λ X. X) (sym (ap (IsNamed p locals (printed_scope s)) (read-is spot))) h
 
-  named_minus : (inner : Expr) → IsNamed p locals (printed_scope s) inner → IsNamed p locals (printed_scope s) (Minus inner)
+  named_minus : (inner : Expr) → IsNamed p locals (printed_scope s) inner
+      → IsNamed p locals (printed_scope s) (Minus inner)
   named_minus inner h = subst (λ X. X) (sym (ap (IsNamed p locals (printed_scope s)) (minus-is inner))) h
 
-  named_two : (o : Op) (left right : Expr) → IsNamed p locals (printed_scope s) left → IsNamed p locals (printed_scope s) right → IsNamed p locals (printed_scope s) (Two o left right)
-  named_two o left right hl hr = subst (λ X. X) (sym (ap (IsNamed p locals (printed_scope s)) (two-is o left right))) (hl, hr)
+  named_two : (o : Op) (left right : Expr) → IsNamed p locals (printed_scope s) left
+      → IsNamed p locals (printed_scope s) right → IsNamed p locals (printed_scope s) (Two o left right)
+  named_two o left right hl hr =
+      subst (λ X. X) (sym (ap (IsNamed p locals (printed_scope s)) (two-is o left right))) (hl, hr)
 
   abbrev IsNamedIndex : Option Expr → Type 0
   IsNamedIndex None = Unit {0}
   IsNamedIndex (Some e) = IsNamed p locals (printed_scope s) e
 
-  by_meaning : (name : List ℕ) (found : Option Meaning) → meaning_of s name ≡ found → (index : Option Expr) → IsNamedIndex index → IsNamed p locals (printed_scope s) (read_by found index)
+  by_meaning : (name : List ℕ) (found : Option Meaning) → meaning_of s name ≡ found → (index : Option Expr)
+      → IsNamedIndex index → IsNamed p locals (printed_scope s) (read_by found index)
   by_meaning name None e index h = tt
-  by_meaning name (Some (m.Local place)) e index h = named_read (Local place) (name, agreed.local place name e, agreed.lasting name (m.Local place) refl e)
-  by_meaning name (Some (m.Simple item)) e index h = named_read (Simple item) (name, agreed.simple item name e, agreed.lasting name (m.Simple item) refl e)
+  by_meaning name (Some (m.Local place)) e index h =
+      named_read (Local place) (name, agreed.local place name e, agreed.lasting name (m.Local place) refl e)
+  by_meaning name (Some (m.Simple item)) e index h =
+      named_read (Simple item) (name, agreed.simple item name e, agreed.lasting name (m.Simple item) refl e)
   by_meaning name (Some (m.Literal value)) e index h = tt
   by_meaning name (Some (m.Array item)) e None h = tt
-  by_meaning name (Some (m.Array item)) e (Some index) h = named_read (Element item index) ((name, agreed.array item name e, agreed.lasting name (m.Array item) refl e), h)
+  by_meaning name (Some (m.Array item)) e (Some index) h =
+      named_read (Element item index) ((name, agreed.array item name e, agreed.lasting name (m.Array item) refl e), h)
   by_meaning name (Some (m.Procedure number gives parameters)) e index h = tt
   by_meaning name (Some (m.ReceiveFile item number)) e index h = tt
   by_meaning name (Some (m.ProcessFile item number)) e index h = tt
@@ -57,18 +69,22 @@ module _ (p : Program) (locals : List (List ℕ)) (s : Scope) (agreed : Agreemen
     pub named_sum : (x : g.Sum) → IsNamed p locals (printed_scope s) (value_of_sum s x)
     named_sum (g.sum q ts) = named_terms (value_of_product s q) (named_product q) ts
 
-    named_terms : (left : Expr) → IsNamed p locals (printed_scope s) left → (ts : g.Terms) → IsNamed p locals (printed_scope s) (value_of_terms s left ts)
+    named_terms : (left : Expr) → IsNamed p locals (printed_scope s) left → (ts : g.Terms)
+        → IsNamed p locals (printed_scope s) (value_of_terms s left ts)
     named_terms left h g.no_terms = h
     named_terms left h (g.more_terms sign q ts) =
-        named_terms (Two (op_of_sign sign) left (value_of_product s q)) (named_two (op_of_sign sign) left (value_of_product s q) h (named_product q)) ts
+        named_terms (Two (op_of_sign sign) left (value_of_product s q))
+        (named_two (op_of_sign sign) left (value_of_product s q) h (named_product q)) ts
 
     named_product : (q : g.Product) → IsNamed p locals (printed_scope s) (value_of_product s q)
     named_product (g.product f fs) = named_factors (value_of_factor s f) (named_factor f) fs
 
-    named_factors : (left : Expr) → IsNamed p locals (printed_scope s) left → (fs : g.Factors) → IsNamed p locals (printed_scope s) (value_of_factors s left fs)
+    named_factors : (left : Expr) → IsNamed p locals (printed_scope s) left → (fs : g.Factors)
+        → IsNamed p locals (printed_scope s) (value_of_factors s left fs)
     named_factors left h g.no_factors = h
     named_factors left h (g.more_factors scale f fs) =
-        named_factors (Two (op_of_scale scale) left (value_of_factor s f)) (named_two (op_of_scale scale) left (value_of_factor s f) h (named_factor f)) fs
+        named_factors (Two (op_of_scale scale) left (value_of_factor s f))
+        (named_two (op_of_scale scale) left (value_of_factor s f) h (named_factor f)) fs
 
     named_factor : (f : g.Factor) → IsNamed p locals (printed_scope s) (value_of_factor s f)
     named_factor (g.minus at f) = named_minus (value_of_factor s f) (named_factor f)
@@ -83,29 +99,38 @@ module _ (p : Program) (locals : List (List ℕ)) (s : Scope) (agreed : Agreemen
     named_index g.no_index = tt
     named_index (g.index start e close) = named_expr e
 
-  named_not : (inner : Cond) → IsNamedTest p locals (printed_scope s) inner → IsNamedTest p locals (printed_scope s) (Not inner)
+  named_not : (inner : Cond) → IsNamedTest p locals (printed_scope s) inner
+      → IsNamedTest p locals (printed_scope s) (Not inner)
   named_not inner h = subst (λ X. X) (sym (ap (IsNamedTest p locals (printed_scope s)) (not-is inner))) h
 
-  named_and : (left right : Cond) → IsNamedTest p locals (printed_scope s) left → IsNamedTest p locals (printed_scope s) right → IsNamedTest p locals (printed_scope s) (And left right)
-  named_and left right hl hr = subst (λ X. X) (sym (ap (IsNamedTest p locals (printed_scope s)) (and-is left right))) (hl, hr)
+  named_and : (left right : Cond) → IsNamedTest p locals (printed_scope s) left
+      → IsNamedTest p locals (printed_scope s) right → IsNamedTest p locals (printed_scope s) (And left right)
+  named_and left right hl hr =
+      subst (λ X. X) (sym (ap (IsNamedTest p locals (printed_scope s)) (and-is left right))) (hl, hr)
 
-  named_or : (left right : Cond) → IsNamedTest p locals (printed_scope s) left → IsNamedTest p locals (printed_scope s) right → IsNamedTest p locals (printed_scope s) (Or left right)
-  named_or left right hl hr = subst (λ X. X) (sym (ap (IsNamedTest p locals (printed_scope s)) (or-is left right))) (hl, hr)
+  named_or : (left right : Cond) → IsNamedTest p locals (printed_scope s) left
+      → IsNamedTest p locals (printed_scope s) right → IsNamedTest p locals (printed_scope s) (Or left right)
+  named_or left right hl hr =
+      subst (λ X. X) (sym (ap (IsNamedTest p locals (printed_scope s)) (or-is left right))) (hl, hr)
 
   mutual
     pub test_expr : (e : g.Expr) → IsNamedTest p locals (printed_scope s) (cond_of_expr s e)
     test_expr (g.expr b os) = test_ors (cond_of_both s b) (test_both b) os
 
-    test_ors : (left : Cond) → IsNamedTest p locals (printed_scope s) left → (os : g.Ors) → IsNamedTest p locals (printed_scope s) (cond_of_ors s left os)
+    test_ors : (left : Cond) → IsNamedTest p locals (printed_scope s) left → (os : g.Ors)
+        → IsNamedTest p locals (printed_scope s) (cond_of_ors s left os)
     test_ors left h g.no_ors = h
-    test_ors left h (g.more_ors at b os) = test_ors (Or left (cond_of_both s b)) (named_or left (cond_of_both s b) h (test_both b)) os
+    test_ors left h (g.more_ors at b os) =
+        test_ors (Or left (cond_of_both s b)) (named_or left (cond_of_both s b) h (test_both b)) os
 
     test_both : (b : g.Both) → IsNamedTest p locals (printed_scope s) (cond_of_both s b)
     test_both (g.both n ns) = test_ands (cond_of_neg s n) (test_neg n) ns
 
-    test_ands : (left : Cond) → IsNamedTest p locals (printed_scope s) left → (ns : g.Ands) → IsNamedTest p locals (printed_scope s) (cond_of_ands s left ns)
+    test_ands : (left : Cond) → IsNamedTest p locals (printed_scope s) left → (ns : g.Ands)
+        → IsNamedTest p locals (printed_scope s) (cond_of_ands s left ns)
     test_ands left h g.no_ands = h
-    test_ands left h (g.more_ands at n ns) = test_ands (And left (cond_of_neg s n)) (named_and left (cond_of_neg s n) h (test_neg n)) ns
+    test_ands left h (g.more_ands at n ns) =
+        test_ands (And left (cond_of_neg s n)) (named_and left (cond_of_neg s n) h (test_neg n)) ns
 
     test_neg : (n : g.Neg) → IsNamedTest p locals (printed_scope s) (cond_of_neg s n)
     test_neg (g.negated at n) = named_not (cond_of_neg s n) (test_neg n)
@@ -114,11 +139,13 @@ module _ (p : Program) (locals : List (List ℕ)) (s : Scope) (agreed : Agreemen
 
     test_sum : (x : g.Sum) → IsNamedTest p locals (printed_scope s) (cond_of_sum s x)
     test_sum (g.sum q g.no_terms) = test_product q
-    test_sum (g.sum q (g.more_terms sign x ts)) = named_terms (value_of_product s q) (named_product q) (g.more_terms sign x ts)
+    test_sum (g.sum q (g.more_terms sign x ts)) =
+        named_terms (value_of_product s q) (named_product q) (g.more_terms sign x ts)
 
     test_product : (q : g.Product) → IsNamedTest p locals (printed_scope s) (cond_of_product s q)
     test_product (g.product f g.no_factors) = test_factor f
-    test_product (g.product f (g.more_factors scale x fs)) = named_factors (value_of_factor s f) (named_factor f) (g.more_factors scale x fs)
+    test_product (g.product f (g.more_factors scale x fs)) =
+        named_factors (value_of_factor s f) (named_factor f) (g.more_factors scale x fs)
 
     test_factor : (f : g.Factor) → IsNamedTest p locals (printed_scope s) (cond_of_factor s f)
     test_factor (g.minus at f) = named_minus (value_of_factor s f) (named_factor f)

@@ -2,7 +2,8 @@
 use Rattle.std.specs.Prelude.{◌≡◌, ◌≤◌, ℕ, ◌+◌, List, [], slice_get, Option, Some}
 use Rattle.tal_tree.specs.declared.expression.Cond.{Truth}
 use Rattle.tal_tree.specs.declared.expression.Spot.{Spot, Local, Simple, Element}
-use Rattle.tal_tree.specs.declared.expression.Expr.{Expr, Number, Read', Minus', Two', Row_of-Spot, end_of-Spot, more_of-Spot, Row_of-Expr, end_of-Expr, more_of-Expr}
+use Rattle.tal_tree.specs.declared.expression.Expr.{Expr, Number, Read', Minus', Two', Row_of-Spot, end_of-Spot}
+use Rattle.tal_tree.specs.declared.expression.Expr.{more_of-Spot, Row_of-Expr, end_of-Expr, more_of-Expr}
 use Rattle.tal_tree.specs.declared.program.Program.{Program}
 use Rattle.tal_tokens.specs.declared.token.Token.{Token}
 use Rattle.tal_syntax.specs.Grammar as g
@@ -48,8 +49,8 @@ module _ (p : Program) (locals : List (List ℕ)) (s : Scope) where
     IsNamedIn end_of-Expr = Unit {0}
     IsNamedIn (more_of-Expr expr _) = IsNamed expr
 
--- the tokens begin with a sum of the grammar that has no fault in any place and stands for this value, in the place of a condition for
--- its truth, and opens no more levels than the value needs; and those after it are the later pieces
+-- the tokens begin with a sum of the grammar that has no fault in any place and stands for this value, in the place of
+-- a condition for its truth, and opens no more levels than the value needs; and those after it are the later pieces
 pub record ReadsBack (s : Scope) (e : Expr) (ks : List Piece) (tokens : List Token) : Type 0 where
   pub syntax : g.Sum
   pub rest : List Token
@@ -58,9 +59,11 @@ pub record ReadsBack (s : Scope) (e : Expr) (ks : List Piece) (tokens : List Tok
   pub same : value_of_sum s syntax ≡ e
   pub truth : cond_of_sum s syntax ≡ Truth e
   pub faultless : (w : Wanted) → sum_faults s w syntax ≡ []
-  pub shallow : (n most : ℕ) (levels : List ℕ) → n + value_depth value.Sum e ≤ most → AllAtMost most levels → AllAtMost most (nest_sum n syntax levels)
+  pub shallow : (n most : ℕ) (levels : List ℕ) → n + value_depth value.Sum e ≤ most → AllAtMost most levels
+      → AllAtMost most (nest_sum n syntax levels)
 
 -- a printed value reads back as itself
 abbrev pub ValuesReadBack : Program → List (List ℕ) → Scope → Type 0
 ValuesReadBack p locals s =
-    (e : Expr) (ks : List Piece) (tokens : List Token) → IsNamed p locals s e → AreTokens (value_pieces p locals value.Sum e ks) tokens → ReadsBack s e ks tokens
+    (e : Expr) (ks : List Piece) (tokens : List Token) → IsNamed p locals s e
+    → AreTokens (value_pieces p locals value.Sum e ks) tokens → ReadsBack s e ks tokens

@@ -1,6 +1,7 @@
 -- How the pieces of a condition read back.
 use Rattle.std.specs.Prelude.{◌≡◌, ◌≤◌, ℕ, ◌+◌, List, []}
-use Rattle.tal_tree.specs.declared.expression.Cond.{Cond, Truth, Compare, Not', And', Or', Row_of-Cond, end_of-Cond, more_of-Cond}
+use Rattle.tal_tree.specs.declared.expression.Cond.{Cond, Truth, Compare, Not', And', Or', Row_of-Cond, end_of-Cond}
+use Rattle.tal_tree.specs.declared.expression.Cond.{more_of-Cond}
 use Rattle.tal_tree.specs.declared.program.Program.{Program}
 use Rattle.tal_tokens.specs.declared.token.Token.{Token}
 use Rattle.tal_syntax.specs.Grammar as g
@@ -31,8 +32,8 @@ module _ (p : Program) (locals : List (List ℕ)) (s : Scope) where
     IsNamedTestIn end_of-Cond = Unit {0}
     IsNamedTestIn (more_of-Cond cond _) = IsNamedTest cond
 
--- the tokens begin with an expression of the grammar that has no fault in the place of a condition and stands there for this one,
--- and opens no more levels than it needs; those after it are the later pieces
+-- the tokens begin with an expression of the grammar that has no fault in the place of a condition and stands there for
+-- this one, and opens no more levels than it needs; those after it are the later pieces
 pub record TestReadsBack (s : Scope) (c : Cond) (ks : List Piece) (tokens : List Token) : Type 0 where
   pub syntax : g.Expr
   pub rest : List Token
@@ -40,9 +41,11 @@ pub record TestReadsBack (s : Scope) (c : Cond) (ks : List Piece) (tokens : List
   pub later : AreTokens ks rest
   pub same : cond_of_expr s syntax ≡ c
   pub faultless : expr_faults s Condition syntax ≡ []
-  pub shallow : (n most : ℕ) (levels : List ℕ) → n + test_depth test.Or c ≤ most → AllAtMost most levels → AllAtMost most (nest_expr n syntax levels)
+  pub shallow : (n most : ℕ) (levels : List ℕ) → n + test_depth test.Or c ≤ most → AllAtMost most levels
+      → AllAtMost most (nest_expr n syntax levels)
 
 -- a printed condition reads back as itself
 abbrev pub TestsReadBack : Program → List (List ℕ) → Scope → Type 0
 TestsReadBack p locals s =
-    (c : Cond) (ks : List Piece) (tokens : List Token) → IsNamedTest p locals s c → AreTokens (test_pieces p locals test.Or c ks) tokens → TestReadsBack s c ks tokens
+    (c : Cond) (ks : List Piece) (tokens : List Token) → IsNamedTest p locals s c
+    → AreTokens (test_pieces p locals test.Or c ks) tokens → TestReadsBack s c ks tokens

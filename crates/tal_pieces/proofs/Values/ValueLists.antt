@@ -24,8 +24,8 @@ abbrev pub values_depth : List Expr → ℕ
 values_depth [] = 0
 values_depth (e ∷ rest) = max (value_depth value.Sum e) (values_depth rest)
 
--- the tokens begin with further values of a list that have no fault, stand for these ones and open no more levels than these need; and
--- those after them are the later pieces
+-- the tokens begin with further values of a list that have no fault, stand for these ones and open no more levels than
+-- these need; and those after them are the later pieces
 pub record ValuesRead (s : Scope) (es : List Expr) (ks : List Piece) (tokens : List Token) : Type 0 where
   pub syntax : g.Values
   pub rest : List Token
@@ -34,9 +34,11 @@ pub record ValuesRead (s : Scope) (es : List Expr) (ks : List Piece) (tokens : L
   pub same : values_of s syntax ≡ es
   pub count : values_count syntax ≡ length es
   pub faultless : values_faults s syntax ≡ []
-  pub shallow : (n most : ℕ) (levels : List ℕ) → n ≤ most → n + values_depth es ≤ most → AllAtMost most levels → AllAtMost most (nest_values n syntax levels)
+  pub shallow : (n most : ℕ) (levels : List ℕ) → n ≤ most → n + values_depth es ≤ most → AllAtMost most levels
+      → AllAtMost most (nest_values n syntax levels)
 
 -- printed values of a list read back as themselves
 abbrev pub ListsReadBack : Program → List (List ℕ) → Scope → Type 0
 ListsReadBack p locals s =
-    (es : List Expr) (ks : List Piece) (tokens : List Token) → AllNamed p locals s es → AreTokens (more_values p locals es ks) tokens → ValuesRead s es ks tokens
+    (es : List Expr) (ks : List Piece) (tokens : List Token) → AllNamed p locals s es
+    → AreTokens (more_values p locals es ks) tokens → ValuesRead s es ks tokens

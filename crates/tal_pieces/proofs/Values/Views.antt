@@ -2,11 +2,14 @@
 use Rattle.std.proofs.Common.{sym, subst}
 use Rattle.std.specs.Prelude.{ℤ}
 use Rattle.tal_tree.specs.declared.expression.Op.{Op}
-use Rattle.tal_tree.specs.declared.expression.Cond.{Cond, Truth, Compare, Not, And, Or, Cond-F, out-Cond, roll-Cond, roll-out-Cond}
-use Rattle.tal_tree.specs.declared.expression.Cond.TheVariants.{rolls-Truth, rolls-Compare, rolls-Not, rolls-And, rolls-Or}
+use Rattle.tal_tree.specs.declared.expression.Cond.{Cond, Truth, Compare, Not, And, Or, Cond-F, out-Cond, roll-Cond}
+use Rattle.tal_tree.specs.declared.expression.Cond.{roll-out-Cond}
+use Rattle.tal_tree.specs.declared.expression.Cond.TheVariants.{rolls-Truth, rolls-Compare, rolls-Not, rolls-And}
+use Rattle.tal_tree.specs.declared.expression.Cond.TheVariants.{rolls-Or}
 use Rattle.tal_tree.specs.declared.expression.Rel.{Rel}
 use Rattle.tal_tree.specs.declared.expression.Spot.{Spot}
-use Rattle.tal_tree.specs.declared.expression.Expr.{Expr, Number, Read, Minus, Two, Expr-F, out-Expr, roll-Expr, roll-out-Expr}
+use Rattle.tal_tree.specs.declared.expression.Expr.{Expr, Number, Read, Minus, Two, Expr-F, out-Expr, roll-Expr}
+use Rattle.tal_tree.specs.declared.expression.Expr.{roll-out-Expr}
 use Rattle.tal_tree.specs.declared.expression.Expr.TheVariants.{rolls-Number, rolls-Read, rolls-Minus, rolls-Two}
 
 pub data View : Expr → Type 0 where

@@ -28,11 +28,14 @@ ScopeFits s = (name : List ℕ) → FoundFits (meaning_of s name)
 -- names among declarations, one more name, and the names of a scope
 pub found_fits : (name : List ℕ) (ds : Declarations) → AreFitting ds → FoundFits (meaning_in name ds)
 found_fits name [] h = tt
-found_fits name (d ∷ ds) h = either FoundFits (same name d.0) (Some d.1) (meaning_in name ds) h.0 (found_fits name ds h.1)
+found_fits name (d ∷ ds) h =
+    either FoundFits (same name d.0) (Some d.1) (meaning_in name ds) h.0 (found_fits name ds h.1)
 
-pub with_fits : (ds : Declarations) (name : List ℕ) (x : Meaning) → AreFitting ds → MeaningFits x → AreFitting (with_name ds name x)
+pub with_fits : (ds : Declarations) (name : List ℕ) (x : Meaning) → AreFitting ds → MeaningFits x
+    → AreFitting (with_name ds name x)
 with_fits ds name x h k =
-    either AreFitting (is_declared name ds) ds (ds ++ (name, x) ∷ []) h (each_append (λ d. MeaningFits d.1) ds ((name, x) ∷ []) h (k, tt))
+    either AreFitting (is_declared name ds) ds (ds ++ (name, x) ∷ []) h
+    (each_append (λ d. MeaningFits d.1) ds ((name, x) ∷ []) h (k, tt))
 
 or_fits : (first second : Option Meaning) → FoundFits first → FoundFits second → FoundFits (or_else first second)
 or_fits None second h k = k
@@ -40,5 +43,7 @@ or_fits (Some x) second h k = h
 
 pub scope_fits : (s : Scope) → AreFitting s.locals → AreFitting s.files → AreFitting s.globals → ScopeFits s
 scope_fits s locals files globals name =
-    or_fits (meaning_in name s.locals) (or_else (meaning_in name s.files) (meaning_in name s.globals)) (found_fits name s.locals locals)
-    (or_fits (meaning_in name s.files) (meaning_in name s.globals) (found_fits name s.files files) (found_fits name s.globals globals))
+    or_fits (meaning_in name s.locals) (or_else (meaning_in name s.files) (meaning_in name s.globals))
+    (found_fits name s.locals locals)
+    (or_fits (meaning_in name s.files) (meaning_in name s.globals) (found_fits name s.files files)
+    (found_fits name s.globals globals))

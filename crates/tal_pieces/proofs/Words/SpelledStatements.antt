@@ -17,121 +17,167 @@ use Rattle.tal_names.specs.Systems.{system_of}
 use Rattle.tal_names.specs.Places.{name_of_expr, further_arguments, arguments_of}
 use Rattle.tal_names.specs.Scopes.{meaning_of}
 use Rattle.tal_rules.specs.Statements.{stepped, after}
-use Rattle.tal_meaning.specs.Calls.{value_of_argument, values_of_arguments, values_of, value_at, meaning_by, meaning_at, item_by, variable_by, file_by, procedure_by, items_named, files_named, system_what, call_what}
+use Rattle.tal_meaning.specs.Calls.{value_of_argument, values_of_arguments, values_of, value_at, meaning_by, meaning_at}
+use Rattle.tal_meaning.specs.Calls.{item_by, variable_by, file_by, procedure_by, items_named, files_named, system_what}
+use Rattle.tal_meaning.specs.Calls.{call_what}
 use Rattle.tal_meaning.specs.Expressions.{value_of_expr, cond_of_expr, target_of_spot}
 use Rattle.tal_meaning.specs.Statements.{answer_of, assign_by, statements_of, else_statements, row_statements}
 use Rattle.tal_pieces.proofs.Words.LiteralWords.{ScopeFits}
 use Rattle.tal_pieces.proofs.Words.SpelledSyntax.{AllSpelled, zero_fits, words_expr, words_target}
-use Rattle.tal_pieces.proofs.Words.WordTrees.{NamesSpell, LocalsSpell, SpellsValue, SpellsSpot, SpellsWhat, SpellsStatement, spells_number, spells_assign, spells_assign_call, spells_if, spells_while, spells_for, spells_call, spells_return, spells_answer, spells_read_update, spells_reply, spells_write_read, spells_checkpoint, spells_monitor, spells_open, spells_stop}
+use Rattle.tal_pieces.proofs.Words.WordTrees.{NamesSpell, LocalsSpell, SpellsValue, SpellsSpot, SpellsWhat}
+use Rattle.tal_pieces.proofs.Words.WordTrees.{SpellsStatement, spells_number, spells_assign, spells_assign_call}
+use Rattle.tal_pieces.proofs.Words.WordTrees.{spells_if, spells_while, spells_for, spells_call, spells_return}
+use Rattle.tal_pieces.proofs.Words.WordTrees.{spells_answer, spells_read_update, spells_reply, spells_write_read}
+use Rattle.tal_pieces.proofs.Words.WordTrees.{spells_checkpoint, spells_monitor, spells_open, spells_stop}
 use Rattle.tal_pieces.proofs.Common.Entries.{each_append, Each}
 
-module _ (p : Program) (locals : List (List ℕ)) (names : NamesSpell p) (own : LocalsSpell locals) (s : Scope) (fits : ScopeFits s) where
+module _ (p : Program) (locals : List (List ℕ)) (names : NamesSpell p) (own : LocalsSpell locals) (s : Scope)
+    (fits : ScopeFits s) where
   -- the arguments of a call
   abbrev ArgumentSpells : g.Argument → Type 0
   ArgumentSpells a = SpellsValue p locals (value_of_argument s a)
 
-  words_argument : (a : g.Argument) (ks : List Token) → AllSpelled (g.of_argument a ks) → ArgumentSpells a × AllSpelled ks
+  words_argument : (a : g.Argument) (ks : List Token) → AllSpelled (g.of_argument a ks)
+      → ArgumentSpells a × AllSpelled ks
   words_argument (g.value e) ks h = let r = words_expr p locals names own s fits e ks h in (r.value, r.later)
   words_argument (g.receive at) ks h = (spells_number p locals names own _ zero_fits, h.1)
   words_argument (g.process at name) ks h = (spells_number p locals names own _ zero_fits, h.1)
   words_argument (g.quoted at) ks h = (spells_number p locals names own _ zero_fits, h.1)
 
-  words_further : (more : g.Further) (ks : List Token) → AllSpelled (g.of_further more ks) → Each ArgumentSpells (further_arguments more) × AllSpelled ks
+  words_further : (more : g.Further) (ks : List Token) → AllSpelled (g.of_further more ks)
+      → Each ArgumentSpells (further_arguments more) × AllSpelled ks
   words_further g.no_further ks h = (tt, h)
   words_further (g.more_further comma a rest) ks h =
       let first = words_argument a (g.of_further rest ks) h.1 in
       let more = words_further rest ks first.1 in
       ((first.0, more.0), more.1)
 
-  words_arguments : (a : g.Arguments) (ks : List Token) → AllSpelled (g.of_arguments a ks) → Each ArgumentSpells (arguments_of a) × AllSpelled ks
+  words_arguments : (a : g.Arguments) (ks : List Token) → AllSpelled (g.of_arguments a ks)
+      → Each ArgumentSpells (arguments_of a) × AllSpelled ks
   words_arguments g.unlisted ks h = (tt, h)
   words_arguments (g.listed start a rest close) ks h =
       let first = words_argument a (g.of_further rest (tok.Close close ∷ ks)) h.1 in
       let more = words_further rest (tok.Close close ∷ ks) first.1 in
       ((first.0, more.0), more.1.1)
 
-  words_values : (more : g.Values) (ks : List Token) → AllSpelled (g.of_values more ks) → Each (SpellsValue p locals) (values_of s more) × AllSpelled ks
+  words_values : (more : g.Values) (ks : List Token) → AllSpelled (g.of_values more ks)
+      → Each (SpellsValue p locals) (values_of s more) × AllSpelled ks
   words_values g.no_values ks h = (tt, h)
   words_values (g.more_values comma e rest) ks h =
       let first = words_expr p locals names own s fits e (g.of_values rest ks) h.1 in
       let more = words_values rest ks first.later in
       ((first.value, more.0), more.1)
 
-  values_spell : (arguments : List g.Argument) → Each ArgumentSpells arguments → Each (SpellsValue p locals) (values_of_arguments s arguments)
+  values_spell : (arguments : List g.Argument) → Each ArgumentSpells arguments
+      → Each (SpellsValue p locals) (values_of_arguments s arguments)
   values_spell [] h = tt
   values_spell (a ∷ rest) h = (h.0, values_spell rest h.1)
 
-  value_spells : (arguments : List g.Argument) (k : ℕ) → Each ArgumentSpells arguments → SpellsValue p locals (value_at s (slice_get arguments k))
+  value_spells : (arguments : List g.Argument) (k : ℕ) → Each ArgumentSpells arguments
+      → SpellsValue p locals (value_at s (slice_get arguments k))
   value_spells [] k h = spells_number p locals names own _ zero_fits
   value_spells (a ∷ rest) zero h = h.0
   value_spells (a ∷ rest) (suc k) h = value_spells rest k h.1
 
   -- calls
-  system_spells : (arguments : List g.Argument) (called : System) → Each ArgumentSpells arguments → SpellsWhat p locals (system_what s arguments called)
+  system_spells : (arguments : List g.Argument) (called : System) → Each ArgumentSpells arguments
+      → SpellsWhat p locals (system_what s arguments called)
   system_spells arguments system.CheckMonitor h = spells_monitor p locals names own
-  system_spells arguments system.Checkpoint h = spells_checkpoint p locals names own (items_named s arguments) (files_named s arguments)
-  system_spells arguments system.Open h = spells_open p locals names own (file_by (meaning_at s (slice_get arguments 1)))
+  system_spells arguments system.Checkpoint h =
+      spells_checkpoint p locals names own (items_named s arguments) (files_named s arguments)
+  system_spells arguments system.Open h =
+      spells_open p locals names own (file_by (meaning_at s (slice_get arguments 1)))
   system_spells arguments system.ReadUpdate h =
-      spells_read_update p locals names own (item_by (meaning_at s (slice_get arguments 1))) (value_at s (slice_get arguments 2))
+      spells_read_update p locals names own (item_by (meaning_at s (slice_get arguments 1)))
+      (value_at s (slice_get arguments 2))
       (variable_by (meaning_at s (slice_get arguments 3))) (value_spells arguments 2 h)
   system_spells arguments system.Reply h =
-      spells_reply p locals names own (item_by (meaning_at s (slice_get arguments 0))) (value_at s (slice_get arguments 1)) (value_spells arguments 1 h)
+      spells_reply p locals names own (item_by (meaning_at s (slice_get arguments 0)))
+      (value_at s (slice_get arguments 1)) (value_spells arguments 1 h)
   system_spells arguments system.Stop h = spells_stop p locals names own
   system_spells arguments system.WriteRead h =
-      spells_write_read p locals names own (file_by (meaning_at s (slice_get arguments 0))) (item_by (meaning_at s (slice_get arguments 1)))
-      (value_at s (slice_get arguments 2)) (value_at s (slice_get arguments 3)) (variable_by (meaning_at s (slice_get arguments 4)))
+      spells_write_read p locals names own (file_by (meaning_at s (slice_get arguments 0)))
+      (item_by (meaning_at s (slice_get arguments 1)))
+      (value_at s (slice_get arguments 2)) (value_at s (slice_get arguments 3))
+      (variable_by (meaning_at s (slice_get arguments 4)))
       (value_spells arguments 2 h) (value_spells arguments 3 h)
 
   call_spells : (name : List ℕ) (arguments : List g.Argument) (found : Option System) → Each ArgumentSpells arguments
       → SpellsWhat p locals (call_what s name arguments found)
   call_spells name arguments None h =
-      spells_call p locals names own (procedure_by (meaning_of s name)) (values_of_arguments s arguments) (values_spell arguments h)
+      spells_call p locals names own (procedure_by (meaning_of s name)) (values_of_arguments s arguments)
+      (values_spell arguments h)
   call_spells name arguments (Some called) h = system_spells arguments called h
 
-  words_answer : (a : g.Answer) (ks : List Token) → AllSpelled (g.of_answer a ks) → SpellsWhat p locals (what.Return (answer_of s a)) × AllSpelled ks
+  words_answer : (a : g.Answer) (ks : List Token) → AllSpelled (g.of_answer a ks)
+      → SpellsWhat p locals (what.Return (answer_of s a)) × AllSpelled ks
   words_answer g.no_answer ks h = (spells_return p locals names own, h)
   words_answer (g.answer e) ks h =
       let r = words_expr p locals names own s fits e ks h in
       (spells_answer p locals names own (value_of_expr s e) r.value, r.later)
 
-  assign_spells : (target : g.Spot) (e : g.Expr) (found : Option Meaning) → SpellsSpot p locals (target_of_spot s target) → SpellsValue p locals (value_of_expr s e)
+  assign_spells : (target : g.Spot) (e : g.Expr) (found : Option Meaning)
+      → SpellsSpot p locals (target_of_spot s target) → SpellsValue p locals (value_of_expr s e)
       → SpellsWhat p locals (assign_by s target e found)
   assign_spells target e None t h = spells_assign p locals names own (target_of_spot s target) (value_of_expr s e) t h
-  assign_spells target e (Some (m.Local place)) t h = spells_assign p locals names own (target_of_spot s target) (value_of_expr s e) t h
-  assign_spells target e (Some (m.Simple item)) t h = spells_assign p locals names own (target_of_spot s target) (value_of_expr s e) t h
-  assign_spells target e (Some (m.Literal value)) t h = spells_assign p locals names own (target_of_spot s target) (value_of_expr s e) t h
-  assign_spells target e (Some (m.Array item)) t h = spells_assign p locals names own (target_of_spot s target) (value_of_expr s e) t h
-  assign_spells target e (Some (m.Procedure number gives parameters)) t h = spells_assign_call p locals names own (target_of_spot s target) number [] t tt
-  assign_spells target e (Some (m.ReceiveFile item number)) t h = spells_assign p locals names own (target_of_spot s target) (value_of_expr s e) t h
-  assign_spells target e (Some (m.ProcessFile item number)) t h = spells_assign p locals names own (target_of_spot s target) (value_of_expr s e) t h
-  assign_spells target e (Some (m.StrayFile item number)) t h = spells_assign p locals names own (target_of_spot s target) (value_of_expr s e) t h
+  assign_spells target e (Some (m.Local place)) t h =
+      spells_assign p locals names own (target_of_spot s target) (value_of_expr s e) t h
+  assign_spells target e (Some (m.Simple item)) t h =
+      spells_assign p locals names own (target_of_spot s target) (value_of_expr s e) t h
+  assign_spells target e (Some (m.Literal value)) t h =
+      spells_assign p locals names own (target_of_spot s target) (value_of_expr s e) t h
+  assign_spells target e (Some (m.Array item)) t h =
+      spells_assign p locals names own (target_of_spot s target) (value_of_expr s e) t h
+  assign_spells target e (Some (m.Procedure number gives parameters)) t h =
+      spells_assign_call p locals names own (target_of_spot s target) number [] t tt
+  assign_spells target e (Some (m.ReceiveFile item number)) t h =
+      spells_assign p locals names own (target_of_spot s target) (value_of_expr s e) t h
+  assign_spells target e (Some (m.ProcessFile item number)) t h =
+      spells_assign p locals names own (target_of_spot s target) (value_of_expr s e) t h
+  assign_spells target e (Some (m.StrayFile item number)) t h =
+      spells_assign p locals names own (target_of_spot s target) (value_of_expr s e) t h
 
   abbrev StatementsSpell : List Statement → Type 0
   StatementsSpell xs = Each (SpellsStatement p locals) xs
 
   -- statements
   mutual
-    pub words_statement : (t : g.Statement) (w : Walk) (ks : List Token) → AllSpelled (g.of_statement t ks) → StatementsSpell (statements_of s w t) × AllSpelled ks
+    pub words_statement : (t : g.Statement) (w : Walk) (ks : List Token) → AllSpelled (g.of_statement t ks)
+        → StatementsSpell (statements_of s w t) × AllSpelled ks
     words_statement g.nothing w ks h = (tt, h)
     words_statement (g.block begin t more end) w ks h =
         let first = words_statement t w (g.of_row more (tok.End end ∷ ks)) h.1 in
-        let rest = words_row more (after s w t) (tok.End end ∷ ks) first.1 in
-        (each_append (SpellsStatement p locals) (statements_of s w t) (row_statements s (after s w t) more) first.0 rest.0, rest.1.1)
+        let rest = words_row more (after s w t) (tok.End end ∷ ks) first.1 in (
+          each_append (SpellsStatement p locals) (statements_of s w t) (row_statements s (after s w t) more) first.0
+              rest.0,
+          rest.1.1,
+        )
     words_statement (g.if_then head test then_at t o) w ks h =
-        let c = words_expr p locals names own s fits test (tok.Then then_at ∷ g.of_statement t (g.of_otherwise o ks)) h.1 in
+        let c = words_expr p locals names own s fits test (tok.Then then_at ∷ g.of_statement t (g.of_otherwise o ks))
+        h.1 in
         let first = words_statement t (stepped w) (g.of_otherwise o ks) c.later.1 in
-        let second = words_else o (after s (stepped w) t) ks first.1 in
-        ((spells_if p locals names own (cond_of_expr s test) (statements_of s (stepped w) t) (else_statements s (after s (stepped w) t) o) c.test first.0 second.0, tt), second.1)
+        let second = words_else o (after s (stepped w) t) ks first.1 in (
+          (
+            spells_if p locals names own (cond_of_expr s test) (statements_of s (stepped w) t)
+                (else_statements s (after s (stepped w) t) o) c.test first.0 second.0,
+            tt,
+          ),
+          second.1,
+        )
     words_statement (g.while_do head test do_at t) w ks h =
         let c = words_expr p locals names own s fits test (tok.Do do_at ∷ g.of_statement t ks) h.1 in
-        let body = words_statement t (stepped w) ks c.later.1 in
-        ((spells_while p locals names own (cond_of_expr s test) (statements_of s (stepped w) t) c.test body.0, tt), body.1)
+        let body = words_statement t (stepped w) ks c.later.1 in (
+          (spells_while p locals names own (cond_of_expr s test) (statements_of s (stepped w) t) c.test body.0, tt),
+          body.1,
+        )
     words_statement (g.for_do head at name set_at from to_at to do_at t) w ks h =
-        let low = words_expr p locals names own s fits from (tok.To to_at ∷ g.of_expr to (tok.Do do_at ∷ g.of_statement t ks)) h.1.1.1 in
+        let low = words_expr p locals names own s fits from
+        (tok.To to_at ∷ g.of_expr to (tok.Do do_at ∷ g.of_statement t ks)) h.1.1.1 in
         let high = words_expr p locals names own s fits to (tok.Do do_at ∷ g.of_statement t ks) low.later.1 in
         let body = words_statement t (stepped (stepped w)) ks high.later.1 in (
           (
-            spells_for p locals names own (variable_by (meaning_of s name)) (value_of_expr s from) (value_of_expr s to) (statements_of s (stepped (stepped w)) t)
+            spells_for p locals names own (variable_by (meaning_of s name)) (value_of_expr s from) (value_of_expr s to)
+                (statements_of s (stepped (stepped w)) t)
                 (after s (stepped (stepped w)) t).number low.value high.value body.0,
             tt,
           ),
@@ -149,18 +195,30 @@ module _ (p : Program) (locals : List (List ℕ)) (names : NamesSpell p) (own : 
         ((assign_spells target e (meaning_by s (name_of_expr e)) to.0 r.value, tt), r.later)
     words_statement (g.assign_call target at name_at name start e more close) w ks h =
         let to = words_target p locals names own s fits target
-        (tok.Assign at ∷ tok.Name name_at name ∷ tok.Open start ∷ g.of_expr e (g.of_values more (tok.Close close ∷ ks))) h in
+        (tok.Assign at ∷ tok.Name name_at name ∷ tok.Open start
+        ∷ g.of_expr e (g.of_values more (tok.Close close ∷ ks))) h in
         let first = words_expr p locals names own s fits e (g.of_values more (tok.Close close ∷ ks)) to.1.1.1.1 in
-        let rest = words_values more (tok.Close close ∷ ks) first.later in
-        ((spells_assign_call p locals names own (target_of_spot s target) (procedure_by (meaning_of s name)) (value_of_expr s e ∷ values_of s more) to.0 (first.value, rest.0), tt), rest.1.1)
+        let rest = words_values more (tok.Close close ∷ ks) first.later in (
+          (
+            spells_assign_call p locals names own (target_of_spot s target) (procedure_by (meaning_of s name))
+                (value_of_expr s e ∷ values_of s more) to.0 (first.value, rest.0),
+            tt,
+          ),
+          rest.1.1,
+        )
 
-    words_else : (o : g.Otherwise) (w : Walk) (ks : List Token) → AllSpelled (g.of_otherwise o ks) → StatementsSpell (else_statements s w o) × AllSpelled ks
+    words_else : (o : g.Otherwise) (w : Walk) (ks : List Token) → AllSpelled (g.of_otherwise o ks)
+        → StatementsSpell (else_statements s w o) × AllSpelled ks
     words_else g.no_else w ks h = (tt, h)
     words_else (g.otherwise at t) w ks h = words_statement t w ks h.1
 
-    pub words_row : (more : g.Row) (w : Walk) (ks : List Token) → AllSpelled (g.of_row more ks) → StatementsSpell (row_statements s w more) × AllSpelled ks
+    pub words_row : (more : g.Row) (w : Walk) (ks : List Token) → AllSpelled (g.of_row more ks)
+        → StatementsSpell (row_statements s w more) × AllSpelled ks
     words_row g.no_row w ks h = (tt, h)
     words_row (g.more_row semicolon t rest) w ks h =
         let first = words_statement t w (g.of_row rest ks) h.1 in
-        let later = words_row rest (after s w t) ks first.1 in
-        (each_append (SpellsStatement p locals) (statements_of s w t) (row_statements s (after s w t) rest) first.0 later.0, later.1)
+        let later = words_row rest (after s w t) ks first.1 in (
+          each_append (SpellsStatement p locals) (statements_of s w t) (row_statements s (after s w t) rest) first.0
+              later.0,
+          later.1,
+        )

@@ -23,11 +23,16 @@ use Rattle.tal_pieces.specs.declared.rank.ValueRank.TheVariants as value
 use Rattle.tal_pieces.specs.declared.rank.TestRank.{TestRank}
 use Rattle.tal_pieces.specs.declared.rank.TestRank.TheVariants as test
 use Rattle.tal_pieces.specs.Cuts.{IsSpellable, AreSpellable}
-use Rattle.tal_pieces.specs.Printed.Expressions.{opening, closing, value_needs, left_rank, right_rank, and_needs, or_needs, value_pieces, spot_pieces, test_pieces, more_values, arguments}
-use Rattle.tal_pieces.specs.Printed.Names.{named, item_name, variable_name, procedure_name, file_name, receive_name, target_piece}
+use Rattle.tal_pieces.specs.Printed.Expressions.{opening, closing, value_needs, left_rank, right_rank, and_needs}
+use Rattle.tal_pieces.specs.Printed.Expressions.{or_needs, value_pieces, spot_pieces, test_pieces, more_values}
+use Rattle.tal_pieces.specs.Printed.Expressions.{arguments}
+use Rattle.tal_pieces.specs.Printed.Names.{named, item_name, variable_name, procedure_name, file_name, receive_name}
+use Rattle.tal_pieces.specs.Printed.Names.{target_piece}
 use Rattle.tal_tree.specs.Targets.{receives}
-use Rattle.tal_pieces.specs.Printed.Statements.{what_pieces, inner_pieces, more_statements, body_pieces, more_files, more_items, kept, open_pieces}
-use Rattle.tal_pieces.proofs.Values.Layers.{pieces_read, pieces_minus, pieces_two, pieces_not, pieces_and, pieces_or, pieces_if, pieces_while, pieces_for}
+use Rattle.tal_pieces.specs.Printed.Statements.{what_pieces, inner_pieces, more_statements, body_pieces, more_files}
+use Rattle.tal_pieces.specs.Printed.Statements.{more_items, kept, open_pieces}
+use Rattle.tal_pieces.proofs.Values.Layers.{pieces_read, pieces_minus, pieces_two, pieces_not, pieces_and, pieces_or}
+use Rattle.tal_pieces.proofs.Values.Layers.{pieces_if, pieces_while, pieces_for}
 use Rattle.tal_pieces.proofs.Common.Entries.{Each}
 
 -- a name, where there is one, can be spelled, and a file's target and depth can
@@ -64,7 +69,8 @@ closes_well : (b : Bool) (ks : List Piece) → AreSpellable ks → AreSpellable 
 closes_well true ks h = (tt, h)
 closes_well false ks h = h
 
-named_well : (found : Option (List ℕ)) (ks : List Piece) → NameSpells found → AreSpellable ks → AreSpellable (named found ks)
+named_well : (found : Option (List ℕ)) (ks : List Piece) → NameSpells found → AreSpellable ks
+    → AreSpellable (named found ks)
 named_well None ks n h = h
 named_well (Some name) ks n h = (n, h)
 
@@ -96,10 +102,12 @@ module _ (p : Program) (locals : List (List ℕ)) (names : NamesSpell p) (own : 
   pub spells_minus : (e : Expr) → SpellsValue p locals e → SpellsValue p locals (Minus e)
   spells_minus e h r ks k = moved (pieces_minus p locals r e ks) (tt, h value.Factor ks k)
 
-  pub spells_two : (o : Op) (left right : Expr) → SpellsValue p locals left → SpellsValue p locals right → SpellsValue p locals (Two o left right)
+  pub spells_two : (o : Op) (left right : Expr) → SpellsValue p locals left → SpellsValue p locals right
+      → SpellsValue p locals (Two o left right)
   spells_two o left right hl hr r ks k =
       moved (pieces_two p locals r o left right ks)
-      (opens_well (value_needs r o) _ (hl (left_rank o) _ (tt, hr (right_rank o) _ (closes_well (value_needs r o) ks k))))
+      (opens_well (value_needs r o) _ (hl (left_rank o) _
+      (tt, hr (right_rank o) _ (closes_well (value_needs r o) ks k))))
 
   pub spells_local : (place : ℕ) → SpellsSpot p locals (Local place)
   spells_local place ks k = named_well (slice_get locals place) ks (own place) k
@@ -114,19 +122,24 @@ module _ (p : Program) (locals : List (List ℕ)) (names : NamesSpell p) (own : 
   pub spells_truth : (e : Expr) → SpellsValue p locals e → SpellsTest p locals (Truth e)
   spells_truth e h r ks k = h value.Sum ks k
 
-  pub spells_compare : (o : Rel) (left right : Expr) → SpellsValue p locals left → SpellsValue p locals right → SpellsTest p locals (Compare o left right)
+  pub spells_compare : (o : Rel) (left right : Expr) → SpellsValue p locals left → SpellsValue p locals right
+      → SpellsTest p locals (Compare o left right)
   spells_compare o left right hl hr r ks k = hl value.Sum _ (tt, hr value.Sum ks k)
 
   pub spells_not : (c : Cond) → SpellsTest p locals c → SpellsTest p locals (Not c)
   spells_not c h r ks k = moved (pieces_not p locals r c ks) (tt, h test.Not ks k)
 
-  pub spells_and : (left right : Cond) → SpellsTest p locals left → SpellsTest p locals right → SpellsTest p locals (And left right)
+  pub spells_and : (left right : Cond) → SpellsTest p locals left → SpellsTest p locals right
+      → SpellsTest p locals (And left right)
   spells_and left right hl hr r ks k =
-      moved (pieces_and p locals r left right ks) (opens_well (and_needs r) _ (hl test.And _ (tt, hr test.Not _ (closes_well (and_needs r) ks k))))
+      moved (pieces_and p locals r left right ks)
+      (opens_well (and_needs r) _ (hl test.And _ (tt, hr test.Not _ (closes_well (and_needs r) ks k))))
 
-  pub spells_or : (left right : Cond) → SpellsTest p locals left → SpellsTest p locals right → SpellsTest p locals (Or left right)
+  pub spells_or : (left right : Cond) → SpellsTest p locals left → SpellsTest p locals right
+      → SpellsTest p locals (Or left right)
   spells_or left right hl hr r ks k =
-      moved (pieces_or p locals r left right ks) (opens_well (or_needs r) _ (hl test.Or _ (tt, hr test.And _ (closes_well (or_needs r) ks k))))
+      moved (pieces_or p locals r left right ks)
+      (opens_well (or_needs r) _ (hl test.Or _ (tt, hr test.And _ (closes_well (or_needs r) ks k))))
 
   -- names
   spells_variable : (x : Variable) → NameSpells (variable_name p locals x)
@@ -148,52 +161,70 @@ module _ (p : Program) (locals : List (List ℕ)) (names : NamesSpell p) (own : 
   spells_receive = by_place (position receives p.files)
 
   -- lists of values
-  spells_more : (es : List Expr) → Each (SpellsValue p locals) es → (ks : List Piece) → AreSpellable ks → AreSpellable (more_values p locals es ks)
+  spells_more : (es : List Expr) → Each (SpellsValue p locals) es → (ks : List Piece) → AreSpellable ks
+      → AreSpellable (more_values p locals es ks)
   spells_more [] h ks k = k
   spells_more (e ∷ es) h ks k = (tt, h.0 value.Sum _ (spells_more es h.1 ks k))
 
-  spells_arguments : (es : List Expr) → Each (SpellsValue p locals) es → (ks : List Piece) → AreSpellable ks → AreSpellable (arguments p locals es ks)
+  spells_arguments : (es : List Expr) → Each (SpellsValue p locals) es → (ks : List Piece) → AreSpellable ks
+      → AreSpellable (arguments p locals es ks)
   spells_arguments [] h ks k = k
   spells_arguments (e ∷ es) h ks k = (tt, h.0 value.Sum _ (spells_more es h.1 _ (tt, k)))
 
   -- lists of statements
-  spells_further : (xs : List Statement) → Each (SpellsStatement p locals) xs → (ks : List Piece) → AreSpellable ks → AreSpellable (more_statements p locals xs ks)
+  spells_further : (xs : List Statement) → Each (SpellsStatement p locals) xs → (ks : List Piece) → AreSpellable ks
+      → AreSpellable (more_statements p locals xs ks)
   spells_further [] h ks k = k
   spells_further (x ∷ xs) h ks k = (tt, h.0 _ (spells_further xs h.1 ks k))
 
-  spells_inner : (xs : List Statement) → Each (SpellsStatement p locals) xs → (ks : List Piece) → AreSpellable ks → AreSpellable (inner_pieces p locals xs ks)
+  spells_inner : (xs : List Statement) → Each (SpellsStatement p locals) xs → (ks : List Piece) → AreSpellable ks
+      → AreSpellable (inner_pieces p locals xs ks)
   spells_inner [] h ks k = k
   spells_inner (x ∷ []) h ks k = h.0 ks k
   spells_inner (x ∷ y ∷ xs) h ks k = (tt, h.0 _ (tt, h.1.0 _ (spells_further xs h.1.1 _ (tt, k))))
 
-  pub spells_body : (xs : List Statement) → Each (SpellsStatement p locals) xs → (ks : List Piece) → AreSpellable ks → AreSpellable (body_pieces p locals xs ks)
+  pub spells_body : (xs : List Statement) → Each (SpellsStatement p locals) xs → (ks : List Piece) → AreSpellable ks
+      → AreSpellable (body_pieces p locals xs ks)
   spells_body [] h ks k = k
   spells_body (x ∷ xs) h ks k = h.0 _ (spells_further xs h.1 ks k)
 
   -- statements
-  pub spells_assign : (to : Spot) (e : Expr) → SpellsSpot p locals to → SpellsValue p locals e → SpellsWhat p locals (what.Assign to e)
+  pub spells_assign : (to : Spot) (e : Expr) → SpellsSpot p locals to → SpellsValue p locals e
+      → SpellsWhat p locals (what.Assign to e)
   spells_assign to e ht he ks k = ht _ (tt, he value.Sum ks k)
 
-  pub spells_assign_call : (to : Spot) (number : ℕ) (es : List Expr) → SpellsSpot p locals to → Each (SpellsValue p locals) es
+  pub spells_assign_call : (to : Spot) (number : ℕ) (es : List Expr) → SpellsSpot p locals to
+      → Each (SpellsValue p locals) es
       → SpellsWhat p locals (what.AssignCall to number es)
-  spells_assign_call to number es ht he ks k = ht _ (tt, named_well (procedure_name p number) _ (names.procedures number) (spells_arguments es he ks k))
+  spells_assign_call to number es ht he ks k =
+      ht _ (tt, named_well (procedure_name p number) _ (names.procedures number) (spells_arguments es he ks k))
 
-  pub spells_if : (c : Cond) (first second : List Statement) → SpellsTest p locals c → Each (SpellsStatement p locals) first → Each (SpellsStatement p locals) second
+  pub spells_if : (c : Cond) (first second : List Statement) → SpellsTest p locals c
+      → Each (SpellsStatement p locals) first → Each (SpellsStatement p locals) second
       → SpellsWhat p locals (what.If c first second)
   spells_if c first second hc hf hs ks k =
-      moved (pieces_if p locals c first second ks) (tt, hc test.Or _ (tt, spells_inner first hf _ (tt, spells_inner second hs ks k)))
+      moved (pieces_if p locals c first second ks)
+      (tt, hc test.Or _ (tt, spells_inner first hf _ (tt, spells_inner second hs ks k)))
 
-  pub spells_while : (c : Cond) (body : List Statement) → SpellsTest p locals c → Each (SpellsStatement p locals) body → SpellsWhat p locals (what.While c body)
-  spells_while c body hc hb ks k = moved (pieces_while p locals c body ks) (tt, hc test.Or _ (tt, spells_inner body hb ks k))
+  pub spells_while : (c : Cond) (body : List Statement) → SpellsTest p locals c → Each (SpellsStatement p locals) body
+      → SpellsWhat p locals (what.While c body)
+  spells_while c body hc hb ks k =
+      moved (pieces_while p locals c body ks) (tt, hc test.Or _ (tt, spells_inner body hb ks k))
 
-  pub spells_for : (x : Variable) (from to : Expr) (body : List Statement) (last : ℕ) → SpellsValue p locals from → SpellsValue p locals to
+  pub spells_for : (x : Variable) (from to : Expr) (body : List Statement) (last : ℕ) → SpellsValue p locals from
+      → SpellsValue p locals to
       → Each (SpellsStatement p locals) body → SpellsWhat p locals (what.For x from to body last)
   spells_for x from to body last hf ht hb ks k =
-      moved (pieces_for p locals x from to body last ks)
-      (tt, named_well (variable_name p locals x) _ (spells_variable x) (tt, hf value.Sum _ (tt, ht value.Sum _ (tt, spells_inner body hb ks k))))
+      moved (pieces_for p locals x from to body last ks) (
+        tt,
+        named_well (variable_name p locals x) _ (spells_variable x)
+            (tt, hf value.Sum _ (tt, ht value.Sum _ (tt, spells_inner body hb ks k))),
+      )
 
-  pub spells_call : (number : ℕ) (es : List Expr) → Each (SpellsValue p locals) es → SpellsWhat p locals (what.Call number es)
-  spells_call number es he ks k = (tt, named_well (procedure_name p number) _ (names.procedures number) (spells_arguments es he ks k))
+  pub spells_call : (number : ℕ) (es : List Expr) → Each (SpellsValue p locals) es
+      → SpellsWhat p locals (what.Call number es)
+  spells_call number es he ks k =
+      (tt, named_well (procedure_name p number) _ (names.procedures number) (spells_arguments es he ks k))
 
   pub spells_return : SpellsWhat p locals (what.Return None)
   spells_return ks k = (tt, k)
@@ -201,7 +232,8 @@ module _ (p : Program) (locals : List (List ℕ)) (names : NamesSpell p) (own : 
   pub spells_answer : (e : Expr) → SpellsValue p locals e → SpellsWhat p locals (what.Return (Some e))
   spells_answer e h ks k = (tt, h value.Sum ks k)
 
-  pub spells_read_update : (buffer : ℕ) (most : Expr) (got : Variable) → SpellsValue p locals most → SpellsWhat p locals (what.ReadUpdate buffer most got)
+  pub spells_read_update : (buffer : ℕ) (most : Expr) (got : Variable) → SpellsValue p locals most
+      → SpellsWhat p locals (what.ReadUpdate buffer most got)
   spells_read_update buffer most got h ks k = (
     tt,
     (
@@ -217,10 +249,13 @@ module _ (p : Program) (locals : List (List ℕ)) (names : NamesSpell p) (own : 
     ),
   )
 
-  pub spells_reply : (buffer : ℕ) (count : Expr) → SpellsValue p locals count → SpellsWhat p locals (what.Reply buffer count)
-  spells_reply buffer count h ks k = (tt, (tt, (tt, named_well (item_name p buffer) _ (names.items buffer) (tt, h value.Sum _ (tt, k)))))
+  pub spells_reply : (buffer : ℕ) (count : Expr) → SpellsValue p locals count
+      → SpellsWhat p locals (what.Reply buffer count)
+  spells_reply buffer count h ks k =
+      (tt, (tt, (tt, named_well (item_name p buffer) _ (names.items buffer) (tt, h value.Sum _ (tt, k)))))
 
-  pub spells_write_read : (file buffer : ℕ) (send room : Expr) (got : Variable) → SpellsValue p locals send → SpellsValue p locals room
+  pub spells_write_read : (file buffer : ℕ) (send room : Expr) (got : Variable) → SpellsValue p locals send
+      → SpellsValue p locals room
       → SpellsWhat p locals (what.WriteRead file buffer send room got)
   spells_write_read file buffer send room got hs hr ks k = (
     tt,
@@ -230,8 +265,14 @@ module _ (p : Program) (locals : List (List ℕ)) (names : NamesSpell p) (own : 
         tt,
         named_well (file_name p file) _ (spells_file file) (
           tt,
-          named_well (item_name p buffer) _ (names.items buffer)
-              (tt, hs value.Sum _ (tt, hr value.Sum _ (tt, named_well (variable_name p locals got) _ (spells_variable got) (tt, k)))),
+          named_well (item_name p buffer) _ (names.items buffer) (
+            tt,
+            hs value.Sum _ (
+              tt,
+              hr value.Sum _
+                  (tt, named_well (variable_name p locals got) _ (spells_variable got) (tt, k)),
+            ),
+          ),
         ),
       ),
     ),
@@ -240,17 +281,23 @@ module _ (p : Program) (locals : List (List ℕ)) (names : NamesSpell p) (own : 
   -- CHECKPOINT and its list
   more_files_well : (files : List ℕ) (ks : List Piece) → AreSpellable ks → AreSpellable (more_files p files ks)
   more_files_well [] ks k = k
-  more_files_well (file ∷ files) ks k = (tt, named_well (file_name p file) _ (spells_file file) (more_files_well files ks k))
+  more_files_well (file ∷ files) ks k =
+      (tt, named_well (file_name p file) _ (spells_file file) (more_files_well files ks k))
 
   more_items_well : (items : List ℕ) (ks : List Piece) → AreSpellable ks → AreSpellable (more_items p items ks)
   more_items_well [] ks k = k
-  more_items_well (item ∷ items) ks k = (tt, named_well (item_name p item) _ (names.items item) (more_items_well items ks k))
+  more_items_well (item ∷ items) ks k =
+      (tt, named_well (item_name p item) _ (names.items item) (more_items_well items ks k))
 
   kept_well : (items files : List ℕ) (ks : List Piece) → AreSpellable ks → AreSpellable (kept p items files ks)
   kept_well [] [] ks k = k
-  kept_well [] (file ∷ files) ks k = (tt, named_well (file_name p file) _ (spells_file file) (more_files_well files _ (tt, k)))
-  kept_well (item ∷ items) files ks k =
-      (tt, named_well (item_name p item) _ (names.items item) (more_items_well items _ (more_files_well files _ (tt, k))))
+  kept_well [] (file ∷ files) ks k =
+      (tt, named_well (file_name p file) _ (spells_file file) (more_files_well files _ (tt, k)))
+  kept_well (item ∷ items) files ks k = (
+    tt,
+    named_well (item_name p item) _ (names.items item)
+        (more_items_well items _ (more_files_well files _ (tt, k))),
+  )
 
   pub spells_checkpoint : (items files : List ℕ) → SpellsWhat p locals (what.Checkpoint items files)
   spells_checkpoint items files ks k = (tt, (tt, kept_well items files ks k))
@@ -259,9 +306,16 @@ module _ (p : Program) (locals : List (List ℕ)) (names : NamesSpell p) (own : 
   spells_monitor ks k = (tt, (tt, k))
 
   -- OPEN
-  open_well : (found : Option FileUse) → FileSpells found → (ks : List Piece) → AreSpellable ks → AreSpellable (open_pieces p found ks)
+  open_well : (found : Option FileUse) → FileSpells found → (ks : List Piece) → AreSpellable ks
+      → AreSpellable (open_pieces p found ks)
   open_well None h ks k = k
-  open_well (Some opened) h ks k = (tt, (tt, (tt, (h.0, (tt, named_well (item_name p opened.item) _ (names.items opened.item) (tt, (h.1, (tt, k))))))))
+  open_well (Some opened) h ks k = (
+    tt,
+    (
+      tt,
+      (tt, (h.0, (tt, named_well (item_name p opened.item) _ (names.items opened.item) (tt, (h.1, (tt, k)))))),
+    ),
+  )
 
   pub spells_open : (file : ℕ) → SpellsWhat p locals (what.Open file)
   spells_open file ks k = open_well (slice_get p.files file) (names.files file) ks k

@@ -5,8 +5,10 @@ use Rattle.tal_tree.specs.declared.expression.Op.TheVariants as op
 use Rattle.tal_tree.specs.declared.expression.Rel.{Rel}
 use Rattle.tal_tree.specs.declared.expression.Rel.TheVariants as rel
 use Rattle.tal_tree.specs.declared.expression.Spot.{Spot, Local, Simple, Element}
-use Rattle.tal_tree.specs.declared.expression.Expr.{Expr, Number, Read', Minus', Two', Row_of-Spot, end_of-Spot, more_of-Spot, Row_of-Expr, end_of-Expr, more_of-Expr}
-use Rattle.tal_tree.specs.declared.expression.Cond.{Cond, Truth, Compare, Not', And', Or', Row_of-Cond, end_of-Cond, more_of-Cond}
+use Rattle.tal_tree.specs.declared.expression.Expr.{Expr, Number, Read', Minus', Two', Row_of-Spot, end_of-Spot}
+use Rattle.tal_tree.specs.declared.expression.Expr.{more_of-Spot, Row_of-Expr, end_of-Expr, more_of-Expr}
+use Rattle.tal_tree.specs.declared.expression.Cond.{Cond, Truth, Compare, Not', And', Or', Row_of-Cond, end_of-Cond}
+use Rattle.tal_tree.specs.declared.expression.Cond.{more_of-Cond}
 use Rattle.tal_tree.specs.declared.program.Program.{Program}
 use Rattle.tal_pieces.specs.declared.piece.Keyword.TheVariants as word
 use Rattle.tal_pieces.specs.declared.piece.Symbol.{Symbol}
@@ -49,7 +51,8 @@ value_needs value.Product op.Mul = false
 value_needs value.Product op.Div = false
 value_needs value.Factor o = true
 
--- a chain leans to the left: what stands left of an operator may be a chain of its kind, and what stands right of it binds more
+-- a chain leans to the left: what stands left of an operator may be a chain of its kind, and what stands right of it
+-- binds more
 abbrev pub left_rank : Op → ValueRank
 left_rank op.Add = value.Sum
 left_rank op.Sub = value.Sum
@@ -81,13 +84,15 @@ module _ (p : Program) (locals : List (List ℕ)) where
     value_pieces r (Read' _ row) ks = spot_in row ks
     value_pieces r (Minus' _ row) ks = piece.Symbol sign.Minus ∷ value_in value.Factor row ks
     value_pieces r (Two' o _ left _ right) ks =
-        opening (value_needs r o) (value_in (left_rank o) left (piece.Symbol (op_symbol o) ∷ value_in (right_rank o) right (closing (value_needs r o) ks)))
+        opening (value_needs r o) (value_in (left_rank o) left
+        (piece.Symbol (op_symbol o) ∷ value_in (right_rank o) right (closing (value_needs r o) ks)))
 
     pub spot_pieces : Spot → List Piece → List Piece
     spot_pieces (Local place) ks = named (slice_get locals place) ks
     spot_pieces (Simple item) ks = named (item_name p item) ks
     spot_pieces (Element item index) ks =
-        named (item_name p item) (piece.Symbol sign.OpenIndex ∷ value_pieces value.Sum index (piece.Symbol sign.CloseIndex ∷ ks))
+        named (item_name p item) (piece.Symbol sign.OpenIndex
+        ∷ value_pieces value.Sum index (piece.Symbol sign.CloseIndex ∷ ks))
 
     -- a box's one child: an empty row stands in no tree
     pub spot_in : {n : _} → Row_of-Spot n → List Piece → List Piece
@@ -102,12 +107,15 @@ module _ (p : Program) (locals : List (List ℕ)) where
   abbrev mutual
     pub test_pieces : TestRank → Cond → List Piece → List Piece
     test_pieces r (Truth expr) ks = value_pieces value.Sum expr ks
-    test_pieces r (Compare o left right) ks = value_pieces value.Sum left (piece.Symbol (rel_symbol o) ∷ value_pieces value.Sum right ks)
+    test_pieces r (Compare o left right) ks =
+        value_pieces value.Sum left (piece.Symbol (rel_symbol o) ∷ value_pieces value.Sum right ks)
     test_pieces r (Not' _ row) ks = piece.Keyword word.Not ∷ test_in test.Not row ks
     test_pieces r (And' _ left _ right) ks =
-        opening (and_needs r) (test_in test.And left (piece.Keyword word.And ∷ test_in test.Not right (closing (and_needs r) ks)))
+        opening (and_needs r) (test_in test.And left
+        (piece.Keyword word.And ∷ test_in test.Not right (closing (and_needs r) ks)))
     test_pieces r (Or' _ left _ right) ks =
-        opening (or_needs r) (test_in test.Or left (piece.Keyword word.Or ∷ test_in test.And right (closing (or_needs r) ks)))
+        opening (or_needs r) (test_in test.Or left
+        (piece.Keyword word.Or ∷ test_in test.And right (closing (or_needs r) ks)))
 
     pub test_in : {n : _} → TestRank → Row_of-Cond n → List Piece → List Piece
     test_in r end_of-Cond ks = ks
@@ -121,4 +129,5 @@ module _ (p : Program) (locals : List (List ℕ)) where
   -- the values of a call, in a list where there are any
   abbrev pub arguments : List Expr → List Piece → List Piece
   arguments [] ks = ks
-  arguments (expr ∷ rest) ks = piece.Symbol sign.Open ∷ value_pieces value.Sum expr (more_values rest (piece.Symbol sign.Close ∷ ks))
+  arguments (expr ∷ rest) ks =
+      piece.Symbol sign.Open ∷ value_pieces value.Sum expr (more_values rest (piece.Symbol sign.Close ∷ ks))

@@ -20,13 +20,15 @@ word_if wanted k ks = if wanted then piece.Keyword k ∷ ks else ks
 abbrev pub shape_pieces : Shape → List Piece → List Piece
 shape_pieces shape.Simple ks = ks
 shape_pieces (shape.Array low high) ks =
-    piece.Symbol sign.OpenIndex ∷ piece.Number low ∷ piece.Symbol sign.Colon ∷ piece.Number high ∷ piece.Symbol sign.CloseIndex ∷ ks
+    piece.Symbol sign.OpenIndex ∷ piece.Number low ∷ piece.Symbol sign.Colon ∷ piece.Number high
+    ∷ piece.Symbol sign.CloseIndex ∷ ks
 shape_pieces (shape.File number) ks = ks
 
 abbrev pub items_pieces : List Item → List Piece → List Piece
 items_pieces [] ks = ks
 items_pieces (i ∷ rest) ks =
-    piece.Keyword word.Int ∷ piece.Name i.name ∷ shape_pieces i.shape (piece.Symbol sign.Semicolon ∷ items_pieces rest ks)
+    piece.Keyword word.Int ∷ piece.Name i.name
+    ∷ shape_pieces i.shape (piece.Symbol sign.Semicolon ∷ items_pieces rest ks)
 
 abbrev pub more_names : List (List ℕ) → List Piece → List Piece
 more_names [] ks = ks
@@ -34,16 +36,19 @@ more_names (name ∷ rest) ks = piece.Symbol sign.Comma ∷ piece.Name name ∷ 
 
 abbrev pub parameters_pieces : List (List ℕ) → List Piece → List Piece
 parameters_pieces [] ks = ks
-parameters_pieces (name ∷ rest) ks = piece.Symbol sign.Open ∷ piece.Name name ∷ more_names rest (piece.Symbol sign.Close ∷ ks)
+parameters_pieces (name ∷ rest) ks =
+    piece.Symbol sign.Open ∷ piece.Name name ∷ more_names rest (piece.Symbol sign.Close ∷ ks)
 
 abbrev pub locals_pieces : List (List ℕ) → List Piece → List Piece
 locals_pieces [] ks = ks
-locals_pieces (name ∷ rest) ks = piece.Keyword word.Int ∷ piece.Name name ∷ piece.Symbol sign.Semicolon ∷ locals_pieces rest ks
+locals_pieces (name ∷ rest) ks =
+    piece.Keyword word.Int ∷ piece.Name name ∷ piece.Symbol sign.Semicolon ∷ locals_pieces rest ks
 
 -- what stands before a procedure's BEGIN: its heading and its parameters
 abbrev pub heading_pieces : Bool → Procedure → List Piece → List Piece
 heading_pieces is_main q ks =
-    word_if q.gives word.Int (piece.Keyword word.Proc ∷ piece.Name q.name ∷ parameters_pieces (take q.parameters q.locals)
+    word_if q.gives word.Int (piece.Keyword word.Proc ∷ piece.Name q.name
+    ∷ parameters_pieces (take q.parameters q.locals)
     (word_if is_main word.Main (piece.Symbol sign.Semicolon ∷ locals_pieces (take q.parameters q.locals) ks)))
 
 abbrev pub procedure_pieces : Program → Bool → Procedure → List Piece → List Piece
@@ -62,4 +67,5 @@ main_pieces p (q ∷ rest) ks = procedure_pieces p true q (procedures_pieces p r
 
 -- the pieces of a program's text
 abbrev pub printed : Program → List Piece
-printed p = items_pieces p.items (procedures_pieces p (take p.main p.procedures) (main_pieces p (drop p.main p.procedures) []))
+printed p = items_pieces p.items (procedures_pieces p (take p.main p.procedures)
+    (main_pieces p (drop p.main p.procedures) []))

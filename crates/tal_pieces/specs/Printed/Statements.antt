@@ -1,12 +1,14 @@
--- The pieces of statements. Each IF has an ELSE, so that each ELSE belongs to the nearest IF; BEGIN .. END stands only round two or more
--- statements in the place of one.
+-- The pieces of statements. Each IF has an ELSE, so that each ELSE belongs to the nearest IF; BEGIN .. END stands only
+-- round two or more statements in the place of one.
 use Rattle.std.specs.Prelude.{ℕ, pos, List, [], ◌∷◌, slice_get, Option, Some, None}
 use Rattle.tal_tree.specs.declared.program.FileUse.{FileUse}
 use Rattle.tal_tree.specs.declared.program.Program.{Program}
 use Rattle.tal_tree.specs.declared.expression.Expr.{Expr}
 use Rattle.tal_tree.specs.declared.expression.Variable.{Variable}
 use Rattle.tal_tree.specs.declared.statement.Statement.{Statement}
-use Rattle.tal_tree.specs.declared.statement.What.{What, Assign, AssignCall, If', While', For', Call, Return, ReadUpdate, Reply, WriteRead, Checkpoint, CheckMonitor, Open, Stop, Row_of-Statement, end_of-Statement, more_of-Statement}
+use Rattle.tal_tree.specs.declared.statement.What.{What, Assign, AssignCall, If', While', For', Call, Return}
+use Rattle.tal_tree.specs.declared.statement.What.{ReadUpdate, Reply, WriteRead, Checkpoint, CheckMonitor, Open, Stop}
+use Rattle.tal_tree.specs.declared.statement.What.{Row_of-Statement, end_of-Statement, more_of-Statement}
 use Rattle.tal_names.specs.declared.system.System.{System}
 use Rattle.tal_names.specs.declared.system.System.TheVariants as system
 use Rattle.tal_pieces.specs.declared.piece.Keyword.TheVariants as word
@@ -15,7 +17,8 @@ use Rattle.tal_pieces.specs.declared.piece.Piece.{Piece}
 use Rattle.tal_pieces.specs.declared.piece.Piece.TheVariants as piece
 use Rattle.tal_pieces.specs.declared.rank.ValueRank.TheVariants as value
 use Rattle.tal_pieces.specs.declared.rank.TestRank.TheVariants as test
-use Rattle.tal_pieces.specs.Printed.Names.{named, item_name, variable_name, procedure_name, file_name, receive_name, target_piece}
+use Rattle.tal_pieces.specs.Printed.Names.{named, item_name, variable_name, procedure_name, file_name, receive_name}
+use Rattle.tal_pieces.specs.Printed.Names.{target_piece}
 use Rattle.tal_pieces.specs.Printed.Expressions.{value_pieces, test_pieces, spot_pieces, arguments}
 
 abbrev pub comma : List Piece → List Piece
@@ -45,12 +48,14 @@ module _ (p : Program) where
   abbrev pub kept : List ℕ → List ℕ → List Piece → List Piece
   kept [] [] ks = ks
   kept [] (file ∷ files) ks = piece.Symbol sign.Open ∷ named (file_name p file) (more_files files (close ks))
-  kept (item ∷ items) files ks = piece.Symbol sign.Open ∷ named (item_name p item) (more_items items (more_files files (close ks)))
+  kept (item ∷ items) files ks =
+      piece.Symbol sign.Open ∷ named (item_name p item) (more_items items (more_files files (close ks)))
 
   abbrev pub open_pieces : Option FileUse → List Piece → List Piece
   open_pieces None ks = ks
   open_pieces (Some opened) ks =
-      calling system.Open (target_piece opened.target ∷ comma (named (item_name p opened.item) (comma (piece.Number (pos opened.depth) ∷ close ks))))
+      calling system.Open (target_piece opened.target
+      ∷ comma (named (item_name p opened.item) (comma (piece.Number (pos opened.depth) ∷ close ks))))
 
 module _ (p : Program) (locals : List (List ℕ)) where
   abbrev pub return_pieces : Option Expr → List Piece → List Piece
@@ -59,27 +64,39 @@ module _ (p : Program) (locals : List (List ℕ)) where
 
   abbrev pub read_update_pieces : ℕ → Expr → Variable → List Piece → List Piece
   read_update_pieces buffer most got ks =
-      calling system.ReadUpdate (named (receive_name p) (comma (named (item_name p buffer) (comma (value_pieces p locals value.Sum most (comma (named (variable_name p locals got) (close ks))))))))
+      calling system.ReadUpdate (named (receive_name p)
+      (comma (named (item_name p buffer) (comma
+      (value_pieces p locals value.Sum most (comma (named (variable_name p locals got) (close ks))))))))
 
   abbrev pub reply_pieces : ℕ → Expr → List Piece → List Piece
-  reply_pieces buffer count ks = calling system.Reply (named (item_name p buffer) (comma (value_pieces p locals value.Sum count (close ks))))
+  reply_pieces buffer count ks =
+      calling system.Reply (named (item_name p buffer) (comma (value_pieces p locals value.Sum count (close ks))))
 
   abbrev pub write_read_pieces : ℕ → ℕ → Expr → Expr → Variable → List Piece → List Piece
   write_read_pieces file buffer send room got ks =
-      calling system.WriteRead (named (file_name p file) (comma (named (item_name p buffer) (comma (value_pieces p locals value.Sum send (comma (value_pieces p locals value.Sum room (comma (named (variable_name p locals got) (close ks))))))))))
+      calling system.WriteRead (named (file_name p file)
+      (comma (named (item_name p buffer) (comma
+      (value_pieces p locals value.Sum send (comma
+      (value_pieces p locals value.Sum room (comma (named (variable_name p locals got) (close ks))))))))))
 
   abbrev mutual
     pub what_pieces : What → List Piece → List Piece
-    what_pieces (Assign to expr) ks = spot_pieces p locals to (piece.Symbol sign.Assign ∷ value_pieces p locals value.Sum expr ks)
+    what_pieces (Assign to expr) ks =
+        spot_pieces p locals to (piece.Symbol sign.Assign ∷ value_pieces p locals value.Sum expr ks)
     what_pieces (AssignCall to number values) ks =
-        spot_pieces p locals to (piece.Symbol sign.Assign ∷ named (procedure_name p number) (arguments p locals values ks))
+        spot_pieces p locals to (piece.Symbol sign.Assign
+        ∷ named (procedure_name p number) (arguments p locals values ks))
     what_pieces (If' cond _ first _ second) ks =
-        piece.Keyword word.If ∷ test_pieces p locals test.Or cond (piece.Keyword word.Then ∷ inner_row first (piece.Keyword word.Else ∷ inner_row second ks))
-    what_pieces (While' cond _ body) ks = piece.Keyword word.While ∷ test_pieces p locals test.Or cond (piece.Keyword word.Do ∷ inner_row body ks)
+        piece.Keyword word.If ∷ test_pieces p locals test.Or cond
+        (piece.Keyword word.Then ∷ inner_row first (piece.Keyword word.Else ∷ inner_row second ks))
+    what_pieces (While' cond _ body) ks =
+        piece.Keyword word.While ∷ test_pieces p locals test.Or cond (piece.Keyword word.Do ∷ inner_row body ks)
     what_pieces (For' counter from to _ body last) ks =
-        piece.Keyword word.For ∷ named (variable_name p locals counter) (piece.Symbol sign.Assign ∷ value_pieces p locals value.Sum from
+        piece.Keyword word.For ∷ named (variable_name p locals counter)
+        (piece.Symbol sign.Assign ∷ value_pieces p locals value.Sum from
         (piece.Keyword word.To ∷ value_pieces p locals value.Sum to (piece.Keyword word.Do ∷ inner_row body ks)))
-    what_pieces (Call number values) ks = piece.Keyword word.Call ∷ named (procedure_name p number) (arguments p locals values ks)
+    what_pieces (Call number values) ks =
+        piece.Keyword word.Call ∷ named (procedure_name p number) (arguments p locals values ks)
     what_pieces (Return given) ks = piece.Keyword word.Return ∷ return_pieces given ks
     what_pieces (ReadUpdate buffer most got) ks = read_update_pieces buffer most got ks
     what_pieces (Reply buffer count) ks = reply_pieces buffer count ks
@@ -94,7 +111,8 @@ module _ (p : Program) (locals : List (List ℕ)) where
     inner_row end_of-Statement ks = ks
     inner_row (more_of-Statement _ _ what end_of-Statement) ks = what_pieces what ks
     inner_row (more_of-Statement _ _ what (more_of-Statement _ _ next rest)) ks =
-        piece.Keyword word.Begin ∷ what_pieces what (piece.Symbol sign.Semicolon ∷ what_pieces next (more_row rest (piece.Keyword word.End ∷ ks)))
+        piece.Keyword word.Begin ∷ what_pieces what
+        (piece.Symbol sign.Semicolon ∷ what_pieces next (more_row rest (piece.Keyword word.End ∷ ks)))
 
     -- the statements after one
     pub more_row : {n : _} → Row_of-Statement n → List Piece → List Piece
@@ -110,7 +128,8 @@ module _ (p : Program) (locals : List (List ℕ)) where
   inner_pieces [] ks = ks
   inner_pieces (s ∷ []) ks = what_pieces s.what ks
   inner_pieces (s ∷ next ∷ rest) ks =
-      piece.Keyword word.Begin ∷ what_pieces s.what (piece.Symbol sign.Semicolon ∷ what_pieces next.what (more_statements rest (piece.Keyword word.End ∷ ks)))
+      piece.Keyword word.Begin ∷ what_pieces s.what
+      (piece.Symbol sign.Semicolon ∷ what_pieces next.what (more_statements rest (piece.Keyword word.End ∷ ks)))
 
   -- the statements of a procedure
   abbrev pub body_pieces : List Statement → List Piece → List Piece

@@ -71,7 +71,8 @@ pub data Globals : Type 0 where
 
 abbrev pub of_globals : Globals → List Token → List Token
 of_globals (int_line int first more end) ks = tok.Int int ∷ of_item first (of_items more (tok.Semicolon end ∷ ks))
-of_globals (literal_line word first more end) ks = tok.Literal word ∷ of_literal first (of_literals more (tok.Semicolon end ∷ ks))
+of_globals (literal_line word first more end) ks =
+    tok.Literal word ∷ of_literal first (of_literals more (tok.Semicolon end ∷ ks))
 
 -- lines = { globals }
 pub data Lines : Type 0 where
@@ -98,7 +99,8 @@ pub data Parameters : Type 0 where
 
 abbrev pub of_parameters : Parameters → List Token → List Token
 of_parameters no_parameters ks = ks
-of_parameters (parameters start at name more close) ks = tok.Open start ∷ tok.Name at name ∷ of_names more (tok.Close close ∷ ks)
+of_parameters (parameters start at name more close) ks =
+    tok.Open start ∷ tok.Name at name ∷ of_names more (tok.Close close ∷ ks)
 
 -- local = INT name names ";"
 pub data Local : Type 0 where

@@ -34,7 +34,8 @@ pub data Arguments : Type 0 where
 
 abbrev pub of_arguments : Arguments → List Token → List Token
 of_arguments unlisted ks = ks
-of_arguments (listed start first more close) ks = tok.Open start ∷ of_argument first (of_further more (tok.Close close ∷ ks))
+of_arguments (listed start first more close) ks =
+    tok.Open start ∷ of_argument first (of_further more (tok.Close close ∷ ks))
 
 -- values = { "," expr }
 pub data Values : Type 0 where
@@ -83,15 +84,18 @@ abbrev mutual
   pub of_statement : Statement → List Token → List Token
   of_statement nothing ks = ks
   of_statement (block begin first more end) ks = tok.Begin begin ∷ of_statement first (of_row more (tok.End end ∷ ks))
-  of_statement (if_then head test then_at s o) ks = tok.If head ∷ of_expr test (tok.Then then_at ∷ of_statement s (of_otherwise o ks))
+  of_statement (if_then head test then_at s o) ks =
+      tok.If head ∷ of_expr test (tok.Then then_at ∷ of_statement s (of_otherwise o ks))
   of_statement (while_do head test do_at s) ks = tok.While head ∷ of_expr test (tok.Do do_at ∷ of_statement s ks)
   of_statement (for_do head at name set_at from to_at to do_at s) ks =
-      tok.For head ∷ tok.Name at name ∷ tok.Assign set_at ∷ of_expr from (tok.To to_at ∷ of_expr to (tok.Do do_at ∷ of_statement s ks))
+      tok.For head ∷ tok.Name at name ∷ tok.Assign set_at
+      ∷ of_expr from (tok.To to_at ∷ of_expr to (tok.Do do_at ∷ of_statement s ks))
   of_statement (call head at name a) ks = tok.Call head ∷ tok.Name at name ∷ of_arguments a ks
   of_statement (return head a) ks = tok.Return head ∷ of_answer a ks
   of_statement (assign target at e) ks = of_spot target (tok.Assign at ∷ of_expr e ks)
   of_statement (assign_call target at name_at name start first more close) ks =
-      of_spot target (tok.Assign at ∷ tok.Name name_at name ∷ tok.Open start ∷ of_expr first (of_values more (tok.Close close ∷ ks)))
+      of_spot target (tok.Assign at ∷ tok.Name name_at name ∷ tok.Open start
+      ∷ of_expr first (of_values more (tok.Close close ∷ ks)))
 
   pub of_otherwise : Otherwise → List Token → List Token
   of_otherwise no_else ks = ks

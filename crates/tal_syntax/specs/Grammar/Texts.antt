@@ -12,7 +12,8 @@ pub data Procedure : Type 0 where
 
 abbrev pub of_procedure : Procedure → List Token → List Token
 of_procedure (procedure h outer begin inner first more end last) ks =
-    of_heading h (of_locals outer (tok.Begin begin ∷ of_locals inner (of_statement first (of_row more (tok.End end ∷ tok.Semicolon last ∷ ks)))))
+    of_heading h (of_locals outer (tok.Begin begin
+    ∷ of_locals inner (of_statement first (of_row more (tok.End end ∷ tok.Semicolon last ∷ ks)))))
 
 -- procedures = { procedure }
 pub data Procedures : Type 0 where

@@ -60,4 +60,5 @@ nest_main n g.not_main ls = ls
 nest_main n (g.is_main at) ls = n ∷ ls
 
 abbrev pub nest_heading : ℕ → g.Heading → List ℕ → List ℕ
-nest_heading n (g.heading gives proc at name p m end) ls = nest_gives n gives (n ∷ n ∷ nest_parameters n p (nest_main n m (n ∷ ls)))
+nest_heading n (g.heading gives proc at name p m end) ls =
+    nest_gives n gives (n ∷ n ∷ nest_parameters n p (nest_main n m (n ∷ ls)))

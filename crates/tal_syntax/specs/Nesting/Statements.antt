@@ -15,7 +15,8 @@ nest_further n (g.more_further comma a rest) ls = n ∷ nest_argument n a (nest_
 
 abbrev pub nest_arguments : ℕ → g.Arguments → List ℕ → List ℕ
 nest_arguments n g.unlisted ls = ls
-nest_arguments n (g.listed start first more close) ls = suc n ∷ nest_argument (suc n) first (nest_further (suc n) more (suc n ∷ ls))
+nest_arguments n (g.listed start first more close) ls =
+    suc n ∷ nest_argument (suc n) first (nest_further (suc n) more (suc n ∷ ls))
 
 abbrev pub nest_values : ℕ → g.Values → List ℕ → List ℕ
 nest_values n g.no_values ls = ls
@@ -29,16 +30,21 @@ abbrev mutual
   -- a statement is a level of its own; the empty one has no token
   pub nest_statement : ℕ → g.Statement → List ℕ → List ℕ
   nest_statement n g.nothing ls = ls
-  nest_statement n (g.block begin first more end) ls = suc n ∷ nest_statement (suc n) first (nest_row (suc n) more (suc n ∷ ls))
-  nest_statement n (g.if_then head test then_at s o) ls = suc n ∷ nest_expr (suc n) test (suc n ∷ nest_statement (suc n) s (nest_otherwise (suc n) o ls))
-  nest_statement n (g.while_do head test do_at s) ls = suc n ∷ nest_expr (suc n) test (suc n ∷ nest_statement (suc n) s ls)
+  nest_statement n (g.block begin first more end) ls =
+      suc n ∷ nest_statement (suc n) first (nest_row (suc n) more (suc n ∷ ls))
+  nest_statement n (g.if_then head test then_at s o) ls =
+      suc n ∷ nest_expr (suc n) test (suc n ∷ nest_statement (suc n) s (nest_otherwise (suc n) o ls))
+  nest_statement n (g.while_do head test do_at s) ls =
+      suc n ∷ nest_expr (suc n) test (suc n ∷ nest_statement (suc n) s ls)
   nest_statement n (g.for_do head at name set_at from to_at to do_at s) ls =
-      suc n ∷ suc n ∷ suc n ∷ nest_expr (suc n) from (suc n ∷ nest_expr (suc n) to (suc n ∷ nest_statement (suc n) s ls))
+      suc n ∷ suc n ∷ suc n ∷ nest_expr (suc n) from
+      (suc n ∷ nest_expr (suc n) to (suc n ∷ nest_statement (suc n) s ls))
   nest_statement n (g.call head at name a) ls = suc n ∷ suc n ∷ nest_arguments (suc n) a ls
   nest_statement n (g.return head a) ls = suc n ∷ nest_answer (suc n) a ls
   nest_statement n (g.assign target at e) ls = nest_spot (suc n) target (suc n ∷ nest_expr (suc n) e ls)
   nest_statement n (g.assign_call target at name_at name start first more close) ls =
-      nest_spot (suc n) target (suc n ∷ suc n ∷ suc (suc n) ∷ nest_expr (suc (suc n)) first (nest_values (suc (suc n)) more (suc (suc n) ∷ ls)))
+      nest_spot (suc n) target (suc n ∷ suc n ∷ suc (suc n)
+      ∷ nest_expr (suc (suc n)) first (nest_values (suc (suc n)) more (suc (suc n) ∷ ls)))
 
   pub nest_otherwise : ℕ → g.Otherwise → List ℕ → List ℕ
   nest_otherwise n g.no_else ls = ls

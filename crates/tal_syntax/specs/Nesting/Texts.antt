@@ -6,7 +6,8 @@ use Rattle.tal_syntax.specs.Nesting.Statements.{nest_statement, nest_row}
 
 abbrev pub nest_procedure : ℕ → g.Procedure → List ℕ → List ℕ
 nest_procedure n (g.procedure h outer begin inner first more end last) ls =
-    nest_heading n h (nest_locals n outer (n ∷ nest_locals n inner (nest_statement n first (nest_row n more (n ∷ n ∷ ls)))))
+    nest_heading n h (nest_locals n outer (n
+    ∷ nest_locals n inner (nest_statement n first (nest_row n more (n ∷ n ∷ ls)))))
 
 abbrev pub nest_procedures : ℕ → g.Procedures → List ℕ → List ℕ
 nest_procedures n g.no_procedures ls = ls

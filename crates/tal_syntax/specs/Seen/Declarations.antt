@@ -34,7 +34,8 @@ seen_constant (constant.Negative sign a) = g.negative sign (seen_atom a)
 
 abbrev pub seen_bounds : Bounds → g.Bounds
 seen_bounds bounds.Simple = g.unbounded
-seen_bounds (bounds.Array start low colon high close) = g.bounded start (seen_constant low) colon (seen_constant high) close
+seen_bounds (bounds.Array start low colon high close) =
+    g.bounded start (seen_constant low) colon (seen_constant high) close
 
 abbrev pub seen_item : Item → g.Item
 seen_item i = g.item i.at i.name (seen_bounds i.bounds)
@@ -92,4 +93,5 @@ seen_main main.Absent = g.not_main
 seen_main (main.Word at) = g.is_main at
 
 abbrev pub seen_heading : Heading → g.Heading
-seen_heading h = g.heading (seen_gives h.gives) h.proc_at h.at h.name (seen_parameters h.parameters) (seen_main h.main) h.end
+seen_heading h =
+    g.heading (seen_gives h.gives) h.proc_at h.at h.name (seen_parameters h.parameters) (seen_main h.main) h.end

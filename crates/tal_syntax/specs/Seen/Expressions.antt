@@ -18,9 +18,11 @@ use Rattle.tal_syntax.specs.declared.expression.Compared.{Compared}
 use Rattle.tal_syntax.specs.declared.expression.Compared.TheVariants as compared
 use Rattle.tal_syntax.specs.declared.expression.Sum.{Sum, Sum', Row_of-Term, end_of-Term, more_of-Term}
 use Rattle.tal_syntax.specs.declared.expression.Term.{Term, Term', out-Term}
-use Rattle.tal_syntax.specs.declared.expression.Product.{Product, Product', Row_of-NextFactor, end_of-NextFactor, more_of-NextFactor}
+use Rattle.tal_syntax.specs.declared.expression.Product.{Product, Product', Row_of-NextFactor, end_of-NextFactor}
+use Rattle.tal_syntax.specs.declared.expression.Product.{more_of-NextFactor}
 use Rattle.tal_syntax.specs.declared.expression.NextFactor.{NextFactor}
-use Rattle.tal_syntax.specs.declared.expression.Factor.{Factor, Row_of-Factor, end_of-Factor, more_of-Factor, Row_of-Expr, end_of-Expr, more_of-Expr}
+use Rattle.tal_syntax.specs.declared.expression.Factor.{Factor, Row_of-Factor, end_of-Factor, more_of-Factor}
+use Rattle.tal_syntax.specs.declared.expression.Factor.{Row_of-Expr, end_of-Expr, more_of-Expr}
 use Rattle.tal_syntax.specs.declared.expression.Factor.TheVariants as factor
 use Rattle.tal_syntax.specs.declared.expression.Spot.{Spot}
 use Rattle.tal_syntax.specs.declared.expression.Index.{Index}
@@ -84,14 +86,16 @@ abbrev mutual
 
   pub seen_next_terms : {n : _} → Row_of-Term n → g.Terms
   seen_next_terms end_of-Term = g.no_terms
-  seen_next_terms (more_of-Term (Term' sign p) rest) = g.more_terms (seen_sign sign) (seen_product p) (seen_next_terms rest)
+  seen_next_terms (more_of-Term (Term' sign p) rest) =
+      g.more_terms (seen_sign sign) (seen_product p) (seen_next_terms rest)
 
   pub seen_product : Product → g.Product
   seen_product (Product' first s more) = g.product (seen_factor first) (seen_next_factors more)
 
   pub seen_next_factors : {n : _} → Row_of-NextFactor n → g.Factors
   seen_next_factors end_of-NextFactor = g.no_factors
-  seen_next_factors (more_of-NextFactor scale f rest) = g.more_factors (seen_scale scale) (seen_factor f) (seen_next_factors rest)
+  seen_next_factors (more_of-NextFactor scale f rest) =
+      g.more_factors (seen_scale scale) (seen_factor f) (seen_next_factors rest)
 
   pub seen_factor : Factor → g.Factor
   seen_factor (factor.Minus' at s f) = g.minus at (seen_boxed_factor f)

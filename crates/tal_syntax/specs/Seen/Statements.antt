@@ -11,7 +11,8 @@ use Rattle.tal_syntax.specs.declared.statement.Arguments.TheVariants as argument
 use Rattle.tal_syntax.specs.declared.statement.NextValue.{NextValue}
 use Rattle.tal_syntax.specs.declared.statement.Answer.{Answer}
 use Rattle.tal_syntax.specs.declared.statement.Answer.TheVariants as answer
-use Rattle.tal_syntax.specs.declared.statement.Statement.{Statement, Row_of-Statement, end_of-Statement, more_of-Statement, Row_of-Next, end_of-Next, more_of-Next}
+use Rattle.tal_syntax.specs.declared.statement.Statement.{Statement, Row_of-Statement, end_of-Statement}
+use Rattle.tal_syntax.specs.declared.statement.Statement.{more_of-Statement, Row_of-Next, end_of-Next, more_of-Next}
 use Rattle.tal_syntax.specs.declared.statement.Statement.TheVariants as statement
 use Rattle.tal_syntax.specs.declared.statement.Otherwise.{Otherwise}
 use Rattle.tal_syntax.specs.declared.statement.Otherwise.TheVariants as otherwise
@@ -46,11 +47,14 @@ seen_answer (answer.Value e) = g.answer (seen_expr e)
 abbrev mutual
   pub seen_statement : Statement → g.Statement
   seen_statement statement.Nothing = g.nothing
-  seen_statement (statement.Block' begin s first t more end) = g.block begin (seen_boxed_statement first) (seen_nexts more) end
-  seen_statement (statement.If' t s body o) = g.if_then t.head (seen_expr t.test) t.end (seen_boxed_statement body) (seen_otherwise o)
+  seen_statement (statement.Block' begin s first t more end) =
+      g.block begin (seen_boxed_statement first) (seen_nexts more) end
+  seen_statement (statement.If' t s body o) =
+      g.if_then t.head (seen_expr t.test) t.end (seen_boxed_statement body) (seen_otherwise o)
   seen_statement (statement.While' t s body) = g.while_do t.head (seen_expr t.test) t.end (seen_boxed_statement body)
   seen_statement (statement.For' f s body) =
-      g.for_do f.head f.at f.name f.set_at (seen_expr f.from) f.to_at (seen_expr f.to) f.do_at (seen_boxed_statement body)
+      g.for_do f.head f.at f.name f.set_at (seen_expr f.from) f.to_at (seen_expr f.to) f.do_at
+      (seen_boxed_statement body)
   seen_statement (statement.Call c) = g.call c.head c.at c.name (seen_arguments c.arguments)
   seen_statement (statement.Return r) = g.return r.head (seen_answer r.answer)
   seen_statement (statement.Assign a) = g.assign (seen_spot a.target) a.at (seen_expr a.value)

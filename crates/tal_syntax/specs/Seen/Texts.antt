@@ -9,7 +9,8 @@ use Rattle.tal_syntax.specs.declared.text.Text.{Text}
 
 abbrev pub seen_procedure : Procedure → g.Procedure
 seen_procedure p =
-    g.procedure (seen_heading p.heading) (seen_locals p.outer) p.begin (seen_locals p.inner) (seen_statement p.first) (seen_row p.more) p.end p.last
+    g.procedure (seen_heading p.heading) (seen_locals p.outer) p.begin (seen_locals p.inner) (seen_statement p.first)
+    (seen_row p.more) p.end p.last
 
 abbrev pub link_procedures : Procedure → g.Procedures → g.Procedures
 link_procedures n rest = g.more_procedures (seen_procedure n) rest

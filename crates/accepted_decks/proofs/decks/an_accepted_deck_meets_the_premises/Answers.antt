@@ -6,11 +6,13 @@ returns c =
     let told : (bytes : _) (deck : _) → _ → IsTold deck.site = λ bytes deck decks. record {
       within = (c.a_deck_keeps_the_limits.ensures bytes deck decks).site;
       short = c.requests_of_a_deck_are_short.ensures bytes deck decks;
-      read = λ number spec program there pair. c.a_deck_reads_its_programs.ensures bytes deck number spec program decks there pair;
+      read = λ number spec program there pair.
+          c.a_deck_reads_its_programs.ensures bytes deck number spec program decks there pair;
     } in record {
       judgeable = λ bytes deck decks. judgeable-of deck.site (told bytes deck decks);
       startable = λ bytes deck decks. startable-of deck.site (told bytes deck decks);
       laid_out = λ bytes deck decks. laid-out-of deck.site (told bytes deck decks);
-      few = λ bytes deck stop decks. c.a_schedule_asks_for_few_events.ensures.asks deck stop (c.a_deck_keeps_the_limits.ensures bytes deck decks);
+      few = λ bytes deck stop decks. c.a_schedule_asks_for_few_events.ensures.asks deck stop
+          (c.a_deck_keeps_the_limits.ensures bytes deck decks);
       accepted = λ bytes deck decks are. accepted-of deck.site (told bytes deck decks) are;
     }

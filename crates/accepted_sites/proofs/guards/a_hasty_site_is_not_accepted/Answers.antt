@@ -20,14 +20,16 @@ use Rattle.accepted_sites.specs.Premises.{IsAcceptedSite}
 use Rattle.accepted_sites.proofs.Accepted.{accepted-fit}
 use Rattle.accepted_sites.proofs.guards.a_hasty_site_is_not_accepted.Goals as goal
 
-kept-by : {site : Site} {events : List Event} (acts : List Act) (p : Option (Played site (boot site) events)) → option_map (λ (run : Played site (boot site) events). acts_of run.world) p ≡ Some acts
+kept-by : {site : Site} {events : List Event} (acts : List Act) (p : Option (Played site (boot site) events))
+    → option_map (λ (run : Played site (boot site) events). acts_of run.world) p ≡ Some acts
     → (w : World) × IsRun site events w × (acts_of w ≡ acts)
 kept-by acts None e = absurd (cc)
 kept-by acts (Some run) e = (run.world, run.leads, some-same e)
 
 abbrev moves : List Move
 moves =
-    Enters 0 ∷ Runs 0 ∷ Runs 0 ∷ Runs 0 ∷ Brings 0 First ∷ Runs 0 ∷ Runs 0 ∷ Prints 0 0 ∷ Enters 0 ∷ Fails 0 ∷ Ticks 1 0 ∷ Brings 0 Second ∷ []
+    Enters 0 ∷ Runs 0 ∷ Runs 0 ∷ Runs 0 ∷ Brings 0 First ∷ Runs 0 ∷ Runs 0 ∷ Prints 0 0 ∷ Enters 0 ∷ Fails 0
+    ∷ Ticks 1 0 ∷ Brings 0 Second ∷ []
 
 -- the acts of the request that waits ahead are kept, with none held
 run : (w : World) × IsRun echo_site ahead_events w × (acts_of w ≡ ahead_acts)
@@ -35,7 +37,8 @@ unfolding out-What shown-the_row-Statement-0 shown out int_wrap
 run = kept-by ahead_acts (played echo_site moves (boot echo_site)) refl
 
 refused : IsAcceptedSite echo_site → ⊥
-refused accepted = ahead-impossible (subst (IsPossible echo_site) run.2 (kept-possible echo_site (accepted-fit echo_site accepted) ahead_events run.0 (omega arith) run.1))
+refused accepted = ahead-impossible (subst (IsPossible echo_site) run.2
+    (kept-possible echo_site (accepted-fit echo_site accepted) ahead_events run.0 (omega arith) run.1))
 
 pub returns : goal.returns
 returns c = record { run = run; impossible = ahead-impossible; refused = refused }

@@ -9,6 +9,7 @@ use Rattle.accepted_sites.proofs.guards.a_repeated_request_of_the_bank_is_an_ins
 pub returns : goal.returns
 returns c = record {
   run = (repeated.0, repeated.1);
-  possible = λ w run. kept-possible bank_site (accepted-fit bank_site bank-site-accepted) repeat_events w (omega arith) run;
+  possible = λ w run. kept-possible bank_site (accepted-fit bank_site bank-site-accepted) repeat_events w (omega arith)
+      run;
   shown = λ w run. kept-shown bank_site (accepted-fit bank_site bank-site-accepted) repeat_events w (omega arith) run;
 }

@@ -9,6 +9,8 @@ use Rattle.accepted_sites.proofs.guards.a_takeover_of_the_adder_is_an_instance.G
 pub returns : goal.returns
 returns c = record {
   run = (takeover.0, takeover.1);
-  possible = λ w run. kept-possible (adder_for (pos 5 ∷ [])) (accepted-fit (adder_for (pos 5 ∷ [])) (adders-accepted (pos 5 ∷ []))) takeover_events w (omega arith) run;
-  shown = λ w run. kept-shown (adder_for (pos 5 ∷ [])) (accepted-fit (adder_for (pos 5 ∷ [])) (adders-accepted (pos 5 ∷ []))) takeover_events w (omega arith) run;
+  possible = λ w run. kept-possible (adder_for (pos 5 ∷ []))
+      (accepted-fit (adder_for (pos 5 ∷ [])) (adders-accepted (pos 5 ∷ []))) takeover_events w (omega arith) run;
+  shown = λ w run. kept-shown (adder_for (pos 5 ∷ []))
+      (accepted-fit (adder_for (pos 5 ∷ [])) (adders-accepted (pos 5 ∷ []))) takeover_events w (omega arith) run;
 }

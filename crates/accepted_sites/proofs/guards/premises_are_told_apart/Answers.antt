@@ -23,11 +23,13 @@ returns c = record {
   long = too-long;
 }
   where
-    no-pair : (number : ℕ) (spec : ProcessSpec) (program : Program) → slice_get (asked_with 16).processes number ≡ Some spec → spec.what ≡ kind.Pair program → ⊥
+    no-pair : (number : ℕ) (spec : ProcessSpec) (program : Program)
+        → slice_get (asked_with 16).processes number ≡ Some spec → spec.what ≡ kind.Pair program → ⊥
     no-pair zero spec program there is = let same = some-same there in cc
     no-pair (suc number) spec program there is = cc
 
-    short : (terminal entered : ℕ) (words : List ℤ) → next_request (asked_with 16) terminal entered ≡ Some words → length words ≤ 16
+    short : (terminal entered : ℕ) (words : List ℤ) → next_request (asked_with 16) terminal entered ≡ Some words
+        → length words ≤ 16
     short zero zero words next = rw (← some-same next) (omega arith)
     short zero (suc entered) words next = absurd (cc)
     short (suc terminal) entered words next = absurd (cc)

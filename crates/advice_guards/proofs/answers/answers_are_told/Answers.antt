@@ -17,9 +17,12 @@ use Rattle.advice_guards.proofs.answers.answers_are_told.Goals as goal
 
 -- two files of depth 1
 
-both-one : (program : Program) → IsLeastDepth program 0 1 → IsLeastDepth program 1 1 → (file depth : ℕ) → slice_get (1 ∷ 1 ∷ []) file ≡ Some depth → IsLeastDepth program file depth
-both-one program first second zero depth there = subst (IsLeastDepth program 0) (let same : 1 ≡ depth = cc in same) first
-both-one program first second (suc zero) depth there = subst (IsLeastDepth program 1) (let same : 1 ≡ depth = cc in same) second
+both-one : (program : Program) → IsLeastDepth program 0 1 → IsLeastDepth program 1 1 → (file depth : ℕ)
+    → slice_get (1 ∷ 1 ∷ []) file ≡ Some depth → IsLeastDepth program file depth
+both-one program first second zero depth there =
+    subst (IsLeastDepth program 0) (let same : 1 ≡ depth = cc in same) first
+both-one program first second (suc zero) depth there =
+    subst (IsLeastDepth program 1) (let same : 1 ≡ depth = cc in same) second
 both-one program first second (suc (suc file)) depth there = absurd (cc)
 
 both-few : (file depth : ℕ) → slice_get (1 ∷ 1 ∷ []) file ≡ Some depth → depth ≤ 4
@@ -28,7 +31,8 @@ both-few (suc zero) depth there = let same : 1 ≡ depth = cc in omega arith
 both-few (suc (suc file)) depth there = absurd (cc)
 
 -- what holds of these holds of each among them
-each-of : (P : Advised → Type 0) (one first : Advised) (rest : List Advised) → P first → (IsAmong one rest → P one) → IsAmong one (first ∷ rest) → P one
+each-of : (P : Advised → Type 0) (one first : Advised) (rest : List Advised) → P first → (IsAmong one rest → P one)
+    → IsAmong one (first ∷ rest) → P one
 each-of P one first rest holds later (inl same) = subst P (sym same) holds
 each-of P one first rest holds later (inr among) = later among
 
@@ -46,8 +50,10 @@ at_turn = record { statement = 4; line = 14; items = 0 ∷ 5 ∷ 6 ∷ []; files
 serving-list : IsLeastList serving at_turn
 unfolding out-What shown-the_row-Statement-0 shown out
 serving-list = record {
-  items = items-are serving serving_stands serving_ways serving-all 4 ((0, 1 ∷ 2 ∷ 3 ∷ []) ∷ (5, 1 ∷ 2 ∷ 3 ∷ []) ∷ (6, 1 ∷ 2 ∷ 3 ∷ []) ∷ []) refl refl;
-  files = files-are serving serving_stands serving_ways serving-all 4 ((1, 1 ∷ 2 ∷ 3 ∷ 4 ∷ 5 ∷ 6 ∷ 1 ∷ 2 ∷ 3 ∷ []) ∷ []) refl refl;
+  items = items-are serving serving_stands serving_ways serving-all 4
+      ((0, 1 ∷ 2 ∷ 3 ∷ []) ∷ (5, 1 ∷ 2 ∷ 3 ∷ []) ∷ (6, 1 ∷ 2 ∷ 3 ∷ []) ∷ []) refl refl;
+  files = files-are serving serving_stands serving_ways serving-all 4
+      ((1, 1 ∷ 2 ∷ 3 ∷ 4 ∷ 5 ∷ 6 ∷ 1 ∷ 2 ∷ 3 ∷ []) ∷ []) refl refl;
   ascending_items = in-order (0 ∷ 5 ∷ 6 ∷ []) refl;
   ascending_files = in-order (1 ∷ []) refl;
 }
@@ -97,7 +103,8 @@ returns-clause-server c = record {
   lines = refl;
   lists = λ one. each-of (IsLeastList serving) one at_turn [] serving-list (λ among. absurd among);
   count = refl;
-  depths = both-one serving (one-least serving serving_stands serving_ways serving-all 0 refl) (one-least serving serving_stands serving_ways serving-all 1 refl);
+  depths = both-one serving (one-least serving serving_stands serving_ways serving-all 0 refl)
+      (one-least serving serving_stands serving_ways serving-all 1 refl);
   few = both-few;
 }
 
@@ -109,8 +116,10 @@ returns-clause-several c = record {
   numbers = refl;
   lines = refl;
   lists = λ one. each-of (IsLeastList two_lists) one first (second ∷ third ∷ []) first-list
-      (each-of (IsLeastList two_lists) one second (third ∷ []) second-list (each-of (IsLeastList two_lists) one third [] third-list (λ among. absurd among)));
+      (each-of (IsLeastList two_lists) one second (third ∷ []) second-list
+      (each-of (IsLeastList two_lists) one third [] third-list (λ among. absurd among)));
   count = refl;
-  depths = both-one two_lists (one-least two_lists two_stands two_ways two_lists-all 0 refl) (one-least two_lists two_stands two_ways two_lists-all 1 refl);
+  depths = both-one two_lists (one-least two_lists two_stands two_ways two_lists-all 0 refl)
+      (one-least two_lists two_stands two_ways two_lists-all 1 refl);
   few = both-few;
 }

@@ -27,12 +27,15 @@ five-bounds : IsWithinBounds asking_five
 unfolding out-What shown-the_row-Statement-0 shown out
 five-bounds = record { depth = omega arith; size = omega arith }
 
-hasty-late : (n : ℕ) → n < 1 → IsTrue (list_all (λ (stand : Stand). not (breaks_at (deepest hasty) Input stand)) (after_steps (deepest hasty) n (first_stand (deepest hasty) ∷ [])))
+hasty-late : (n : ℕ) → n < 1 → IsTrue (list_all (λ (stand : Stand). not (breaks_at (deepest hasty) Input stand))
+    (after_steps (deepest hasty) n (first_stand (deepest hasty) ∷ [])))
 unfolding out-What shown-the_row-Statement-0 shown out
 hasty-late zero less = refl
 hasty-late (suc n) less = absurd (omega arith)
 
-five-late : (n : ℕ) → n < 4 → IsTrue (list_all (λ (stand : Stand). not (breaks_at (deepest asking_five) (Depth 1) stand)) (after_steps (deepest asking_five) n (first_stand (deepest asking_five) ∷ [])))
+five-late : (n : ℕ) → n < 4 → IsTrue (list_all
+    (λ (stand : Stand). not (breaks_at (deepest asking_five) (Depth 1) stand))
+    (after_steps (deepest asking_five) n (first_stand (deepest asking_five) ∷ [])))
 unfolding out-What shown-the_row-Statement-0 shown out
 five-late zero less = refl
 five-late (suc zero) less = refl
@@ -40,19 +43,24 @@ five-late (suc (suc zero)) less = refl
 five-late (suc (suc (suc zero))) less = refl
 five-late (suc (suc (suc (suc n)))) less = absurd (omega arith)
 
-none-before-input : (earlier : Reason) (path : List ℕ) → IsBeyondLists earlier → IsEarlier earlier Input → Breaks (deepest hasty) path earlier → ⊥
+none-before-input : (earlier : Reason) (path : List ℕ) → IsBeyondLists earlier → IsEarlier earlier Input
+    → Breaks (deepest hasty) path earlier → ⊥
 none-before-input (Data item) path beyond before broken = beyond
 none-before-input (SyncBlock file) path beyond before broken = beyond
 none-before-input Input path beyond before broken = before
 none-before-input (Depth file) path beyond before broken = before
 
-none-before-depth : (earlier : Reason) (path : List ℕ) → IsBeyondLists earlier → IsEarlier earlier (Depth 1) → Breaks (deepest asking_five) path earlier → ⊥
+none-before-depth : (earlier : Reason) (path : List ℕ) → IsBeyondLists earlier → IsEarlier earlier (Depth 1)
+    → Breaks (deepest asking_five) path earlier → ⊥
 unfolding out-What shown-the_row-Statement-0 shown out
 none-before-depth (Data item) path beyond before broken = beyond
 none-before-depth (SyncBlock file) path beyond before broken = beyond
-none-before-depth Input path beyond before broken = unbroken (deepest asking_five) five_stands two_ways deepest_five-all Input refl path broken
-none-before-depth (Depth zero) path beyond before broken = unbroken (deepest asking_five) five_stands two_ways deepest_five-all (Depth 0) refl path broken
-none-before-depth (Depth (suc file)) path beyond before broken = let less : suc file < 1 = before in absurd (omega arith)
+none-before-depth Input path beyond before broken =
+    unbroken (deepest asking_five) five_stands two_ways deepest_five-all Input refl path broken
+none-before-depth (Depth zero) path beyond before broken =
+    unbroken (deepest asking_five) five_stands two_ways deepest_five-all (Depth 0) refl path broken
+none-before-depth (Depth (suc file)) path beyond before broken =
+    let less : suc file < 1 = before in absurd (omega arith)
 
 pub returns-clause-input : goal.returns-clause-input
 unfolding out-What shown-the_row-Statement-0 shown out

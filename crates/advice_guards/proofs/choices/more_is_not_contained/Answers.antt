@@ -8,4 +8,5 @@ pub returns-clause-files : goal.returns-clause-files
 returns-clause-files c = λ is. let wrong : false ≡ true = is.files 0 1 refl in absurd (cc)
 
 pub returns-clause-depths : goal.returns-clause-depths
-returns-clause-depths c = λ is. let wrong : 2 ≤ 1 = is.depths 0 (let inside : 0 < 2 = omega arith in inside) in absurd (omega arith)
+returns-clause-depths c =
+    λ is. let wrong : 2 ≤ 1 = is.depths 0 (let inside : 0 < 2 = omega arith in inside) in absurd (omega arith)

@@ -37,10 +37,13 @@ pub returns-clause-file : goal.returns-clause-file
 returns-clause-file c = λ is. unopened (is.files 0 0 refl)
 
 pub returns-clause-low : goal.returns-clause-low
-returns-clause-low c = λ is. let wrong : 1 ≤ 0 = is.lowest 0 (let inside : 0 < 2 = omega arith in inside) in absurd (omega arith)
+returns-clause-low c =
+    λ is. let wrong : 1 ≤ 0 = is.lowest 0 (let inside : 0 < 2 = omega arith in inside) in absurd (omega arith)
 
 pub returns-clause-high : goal.returns-clause-high
-returns-clause-high c = λ is. let wrong : 5 ≤ 4 = is.highest 1 (let inside : 1 < 2 = omega arith in inside) in absurd (omega arith)
+returns-clause-high c =
+    λ is. let wrong : 5 ≤ 4 = is.highest 1 (let inside : 1 < 2 = omega arith in inside) in absurd (omega arith)
 
 pub returns-clause-receive : goal.returns-clause-receive
-returns-clause-receive c = λ is. let wrong : ◌≡◌ {A = ℕ} 2 1 = is.receive 0 (record { item = 3; target = target.Receive; depth = 1 }) refl refl in absurd (omega arith)
+returns-clause-receive c = λ is. let wrong : ◌≡◌ {A = ℕ} 2 1 =
+    is.receive 0 (record { item = 3; target = target.Receive; depth = 1 }) refl refl in absurd (omega arith)

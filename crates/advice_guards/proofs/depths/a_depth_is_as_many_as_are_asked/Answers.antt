@@ -5,7 +5,8 @@ use Rattle.tal_tree.specs.declared.statement.What.TheBlock.{shown-the_row-Statem
 use Rattle.advice_guards.specs.Programs.{two_lists, asking_once, asking_twice, asking_four}
 use Rattle.advice_guards.proofs.All.{two_lists-all, asking_once-all, asking_twice-all, asking_four-all}
 use Rattle.advice_guards.proofs.Listed.{one-least, more-least}
-use Rattle.advice_guards.proofs.Stands.{two_stands, two_ways, three_ways, once_stands, twice_stands, four_stands, four_ways}
+use Rattle.advice_guards.proofs.Stands.{two_stands, two_ways, three_ways, once_stands, twice_stands, four_stands}
+use Rattle.advice_guards.proofs.Stands.{four_ways}
 use Rattle.advice_guards.proofs.depths.a_depth_is_as_many_as_are_asked.Goals as goal
 
 pub returns-clause-unasked : goal.returns-clause-unasked

@@ -10,4 +10,5 @@ use Rattle.advice_guards.proofs.lists.a_checkpoint_has_one_list.Goals as goal
 
 pub returns : goal.returns
 unfolding out-What shown-the_row-Statement-0 shown out
-returns c = items-are shared shared_stands shared_ways shared-all 1 ((0, 2 ∷ 3 ∷ []) ∷ (1, 2 ∷ 3 ∷ 1 ∷ 4 ∷ 5 ∷ []) ∷ []) refl refl
+returns c = items-are shared shared_stands shared_ways shared-all 1
+    ((0, 2 ∷ 3 ∷ []) ∷ (1, 2 ∷ 3 ∷ 1 ∷ 4 ∷ 5 ∷ []) ∷ []) refl refl

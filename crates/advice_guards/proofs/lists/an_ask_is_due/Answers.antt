@@ -10,7 +10,8 @@ use Rattle.advice_guards.proofs.lists.an_ask_is_due.Goals as goal
 
 pub returns-clause-items : goal.returns-clause-items
 unfolding out-What shown-the_row-Statement-0 shown out
-returns-clause-items c = items-are asking_once once_stands three_ways asking_once-all 2 ((5, 1 ∷ []) ∷ (6, 1 ∷ []) ∷ []) refl refl
+returns-clause-items c =
+    items-are asking_once once_stands three_ways asking_once-all 2 ((5, 1 ∷ []) ∷ (6, 1 ∷ []) ∷ []) refl refl
 
 pub returns-clause-files : goal.returns-clause-files
 unfolding out-What shown-the_row-Statement-0 shown out

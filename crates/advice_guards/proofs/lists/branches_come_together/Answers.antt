@@ -10,4 +10,5 @@ use Rattle.advice_guards.proofs.lists.branches_come_together.Goals as goal
 
 pub returns : goal.returns
 unfolding out-What shown-the_row-Statement-0 shown out
-returns c = items-are branching branching_stands branching_ways branching-all 4 ((0, 1 ∷ 2 ∷ []) ∷ (1, 1 ∷ 3 ∷ []) ∷ []) refl refl
+returns c = items-are branching branching_stands branching_ways branching-all 4
+    ((0, 1 ∷ 2 ∷ []) ∷ (1, 1 ∷ 3 ∷ []) ∷ []) refl refl

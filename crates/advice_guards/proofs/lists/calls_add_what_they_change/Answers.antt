@@ -10,7 +10,8 @@ use Rattle.advice_guards.proofs.lists.calls_add_what_they_change.Goals as goal
 
 pub returns-clause-called : goal.returns-clause-called
 unfolding out-What shown-the_row-Statement-0 shown out
-returns-clause-called c = items-are calling calling_stands four_ways calling-all 4 ((0, 2 ∷ 3 ∷ 1 ∷ []) ∷ (1, 2 ∷ 3 ∷ 1 ∷ []) ∷ []) refl refl
+returns-clause-called c =
+    items-are calling calling_stands four_ways calling-all 4 ((0, 2 ∷ 3 ∷ 1 ∷ []) ∷ (1, 2 ∷ 3 ∷ 1 ∷ []) ∷ []) refl refl
 
 pub returns-clause-inside : goal.returns-clause-inside
 unfolding out-What shown-the_row-Statement-0 shown out
@@ -18,4 +19,5 @@ returns-clause-inside c = items-are targeting targeting_stands three_ways target
 
 pub returns-clause-target : goal.returns-clause-target
 unfolding out-What shown-the_row-Statement-0 shown out
-returns-clause-target c = items-are targeting targeting_stands three_ways targeting-all 3 ((0, 2 ∷ 1 ∷ []) ∷ []) refl refl
+returns-clause-target c =
+    items-are targeting targeting_stands three_ways targeting-all 3 ((0, 2 ∷ 1 ∷ []) ∷ []) refl refl

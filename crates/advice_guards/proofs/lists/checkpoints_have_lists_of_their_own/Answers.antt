@@ -18,7 +18,8 @@ returns-clause-second c = items-are two_lists two_stands two_ways two_lists-all 
 
 pub returns-clause-third : goal.returns-clause-third
 unfolding out-What shown-the_row-Statement-0 shown out
-returns-clause-third c = items-are two_lists two_stands two_ways two_lists-all 5 ((1, 1 ∷ 2 ∷ 3 ∷ 4 ∷ []) ∷ []) refl refl
+returns-clause-third c =
+    items-are two_lists two_stands two_ways two_lists-all 5 ((1, 1 ∷ 2 ∷ 3 ∷ 4 ∷ []) ∷ []) refl refl
 
 pub returns-clause-none : goal.returns-clause-none
 unfolding out-What shown-the_row-Statement-0 shown out

@@ -10,7 +10,8 @@ use Rattle.advice_guards.proofs.lists.what_no_path_reaches_adds_nothing.Goals as
 
 pub returns-clause-reached : goal.returns-clause-reached
 unfolding out-What shown-the_row-Statement-0 shown out
-returns-clause-reached c = items-are unreached unreached_stands unreached_ways unreached-all 5 ((0, 1 ∷ 2 ∷ []) ∷ []) refl refl
+returns-clause-reached c =
+    items-are unreached unreached_stands unreached_ways unreached-all 5 ((0, 1 ∷ 2 ∷ []) ∷ []) refl refl
 
 pub returns-clause-unreached : goal.returns-clause-unreached
 unfolding out-What shown-the_row-Statement-0 shown out

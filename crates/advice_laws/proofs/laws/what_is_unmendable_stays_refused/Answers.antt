@@ -11,6 +11,8 @@ returns c = record {
       beyond-stays program reason path unmendable.beyond unmendable.shortest.breaks choice chosen accepted;
   bounds = λ program choice accepted. bounds-own choice program accepted.bounds;
   answered = λ program advice reason path regular answer unmendable.
-      beyond-stays program reason path unmendable.beyond unmendable.shortest.breaks (choice_of advice) (answer-choice program advice answer regular)
-      (advice-accepted (choice_of advice) program answer.bounds answer.input (answer-advice program advice answer regular));
+      beyond-stays program reason path unmendable.beyond unmendable.shortest.breaks (choice_of advice)
+      (answer-choice program advice answer regular)
+      (advice-accepted (choice_of advice) program answer.bounds answer.input
+      (answer-advice program advice answer regular));
 }

@@ -8,4 +8,5 @@ pub loop-place-preserved : goal.loop-place-preserved
 loop-place-preserved c =
     ap (λ items. set items c.loop-place.place c.is_silent.result) c.loop-place.invariant
     ∙ ap (set _ c.loop-place.place) c.is_silent.ensures
-    ∙ mapped-more is_silent c.args.neighbours.now _ c.loop-place.place Absent (omega (arith, c.told-neighbours, c.loop-place-test.true)) c.loop-place-test.true
+    ∙ mapped-more is_silent c.args.neighbours.now _ c.loop-place.place Absent
+    (omega (arith, c.told-neighbours, c.loop-place-test.true)) c.loop-place-test.true

@@ -20,7 +20,8 @@ use Rattle.awaited_requests.specs.Served.{request_of, IsServed, route_stopped, i
 use Rattle.awaited_requests.proofs.guards.a_lost_request_is_not_served.Goals as goal
 
 -- no copy awaits
-none-awaits : (k : Which) → (copy_of k disc_pair).role ≡ Acting → process.point (copy_of k disc_pair).core.state ≡ point.Await → ⊥
+none-awaits : (k : Which) → (copy_of k disc_pair).role ≡ Acting
+    → process.point (copy_of k disc_pair).core.state ≡ point.Await → ⊥
 none-awaits First role awaits = absurd (cc)
 none-awaits Second role awaits = absurd (cc)
 
@@ -31,26 +32,39 @@ all-served : (asker : ℕ) (one : Who) (n : ℕ) (opener : Opener) (pair : Pair)
 all-served asker one n opener pair opens there (by_copy {number = zero} copies k at role awaits named next) =
     absurd (none-awaits k (subst (λ (p : Pair). (copy_of k p).role ≡ Acting) (sym (some-same at)) role)
     (subst (λ (p : Pair). process.point (copy_of k p).core.state ≡ point.Await) (sym (some-same at)) awaits))
-all-served asker one n opener pair opens there (by_copy {number = suc number} copies k at role awaits named next) = absurd (cc)
+all-served asker one n opener pair opens there (by_copy {number = suc number} copies k at role awaits named next) =
+    absurd (cc)
 all-served asker one n opener pair opens there (by_terminal {number = zero} terminal at awaits) =
     by terminal (some-same at) opener (some-same opens) pair there
   where
-    owed : IsServed disc_site (entered_with (letter_to 0 ∷ [])) terminal_node (who.Terminal 0) 1 (record { server = 0; place = 0 }) disc_pair
+    owed : IsServed disc_site (entered_with (letter_to 0 ∷ [])) terminal_node (who.Terminal 0) 1
+        (record { server = 0; place = 0 }) disc_pair
     owed = is_owed (pos 2 ∷ pos 1 ∷ pos 5 ∷ []) (inl refl)
 
-    by : (terminal : Terminal) → record { entered = 1; printed = 0 } ≡ terminal → (opener : Opener) → record { server = 0; place = 0 } ≡ opener → (pair : Pair)
+    by : (terminal : Terminal) → record { entered = 1; printed = 0 } ≡ terminal → (opener : Opener)
+        → record { server = 0; place = 0 } ≡ opener → (pair : Pair)
         → slice_get (disc_pair ∷ []) opener.server ≡ Some pair
-        → IsServed disc_site (entered_with (letter_to 0 ∷ [])) terminal_node (who.Terminal 0) terminal.entered opener pair
+        → IsServed disc_site (entered_with (letter_to 0 ∷ [])) terminal_node (who.Terminal 0) terminal.entered opener
+        pair
     by terminal same opener is pair there =
-        let copies : disc_pair ≡ pair = some-same (subst (λ (o : Opener). slice_get (disc_pair ∷ []) o.server ≡ Some pair) (sym is) there) in
-        subst (λ (t : Terminal). IsServed disc_site (entered_with (letter_to 0 ∷ [])) terminal_node (who.Terminal 0) t.entered opener pair) same
-        (subst (λ (o : Opener). IsServed disc_site (entered_with (letter_to 0 ∷ [])) terminal_node (who.Terminal 0) 1 o pair) is
-        (subst (IsServed disc_site (entered_with (letter_to 0 ∷ [])) terminal_node (who.Terminal 0) 1 (record { server = 0; place = 0 })) copies owed))
+        let copies : disc_pair ≡ pair =
+        some-same (subst (λ (o : Opener). slice_get (disc_pair ∷ []) o.server ≡ Some pair) (sym is) there) in
+        subst (λ (t : Terminal). IsServed disc_site (entered_with (letter_to 0 ∷ [])) terminal_node (who.Terminal 0)
+        t.entered opener pair) same
+        (subst (λ (o : Opener). IsServed disc_site (entered_with (letter_to 0 ∷ [])) terminal_node (who.Terminal 0) 1 o
+        pair) is
+        (subst (IsServed disc_site (entered_with (letter_to 0 ∷ [])) terminal_node (who.Terminal 0) 1
+        (record { server = 0; place = 0 })) copies owed))
 all-served asker one n opener pair opens there (by_terminal {number = suc number} terminal at awaits) = absurd (cc)
 
 -- nothing is owed to the first copy, and nothing waits there
-not-served : (owed : List Letter) → IsServed disc_site (entered_with owed) terminal_node (who.Terminal 0) 1 (record { server = 0; place = 0 }) disc_pair
-    → ((words : List _) → IsAmong (record { sender = terminal_node; receiver = 0; message = Asking (request_of (record { server = 0; place = 0 }) 1 words) }) owed → ⊥) → ⊥
+not-served : (owed : List Letter) → IsServed disc_site (entered_with owed) terminal_node (who.Terminal 0) 1
+    (record { server = 0; place = 0 }) disc_pair
+    → ((words : List _) → IsAmong (record {
+      sender = terminal_node;
+      receiver = 0;
+      message = Asking (request_of (record { server = 0; place = 0 }) 1 words);
+    }) owed → ⊥) → ⊥
 not-served owed (route_stopped stopped) none = absurd (cc)
 not-served owed (is_owed words among) none = none words among
 not-served owed (is_seen First at seen) none = absurd ((seen.next refl refl).1)
@@ -61,10 +75,16 @@ returns-clause-owed c = all-served
 
 pub returns-clause-elsewhere : goal.returns-clause-elsewhere
 returns-clause-elsewhere c = λ served. not-served (letter_to 1 ∷ [])
-    (served terminal_node (who.Terminal 0) 1 (record { server = 0; place = 0 }) disc_pair refl refl (by_terminal {number = 0} (record { entered = 1; printed = 0 }) refl refl))
-    (λ words among. elim among [ inl same ↦ absurd (let there : 0 ≡ 1 = ap (λ (letter : Letter). letter.receiver) same in cc) | inr none ↦ none ])
+    (served terminal_node (who.Terminal 0) 1 (record { server = 0; place = 0 }) disc_pair refl refl
+    (by_terminal {number = 0} (record { entered = 1; printed = 0 }) refl refl))
+    (λ words among. elim among [
+      | inl same ↦ absurd
+          (let there : 0 ≡ 1 = ap (λ (letter : Letter). letter.receiver) same in cc)
+      | inr none ↦ none
+    ])
 
 pub returns-clause-lost : goal.returns-clause-lost
 returns-clause-lost c = λ served. not-served []
-    (served terminal_node (who.Terminal 0) 1 (record { server = 0; place = 0 }) disc_pair refl refl (by_terminal {number = 0} (record { entered = 1; printed = 0 }) refl refl))
+    (served terminal_node (who.Terminal 0) 1 (record { server = 0; place = 0 }) disc_pair refl refl
+    (by_terminal {number = 0} (record { entered = 1; printed = 0 }) refl refl))
     (λ words among. among)

@@ -11,14 +11,21 @@ use Rattle.channel_laws.proofs.laws.packets_fit_the_layout.Goals as goal
 
 kind-fits : (there back : Way) (k : PacketKind) → IsTold there back k → is_kind k ≡ true
 kind-fits there back kind.Alive o = refl
-kind-fits there back (kind.Piece number piece) o = rw (lt-ltb 0 number (omega (arith, o.0.count)), piece-fits piece o.0.k o.0.message o.0.cut) refl
+kind-fits there back (kind.Piece number piece) o =
+    rw (lt-ltb 0 number (omega (arith, o.0.count)), piece-fits piece o.0.k o.0.message o.0.cut) refl
 kind-fits there back (kind.Acknowledgement number) o = lt-ltb 0 number o.0
 
 pub returns : goal.returns
 returns c n p w i from to here there =
     let r = w.flight p i in
-    let q : Packet = record { sender = p.sender; receiver = p.receiver; incarnation = incarnation_of n.reloads p.sender p.receiver; kind = p.kind } in
-    let same : ◌≡◌ {A = Packet} p q = λ i. record { sender = p.sender; receiver = p.receiver; incarnation = r.incarnation i; kind = p.kind } in
+    let q : Packet = record {
+      sender = p.sender;
+      receiver = p.receiver;
+      incarnation = incarnation_of n.reloads p.sender p.receiver;
+      kind = p.kind;
+    } in
+    let same : ◌≡◌ {A = Packet} p q =
+    λ i. record { sender = p.sender; receiver = p.receiver; incarnation = r.incarnation i; kind = p.kind } in
     ap is_packet same ∙ rw (
       le-leb p.sender 16 from,
       le-leb p.receiver 16 to,

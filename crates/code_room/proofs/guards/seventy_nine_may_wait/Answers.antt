@@ -9,7 +9,8 @@ use Rattle.code_room.proofs.guards.seventy_nine_may_wait.Goals as goal
 
 pub returns-clause-most : goal.returns-clause-most
 returns-clause-most c =
-    (low_where_few (Valued (nested 79)) (waiting_of (nested 79)) (steps_of (nested 79)) (computed (nested 79))).1 (omega (arith, nested_wait 79))
+    (low_where_few (Valued (nested 79)) (waiting_of (nested 79)) (steps_of (nested 79)) (computed (nested 79))).1
+    (omega (arith, nested_wait 79))
 
 pub returns-clause-over : goal.returns-clause-over
 returns-clause-over c low =

@@ -12,8 +12,10 @@ pub returns-clause-test : goal.returns-clause-test
 returns-clause-test c = λ test. low_where_few (Tested test) (waiting_of_test test) (steps_of_test test) (tested test)
 
 pub returns-clause-value_room : goal.returns-clause-value_room
-returns-clause-value_room c = λ e few. all-room (steps_of e) ((low_where_few (Valued e) (waiting_of e) (steps_of e) (computed e)).1 few)
+returns-clause-value_room c =
+    λ e few. all-room (steps_of e) ((low_where_few (Valued e) (waiting_of e) (steps_of e) (computed e)).1 few)
 
 pub returns-clause-test_room : goal.returns-clause-test_room
 returns-clause-test_room c = λ test few.
-    all-room (steps_of_test test) ((low_where_few (Tested test) (waiting_of_test test) (steps_of_test test) (tested test)).1 few)
+    all-room (steps_of_test test) ((low_where_few (Tested test) (waiting_of_test test) (steps_of_test test)
+    (tested test)).1 few)

@@ -3,7 +3,8 @@ use Rattle.command_laws.proofs.laws.faults_were_counted.Goals as goal
 
 pub returns-clause-read : goal.returns-clause-read
 returns-clause-read g c = λ words source source_now sink sink_now outcome ends fault.
-    reading-failed words (g.S.Source.left source) (g.S.Source.faults source) (g.S.Source.faults source_now) ends.decided ends.is_written.result outcome
+    reading-failed words (g.S.Source.left source) (g.S.Source.faults source) (g.S.Source.faults source_now)
+    ends.decided ends.is_written.result outcome
     ends.is_due ends.is_written.is fault
 
 pub returns-clause-written : goal.returns-clause-written

@@ -4,8 +4,11 @@ use Rattle.command_laws.proofs.Commands.{deck-ends}
 use Rattle.command_laws.proofs.laws.no_accepted_deck_is_refused.Goals as goal
 
 pub returns : goal.returns
-returns g c = λ words source source_now sink sink_now outcome ends bytes acts stop deck asked told sure spelt able accepted.
+returns g c =
+    λ words source source_now sink sink_now outcome ends bytes acts stop deck asked told sure spelt able accepted.
     let before = g.S.Source.faults source in
     let now = g.S.Source.faults source_now in
-    deck-ends words bytes before now acts stop deck ends.decided ends.is_written.result outcome asked spelt able accepted
-    (subst (λ (left : Option (List ℕ)). IsDue words left before now ends.decided) told ends.is_due) ends.is_written.is (ends.no_read_fault sure)
+    deck-ends words bytes before now acts stop deck ends.decided ends.is_written.result outcome asked spelt able
+    accepted
+    (subst (λ (left : Option (List ℕ)). IsDue words left before now ends.decided) told ends.is_due) ends.is_written.is
+    (ends.no_read_fault sure)

@@ -8,4 +8,5 @@ returns g c = λ words source source_now sink sink_now outcome ends bytes deck a
     let before = g.S.Source.faults source in
     let now = g.S.Source.faults source_now in
     check-ends words bytes before now deck ends.decided ends.is_written.result outcome asked spelt accepted
-    (subst (λ (left : Option (List ℕ)). IsDue words left before now ends.decided) told ends.is_due) ends.is_written.is (ends.no_read_fault sure)
+    (subst (λ (left : Option (List ℕ)). IsDue words left before now ends.decided) told ends.is_due) ends.is_written.is
+    (ends.no_read_fault sure)

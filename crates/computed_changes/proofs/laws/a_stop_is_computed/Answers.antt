@@ -9,6 +9,7 @@ returns c = record {
   made = λ site w processor done e. stop-may site processor w done e;
   only = λ site w next processor sendings change. stop-only processor w next sendings change;
   none = λ site w processor e.
-      idle-where site w (Stopping processor) (stop_done processor w) (λ next sendings change. stop-only processor w next sendings change) e;
+      idle-where site w (Stopping processor) (stop_done processor w)
+      (λ next sendings change. stop-only processor w next sendings change) e;
   follows = stop-follows;
 }

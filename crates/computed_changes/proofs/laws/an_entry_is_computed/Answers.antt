@@ -9,6 +9,7 @@ returns c = record {
   made = λ site w number done e. enter-may site number w done e;
   only = λ site w next number sendings change. enter-only number w next sendings change;
   none = λ site w number e.
-      idle-where site w (Entering number) (enter_done site number w) (λ next sendings change. enter-only number w next sendings change) e;
+      idle-where site w (Entering number) (enter_done site number w)
+      (λ next sendings change. enter-only number w next sendings change) e;
   follows = enter-follows;
 }

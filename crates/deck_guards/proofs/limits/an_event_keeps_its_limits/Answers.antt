@@ -8,8 +8,11 @@ use Rattle.deck_guards.proofs.limits.an_event_keeps_its_limits.Goals as goal
 pub returns : goal.returns
 returns c = record {
   tick =
-      bare_spelt _ 3 (asked.Tick 2 ∷ asked.Tick 16 ∷ []) (line.One (event.Tick 2) ∷ line.One (event.Tick 16) ∷ []) refl (inl (refl, inl (refl, inl (refl, inl (refl, inl (refl, tt)))))) (refl, (refl, tt))
-      (bare_within 3 (line.One (event.Tick 2) ∷ line.One (event.Tick 16) ∷ []) (omega arith) (omega arith) (two_lines 3 0 0 (line.One (event.Tick 2)) (line.One (event.Tick 16)) (inl (omega arith)) (inr refl)) (omega arith) (omega arith));
+      bare_spelt _ 3 (asked.Tick 2 ∷ asked.Tick 16 ∷ []) (line.One (event.Tick 2) ∷ line.One (event.Tick 16) ∷ []) refl
+      (inl (refl, inl (refl, inl (refl, inl (refl, inl (refl, tt)))))) (refl, (refl, tt))
+      (bare_within 3 (line.One (event.Tick 2) ∷ line.One (event.Tick 16) ∷ []) (omega arith) (omega arith)
+      (two_lines 3 0 0 (line.One (event.Tick 2)) (line.One (event.Tick 16)) (inl (omega arith)) (inr refl))
+      (omega arith) (omega arith));
   other_tick = none_spelt _ (λ processes. refl);
   fail = none_spelt _ (λ processes. refl);
   fail_of_the_terminals = none_spelt _ (λ processes. refl);

@@ -13,6 +13,7 @@ pub returns : goal.returns
 returns c =
     let there : 0 < length c.after_spaces-text.result.now = grind (arith, nat_tests) in
     let word = a_word c.args.line.now c.after_spaces-text.result.now c.after_spaces-text.ensures there in (
-      word.0 ∙ ap₂ (λ front back. front ∷ words_of back) (sym c.split_before.ensures.front) (sym c.split_before.ensures.back),
+      word.0 ∙ ap₂ (λ front back. front ∷ words_of back) (sym c.split_before.ensures.front)
+          (sym c.split_before.ensures.back),
       omega (arith, word.1, ap length c.split_before.ensures.back),
     )

@@ -45,7 +45,8 @@ returns-in-Ok-Broken-clause-too_long c =
     let b = c.in-Ok-Broken.field-0-is in
     let o = c.in-Ok-Broken.breach-is in
     let e : outline_of (lines_of bytes) ≡ told.Broken c.in-Ok-Broken.breach = cc in
-    errs_short bytes (Err c.breach_fault.result) short (of_broken c.in-Ok-Broken.breach c.breach_fault.result (outline_of (lines_of bytes)) e c.breach_fault.ensures)
+    errs_short bytes (Err c.breach_fault.result) short
+    (of_broken c.in-Ok-Broken.breach c.breach_fault.result (outline_of (lines_of bytes)) e c.breach_fault.ensures)
 
 pub returns-in-Ok-Broken-clause-err : goal.returns-in-Ok-Broken-clause-err
 returns-in-Ok-Broken-clause-err c =
@@ -55,7 +56,8 @@ returns-in-Ok-Broken-clause-err c =
     let b = c.in-Ok-Broken.field-0-is in
     let o = c.in-Ok-Broken.breach-is in
     let e : outline_of (lines_of bytes) ≡ told.Broken c.in-Ok-Broken.breach = cc in
-    errs_refused bytes (Err c.breach_fault.result) short (of_broken c.in-Ok-Broken.breach c.breach_fault.result (outline_of (lines_of bytes)) e c.breach_fault.ensures)
+    errs_refused bytes (Err c.breach_fault.result) short
+    (of_broken c.in-Ok-Broken.breach c.breach_fault.result (outline_of (lines_of bytes)) e c.breach_fault.ensures)
 
 pub returns-in-Ok-Whole-clause-too_long : goal.returns-in-Ok-Whole-clause-too_long
 returns-in-Ok-Whole-clause-too_long c =
@@ -65,7 +67,8 @@ returns-in-Ok-Whole-clause-too_long c =
     let b = c.in-Ok-Whole.field-0-is in
     let o = c.in-Ok-Whole.outline-is in
     let e : outline_of (lines_of bytes) ≡ told.Whole c.in-Ok-Whole.outline = cc in
-    errs_short bytes c.deck_of.result short (of_whole c.in-Ok-Whole.outline c.deck_of.result (outline_of (lines_of bytes)) e c.deck_of.ensures.err)
+    errs_short bytes c.deck_of.result short
+    (of_whole c.in-Ok-Whole.outline c.deck_of.result (outline_of (lines_of bytes)) e c.deck_of.ensures.err)
 
 pub returns-in-Ok-Whole-clause-err : goal.returns-in-Ok-Whole-clause-err
 returns-in-Ok-Whole-clause-err c =
@@ -75,4 +78,5 @@ returns-in-Ok-Whole-clause-err c =
     let b = c.in-Ok-Whole.field-0-is in
     let o = c.in-Ok-Whole.outline-is in
     let e : outline_of (lines_of bytes) ≡ told.Whole c.in-Ok-Whole.outline = cc in
-    errs_refused bytes c.deck_of.result short (of_whole c.in-Ok-Whole.outline c.deck_of.result (outline_of (lines_of bytes)) e c.deck_of.ensures.err)
+    errs_refused bytes c.deck_of.result short
+    (of_whole c.in-Ok-Whole.outline c.deck_of.result (outline_of (lines_of bytes)) e c.deck_of.ensures.err)

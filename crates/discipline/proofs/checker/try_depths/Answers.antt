@@ -11,4 +11,5 @@ loop-file-preserved c = (
 
 pub returns : goal.returns
 returns c =
-    all-tried c.args.program.now c.loop-file.file c.requires.bounds (subst (λ n. n ≤ c.loop-file.file) c.len-file-end.ensures c.loop-file-test.false) c.loop-file.invariant.0
+    all-tried c.args.program.now c.loop-file.file c.requires.bounds
+    (subst (λ n. n ≤ c.loop-file.file) c.len-file-end.ensures c.loop-file-test.false) c.loop-file.invariant.0

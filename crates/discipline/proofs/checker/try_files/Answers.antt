@@ -11,4 +11,5 @@ loop-file-preserved c = (
 
 pub returns-clause-tried : goal.returns-clause-tried
 returns-clause-tried c =
-    before-input c.args.program.now c.loop-file.file c.requires.regular (subst (λ n. n ≤ c.loop-file.file) c.len-file-end.ensures c.loop-file-test.false) c.loop-file.invariant.0
+    before-input c.args.program.now c.loop-file.file c.requires.regular
+    (subst (λ n. n ≤ c.loop-file.file) c.len-file-end.ensures c.loop-file-test.false) c.loop-file.invariant.0

@@ -6,4 +6,5 @@ use Rattle.discipline.proofs.checker.try_files.Given as goal
 
 abbrev pub invariant-loop-file : goal.invariant-loop-file
 invariant-loop-file l =
-    NoneBefore l.program (SyncBlock l.file) × IsClear l.search.seen.items × (length l.search.seen.items ≡ length l.fn.search.seen.items)
+    NoneBefore l.program (SyncBlock l.file) × IsClear l.search.seen.items
+    × (length l.search.seen.items ≡ length l.fn.search.seen.items)

@@ -11,4 +11,5 @@ loop-item-preserved c = (
 
 pub returns-clause-tried : goal.returns-clause-tried
 returns-clause-tried c =
-    before-files c.args.program.now c.loop-item.item c.requires.regular (subst (λ n. n ≤ c.loop-item.item) c.len-item-end.ensures c.loop-item-test.false) c.loop-item.invariant.0
+    before-files c.args.program.now c.loop-item.item c.requires.regular
+    (subst (λ n. n ≤ c.loop-item.item) c.len-item-end.ensures c.loop-item-test.false) c.loop-item.invariant.0

@@ -6,4 +6,5 @@ use Rattle.discipline.proofs.checker.try_items.Given as goal
 
 abbrev pub invariant-loop-item : goal.invariant-loop-item
 invariant-loop-item l =
-    NoneBefore l.program (Data l.item) × IsClear l.search.seen.items × (length l.search.seen.items ≡ length l.fn.search.seen.items)
+    NoneBefore l.program (Data l.item) × IsClear l.search.seen.items
+    × (length l.search.seen.items ≡ length l.fn.search.seen.items)

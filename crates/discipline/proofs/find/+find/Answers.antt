@@ -5,42 +5,59 @@ use Rattle.discipline.proofs.find.+find.Goals as goal
 pub find-loop-k-preserved : goal.find-loop-k-preserved
 find-loop-k-preserved t c = λ result found.
     c.loop-k.invariant result
-    (found-behind c.args.statements.now c.loop-k.k c.index-statements-k.result c.split_at.result.1.now c.args.after c.first_number-next.result c.args.number
-    c.loop-k-test.true c.index-statements-k.is c.split_at.ensures.back c.first_number-next.ensures result c.in_default.ensures found)
+    (found-behind c.args.statements.now c.loop-k.k c.index-statements-k.result c.split_at.result.1.now c.args.after
+    c.first_number-next.result c.args.number
+    c.loop-k-test.true c.index-statements-k.is c.split_at.ensures.back c.first_number-next.ensures result
+    c.in_default.ensures found)
 
 pub find-returns-in-Some : goal.find-returns-in-Some
 find-returns-in-Some t c =
     c.loop-k.invariant (Some c.in-Some.found)
-    (found-at c.args.statements.now c.loop-k.k c.index-statements-k.result c.split_at.result.1.now c.args.after c.first_number-next.result c.args.number
-    c.loop-k-test.true c.index-statements-k.is c.split_at.ensures.back c.first_number-next.ensures c.in-Some.found c.in-Some.ensures)
+    (found-at c.args.statements.now c.loop-k.k c.index-statements-k.result c.split_at.result.1.now c.args.after
+    c.first_number-next.result c.args.number
+    c.loop-k-test.true c.index-statements-k.is c.split_at.ensures.back c.first_number-next.ensures c.in-Some.found
+    c.in-Some.ensures)
 
 pub find-returns : goal.find-returns
-find-returns t c = c.loop-k.invariant None (past-end c.args.statements.now c.loop-k.k c.args.after c.args.number c.loop-k-test.false)
+find-returns t c =
+    c.loop-k.invariant None (past-end c.args.statements.now c.loop-k.k c.args.after c.args.number c.loop-k-test.false)
 
 pub find_in-returns-in-Some : goal.find_in-returns-in-Some
 find_in-returns-in-Some t c =
-    found-if c.args.statement.now c.args.after c.args.number c.from-own.result c.from-own.ensures c.if-own-number.false c.in-If.test c.in-If.yes c.in-If.no c.as_slice.result.now c.in-If.no
-    c.in-If.is c.as_slice.ensures refl (Some c.in-Some.found) None (Some c.in-Some.found) c.in-Some.ensures (λ none. absurd (cc)) (λ none. absurd (cc)) (λ found same. same)
+    found-if c.args.statement.now c.args.after c.args.number c.from-own.result c.from-own.ensures c.if-own-number.false
+    c.in-If.test c.in-If.yes c.in-If.no c.as_slice.result.now c.in-If.no
+    c.in-If.is c.as_slice.ensures refl (Some c.in-Some.found) None (Some c.in-Some.found) c.in-Some.ensures
+    (λ none. absurd (cc)) (λ none. absurd (cc)) (λ found same. same)
 
 pub find_in-returns-in-None : goal.find_in-returns-in-None
 find_in-returns-in-None t c =
-    found-if c.args.statement.now c.args.after c.args.number c.from-own.result c.from-own.ensures c.if-own-number.false c.in-If.test c.in-If.yes c.in-If.no c.as_slice.result.now
-    c.as_slice-in-None.result.now c.in-If.is c.as_slice.ensures c.as_slice-in-None.ensures None c.find-in-None.result c.find-in-None.result c.in-None.ensures (λ _. c.find-in-None.ensures) (λ _. refl)
+    found-if c.args.statement.now c.args.after c.args.number c.from-own.result c.from-own.ensures c.if-own-number.false
+    c.in-If.test c.in-If.yes c.in-If.no c.as_slice.result.now
+    c.as_slice-in-None.result.now c.in-If.is c.as_slice.ensures c.as_slice-in-None.ensures None c.find-in-None.result
+    c.find-in-None.result c.in-None.ensures (λ _. c.find-in-None.ensures) (λ _. refl)
     (λ found same. absurd (cc))
 
 pub find_in-returns-in-While : goal.find_in-returns-in-While
 find_in-returns-in-While t c =
-    found-while c.args.statement.now c.args.after c.args.number c.from-own.result c.from-own.ensures c.if-own-number.false c.in-While.test c.in-While.body c.as_slice-in-While.result.now
+    found-while c.args.statement.now c.args.after c.args.number c.from-own.result c.from-own.ensures
+    c.if-own-number.false c.in-While.test c.in-While.body c.as_slice-in-While.result.now
     c.in-While.is c.as_slice-in-While.ensures c.find-in-While.result c.find-in-While.ensures
 
 pub find_in-returns-in-Some-find : goal.find_in-returns-in-Some-find
 find_in-returns-in-Some-find t c =
-    found-for c.args.statement.now c.args.after c.args.number c.from-own.result c.from-own.ensures c.if-own-number.false c.in-For.variable c.in-For.from c.in-For.to c.in-For.body
-    c.as_slice-in-None-find_test.result.now c.in-For.last c.from.result c.in-For.is c.as_slice-in-None-find_test.ensures c.from.ensures None (Some c.in-Some-find.found) None (Some c.in-Some-find.found)
-    c.in-None-find_test.ensures (λ _. c.in-Some-find.ensures) (λ _ none. absurd (cc)) (λ found same. absurd (cc)) (λ found _ same. same) (λ _ none. absurd (cc))
+    found-for c.args.statement.now c.args.after c.args.number c.from-own.result c.from-own.ensures
+    c.if-own-number.false c.in-For.variable c.in-For.from c.in-For.to c.in-For.body
+    c.as_slice-in-None-find_test.result.now c.in-For.last c.from.result c.in-For.is
+    c.as_slice-in-None-find_test.ensures c.from.ensures None (Some c.in-Some-find.found) None
+    (Some c.in-Some-find.found)
+    c.in-None-find_test.ensures (λ _. c.in-Some-find.ensures) (λ _ none. absurd (cc)) (λ found same. absurd (cc))
+    (λ found _ same. same) (λ _ none. absurd (cc))
 
 pub find_in-returns-in-None-find : goal.find_in-returns-in-None-find
 find_in-returns-in-None-find t c =
-    found-for c.args.statement.now c.args.after c.args.number c.from-own.result c.from-own.ensures c.if-own-number.false c.in-For.variable c.in-For.from c.in-For.to c.in-For.body
-    c.as_slice-in-None-find_test.result.now c.in-For.last c.from.result c.in-For.is c.as_slice-in-None-find_test.ensures c.from.ensures None None c.find_last.result c.find_last.result
-    c.in-None-find_test.ensures (λ _. c.in-None-find.ensures) (λ _ _. c.find_last.ensures c.args.after) (λ found same. absurd (cc)) (λ found _ same. absurd (cc)) (λ _ _. refl)
+    found-for c.args.statement.now c.args.after c.args.number c.from-own.result c.from-own.ensures
+    c.if-own-number.false c.in-For.variable c.in-For.from c.in-For.to c.in-For.body
+    c.as_slice-in-None-find_test.result.now c.in-For.last c.from.result c.in-For.is
+    c.as_slice-in-None-find_test.ensures c.from.ensures None None c.find_last.result c.find_last.result
+    c.in-None-find_test.ensures (λ _. c.in-None-find.ensures) (λ _ _. c.find_last.ensures c.args.after)
+    (λ found same. absurd (cc)) (λ found _ same. absurd (cc)) (λ _ _. refl)

@@ -7,4 +7,5 @@ pub returns-then-is_empty : goal.returns-then-is_empty
 returns-then-is_empty c = empty-path c.args.program.now c.args.path.now c.if-is_empty.ensures
 
 pub returns-in-Some : goal.returns-in-Some
-returns-in-Some c = ((λ _. walked-is-path c.args.program.now Input c.args.path.now c.in-Some.field-0 c.in-Some.ensures), (λ _. refl))
+returns-in-Some c =
+    ((λ _. walked-is-path c.args.program.now Input c.args.path.now c.in-Some.field-0 c.in-Some.ensures), (λ _. refl))

@@ -7,5 +7,6 @@ use Rattle.discipline.proofs.walker.ways_at.Goals as goal
 
 pub returns-in-Test : goal.returns-in-Test
 returns-in-Test c = λ program rest callers same.
-    subst (λ (e : Entry). EachLeads program (entry_of e) rest callers (listed c.test_ways.result) (ways program (entry_of e) rest callers)) (sym c.in-Test.is)
+    subst (λ (e : Entry). EachLeads program (entry_of e) rest callers (listed c.test_ways.result)
+    (ways program (entry_of e) rest callers)) (sym c.in-Test.is)
     (c.test_ways.ensures program rest callers same)

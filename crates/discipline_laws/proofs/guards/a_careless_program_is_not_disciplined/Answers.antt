@@ -2,7 +2,8 @@ use Rattle.std.proofs.Common.{◌≡◌, ℤ, pos, List, [], ◌∷◌, Option, 
 use Rattle.std.specs.Int.{int_wrap}
 use denote.Hole.Carrier.{shown, out, hidden}
 use Rattle.tal_tree.specs.declared.statement.What.{out-What}
-use Rattle.tal_tree.specs.declared.statement.What.TheBlock.{shown-the_row-Statement-0, shape-the_row-Statement-0, hidden-the_row-Statement-0}
+use Rattle.tal_tree.specs.declared.statement.What.TheBlock.{shown-the_row-Statement-0, shape-the_row-Statement-0}
+use Rattle.tal_tree.specs.declared.statement.What.TheBlock.{hidden-the_row-Statement-0}
 use Rattle.process_semantics.specs.Process.{ProcessState, Runs, Serves}
 use Rattle.process_semantics.specs.State.{words_of}
 use Rattle.world_semantics.specs.Core.{Core, Took, Answered, takes, answers}
@@ -12,9 +13,11 @@ use Rattle.discipline_laws.specs.Disciplined.{IsDisciplined}
 use Rattle.discipline_laws.proofs.guards.a_careless_program_is_not_disciplined.Goals as goal
 
 not-hasty : IsDisciplined (site_of hasty) 0 (process_of hasty) → ⊥
-unfolding out-What shown-the_row-Statement-0 shown out int_wrap shape-the_row-Statement-0 hidden-the_row-Statement-0 hidden
+unfolding out-What shown-the_row-Statement-0 shown out int_wrap shape-the_row-Statement-0 hidden-the_row-Statement-0
+    hidden
 not-hasty is = is.quiet (Answered 0 (pos 5 ∷ []) ∷ []) [] 0 (pos 5 ∷ []) _
-    (one_more (one_more nothing_done (takes {words = pos 5 ∷ []} _ refl refl)) (answers _ _ refl refl refl refl refl)) ((λ mark. mark), tt)
+    (one_more (one_more nothing_done (takes {words = pos 5 ∷ []} _ refl refl)) (answers _ _ refl refl refl refl refl))
+    ((λ mark. mark), tt)
 
 -- the words of the global that counts
 abbrev count_in : ProcessState → List ℤ
@@ -29,9 +32,11 @@ differ : pos 0 ∷ [] ≡ pos 1 ∷ [] → ⊥
 differ same = cc
 
 not-forgetful : IsDisciplined (site_of forgetful) 0 (process_of forgetful) → ⊥
-unfolding out-What shown-the_row-Statement-0 shown out int_wrap shape-the_row-Statement-0 hidden-the_row-Statement-0 hidden
+unfolding out-What shown-the_row-Statement-0 shown out int_wrap shape-the_row-Statement-0 hidden-the_row-Statement-0
+    hidden
 not-forgetful is =
-    differ (ap count_of (is.resume (Took 0 (pos 5 ∷ []) ∷ []) [] _ _ (one_more nothing_done (takes {words = pos 5 ∷ []} _ refl refl)) ((λ mark. mark), tt)
+    differ (ap count_of (is.resume (Took 0 (pos 5 ∷ []) ∷ []) [] _ _
+    (one_more nothing_done (takes {words = pos 5 ∷ []} _ refl refl)) ((λ mark. mark), tt)
     (record { count = omega arith; short = (omega arith, tt) }) refl nothing_done))
 
 pub returns : goal.returns

@@ -9,13 +9,20 @@ use Rattle.flow_paths.proofs.size.sizes.Goals as goal
 
 pub loop-procedure-preserved : goal.loop-procedure-preserved
 loop-procedure-preserved c =
-    let size : c.size_of_all-size.result ≡ told (size_row (size_at c.loop-procedure.sizes.items) (rows c.procedure-item.result.body)) =
+    let size : c.size_of_all-size.result ≡ told
+    (size_row (size_at c.loop-procedure.sizes.items) (rows c.procedure-item.result.body)) =
     c.size_of_all-size.ensures
-    ∙ ap (λ (known : List ℕ). told (size_row (size_at known) (rows c.as_slice-in-loop-procedure.result.now))) c.as_slice.ensures.value
-    ∙ ap (λ (body : List Statement). told (size_row (size_at c.loop-procedure.sizes.items) (rows body))) c.as_slice-in-loop-procedure.ensures in
+    ∙ ap (λ (known : List ℕ). told (size_row (size_at known) (rows c.as_slice-in-loop-procedure.result.now)))
+    c.as_slice.ensures.value
+    ∙ ap (λ (body : List Statement). told (size_row (size_at c.loop-procedure.sizes.items) (rows body)))
+    c.as_slice-in-loop-procedure.ensures in
     record {
-      leads = subst (TellsSizes c.as_slice-procedures.result.now (c.loop-procedure.procedure-index + 1) (sizes c.args.program.now)) (sym c.push.ensures.items)
-          (one-more-told c.as_slice-procedures.result.now c.loop-procedure.procedure-index (sizes c.args.program.now) c.loop-procedure.sizes.items c.procedure-item.result
-          c.size_of_all-size.result c.procedure-item.is c.loop-procedure-test.true size c.loop-procedure.invariant.leads);
-      count = ap length c.push.ensures.items ∙ length_push c.loop-procedure.sizes.items c.size_of_all-size.result ∙ ap (λ (n : ℕ). n + 1) c.loop-procedure.invariant.count;
+      leads = subst (TellsSizes c.as_slice-procedures.result.now (c.loop-procedure.procedure-index + 1)
+          (sizes c.args.program.now)) (sym c.push.ensures.items)
+          (one-more-told c.as_slice-procedures.result.now c.loop-procedure.procedure-index (sizes c.args.program.now)
+          c.loop-procedure.sizes.items c.procedure-item.result
+          c.size_of_all-size.result c.procedure-item.is c.loop-procedure-test.true size
+          c.loop-procedure.invariant.leads);
+      count = ap length c.push.ensures.items ∙ length_push c.loop-procedure.sizes.items c.size_of_all-size.result
+          ∙ ap (λ (n : ℕ). n + 1) c.loop-procedure.invariant.count;
     }

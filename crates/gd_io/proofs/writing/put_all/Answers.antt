@@ -14,9 +14,11 @@ loop-at-preserved g c =
       λ n h.
           let was = c.loop-at.invariant.3 n h in
           let before : g.K.Sink.sure c.loop-at.sink (length rest + n) =
-          sure_along (g.K.Sink.sure c.loop-at.sink) (length c.args.piece.now - c.loop-at.at + n) (length rest + n) (omega arith) was.0 in (
+          sure_along (g.K.Sink.sure c.loop-at.sink) (length c.args.piece.now - c.loop-at.at + n) (length rest + n)
+          (omega arith) was.0 in (
             sure_along (g.K.Sink.sure c.put.new.self) (length rest - c.in-Gone.n + n)
-                (length c.args.piece.now - (c.loop-at.at + c.in-Gone.n) + n) (omega arith) (c.in-Gone.ensures.never n before),
+                (length c.args.piece.now - (c.loop-at.at + c.in-Gone.n) + n) (omega arith)
+                (c.in-Gone.ensures.never n before),
             c.put.ensures.still n before ∙ was.1,
           ),
     )

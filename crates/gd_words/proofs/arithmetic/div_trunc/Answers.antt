@@ -15,6 +15,8 @@ pub returns-then-b-eqminus1 : goal.returns-then-b-eqminus1
 returns-then-b-eqminus1 c =
     let divisor : c.args.b ≡ negsuc zero = omega (arith, ints) in
     let negative : c.wrapping_neg.result ≡ wrap (neg_ℤ c.args.a) =
-    c.wrapping_neg.ensures ∙ ap (int_wrapping_neg w16) (to_z-of_z w16 c.args.a c.ranges.a) ∙ wrapping_neg_is w16 c.args.a c.ranges.a in
-    ap Some (to_z-of_z w16 c.wrapping_neg.result (record { sfits = c.wrapping_neg.type_inv }) ∙ negative ∙ ap wrap (sym (over_minus_one c.args.a)))
+    c.wrapping_neg.ensures ∙ ap (int_wrapping_neg w16) (to_z-of_z w16 c.args.a c.ranges.a)
+    ∙ wrapping_neg_is w16 c.args.a c.ranges.a in
+    ap Some (to_z-of_z w16 c.wrapping_neg.result (record { sfits = c.wrapping_neg.type_inv }) ∙ negative
+    ∙ ap wrap (sym (over_minus_one c.args.a)))
     ∙ ap (quotient c.args.a) (sym divisor)

@@ -32,7 +32,8 @@ the_weighed w = w
 abbrev inside : Former {0}
 inside =
     via (pair (const (Ptr × Global)) this) Inside (λ X b. ((b.inner.ptr, b.inner.alloc), b.inner.value))
-    (λ X parts. record { inner = record { ptr = parts.0.0; alloc = parts.0.1; value = parts.1 } }) (λ X b. refl) (λ X parts. refl)
+    (λ X parts. record { inner = record { ptr = parts.0.0; alloc = parts.0.1; value = parts.1 } }) (λ X b. refl)
+    (λ X parts. refl)
 
 abbrev holding : {X Y : Type 0} → Box X Global → Y → Box Y Global
 holding b value = record { ptr = b.ptr; alloc = b.alloc; value = value }
@@ -45,16 +46,21 @@ module _ (R S : RattleType) (h : R.Denot → S.Denot) where
   unfolding part_of
   box_placed same = record {
     mir_same = λ i. (std_box_of (one_value R (same.mir_same i) (λ _. ftrue) (λ _ _. nothing) gnil)).mir;
-    own_same = λ b i. (std_box_of (one_value R (same.mir_same i) (same.own_same b.value i) (same.shr_same b.value i) gnil)).own_val (holding b tt);
-    shr_same = λ b i. (std_box_of (one_value R (same.mir_same i) (same.own_same b.value i) (same.shr_same b.value i) gnil)).shr_at (holding b tt);
+    own_same = λ b i. (std_box_of (one_value R (same.mir_same i) (same.own_same b.value i) (same.shr_same b.value i)
+        gnil)).own_val (holding b tt);
+    shr_same = λ b i. (std_box_of (one_value R (same.mir_same i) (same.own_same b.value i) (same.shr_same b.value i)
+        gnil)).shr_at (holding b tt);
   }
 
   pub the_places : Alike R S h → Alike (own.the_row R) (own.the_row S) ((the_former this).map R.Denot S.Denot h)
   the_places same =
-      view_places inside this view (λ X Y k u. refl) (λ X u. refl) R.Denot S.Denot h (own.the_row R).coded (own.the_row S).coded
+      view_places inside this view (λ X Y k u. refl) (λ X u. refl) R.Denot S.Denot h (own.the_row R).coded
+      (own.the_row S).coded
       (invariant R.Denot) (invariant S.Denot) (λ u p q. refl) (λ u p q. refl) (λ u e. tt) (λ u e. tt)
       (over (own_inside.the_row R)) (over (own_inside.the_row S))
-      (struct_places (own_inside.the_type R) (own_inside.the_type S) ((λ b. holding b (h b.value)), tt) _ (λ d. refl) refl (laid _ _ _ (box_placed same), tt))
+      (struct_places (own_inside.the_type R) (own_inside.the_type S) ((λ b. holding b (h b.value)), tt) _ (λ d. refl)
+      refl (laid _ _ _ (box_placed same), tt))
 
-  pub the_codes_placed : Recodes R S h → Recodes (own.the_row R) (own.the_row S) ((the_former this).map R.Denot S.Denot h)
+  pub the_codes_placed : Recodes R S h → Recodes (own.the_row R) (own.the_row S)
+      ((the_former this).map R.Denot S.Denot h)
   the_codes_placed e d = e d

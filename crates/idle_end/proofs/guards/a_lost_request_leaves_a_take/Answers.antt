@@ -9,7 +9,8 @@ use Rattle.idle_end.specs.Examples.{lost}
 use Rattle.idle_end.proofs.Quiet.{disc-idle}
 use Rattle.idle_end.proofs.guards.a_lost_request_leaves_a_take.Goals as goal
 
-lacks : (number : ℕ) (terminal : Terminal) → slice_get lost.world.terminals number ≡ Some terminal → terminal.entered ≢ terminal.printed
+lacks : (number : ℕ) (terminal : Terminal) → slice_get lost.world.terminals number ≡ Some terminal
+    → terminal.entered ≢ terminal.printed
 lacks zero terminal there = subst (λ (t : Terminal). t.entered ≢ t.printed) (some-same there) (λ even. cc)
 lacks (suc number) terminal there = absurd (cc)
 

@@ -21,7 +21,8 @@ use Rattle.idle_end.proofs.Quiet.{disc-idle, none-stopped}
 use Rattle.idle_end.proofs.guards.a_quiet_site_is_at_an_idle_end.Goals as goal
 
 -- what is so of the disc is so of each process
-each : (P : ProcessSpec → Type 0) → P disc → (number : ℕ) (spec : ProcessSpec) → slice_get quiet_site.processes number ≡ Some spec → P spec
+each : (P : ProcessSpec → Type 0) → P disc → (number : ℕ) (spec : ProcessSpec)
+    → slice_get quiet_site.processes number ≡ Some spec → P spec
 each P has zero spec there = subst P (some-same there) has
 each P has (suc number) spec there = absurd (cc)
 
@@ -43,12 +44,14 @@ pub returns-clause-quiet : goal.returns-clause-quiet
 returns-clause-quiet c = record {
   fit = record {
     regular = each (λ spec. IsRegularKind spec.what) tt;
-    disciplined = λ number. each (IsDisciplined quiet_site number) (disc-disciplined quiet_site number 2 disc refl) number;
+    disciplined =
+        λ number. each (IsDisciplined quiet_site number) (disc-disciplined quiet_site number 2 disc refl) number;
     requests = λ terminal entered words next. absurd (cc);
   };
   laid_out = record {
     few = omega arith;
-    places = each (λ spec. (spec.primary < 2) × (spec.backup < 2) × (spec.primary ≢ spec.backup)) (omega arith, omega arith, λ same. cc);
+    places = each (λ spec. (spec.primary < 2) × (spec.backup < 2) × (spec.primary ≢ spec.backup))
+        (omega arith, omega arith, λ same. cc);
   };
   few = omega arith;
   run = stays;
@@ -58,4 +61,5 @@ returns-clause-quiet c = record {
 }
 
 pub returns-clause-asked : goal.returns-clause-asked
-returns-clause-asked c = λ events end. end.idle.enters 0 _ _ (by_enter 0 (record { entered = 0; printed = 0 }) (record { server = 0; place = 0 }) refl refl refl refl)
+returns-clause-asked c = λ events end. end.idle.enters 0 _ _
+    (by_enter 0 (record { entered = 0; printed = 0 }) (record { server = 0; place = 0 }) refl refl refl refl)

@@ -1,4 +1,5 @@
-use Rattle.std.proofs.Common.{◌≡◌, ◌≢◌, ◌≤◌, inl, inr, ℕ, zero, suc, ℤ, true, false, List, [], ◌∷◌, length, Option, Some, None, slice_get, refl, sym, ◌∙◌, subst, arith}
+use Rattle.std.proofs.Common.{◌≡◌, ◌≢◌, ◌≤◌, inl, inr, ℕ, zero, suc, ℤ, true, false, List, [], ◌∷◌, length, Option}
+use Rattle.std.proofs.Common.{Some, None, slice_get, refl, sym, ◌∙◌, subst, arith}
 use Rattle.std.proofs.lemmas.Bool.{eqb-true}
 use Rattle.tal_tree.specs.declared.act.Act.TheVariants.{Take}
 use Rattle.tal_tree.specs.declared.program.Program.{Program}
@@ -20,7 +21,8 @@ use Rattle.world_semantics.specs.Rules.{by_enter, by_stop, by_mark}
 use Rattle.world_semantics.specs.World.{Pair, is_running, has_noted, copy_of}
 use Rattle.world_semantics.proofs.Ran.{run-idle}
 use Rattle.letters.specs.Idle.{IsIdle, OneStops}
-use Rattle.letters.specs.Posts.{Post, plays_enter, plays_fail, plays_tick, one_mark, no_mark, HasPlayed, played_none, played_more}
+use Rattle.letters.specs.Posts.{Post, plays_enter, plays_fail, plays_tick, one_mark, no_mark, HasPlayed, played_none}
+use Rattle.letters.specs.Posts.{played_more}
 use Rattle.awaited_requests.specs.Examples.{site_with, disc_pair, letter_to}
 use Rattle.idle_laws.proofs.guards.a_request_may_stay_with_nobody.Goals as goal
 
@@ -46,52 +48,65 @@ one_is_there = (
 -- Nothing is left to do
 
 -- a site at which no copy acts, the terminal awaits its reply, and the request is owed to a node that doesn't run
-idle-by : (site : Site) (post : Post) (pair : Pair) → post.world.processes ≡ pair ∷ [] → ((k : Which) → (copy_of k pair).role ≢ Acting)
+idle-by : (site : Site) (post : Post) (pair : Pair) → post.world.processes ≡ pair ∷ []
+    → ((k : Which) → (copy_of k pair).role ≢ Acting)
     → post.owed ≡ letter_to 1 ∷ [] → is_running post.world.stopped 1 ≡ false
     → ((number : ℕ) → (run_done site number post.world ≡ None) × (enter_done site number post.world ≡ None))
-    → ((node processor : ℕ) → is_running post.world.stopped node ≡ true → slice_get post.world.stopped processor ≡ Some true → has_noted post.world.marks node processor ≡ true)
+    → ((node processor : ℕ) → is_running post.world.stopped node ≡ true
+    → slice_get post.world.stopped processor ≡ Some true → has_noted post.world.marks node processor ≡ true)
     → IsIdle site post
 idle-by site post pair processes rest owed stopped none marked = record {
-  enters = λ number sendings next change. (let is = enter-only number post.world next sendings change in let nothing = (none number).1 in cc);
+  enters = λ number sendings next change.
+      (let is = enter-only number post.world next sendings change in let nothing = (none number).1 in cc);
   runs = λ number. run-idle site number post.world (none number).0;
-  waits = λ number one k there role. waits number one k (subst (λ (all : List Pair). slice_get all number ≡ Some one) processes there) role;
+  waits = λ number one k there role. waits number one k
+      (subst (λ (all : List Pair). slice_get all number ≡ Some one) processes there) role;
   owed = λ letter among sender receiver. elim (subst (λ (all : List Letter). IsAmong letter all) owed among) [
-    | inl same ↦ absurd (let runs : is_running post.world.stopped 1 ≡ true = subst (λ (l : Letter). is_running post.world.stopped l.receiver ≡ true) same receiver in
+    | inl same ↦ absurd (let runs : is_running post.world.stopped 1
+        ≡ true = subst (λ (l : Letter). is_running post.world.stopped l.receiver ≡ true) same receiver in
         let e : true ≡ false = sym runs ∙ stopped in cc)
     | inr none ↦ none
   ];
   marked = marked;
 }
   where
-    waits : (number : ℕ) (one : Pair) (k : Which) → slice_get (pair ∷ []) number ≡ Some one → (copy_of k one).role ≡ Acting → (copy_of k one).sent ≡ false
-    waits zero one k there role = absurd (rest k (subst (λ (p : Pair). (copy_of k p).role ≡ Acting) (sym (some-same there)) role))
+    waits : (number : ℕ) (one : Pair) (k : Which) → slice_get (pair ∷ []) number ≡ Some one
+        → (copy_of k one).role ≡ Acting → (copy_of k one).sent ≡ false
+    waits zero one k there role =
+        absurd (rest k (subst (λ (p : Pair). (copy_of k p).role ≡ Acting) (sym (some-same there)) role))
     waits (suc number) one k there role = absurd (cc)
 
-none : (number : ℕ) → (run_done (site_with 2 0 1) number two_stop.0.world ≡ None) × (enter_done (site_with 2 0 1) number two_stop.0.world ≡ None)
+none : (number : ℕ) → (run_done (site_with 2 0 1) number two_stop.0.world ≡ None)
+    × (enter_done (site_with 2 0 1) number two_stop.0.world ≡ None)
 none zero = (refl, refl)
 none (suc number) = (refl, refl)
 
-none-there : (number : ℕ) → (run_done (site_with 1 0 1) number one_is_there.0.world ≡ None) × (enter_done (site_with 1 0 1) number one_is_there.0.world ≡ None)
+none-there : (number : ℕ) → (run_done (site_with 1 0 1) number one_is_there.0.world ≡ None)
+    × (enter_done (site_with 1 0 1) number one_is_there.0.world ≡ None)
 none-there zero = (refl, refl)
 none-there (suc number) = (refl, refl)
 
-rest : (k : Which) → (copy_of k (record disc_pair { first = record disc_pair.first { role = Gone }; second = record disc_pair.second { role = Gone } })).role ≢ Acting
+rest : (k : Which) → (copy_of k (record disc_pair
+    { first = record disc_pair.first { role = Gone }; second = record disc_pair.second { role = Gone } })).role ≢ Acting
 rest First acts = cc
 rest Second acts = cc
 
-rest-there : (k : Which) → (copy_of k (record disc_pair { first = record disc_pair.first { role = Gone } })).role ≢ Acting
+rest-there : (k : Which) → (copy_of k (record disc_pair { first = record disc_pair.first { role = Gone } })).role
+    ≢ Acting
 rest-there First acts = cc
 rest-there Second acts = cc
 
 -- of the nodes that run there is only that of the terminals
-only : (node processor : ℕ) → is_running (true ∷ true ∷ []) node ≡ true → slice_get (true ∷ true ∷ []) processor ≡ Some true → has_noted two_stop.0.world.marks node processor ≡ true
+only : (node processor : ℕ) → is_running (true ∷ true ∷ []) node ≡ true
+    → slice_get (true ∷ true ∷ []) processor ≡ Some true → has_noted two_stop.0.world.marks node processor ≡ true
 only zero processor runs down = absurd (cc)
 only (suc zero) processor runs down = absurd (cc)
 only (suc (suc node)) zero runs down = rw (eqb-true (suc (suc node)) 16 runs) refl
 only (suc (suc node)) (suc zero) runs down = rw (eqb-true (suc (suc node)) 16 runs) refl
 only (suc (suc node)) (suc (suc processor)) runs down = absurd (cc)
 
-only-there : (node processor : ℕ) → is_running (true ∷ []) node ≡ true → slice_get (true ∷ []) processor ≡ Some true → has_noted one_is_there.0.world.marks node processor ≡ true
+only-there : (node processor : ℕ) → is_running (true ∷ []) node ≡ true → slice_get (true ∷ []) processor ≡ Some true
+    → has_noted one_is_there.0.world.marks node processor ≡ true
 only-there zero processor runs down = absurd (cc)
 only-there (suc node) zero runs down = rw (eqb-true (suc node) 16 runs) refl
 only-there (suc node) (suc processor) runs down = absurd (cc)
@@ -127,12 +142,14 @@ returns-clause-one_is_there c = (
 
 -- Premises
 
-no-pair : (processors number : ℕ) (spec : ProcessSpec) (program : Program) → slice_get (site_with processors 0 1).processes number ≡ Some spec
+no-pair : (processors number : ℕ) (spec : ProcessSpec) (program : Program)
+    → slice_get (site_with processors 0 1).processes number ≡ Some spec
     → spec.what ≡ kind.Pair program → ⊥
 no-pair processors zero spec program there is = let same = some-same there in cc
 no-pair processors (suc number) spec program there is = cc
 
-short : (processors terminal entered : ℕ) (words : List ℤ) → next_request (site_with processors 0 1) terminal entered ≡ Some words → length words ≤ 16
+short : (processors terminal entered : ℕ) (words : List ℤ)
+    → next_request (site_with processors 0 1) terminal entered ≡ Some words → length words ≤ 16
 short processors zero zero words next = rw (← some-same next) (omega arith)
 short processors zero (suc entered) words next = absurd (cc)
 short processors (suc terminal) entered words next = absurd (cc)

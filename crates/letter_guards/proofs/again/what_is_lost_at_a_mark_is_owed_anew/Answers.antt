@@ -2,11 +2,13 @@ use Rattle.std.proofs.Common.{refl}
 use Rattle.std.specs.Int.{int_wrap}
 use denote.Hole.Carrier.{shown, hidden, out}
 use Rattle.tal_tree.specs.declared.statement.What.{out-What}
-use Rattle.tal_tree.specs.declared.statement.What.TheBlock.{shown-the_row-Statement-0, shape-the_row-Statement-0, hidden-the_row-Statement-0}
+use Rattle.tal_tree.specs.declared.statement.What.TheBlock.{shown-the_row-Statement-0, shape-the_row-Statement-0}
+use Rattle.tal_tree.specs.declared.statement.What.TheBlock.{hidden-the_row-Statement-0}
 use Rattle.letter_guards.proofs.again.what_is_lost_at_a_mark_is_owed_anew.Goals as goal
 
 pub returns : goal.returns
-unfolding shown-the_row-Statement-0 shown out-What out shape-the_row-Statement-0 hidden-the_row-Statement-0 hidden int_wrap
+unfolding shown-the_row-Statement-0 shown out-What out shape-the_row-Statement-0 hidden-the_row-Statement-0 hidden
+    int_wrap
 returns c = record {
   left = refl;
   owed = refl;

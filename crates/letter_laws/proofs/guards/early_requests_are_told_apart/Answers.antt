@@ -5,9 +5,12 @@ use Rattle.letter_laws.proofs.guards.early_requests_are_told_apart.Goals as goal
 
 pub returns-clause-second : goal.returns-clause-second
 returns-clause-second c = λ early.
-    let down = (early.sent (letter_to 1) first_request disc_pair Second (inl refl) refl refl refl refl).stopped disc_pair refl in cc
+    let down = (early.sent (letter_to 1) first_request disc_pair Second (inl refl) refl refl refl refl).stopped
+    disc_pair refl in cc
 
 pub returns-clause-waits : goal.returns-clause-waits
 returns-clause-waits c = λ early.
-    let down = (early.waiting 0 (record disc_pair { second = record disc_pair.second { waiting = first_request ∷ [] } }) Second first_request refl refl (inl refl)).stopped
+    let down = (early.waiting 0 (record disc_pair
+    { second = record disc_pair.second { waiting = first_request ∷ [] } }) Second first_request refl refl
+    (inl refl)).stopped
     (record disc_pair { second = record disc_pair.second { waiting = first_request ∷ [] } }) refl in cc

@@ -7,7 +7,8 @@ pub returns-clause-unsent : goal.returns-clause-unsent
 returns-clause-unsent c = λ sent. sent.terminals 0 (record { entered = 1; printed = 0 }) first_request refl (inl refl)
 
 pub returns-clause-other : goal.returns-clause-other
-returns-clause-other c = λ sent. elim (sent.terminals 0 (record { entered = 1; printed = 0 }) first_request refl (inl refl)) [
-  | inl same ↦ (let number = ap (λ (r : Request). r.number) same in cc)
-  | inr none ↦ none
-]
+returns-clause-other c =
+    λ sent. elim (sent.terminals 0 (record { entered = 1; printed = 0 }) first_request refl (inl refl)) [
+      | inl same ↦ (let number = ap (λ (r : Request). r.number) same in cc)
+      | inr none ↦ none
+    ]

@@ -6,5 +6,6 @@ use Rattle.machine_views.proofs.copies.copies.Goals as goal
 pub loop-process-preserved : goal.loop-process-preserved
 loop-process-preserved c =
     c.loop-process.invariant
-    ∙ process-step copy_views c.args.processes.now c.loop-process.process-index c.process-item.result c.loop-process.views c.add_copies.new.views c.requires
+    ∙ process-step copy_views c.args.processes.now c.loop-process.process-index c.process-item.result
+    c.loop-process.views c.add_copies.new.views c.requires
     c.loop-process-test.true c.process-item.is c.in_ok-add_copies.ensures

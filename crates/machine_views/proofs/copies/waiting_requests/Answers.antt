@@ -7,5 +7,6 @@ pub loop-place-preserved : goal.loop-place-preserved
 loop-place-preserved c =
     let waiting = c.args.waiting.now.requests in
     let place = c.loop-place.place in
-    c.in_ok-add_waiting.ensures ∙ ap (λ requests. requests ++ option_to_list (slice_get waiting place)) c.loop-place.invariant
+    c.in_ok-add_waiting.ensures ∙ ap (λ requests. requests ++ option_to_list (slice_get waiting place))
+    c.loop-place.invariant
     ∙ sym (take-next waiting place)

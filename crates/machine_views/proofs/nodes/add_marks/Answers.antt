@@ -6,4 +6,5 @@ use Rattle.machine_views.proofs.nodes.add_marks.Goals as goal
 pub loop-processor-preserved : goal.loop-processor-preserved
 loop-processor-preserved c =
     c.loop-processor.invariant
-    ∙ number-step (mark_of c.args.marks.now c.args.node) c.loop-processor.processor 16 c.loop-processor.down c.add_mark.new.down c.loop-processor-test.true c.in_ok-add_mark.ensures
+    ∙ number-step (mark_of c.args.marks.now c.args.node) c.loop-processor.processor 16 c.loop-processor.down
+    c.add_mark.new.down c.loop-processor-test.true c.in_ok-add_mark.ensures

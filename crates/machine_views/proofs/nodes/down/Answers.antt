@@ -6,8 +6,10 @@ use Rattle.machine_views.proofs.nodes.down.Goals as goal
 pub loop-node-preserved : goal.loop-node-preserved
 loop-node-preserved c =
     c.loop-node.invariant
-    ∙ number-step (marks_by c.args.marks.now) c.loop-node.node 17 c.loop-node.down c.add_marks.new.down c.loop-node-test.true c.in_ok-add_marks.ensures
+    ∙ number-step (marks_by c.args.marks.now) c.loop-node.node 17 c.loop-node.down c.add_marks.new.down
+    c.loop-node-test.true c.in_ok-add_marks.ensures
 
 pub returns : goal.returns
 returns c =
-    sym (c.loop-node.invariant ∙ numbers-end (marks_by c.args.marks.now) c.loop-node.node 17 c.loop-node.down c.loop-node-test.false)
+    sym (c.loop-node.invariant ∙ numbers-end (marks_by c.args.marks.now) c.loop-node.node 17 c.loop-node.down
+    c.loop-node-test.false)

@@ -8,5 +8,7 @@ use Rattle.machine_views.proofs.process.image_of_everything.Goals as goal
 pub image-requires : goal.image-requires
 image-requires c =
     let state = state_of c.args.process.now in
-    subst (λ (files : List ℕ). MayList state c.in_ok-everything.everything.items files) (sym c.in_ok-everything.ensures.files)
-    (subst (λ (items : List ℕ). MayList state items []) (sym c.in_ok-everything.ensures.items) (everything-listed state))
+    subst (λ (files : List ℕ). MayList state c.in_ok-everything.everything.items files)
+    (sym c.in_ok-everything.ensures.files)
+    (subst (λ (items : List ℕ). MayList state items []) (sym c.in_ok-everything.ensures.items)
+    (everything-listed state))

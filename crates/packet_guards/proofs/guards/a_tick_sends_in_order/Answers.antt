@@ -1,4 +1,5 @@
-use Rattle.packet_guards.proofs.Buses.{a-tick-sends-in-order-report, a-tick-sends-in-order-alive-y, a-tick-sends-in-order-again, a-tick-sends-in-order-terminals}
+use Rattle.packet_guards.proofs.Buses.{a-tick-sends-in-order-report, a-tick-sends-in-order-alive-y}
+use Rattle.packet_guards.proofs.Buses.{a-tick-sends-in-order-again, a-tick-sends-in-order-terminals}
 use Rattle.packet_guards.proofs.Takeover.{tick-out}
 use Rattle.packet_guards.proofs.guards.a_tick_sends_in_order.Goals as goal
 

@@ -1,4 +1,5 @@
-use Rattle.packet_places.proofs.Played.{deliver-stays, enter-stays, fail-stays, lose-stays, repeat-stays, run-stays, tick-stays}
+use Rattle.packet_places.proofs.Played.{deliver-stays, enter-stays, fail-stays, lose-stays, repeat-stays, run-stays}
+use Rattle.packet_places.proofs.Played.{tick-stays}
 use Rattle.packet_places.proofs.laws.an_event_stays_at_its_node.Goals as goal
 
 pub returns : goal.returns

@@ -2,4 +2,9 @@ use Rattle.packet_wires.proofs.Served.{serving-checkpoint, serving-answer, servi
 use Rattle.packet_wires.proofs.examples.an_adder_serves.Goals as goal
 
 pub returns : goal.returns
-returns c = record { checkpoint = serving-checkpoint; answer = serving-answer; shown = serving-shown; idle = serving-idle }
+returns c = record {
+  checkpoint = serving-checkpoint;
+  answer = serving-answer;
+  shown = serving-shown;
+  idle = serving-idle;
+}

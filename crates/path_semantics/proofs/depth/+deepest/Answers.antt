@@ -8,16 +8,20 @@ use Rattle.path_semantics.proofs.depth.+deepest.Goals as goal
 pub deepest-loop-statement-preserved : goal.deepest-loop-statement-preserved
 deepest-loop-statement-preserved t c =
     c.max-found.ensures
-    ∙ one-more-statement c.args.before.now c.args.statements.now c.loop-statement.statement-index c.statement-item.result c.loop-statement.found c.deepest_in.result
+    ∙ one-more-statement c.args.before.now c.args.statements.now c.loop-statement.statement-index
+    c.statement-item.result c.loop-statement.found c.deepest_in.result
     c.statement-item.is c.loop-statement-test.true c.loop-statement.invariant c.deepest_in.ensures
 
 pub deepest_in-returns-in-If : goal.deepest_in-returns-in-If
 deepest_in-returns-in-If t c =
     let first : c.deepest-first.result ≡ greatest (of_called c.args.before.now c.in-If.yes) =
-    c.deepest-first.ensures ∙ ap (λ (xs : List Statement). greatest (of_called c.args.before.now xs)) c.as_slice.ensures in
+    c.deepest-first.ensures ∙ ap (λ (xs : List Statement). greatest (of_called c.args.before.now xs))
+    c.as_slice.ensures in
     let second : c.deepest-second.result ≡ greatest (of_called c.args.before.now c.in-If.no) =
-    c.deepest-second.ensures ∙ ap (λ (xs : List Statement). greatest (of_called c.args.before.now xs)) c.as_slice-in-If.ensures in
-    c.max.ensures ∙ ap₂ max first second ∙ sym (deepest-if c.args.before.now c.args.statement.now c.in-If.test c.in-If.yes c.in-If.no c.in-If.is)
+    c.deepest-second.ensures ∙ ap (λ (xs : List Statement). greatest (of_called c.args.before.now xs))
+    c.as_slice-in-If.ensures in
+    c.max.ensures ∙ ap₂ max first second ∙ sym
+    (deepest-if c.args.before.now c.args.statement.now c.in-If.test c.in-If.yes c.in-If.no c.in-If.is)
 
 pub deepest_in-returns-in-While : goal.deepest_in-returns-in-While
 deepest_in-returns-in-While t c =
@@ -29,4 +33,5 @@ pub deepest_in-returns-in-For : goal.deepest_in-returns-in-For
 deepest_in-returns-in-For t c =
     c.deepest-in-For.ensures
     ∙ ap (λ (xs : List Statement). greatest (of_called c.args.before.now xs)) c.as_slice-in-For.ensures
-    ∙ sym (deepest-for c.args.before.now c.args.statement.now c.in-For.variable c.in-For.from c.in-For.to c.in-For.body c.in-For.last c.in-For.is)
+    ∙ sym (deepest-for c.args.before.now c.args.statement.now c.in-For.variable c.in-For.from c.in-For.to c.in-For.body
+    c.in-For.last c.in-For.is)

@@ -9,4 +9,5 @@ pub returns : goal.returns
 returns c =
     let empty : c.is_empty.result ≡ (length (reached c.args.program.now c.args.path.now) == 0) =
     c.is_empty.ensures ∙ ap (λ stands. length stands == 0) (c.as_slice-stands.ensures.value ∙ c.in_ok-stands.ensures) in
-    subst (λ (b : Bool). IsTrue (not b) ↔ IsPath c.args.program.now c.args.path.now) (sym empty) (path-if c.args.program.now c.args.path.now)
+    subst (λ (b : Bool). IsTrue (not b) ↔ IsPath c.args.program.now c.args.path.now) (sym empty)
+    (path-if c.args.program.now c.args.path.now)

@@ -1,4 +1,5 @@
-use Rattle.path_steps.proofs.Stepping.{inner-steps, took-steps, asked-steps, got-steps, answered-steps, marked-steps, asked-room}
+use Rattle.path_steps.proofs.Stepping.{inner-steps, took-steps, asked-steps, got-steps, answered-steps, marked-steps}
+use Rattle.path_steps.proofs.Stepping.{asked-room}
 use Rattle.path_steps.proofs.laws.steps_follow_paths.Goals as goal
 
 pub returns : goal.returns

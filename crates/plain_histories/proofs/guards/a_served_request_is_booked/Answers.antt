@@ -21,19 +21,26 @@ entered : AreBooked disc_site (Enter 0 ∷ []) [] asked
 entered = entry_booked 0 (record { server = 0; place = 0 }) (pos 2 ∷ pos 1 ∷ pos 5 ∷ []) none_booked refl refl refl
 
 took : AreBooked disc_site (Take 0 0 ∷ Enter 0 ∷ []) [] (with_deed 0 (Took 0 (pos 2 ∷ pos 1 ∷ pos 5 ∷ [])) asked)
-took = deed_booked 0 disc (Took 0 (pos 2 ∷ pos 1 ∷ pos 5 ∷ [])) _ _ entered refl nothing_done (takes _ refl refl) (who.Terminal 0, refl, refl)
+took = deed_booked 0 disc (Took 0 (pos 2 ∷ pos 1 ∷ pos 5 ∷ [])) _ _ entered refl nothing_done (takes _ refl refl)
+    (who.Terminal 0, refl, refl)
 
-marked : AreBooked disc_site (Step 0 ∷ Take 0 0 ∷ Enter 0 ∷ []) [] (with_deed 0 Checkpointed (with_deed 0 (Took 0 (pos 2 ∷ pos 1 ∷ pos 5 ∷ [])) asked))
-marked = deed_booked 0 disc Checkpointed _ _ took refl (one_more nothing_done (takes {words = pos 2 ∷ pos 1 ∷ pos 5 ∷ []} _ refl refl)) (marks refl) tt
+marked : AreBooked disc_site (Step 0 ∷ Take 0 0 ∷ Enter 0 ∷ []) []
+    (with_deed 0 Checkpointed (with_deed 0 (Took 0 (pos 2 ∷ pos 1 ∷ pos 5 ∷ [])) asked))
+marked = deed_booked 0 disc Checkpointed _ _ took refl
+    (one_more nothing_done (takes {words = pos 2 ∷ pos 1 ∷ pos 5 ∷ []} _ refl refl)) (marks refl) tt
 
 written : AreBooked disc_site (Step 0 ∷ Step 0 ∷ Take 0 0 ∷ Enter 0 ∷ []) (Write 0 1 (sector_with (pos 5)) ∷ [])
-    (with_deed 0 (Acted (call.Write 1 (sector_with (pos 5)) 1) (sector_with (pos 0))) (with_deed 0 Checkpointed (with_deed 0 (Took 0 (pos 2 ∷ pos 1 ∷ pos 5 ∷ [])) asked)))
+    (with_deed 0 (Acted (call.Write 1 (sector_with (pos 5)) 1) (sector_with (pos 0)))
+    (with_deed 0 Checkpointed (with_deed 0 (Took 0 (pos 2 ∷ pos 1 ∷ pos 5 ∷ [])) asked)))
 written = deed_booked 0 disc (Acted (call.Write 1 (sector_with (pos 5)) 1) (sector_with (pos 0))) _ _ marked refl
-    (one_more (one_more nothing_done (takes {words = pos 2 ∷ pos 1 ∷ pos 5 ∷ []} _ refl refl)) (marks refl)) (acts refl refl) refl
+    (one_more (one_more nothing_done (takes {words = pos 2 ∷ pos 1 ∷ pos 5 ∷ []} _ refl refl)) (marks refl))
+    (acts refl refl) refl
 
-answered : AreBooked disc_site (Step 0 ∷ Step 0 ∷ Step 0 ∷ Take 0 0 ∷ Enter 0 ∷ []) (Write 0 1 (sector_with (pos 5)) ∷ []) served
+answered : AreBooked disc_site (Step 0 ∷ Step 0 ∷ Step 0 ∷ Take 0 0 ∷ Enter 0 ∷ [])
+    (Write 0 1 (sector_with (pos 5)) ∷ []) served
 answered = deed_booked 0 disc (Answered 0 (pos 0 ∷ [])) _ _ written refl
-    (one_more (one_more (one_more nothing_done (takes {words = pos 2 ∷ pos 1 ∷ pos 5 ∷ []} _ refl refl)) (marks refl)) (acts {found = sector_with (pos 0)} refl refl)) (answers _ _ refl refl refl refl refl) tt
+    (one_more (one_more (one_more nothing_done (takes {words = pos 2 ∷ pos 1 ∷ pos 5 ∷ []} _ refl refl)) (marks refl))
+    (acts {found = sector_with (pos 0)} refl refl)) (answers _ _ refl refl refl refl refl) tt
 
 regular : AreRegular disc_site
 regular zero spec there = subst (λ (s : ProcessSpec). IsRegularKind s.what) (some-same there) tt

@@ -10,12 +10,14 @@ use Rattle.plain_histories.specs.Ledgers.{Ledger, empty_ledger}
 use Rattle.plain_histories.specs.Served.{replied}
 use Rattle.plain_histories.proofs.guards.a_take_is_held_while_its_request_waits.Goals as goal
 
-alone : {site : Site} {ledger : Ledger} {number : ℕ} {acts : List Act} {deeds : List Deed} → AreHeld site ledger number acts deeds → acts ≡ Step 0 ∷ [] → ⊥
+alone : {site : Site} {ledger : Ledger} {number : ℕ} {acts : List Act} {deeds : List Deed}
+    → AreHeld site ledger number acts deeds → acts ≡ Step 0 ∷ [] → ⊥
 alone none_held same = cc
 alone (take_held awaits) same = cc
 alone (step_held held) same = cc
 
-none-entered : {acts : List Act} {deeds : List Deed} → AreHeld disc_site empty_ledger 0 acts deeds → acts ≡ Take 0 0 ∷ [] → ⊥
+none-entered : {acts : List Act} {deeds : List Deed} → AreHeld disc_site empty_ledger 0 acts deeds
+    → acts ≡ Take 0 0 ∷ [] → ⊥
 none-entered none_held same = cc
 none-entered (take_held (who.File process file, is, waits)) same = cc
 none-entered (take_held (who.Terminal terminal, is, waits)) same = cc

@@ -1,4 +1,5 @@
-use Rattle.plain_histories.proofs.Entries.{entry-one, entry-most, entry-stays, requests-grown, answered-grown, entered-grown}
+use Rattle.plain_histories.proofs.Entries.{entry-one, entry-most, entry-stays, requests-grown, answered-grown}
+use Rattle.plain_histories.proofs.Entries.{entered-grown}
 use Rattle.plain_histories.proofs.laws.entries_keep_their_numbers.Goals as goal
 
 pub returns : goal.returns

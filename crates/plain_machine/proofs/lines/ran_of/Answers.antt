@@ -1,4 +1,5 @@
-use Rattle.std.proofs.Common.{◌≡◌, ◌+◌, ◌<◌, ℕ, List, ◌∷◌, drop, drop-cons, add-one, get_or, length, ap, sym, ◌∙◌, arith}
+use Rattle.std.proofs.Common.{◌≡◌, ◌+◌, ◌<◌, ℕ, List, ◌∷◌, drop, drop-cons, add-one, get_or, length, ap, sym, ◌∙◌}
+use Rattle.std.proofs.Common.{arith}
 use Rattle.tal_tree.specs.declared.site.Site.{Site}
 use Rattle.schedule.specs.declared.line.Line.{Line}
 use Rattle.plain_machine.specs.Lines.{line_played, lines_played}
@@ -10,11 +11,17 @@ use Rattle.plain_machine.proofs.lines.ran_of.Goals as goal
 pub loop-line-init : goal.loop-line-init
 loop-line-init c = (
   ap (lines_played c.args.site.now c.args.lines.now) (sym c.in_ok-ran.ensures),
-  omega (arith, c.requires.room, start-none c.args.site.now, ap (λ (ran : Ran). most_write ran.plain.processes) c.in_ok-ran.ensures),
+  omega (
+    arith,
+    c.requires.room,
+    start-none c.args.site.now,
+    ap (λ (ran : Ran). most_write ran.plain.processes) c.in_ok-ran.ensures,
+  ),
 )
 
 -- a line is played, and the lines after it are left
-module _ (site wires : Site) (lines : List Line) (k : ℕ) (other : Line) (ran new : Ran) (same : wires ≡ site) (within : k < length lines)
+module _ (site wires : Site) (lines : List Line) (k : ℕ) (other : Line) (ran new : Ran) (same : wires ≡ site)
+    (within : k < length lines)
     (played : new ≡ line_played wires (get_or lines k other) ran) where
   abbrev line : Line
   line = get_or lines k other
@@ -42,8 +49,10 @@ module _ (site wires : Site) (lines : List Line) (k : ℕ) (other : Line) (ran n
 pub loop-line-preserved : goal.loop-line-preserved
 loop-line-preserved c = (
   c.loop-line.invariant.0
-      ∙ rest-played c.args.site.now c.args.wires.now c.args.lines.now c.loop-line.line-index _ c.loop-line.ran c.play.new.self c.requires.wires c.loop-line-test.true
+      ∙ rest-played c.args.site.now c.args.wires.now c.args.lines.now c.loop-line.line-index _ c.loop-line.ran
+      c.play.new.self c.requires.wires c.loop-line-test.true
       c.in_ok-play.ensures,
-  rest-within c.args.site.now c.args.wires.now c.args.lines.now c.loop-line.line-index _ c.loop-line.ran c.play.new.self c.requires.wires c.loop-line-test.true
+  rest-within c.args.site.now c.args.wires.now c.args.lines.now c.loop-line.line-index _ c.loop-line.ran
+      c.play.new.self c.requires.wires c.loop-line-test.true
       c.in_ok-play.ensures c.loop-line.invariant.1,
 )

@@ -8,4 +8,5 @@ use Rattle.plain_machine_tests.proofs.bank.add.Goals as goal
 pub returns : goal.returns
 returns c =
     subst AreLoadable (sym c.in_ok-push.ensures.ok)
-    (all-push (λ (spec : ProcessSpec). IsLoadableKind spec.what) c.args.processes.now _ c.requires.others c.requires.one)
+    (all-push (λ (spec : ProcessSpec). IsLoadableKind spec.what) c.args.processes.now _ c.requires.others
+    c.requires.one)

@@ -7,4 +7,5 @@ use Rattle.plain_program.proofs.inner.values.Given as goal
 -- what is still to be evaluated stands after the words so far
 abbrev pub invariant-loop-argument : goal.invariant-loop-argument
 invariant-loop-argument l =
-    values_of (seen l.memory) l.arguments ≡ option_map (λ rest. l.words ++ rest) (values_of (seen l.memory) (drop l.argument-index l.arguments))
+    values_of (seen l.memory) l.arguments ≡ option_map (λ rest. l.words ++ rest)
+    (values_of (seen l.memory) (drop l.argument-index l.arguments))

@@ -3,4 +3,5 @@ use Rattle.plain_semantics.proofs.Few.{openers-few}
 use Rattle.plain_semantics.proofs.opening.openers.Goals as goal
 
 pub returns-clause-few : goal.returns-clause-few
-returns-clause-few c = omega (arith, openers-few c.args.site.now c.args.process c.requires, ap length c.in_ok-all.ensures)
+returns-clause-few c =
+    omega (arith, openers-few c.args.site.now c.args.process c.requires, ap length c.in_ok-all.ensures)

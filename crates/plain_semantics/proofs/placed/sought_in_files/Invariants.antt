@@ -4,4 +4,5 @@ use Rattle.plain_semantics.specs.Sought.{sought}
 use Rattle.plain_semantics.proofs.placed.sought_in_files.Given as goal
 
 abbrev pub invariant-loop-number : goal.invariant-loop-number
-invariant-loop-number l = sought (files_from l.name l.process 0 l.files) l.place ≡ sought (files_from l.name l.process l.number (drop l.number l.files)) l.left
+invariant-loop-number l = sought (files_from l.name l.process 0 l.files) l.place
+    ≡ sought (files_from l.name l.process l.number (drop l.number l.files)) l.left

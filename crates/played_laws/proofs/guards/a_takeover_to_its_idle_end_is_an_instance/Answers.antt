@@ -10,7 +10,8 @@ use Rattle.played_laws.proofs.guards.a_takeover_to_its_idle_end_is_an_instance.G
 
 pub returns : goal.returns
 returns c =
-    let end = ends (adder_for (pos 5 ∷ [])) (adders-accepted (pos 5 ∷ [])) adder-out takeover_to_the_end adder_end (omega arith) adder-played adder-idle in
+    let end = ends (adder_for (pos 5 ∷ [])) (adders-accepted (pos 5 ∷ [])) adder-out takeover_to_the_end adder_end
+    (omega arith) adder-played adder-idle in
     record {
       accepted = adders-accepted (pos 5 ∷ []);
       laid_out = adder-out;

@@ -6,8 +6,10 @@ use Rattle.played_laws.proofs.laws.an_idle_end_that_is_played_leaves_none.Goals 
 
 pub returns : goal.returns
 returns c = record {
-  none = λ site events s accepted out few played idle. none-left (end-of (ends site accepted out events s few played idle).1);
-  shown = λ site events s accepted out few played idle. closed-shows-nothing (end-of (ends site accepted out events s few played idle).1);
+  none = λ site events s accepted out few played idle.
+      none-left (end-of (ends site accepted out events s few played idle).1);
+  shown = λ site events s accepted out few played idle.
+      closed-shows-nothing (end-of (ends site accepted out events s few played idle).1);
   state = λ site events s made number pair k one accepted out few played idle.
       same-state (end-of (ends site accepted out events s few played idle).1) made number pair k one;
   ended = λ site events s number pair k accepted out few played idle.

@@ -8,10 +8,13 @@ pub returns-clause-standing : goal.returns-clause-standing
 returns-clause-standing c = rounds-kept
 
 pub returns-clause-drained : goal.returns-clause-drained
-returns-clause-drained c = λ sizes rounds counts few. let low = rounds-kept sizes (begun (Drain rounds)) counts few in omega (arith, low)
+returns-clause-drained c =
+    λ sizes rounds counts few. let low = rounds-kept sizes (begun (Drain rounds)) counts few in omega (arith, low)
 
 pub returns-clause-muted : goal.returns-clause-muted
-returns-clause-muted c = λ sizes node rounds counts few. let low = rounds-kept sizes (begun (Mute node rounds)) counts few in omega (arith, low)
+returns-clause-muted c = λ sizes node rounds counts few. let low =
+    rounds-kept sizes (begun (Mute node rounds)) counts few in omega (arith, low)
 
 pub returns-clause-mixed : goal.returns-clause-mixed
-returns-clause-mixed c = λ sizes start rounds counts few. let low = rounds-kept sizes (begun (Mix start rounds)) counts few in omega (arith, low)
+returns-clause-mixed c = λ sizes start rounds counts few. let low =
+    rounds-kept sizes (begun (Mix start rounds)) counts few in omega (arith, low)

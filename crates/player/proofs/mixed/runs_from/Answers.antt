@@ -9,7 +9,8 @@ returns-then-times-gt0 c =
     rw (c.draw_word-draw.ensures.word, c.draw_word-draw.ensures.draws)
     (sym
     (c.loop-process.invariant
-    ∙ runs_from-some c.args.sizes c.args.x c.args.y c.loop-process.process c.loop-process.draws c.loop-process-test.true some))
+    ∙ runs_from-some c.args.sizes c.args.x c.args.y c.loop-process.process c.loop-process.draws
+    c.loop-process-test.true some))
 
 pub loop-process-preserved : goal.loop-process-preserved
 loop-process-preserved c =

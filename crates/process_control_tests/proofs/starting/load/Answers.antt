@@ -7,10 +7,12 @@ use Rattle.process_control_tests.proofs.Loads.{starts-whole}
 use Rattle.process_control_tests.proofs.starting.load.Goals as goal
 
 pub returns-clause-whole : goal.returns-clause-whole
-returns-clause-whole c = subst (λ (s : ProcessState). IsWholeProcess s) (sym c.in_ok-process.ensures) (starts-whole c.args.kind.now c.requires)
+returns-clause-whole c = subst (λ (s : ProcessState). IsWholeProcess s) (sym c.in_ok-process.ensures)
+    (starts-whole c.args.kind.now c.requires)
 
 pub returns-clause-free : goal.returns-clause-free
 returns-clause-free c = ap (λ (s : ProcessState). in_hand s) c.in_ok-process.ensures ∙ start-free c.args.kind.now
 
 pub returns-clause-files : goal.returns-clause-files
-returns-clause-files c = start-files c.args.kind.now ∙ sym (ap (λ (s : ProcessState). files_of s) c.in_ok-process.ensures)
+returns-clause-files c =
+    start-files c.args.kind.now ∙ sym (ap (λ (s : ProcessState). files_of s) c.in_ok-process.ensures)

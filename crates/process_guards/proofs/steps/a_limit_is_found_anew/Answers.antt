@@ -1,11 +1,14 @@
 use Rattle.std.proofs.Common.{refl}
 use Rattle.std.specs.Int.{int_wrap}
 use Rattle.tal_tree.specs.declared.statement.What.{out-What}
-use Rattle.tal_tree.specs.declared.statement.What.TheBlock.{shown-the_row-Statement-0, shape-the_row-Statement-0, hidden-the_row-Statement-0}
-use Rattle.tal_tree.specs.declared.expression.Expr.TheBlock.{shape-the_row-Spot-0, hidden-the_row-Spot-0, shape-the_row-Expr-1, hidden-the_row-Expr-1}
+use Rattle.tal_tree.specs.declared.statement.What.TheBlock.{shown-the_row-Statement-0, shape-the_row-Statement-0}
+use Rattle.tal_tree.specs.declared.statement.What.TheBlock.{hidden-the_row-Statement-0}
+use Rattle.tal_tree.specs.declared.expression.Expr.TheBlock.{shape-the_row-Spot-0, hidden-the_row-Spot-0}
+use Rattle.tal_tree.specs.declared.expression.Expr.TheBlock.{shape-the_row-Expr-1, hidden-the_row-Expr-1}
 use denote.Hole.Carrier.{shown, hidden, out}
 use Rattle.process_guards.proofs.steps.a_limit_is_found_anew.Goals as goal
 
 pub returns : goal.returns
-unfolding shown-the_row-Statement-0 shown int_wrap out-What out shape-the_row-Statement-0 hidden-the_row-Statement-0 shape-the_row-Spot-0 hidden-the_row-Spot-0 shape-the_row-Expr-1 hidden-the_row-Expr-1 hidden
+unfolding shown-the_row-Statement-0 shown int_wrap out-What out shape-the_row-Statement-0 hidden-the_row-Statement-0
+    shape-the_row-Spot-0 hidden-the_row-Spot-0 shape-the_row-Expr-1 hidden-the_row-Expr-1 hidden
 returns c = refl

@@ -5,7 +5,8 @@ use Rattle.process_histories.specs.Histories.{HasDone, nothing_done, one_more}
 use Rattle.process_histories.specs.Served.{disc, disc_site, sector_with}
 use Rattle.process_histories.proofs.guards.a_disc_serves_a_request.Goals as goal
 
-none-unmarked : (core : Core) → HasDone disc_site 0 disc (Acted (Write 1 (sector_with (pos 5)) 1) (sector_with (pos 0)) ∷ Took 0 (pos 2 ∷ pos 1 ∷ pos 5 ∷ []) ∷ []) core → ⊥
+none-unmarked : (core : Core) → HasDone disc_site 0 disc
+    (Acted (Write 1 (sector_with (pos 5)) 1) (sector_with (pos 0)) ∷ Took 0 (pos 2 ∷ pos 1 ∷ pos 5 ∷ []) ∷ []) core → ⊥
 none-unmarked core (one_more (one_more nothing_done (takes block stands there)) (acts at call)) = cc
 
 none-elsewhere : (core : Core) → HasDone disc_site 0 disc (Took 1 (pos 1 ∷ []) ∷ []) core → ⊥
@@ -14,7 +15,9 @@ none-elsewhere core (one_more nothing_done (takes block at there)) = cc
 pub returns : goal.returns
 returns c = record {
   begins = nothing_done;
-  serves = one_more (one_more (one_more (one_more nothing_done (takes {words = pos 2 ∷ pos 1 ∷ pos 5 ∷ []} _ refl refl)) (marks refl)) (acts {found = sector_with (pos 0)} refl refl)) (answers _ _ refl refl refl refl refl);
+  serves = one_more (one_more (one_more (one_more nothing_done
+      (takes {words = pos 2 ∷ pos 1 ∷ pos 5 ∷ []} _ refl refl)) (marks refl)) (acts {found =
+      sector_with (pos 0)} refl refl)) (answers _ _ refl refl refl refl refl);
   no_mark = none-unmarked;
   not_asked = none-elsewhere;
 }

@@ -5,4 +5,5 @@ use Rattle.report_reader.proofs.names.opener_lists.Goals as goal
 
 pub returns : goal.returns
 returns c =
-    are-openers c.args.site.now c.in_ok-lists.lists (c.in_ok-lists.ensures.lists ∙ ap (opener_lists c.args.site.now 0) c.as_slice.ensures) c.in_ok-lists.ensures.few
+    are-openers c.args.site.now c.in_ok-lists.lists
+    (c.in_ok-lists.ensures.lists ∙ ap (opener_lists c.args.site.now 0) c.as_slice.ensures) c.in_ok-lists.ensures.few

@@ -7,7 +7,8 @@ use Rattle.report_reader.proofs.numbers.count.Given as goal
 -- so many words were counted
 abbrev pub invariant-loop-word : goal.invariant-loop-word
 invariant-loop-word l =
-    (are_words (parts_of 32 l.text) ≡ words_more l.count (are_words (parts_of 32 l.rest))) × (l.count + length l.rest ≤ length l.text)
+    (are_words (parts_of 32 l.text) ≡ words_more l.count (are_words (parts_of 32 l.rest)))
+    × (l.count + length l.rest ≤ length l.text)
 
 abbrev pub decreases-loop-word : goal.decreases-loop-word
 decreases-loop-word l = length l.rest

@@ -7,4 +7,8 @@ overflow_mul-value c = omega (arith, nine_digits c.loop-c.c-index c.loop-c.value
 
 pub overflow_add-value : goal.overflow_add-value
 overflow_add-value c =
-    omega (arith, nine_digits c.loop-c.c-index c.loop-c.value (omega arith) c.loop-c.invariant.1, c.type_inv.digits c.loop-c.c-index)
+    omega (
+      arith,
+      nine_digits c.loop-c.c-index c.loop-c.value (omega arith) c.loop-c.invariant.1,
+      c.type_inv.digits c.loop-c.c-index,
+    )

@@ -16,13 +16,15 @@ returns-in-None-clause-parts c =
 pub returns-in-Some-clause-cut : goal.returns-in-Some-clause-cut
 returns-in-Some-clause-cut c =
     ap (λ front. Some (front, c.in-Some.after.now)) c.split_before.ensures.front
-    ∙ sym (cut-found c.args.sign c.args.text.now c.in-Some.field-0-0.now c.in-Some.after.now (sym c.split_before.ensures.back ∙ c.in-Some.ensures.cases.0))
+    ∙ sym (cut-found c.args.sign c.args.text.now c.in-Some.field-0-0.now c.in-Some.after.now
+    (sym c.split_before.ensures.back ∙ c.in-Some.ensures.cases.0))
 
 pub returns-in-Some-clause-parts : goal.returns-in-Some-clause-parts
 returns-in-Some-clause-parts c =
     parts-cut c.args.sign c.args.text.now
     ∙ ap (parts_by c.args.sign c.args.text.now)
-    (cut-found c.args.sign c.args.text.now c.in-Some.field-0-0.now c.in-Some.after.now (sym c.split_before.ensures.back ∙ c.in-Some.ensures.cases.0))
+    (cut-found c.args.sign c.args.text.now c.in-Some.field-0-0.now c.in-Some.after.now
+    (sym c.split_before.ensures.back ∙ c.in-Some.ensures.cases.0))
     ∙ ap (λ front. parts_with front (parts_of c.args.sign c.in-Some.after.now)) (sym c.split_before.ensures.front)
 
 pub returns-in-Some-clause-lengths : goal.returns-in-Some-clause-lengths

@@ -6,4 +6,5 @@ use Rattle.report_reader.proofs.parts.rest_after.Goals as goal
 pub returns : goal.returns
 returns c =
     strip-is c.args.beginning.now c.args.text.now c.strip_prefix.result
-    (strip_prefix_is Decides-eqb c.args.text.now c.args.beginning.now c.strip_prefix.result c.strip_prefix.ensures.cases)
+    (strip_prefix_is Decides-eqb c.args.text.now c.args.beginning.now c.strip_prefix.result
+    c.strip_prefix.ensures.cases)

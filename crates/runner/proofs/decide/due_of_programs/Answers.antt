@@ -1,5 +1,6 @@
 use Rattle.std.proofs.Common.{◌≤◌, length, subst, sym}
-use Rattle.verdicts.specs.Refused.{AreAccepted, AreJudgeable}
+use Rattle.verdicts.specs.Judgeable.{AreJudgeable}
+use Rattle.verdicts.specs.Refused.{AreAccepted}
 use Rattle.runner.proofs.DecidedLemmas.{accepted_is_due}
 use Rattle.runner.proofs.decide.due_of_programs.Goals as goal
 
@@ -10,12 +11,15 @@ first_refused-requires-clause-few c =
 
 pub first_refused-requires-clause-judgeable : goal.first_refused-requires-clause-judgeable
 first_refused-requires-clause-judgeable c =
-    subst AreJudgeable (sym c.as_slice.ensures) (c.an_accepted_deck_meets_the_premises.ensures.judgeable c.requires.0 c.args.deck c.requires.1)
+    subst AreJudgeable (sym c.as_slice.ensures)
+    (c.an_accepted_deck_meets_the_premises.ensures.judgeable c.requires.0 c.args.deck c.requires.1)
 
 pub due_of_accepted-requires-clause-accepted : goal.due_of_accepted-requires-clause-accepted
-due_of_accepted-requires-clause-accepted c = subst AreAccepted c.as_slice.ensures (rw c.in-Ok-None.field-0-is at c.in-Ok-None.ensures)
+due_of_accepted-requires-clause-accepted c =
+    subst AreAccepted c.as_slice.ensures (rw c.in-Ok-None.field-0-is at c.in-Ok-None.ensures)
 
 pub returns-in-Ok-None-clause-due : goal.returns-in-Ok-None-clause-due
 returns-in-Ok-None-clause-due c =
     accepted_is_due c.args.task c.args.deck c.due_of_accepted.result
-    (subst AreAccepted c.as_slice.ensures (rw c.in-Ok-None.field-0-is at c.in-Ok-None.ensures)) c.due_of_accepted.ensures.due
+    (subst AreAccepted c.as_slice.ensures (rw c.in-Ok-None.field-0-is at c.in-Ok-None.ensures))
+    c.due_of_accepted.ensures.due

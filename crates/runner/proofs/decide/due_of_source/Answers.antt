@@ -7,7 +7,8 @@ pub returns-in-Ok-clause-due : goal.returns-in-Ok-clause-due
 returns-in-Ok-clause-due g c =
     let read = c.in-Ok.ensures.bytes in
     bytes_are_due c.args.task _ _ _ read.0 c.due_of_bytes.result (told _ _ read.0 read.1 read.2)
-    (subst (λ bytes. IsDueOfBytes c.args.task bytes c.due_of_bytes.result) (c.as_slice.ensures ∙ read.3.0) c.due_of_bytes.ensures.due)
+    (subst (λ bytes. IsDueOfBytes c.args.task bytes c.due_of_bytes.result) (c.as_slice.ensures ∙ read.3.0)
+    c.due_of_bytes.ensures.due)
 
 pub returns-in-Err-TooLong-clause-due : goal.returns-in-Err-TooLong-clause-due
 returns-in-Err-TooLong-clause-due g c =

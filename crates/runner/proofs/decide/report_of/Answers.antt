@@ -12,9 +12,11 @@ returns-clause-run c =
     let laid_out = meets.laid_out c.requires.spelt.0 c.args.deck c.requires.spelt.1 in
     let run : IsRunOf c.args.deck.site c.args.deck.lines c.args.stop c.in_ok-run.field-0 =
     subst (λ site. IsRunOf site c.args.deck.lines c.args.stop c.in_ok-run.field-0) c.in_ok-site.ensures
-    (subst (λ lines. IsRunOf c.in_ok-site.site lines c.args.stop c.in_ok-run.field-0) c.as_slice.ensures c.in_ok-run.ensures) in
+    (subst (λ lines. IsRunOf c.in_ok-site.site lines c.args.stop c.in_ok-run.field-0) c.as_slice.ensures
+    c.in_ok-run.ensures) in
     reported c.args.deck c.args.stop _ c.in_ok-site.ensures run
-    (c.a_run_of_an_accepted_site_keeps_possible_acts.ensures c.args.deck.site c.args.deck.lines c.args.stop c.in_ok-run.field-0 accepted laid_out run)
+    (c.a_run_of_an_accepted_site_keeps_possible_acts.ensures c.args.deck.site c.args.deck.lines c.args.stop
+    c.in_ok-run.field-0 accepted laid_out run)
     (c.in_ok-sectors.ensures ∙ ap (λ site. sectors_after site c.shown.result.now) (c.get.ensures ∙ c.in_ok-site.ensures)
     ∙ ap (sectors_after c.args.deck.site) c.shown.ensures)
     c.in_ok-stopped.ensures

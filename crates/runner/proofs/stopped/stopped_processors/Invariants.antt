@@ -3,4 +3,5 @@ use Rattle.runner.specs.Stopped.{stopped_from}
 use Rattle.runner.proofs.stopped.stopped_processors.Given as goal
 
 abbrev pub invariant-loop-processor : goal.invariant-loop-processor
-invariant-loop-processor l = stopped_from 0 l.machine.state.world.stopped ≡ l.processors ++ stopped_from l.processor (drop l.processor l.machine.state.world.stopped)
+invariant-loop-processor l = stopped_from 0 l.machine.state.world.stopped
+    ≡ l.processors ++ stopped_from l.processor (drop l.processor l.machine.state.world.stopped)

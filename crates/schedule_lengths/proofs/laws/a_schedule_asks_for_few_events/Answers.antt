@@ -6,7 +6,8 @@ pub returns-clause-most : goal.returns-clause-most
 returns-clause-most c = deck-few
 
 pub returns-clause-few : goal.returns-clause-few
-returns-clause-few c = λ deck stop events agenda s within plays. let most = deck-few deck stop events agenda s within plays in omega (arith, most)
+returns-clause-few c = λ deck stop events agenda s within plays. let most =
+    deck-few deck stop events agenda s within plays in omega (arith, most)
 
 pub returns-clause-asks : goal.returns-clause-asks
 returns-clause-asks c = λ deck stop within. let most = deck-asks deck stop within in omega (arith, most)

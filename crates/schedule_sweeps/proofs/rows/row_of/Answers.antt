@@ -5,4 +5,5 @@ pub loop-after-preserved : goal.loop-after-preserved
 loop-after-preserved c = row-more _ _ _ _ _ _ _ c.loop-after.invariant c.in_ok-kind.ensures c.add.ensures
 
 pub kind_of_run-requires-clause-asks : goal.kind_of_run-requires-clause-asks
-kind_of_run-requires-clause-asks c = c.requires.asks (record { processor = c.args.processor; after = c.loop-after.after })
+kind_of_run-requires-clause-asks c =
+    c.requires.asks (record { processor = c.args.processor; after = c.loop-after.after })

@@ -9,6 +9,12 @@ pub returns : goal.returns
 returns c = record {
   beginning = served-begins;
   event = λ site events post next event fit out few run known served plays one.
-      (let good : IsGood site (length events) post.world = record { roles = run-roles run; stopped = run-marks run; invariant = run-keeps site fit events post.world (omega (arith, few)) run } in
-      plays-served site fit out (length events) post next event few good (run-seats site events post.world out run) one known served plays);
+      (let good : IsGood site (length events) post.world =
+      record {
+        roles = run-roles run;
+        stopped = run-marks run;
+        invariant = run-keeps site fit events post.world (omega (arith, few)) run;
+      } in
+      plays-served site fit out (length events) post next event few good (run-seats site events post.world out run) one
+      known served plays);
 }

@@ -22,5 +22,6 @@ returns c =
     (c.put_all.ensures
     ∙ ap (λ rows. rows_after rows c.args.shown.now) (c.in_ok-table.ensures ∙ ap blank_rows c.as_slice.ensures))
     ∙ written-rows c.args.shown.now c.args.site.now.processes in
-    IfOk-weaker c.sectors.result (λ sectors. sectors ≡ rows_sectors 0 c.put_all.new.self) (λ sectors. sectors ≡ sectors_of c.args.shown.now 0 c.args.site.now.processes)
+    IfOk-weaker c.sectors.result (λ sectors. sectors ≡ rows_sectors 0 c.put_all.new.self)
+    (λ sectors. sectors ≡ sectors_of c.args.shown.now 0 c.args.site.now.processes)
     (λ sectors same. same ∙ told) c.sectors.ensures

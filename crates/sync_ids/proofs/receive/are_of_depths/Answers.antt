@@ -8,4 +8,5 @@ pub returns-else-openers-blocks : goal.returns-else-openers-blocks
 returns-else-openers-blocks c =
     let openers = c.args.openers.now in
     no-eqb (length openers) (length c.args.blocks.now) c.if-openers-blocks.false
-    ∙ sym (unequal c.args.blocks.now (map depth_of openers) (λ same. c.if-openers-blocks.false (sym (same ∙ length-map openers depth_of))))
+    ∙ sym (unequal c.args.blocks.now (map depth_of openers)
+    (λ same. c.if-openers-blocks.false (sym (same ∙ length-map openers depth_of))))

@@ -13,11 +13,13 @@ module _ {site : Site} {marks : List Down} {ledger : Ledger} {number : ℕ} {spe
   not-first watches (with_other role lead stage other) = role watches
   not-first watches (alone role lead stage unsent gone made) = role watches
 
-  neither : {pair : Pair} → pair.first.role ≡ Watching → pair.second.role ≡ Watching → IsLed site marks ledger number spec deeds pair → ⊥
+  neither : {pair : Pair} → pair.first.role ≡ Watching → pair.second.role ≡ Watching
+      → IsLed site marks ledger number spec deeds pair → ⊥
   neither first second (by_first leads) = not-first first leads
   neither first second (by_second leads) = not-first second leads
 
-  either : {pair : Pair} → IsLed site marks ledger number spec deeds pair → IsLed site marks ledger number spec deeds (exchanged pair)
+  either : {pair : Pair} → IsLed site marks ledger number spec deeds pair
+      → IsLed site marks ledger number spec deeds (exchanged pair)
   either (by_first leads) = by_second leads
   either (by_second leads) = by_first leads
 

@@ -8,4 +8,5 @@ use Rattle.tal_builder.proofs.globals.globals.Given as goal
 
 -- the links so far and those of the tokens that are left are the whole chain
 abbrev pub invariant-loop-turn : goal.invariant-loop-turn
-invariant-loop-turn l = onto link_lines l.all (row_by g.no_lines g.more_lines is_line line_at (length l.tokens - l._turn) l.rest) ≡ lines_at l.tokens
+invariant-loop-turn l = onto link_lines l.all
+    (row_by g.no_lines g.more_lines is_line line_at (length l.tokens - l._turn) l.rest) ≡ lines_at l.tokens

@@ -9,4 +9,6 @@ use Rattle.tal_builder.proofs.globals.more_items.Given as goal
 
 -- the links so far and those of the tokens that are left are the whole chain
 abbrev pub invariant-loop-turn : goal.invariant-loop-turn
-invariant-loop-turn l = onto link_items l.all (rest_by g.no_items g.more_items (plain_of mark.Comma) item_at (length l.tokens - l._turn) l.rest) ≡ items_at l.tokens
+invariant-loop-turn l = onto link_items l.all
+    (rest_by g.no_items g.more_items (plain_of mark.Comma) item_at (length l.tokens - l._turn) l.rest)
+    ≡ items_at l.tokens

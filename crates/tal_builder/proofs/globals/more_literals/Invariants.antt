@@ -9,4 +9,6 @@ use Rattle.tal_builder.proofs.globals.more_literals.Given as goal
 
 -- the links so far and those of the tokens that are left are the whole chain
 abbrev pub invariant-loop-turn : goal.invariant-loop-turn
-invariant-loop-turn l = onto link_literals l.all (rest_by g.no_literals g.more_literals (plain_of mark.Comma) literal_at (length l.tokens - l._turn) l.rest) ≡ literals_at l.tokens
+invariant-loop-turn l = onto link_literals l.all
+    (rest_by g.no_literals g.more_literals (plain_of mark.Comma) literal_at (length l.tokens - l._turn) l.rest)
+    ≡ literals_at l.tokens

@@ -8,4 +8,5 @@ use Rattle.tal_builder.proofs.heading.locals.Given as goal
 
 -- the links so far and those of the tokens that are left are the whole chain
 abbrev pub invariant-loop-turn : goal.invariant-loop-turn
-invariant-loop-turn l = onto link_locals l.all (row_by g.no_locals g.more_locals is_local local_at (length l.tokens - l._turn) l.rest) ≡ locals_at l.tokens
+invariant-loop-turn l = onto link_locals l.all
+    (row_by g.no_locals g.more_locals is_local local_at (length l.tokens - l._turn) l.rest) ≡ locals_at l.tokens

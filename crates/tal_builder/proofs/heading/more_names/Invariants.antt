@@ -10,4 +10,5 @@ use Rattle.tal_builder.proofs.heading.more_names.Given as goal
 
 -- the links so far and those of the tokens that are left are the whole chain
 abbrev pub invariant-loop-turn : goal.invariant-loop-turn
-invariant-loop-turn l = onto link_names l.all (rest_by g.no_names link_name (plain_of mark.Comma) name_of (length l.tokens - l._turn) l.rest) ≡ names_at l.tokens
+invariant-loop-turn l = onto link_names l.all
+    (rest_by g.no_names link_name (plain_of mark.Comma) name_of (length l.tokens - l._turn) l.rest) ≡ names_at l.tokens

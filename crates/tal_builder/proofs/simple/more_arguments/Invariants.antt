@@ -9,4 +9,6 @@ use Rattle.tal_builder.proofs.simple.more_arguments.Given as goal
 
 -- the links so far and those of the tokens that are left are the whole chain
 abbrev pub invariant-loop-turn : goal.invariant-loop-turn
-invariant-loop-turn l = onto link_further l.all (rest_by g.no_further g.more_further (plain_of mark.Comma) (argument_at l.room) (length l.tokens - l._turn) l.rest) ≡ further_at l.room l.tokens
+invariant-loop-turn l = onto link_further l.all
+    (rest_by g.no_further g.more_further (plain_of mark.Comma) (argument_at l.room) (length l.tokens - l._turn) l.rest)
+    ≡ further_at l.room l.tokens

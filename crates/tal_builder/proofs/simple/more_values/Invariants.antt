@@ -9,4 +9,6 @@ use Rattle.tal_builder.proofs.simple.more_values.Given as goal
 
 -- the links so far and those of the tokens that are left are the whole chain
 abbrev pub invariant-loop-turn : goal.invariant-loop-turn
-invariant-loop-turn l = onto link_values l.all (rest_by g.no_values g.more_values (plain_of mark.Comma) (expr_at l.room) (length l.tokens - l._turn) l.rest) ≡ values_at l.room l.tokens
+invariant-loop-turn l = onto link_values l.all
+    (rest_by g.no_values g.more_values (plain_of mark.Comma) (expr_at l.room) (length l.tokens - l._turn) l.rest)
+    ≡ values_at l.room l.tokens

@@ -7,4 +7,5 @@ use Rattle.tal_builder.proofs.simple.value_list_within.Goals as goal
 pub returns : goal.returns
 returns c =
     let next : suc (c.args.room - 1) ≡ c.args.room = omega (arith, c.if-room-eq0.false) in
-    subst (λ n. Tells (λ r. ((seen_expr r.0.first, seen_values r.0.more, r.0.close), r.1.now)) c.value_list.result (value_list_in n c.args.tokens.now)) next c.value_list.ensures
+    subst (λ n. Tells (λ r. ((seen_expr r.0.first, seen_values r.0.more, r.0.close), r.1.now)) c.value_list.result
+    (value_list_in n c.args.tokens.now)) next c.value_list.ensures

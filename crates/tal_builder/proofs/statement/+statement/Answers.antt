@@ -18,55 +18,73 @@ pub row-returns-in_default : goal.row-returns-in_default
 row-returns-in_default t c =
     let none : plain_of mark.Semicolon c.loop-turn.rest.now ≡ None = rw c.in_default.is at c.optional.ensures in
     sym c.loop-turn.invariant
-    ∙ ends link_row g.no_row g.more_row (plain_of mark.Semicolon) (statement_at c.args.room) c.loop-turn.all (length c.args.tokens.now - c.loop-turn._turn) c.loop-turn.rest.now none
+    ∙ ends link_row g.no_row g.more_row (plain_of mark.Semicolon) (statement_at c.args.room) c.loop-turn.all
+    (length c.args.tokens.now - c.loop-turn._turn) c.loop-turn.rest.now none
 
 pub row-loop-turn-preserved : goal.row-loop-turn-preserved
 row-loop-turn-preserved t c =
-    let count : length c.args.tokens.now - c.loop-turn._turn ≡ suc (length c.args.tokens.now - (c.loop-turn._turn + 1)) = omega (arith, c.loop-turn-test.true) in
-    let sign : plain_of mark.Semicolon c.loop-turn.rest.now ≡ Some (c.in-Some.semicolon, c.in-Some.after.now) = c.in-Some.ensures in
-    let part : (statement_at c.args.room) c.in-Some.after.now ≡ Some (seen_statement c.in_ok-statement.statement, c.in_ok-statement.after.now) = c.in_ok-statement.ensures in
+    let count : length c.args.tokens.now - c.loop-turn._turn
+    ≡ suc (length c.args.tokens.now - (c.loop-turn._turn + 1)) = omega (arith, c.loop-turn-test.true) in
+    let sign : plain_of mark.Semicolon c.loop-turn.rest.now ≡ Some (c.in-Some.semicolon, c.in-Some.after.now) =
+    c.in-Some.ensures in
+    let part : (statement_at c.args.room) c.in-Some.after.now
+    ≡ Some (seen_statement c.in_ok-statement.statement, c.in_ok-statement.after.now) = c.in_ok-statement.ensures in
     rw c.in_ok-add_statement.ensures
-    (sym (turns link_row g.no_row g.more_row (plain_of mark.Semicolon) (statement_at c.args.room) c.loop-turn.all _ _ c.loop-turn.rest.now c.in-Some.after.now c.in_ok-statement.after.now
-    c.in-Some.semicolon (seen_statement c.in_ok-statement.statement) (record { semicolon = c.in-Some.semicolon; statement = c.in_ok-statement.statement }) count sign part (λ r. refl)) ∙ c.loop-turn.invariant)
+    (sym (turns link_row g.no_row g.more_row (plain_of mark.Semicolon) (statement_at c.args.room) c.loop-turn.all _ _
+    c.loop-turn.rest.now c.in-Some.after.now c.in_ok-statement.after.now
+    c.in-Some.semicolon (seen_statement c.in_ok-statement.statement)
+    (record { semicolon = c.in-Some.semicolon; statement = c.in_ok-statement.statement }) count sign part
+    (λ r. refl)) ∙ c.loop-turn.invariant)
 
 pub block-returns : goal.block-returns
 block-returns t c =
-    block-found (statement_at c.args.room) c.args.begin c.in_ok-end.end c.args.tokens.now c.in_ok-first.after.now c.in_ok-more.after.now c.in_ok-end.rest.now
-    (seen_statement c.in_ok-first.first) (seen_row c.in_ok-more.more) c.in_ok-first.ensures c.in_ok-more.ensures c.in_ok-end.ensures
+    block-found (statement_at c.args.room) c.args.begin c.in_ok-end.end c.args.tokens.now c.in_ok-first.after.now
+    c.in_ok-more.after.now c.in_ok-end.rest.now
+    (seen_statement c.in_ok-first.first) (seen_row c.in_ok-more.more) c.in_ok-first.ensures c.in_ok-more.ensures
+    c.in_ok-end.ensures
     ∙ ap (λ s. Some (s, c.in_ok-end.rest.now)) (sym c.in_ok-statement.ensures)
 
 pub otherwise-returns : goal.otherwise-returns
 otherwise-returns t c =
-    otherwise-found (statement_at c.args.room) c.in-Some.at c.args.tokens.now c.in-Some.after.now c.in_ok-inner.rest.now (seen_statement c.in_ok-inner.inner)
+    otherwise-found (statement_at c.args.room) c.in-Some.at c.args.tokens.now c.in-Some.after.now
+    c.in_ok-inner.rest.now (seen_statement c.in_ok-inner.inner)
     c.in-Some.ensures c.in_ok-inner.ensures
     ∙ ap (λ o. Some (o, c.in_ok-inner.rest.now)) (sym (seen-else c.in-Some.at c.in_ok-inner.inner))
 
 pub if_then-returns : goal.if_then-returns
 if_then-returns t c =
-    if-found (statement_at c.args.room) c.args.room c.args.head c.in_ok-end.end c.args.tokens.now c.in_ok-test.after.now c.in_ok-end.after.now c.in_ok-inner.after.now c.in_ok-otherwise.rest.now
+    if-found (statement_at c.args.room) c.args.room c.args.head c.in_ok-end.end c.args.tokens.now
+    c.in_ok-test.after.now c.in_ok-end.after.now c.in_ok-inner.after.now c.in_ok-otherwise.rest.now
     (seen_expr c.in_ok-test.test) (seen_statement c.in_ok-inner.inner) (seen_otherwise c.in_ok-otherwise.otherwise)
     c.in_ok-test.ensures c.in_ok-end.ensures c.in_ok-inner.ensures c.in_ok-otherwise.ensures
     ∙ ap (λ s. Some (s, c.in_ok-otherwise.rest.now))
-    (ap (λ (t : Test). g.if_then t.head (seen_expr t.test) t.end (seen_statement c.in_ok-inner.inner) (seen_otherwise c.in_ok-otherwise.otherwise)) (sym c.in_ok-test-2.ensures)
+    (ap (λ (t : Test). g.if_then t.head (seen_expr t.test) t.end (seen_statement c.in_ok-inner.inner)
+    (seen_otherwise c.in_ok-otherwise.otherwise)) (sym c.in_ok-test-2.ensures)
     ∙ sym c.in_ok-statement.ensures)
 
 pub while_loop-returns : goal.while_loop-returns
 while_loop-returns t c =
-    while-found (statement_at c.args.room) c.args.room c.args.head c.in_ok-end.end c.args.tokens.now c.in_ok-test.after.now c.in_ok-end.after.now c.in_ok-inner.rest.now
+    while-found (statement_at c.args.room) c.args.room c.args.head c.in_ok-end.end c.args.tokens.now
+    c.in_ok-test.after.now c.in_ok-end.after.now c.in_ok-inner.rest.now
     (seen_expr c.in_ok-test.test) (seen_statement c.in_ok-inner.inner)
     c.in_ok-test.ensures c.in_ok-end.ensures c.in_ok-inner.ensures
     ∙ ap (λ s. Some (s, c.in_ok-inner.rest.now))
-    (ap (λ (t : Test). g.while_do t.head (seen_expr t.test) t.end (seen_statement c.in_ok-inner.inner)) (sym c.in_ok-test-2.ensures)
+    (ap (λ (t : Test). g.while_do t.head (seen_expr t.test) t.end (seen_statement c.in_ok-inner.inner))
+    (sym c.in_ok-test-2.ensures)
     ∙ sym c.in_ok-statement.ensures)
 
 pub for_loop-returns : goal.for_loop-returns
 for_loop-returns t c =
-    for-found (statement_at c.args.room) c.args.room c.args.head c.in-Some.named.at c.in-Some.named.name c.in_ok-set_at.set_at c.in_ok-to_at.to_at c.in_ok-do_at.do_at
-    c.args.tokens.now c.in-Some.after.now c.in_ok-set_at.after.now c.in_ok-from.after.now c.in_ok-to_at.after.now c.in_ok-to.after.now c.in_ok-do_at.after.now c.in_ok-inner.rest.now
+    for-found (statement_at c.args.room) c.args.room c.args.head c.in-Some.named.at c.in-Some.named.name
+    c.in_ok-set_at.set_at c.in_ok-to_at.to_at c.in_ok-do_at.do_at
+    c.args.tokens.now c.in-Some.after.now c.in_ok-set_at.after.now c.in_ok-from.after.now c.in_ok-to_at.after.now
+    c.in_ok-to.after.now c.in_ok-do_at.after.now c.in_ok-inner.rest.now
     (seen_expr c.in_ok-from.from) (seen_expr c.in_ok-to.to) (seen_statement c.in_ok-inner.inner)
-    c.in-Some.ensures c.in_ok-set_at.ensures c.in_ok-from.ensures c.in_ok-to_at.ensures c.in_ok-to.ensures c.in_ok-do_at.ensures c.in_ok-inner.ensures
+    c.in-Some.ensures c.in_ok-set_at.ensures c.in_ok-from.ensures c.in_ok-to_at.ensures c.in_ok-to.ensures
+    c.in_ok-do_at.ensures c.in_ok-inner.ensures
     ∙ ap (λ s. Some (s, c.in_ok-inner.rest.now))
-    (ap (λ (f : ForHead). g.for_do f.head f.at f.name f.set_at (seen_expr f.from) f.to_at (seen_expr f.to) f.do_at (seen_statement c.in_ok-inner.inner)) (sym c.in_ok-counted.ensures)
+    (ap (λ (f : ForHead). g.for_do f.head f.at f.name f.set_at (seen_expr f.from) f.to_at (seen_expr f.to) f.do_at
+    (seen_statement c.in_ok-inner.inner)) (sym c.in_ok-counted.ensures)
     ∙ sym c.in_ok-statement.ensures)
 
 pub statement-returns : goal.statement-returns
@@ -74,5 +92,7 @@ statement-returns t c =
     let next : suc (c.args.room - 1) ≡ c.args.room = omega (arith, c.if-room-eq0.false) in
     let begins : is_begun c.args.tokens.now ≡ true = sym c.is_begun.ensures ∙ c.if-not-is_begun.false in
     subst (λ n. Tells (λ r. (seen_statement r.0, r.1.now)) c.begun.result (statement_at n c.args.tokens.now)) next
-    (subst (λ b. Tells (λ r. (seen_statement r.0, r.1.now)) c.begun.result (cond b (begun_by (statement_at (c.args.room - 1)) (c.args.room - 1) c.args.tokens.now) (Some (g.nothing, c.args.tokens.now))))
+    (subst (λ b. Tells (λ r. (seen_statement r.0, r.1.now)) c.begun.result
+    (cond b (begun_by (statement_at (c.args.room - 1)) (c.args.room - 1) c.args.tokens.now)
+    (Some (g.nothing, c.args.tokens.now))))
     (sym begins) c.begun.ensures)

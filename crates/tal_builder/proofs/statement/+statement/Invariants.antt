@@ -33,4 +33,6 @@ decreases-for_loop l = 4 * l.room + 2
 
 -- the links so far and those of the tokens that are left are the whole chain
 abbrev pub invariant-row-loop-turn : goal.invariant-row-loop-turn
-invariant-row-loop-turn l = onto link_row l.all (rest_by g.no_row g.more_row (plain_of mark.Semicolon) (statement_at l.room) (length l.tokens - l._turn) l.rest) ≡ row_at l.room l.tokens
+invariant-row-loop-turn l = onto link_row l.all
+    (rest_by g.no_row g.more_row (plain_of mark.Semicolon) (statement_at l.room) (length l.tokens - l._turn) l.rest)
+    ≡ row_at l.room l.tokens

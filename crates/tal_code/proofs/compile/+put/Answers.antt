@@ -11,17 +11,32 @@ use Rattle.tal_code.proofs.compile.+put.Goals as goal
 pub put_expr-put_first-requires : goal.put_expr-put_first-requires
 put_expr-put_first-requires t c =
     let within : size-Expr (expr_of c.in_ok-chain.chain.first) ≤ size-Expr c.args.expr.now =
-    omega (arith, first_within (expr_of c.in_ok-chain.chain.first) c.in_ok-chain.chain.tails.items, ap size-Expr c.in_ok-chain.ensures) in
-    (omega (arith, c.decreases), omega (arith, c.requires, first_waits (expr_of c.in_ok-chain.chain.first) c.in_ok-chain.chain.tails.items, ap waiting_of c.in_ok-chain.ensures))
+    omega (
+      arith,
+      first_within (expr_of c.in_ok-chain.chain.first) c.in_ok-chain.chain.tails.items,
+      ap size-Expr c.in_ok-chain.ensures,
+    ) in (
+      omega (arith, c.decreases),
+      omega (
+        arith,
+        c.requires,
+        first_waits (expr_of c.in_ok-chain.chain.first) c.in_ok-chain.chain.tails.items,
+        ap waiting_of c.in_ok-chain.ensures,
+      ),
+    )
 
 pub put_expr-put_tail-requires : goal.put_expr-put_tail-requires
 put_expr-put_tail-requires t c =
     let within : size-Expr c.in-Some.tail.right.now < size-Expr c.args.expr.now =
-    tail-within c.pop.new.self.items c.in-Some.tail c.in-Some.ensures.items c.loop-tail.invariant in
-    (omega (arith, c.decreases), tail-waits c.pop.new.self.items c.in-Some.tail c.in-Some.ensures.items c.requires c.loop-tail.invariant)
+    tail-within c.pop.new.self.items c.in-Some.tail c.in-Some.ensures.items c.loop-tail.invariant in (
+      omega (arith, c.decreases),
+      tail-waits c.pop.new.self.items c.in-Some.tail c.in-Some.ensures.items c.requires
+          c.loop-tail.invariant,
+    )
 
 pub put_expr-loop-tail-preserved : goal.put_expr-loop-tail-preserved
-put_expr-loop-tail-preserved t c = grows-on c.pop.new.self.items c.in-Some.tail c.in-Some.ensures.items c.in_ok-put_tail.ensures c.loop-tail.invariant
+put_expr-loop-tail-preserved t c =
+    grows-on c.pop.new.self.items c.in-Some.tail c.in-Some.ensures.items c.in_ok-put_tail.ensures c.loop-tail.invariant
 
 pub put_first-put_spot-requires : goal.put_first-put_spot-requires
 put_first-put_spot-requires t c =

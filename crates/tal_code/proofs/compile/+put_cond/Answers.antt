@@ -11,17 +11,32 @@ use Rattle.tal_code.proofs.compile.+put_cond.Goals as goal
 pub put_cond-put_test-requires : goal.put_cond-put_test-requires
 put_cond-put_test-requires t c =
     let within : size-Cond (cond_of c.in_ok-chain.chain.first) ≤ size-Cond c.args.cond.now =
-    omega (arith, first_within (cond_of c.in_ok-chain.chain.first) c.in_ok-chain.chain.links.items, ap size-Cond c.in_ok-chain.ensures) in
-    (omega (arith, c.decreases), omega (arith, c.requires, first_test_waits (cond_of c.in_ok-chain.chain.first) c.in_ok-chain.chain.links.items, ap waiting_of_test c.in_ok-chain.ensures))
+    omega (
+      arith,
+      first_within (cond_of c.in_ok-chain.chain.first) c.in_ok-chain.chain.links.items,
+      ap size-Cond c.in_ok-chain.ensures,
+    ) in (
+      omega (arith, c.decreases),
+      omega (
+        arith,
+        c.requires,
+        first_test_waits (cond_of c.in_ok-chain.chain.first) c.in_ok-chain.chain.links.items,
+        ap waiting_of_test c.in_ok-chain.ensures,
+      ),
+    )
 
 pub put_cond-put_link-requires : goal.put_cond-put_link-requires
 put_cond-put_link-requires t c =
     let within : size-Cond c.in-Some.link.right.now < size-Cond c.args.cond.now =
-    link-within c.pop.new.self.items c.in-Some.link c.in-Some.ensures.items c.loop-link.invariant in
-    (omega (arith, c.decreases), link-waits c.pop.new.self.items c.in-Some.link c.in-Some.ensures.items c.requires c.loop-link.invariant)
+    link-within c.pop.new.self.items c.in-Some.link c.in-Some.ensures.items c.loop-link.invariant in (
+      omega (arith, c.decreases),
+      link-waits c.pop.new.self.items c.in-Some.link c.in-Some.ensures.items c.requires
+          c.loop-link.invariant,
+    )
 
 pub put_cond-loop-link-preserved : goal.put_cond-loop-link-preserved
-put_cond-loop-link-preserved t c = joins-on c.pop.new.self.items c.in-Some.link c.in-Some.ensures.items c.in_ok-put_link.ensures c.loop-link.invariant
+put_cond-loop-link-preserved t c =
+    joins-on c.pop.new.self.items c.in-Some.link c.in-Some.ensures.items c.in_ok-put_link.ensures c.loop-link.invariant
 
 pub put_test-put_cond-requires : goal.put_test-put_cond-requires
 put_test-put_cond-requires t c =

@@ -8,4 +8,8 @@ use Rattle.tal_code.proofs.compile.simple_spot.Goals as goal
 pub returns-in-Element-clause-none : goal.returns-in-Element-clause-none
 returns-in-Element-clause-none c =
     subst (λ (spot : Spot). waiting_for (Read spot) ≡ waiting_of (Read spot) + 1) (sym c.in-Element.is)
-    (omega (arith, for-read (Element c.in-Element.item c.in-Element.index), waiting-read (Element c.in-Element.item c.in-Element.index)))
+    (omega (
+      arith,
+      for-read (Element c.in-Element.item c.in-Element.index),
+      waiting-read (Element c.in-Element.item c.in-Element.index),
+    ))

@@ -15,5 +15,6 @@ pub returns-in-Load : goal.returns-in-Load
 returns-in-Load c =
     let shape : c.args.steps.now ≡ Load c.in-Load.operand ∷ c.in-Some.rest.now =
     c.in-Some.ensures.cases.0 ∙ ap (λ s. s ∷ c.in-Some.rest.now) c.in-Load.is in
-    first-load (seen c.args.memory) c.in-Load.operand c.args.steps.now c.in-Some.rest.now c.word.result c.run_light.result shape
+    first-load (seen c.args.memory) c.in-Load.operand c.args.steps.now c.in-Some.rest.now c.word.result
+    c.run_light.result shape
     c.word.ensures c.run_light.ensures

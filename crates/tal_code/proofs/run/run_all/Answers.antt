@@ -8,9 +8,11 @@ use Rattle.tal_code.proofs.Tops.{all-from-nothing}
 use Rattle.tal_code.proofs.run.run_all.Goals as goal
 
 pub go_through-requires : goal.go_through-requires
-go_through-requires c = subst (λ (w : WordStack). RoomFrom (length w.below) c.args.steps.now) (sym c.new-stack.ensures) (all-room c.args.steps.now c.requires)
+go_through-requires c = subst (λ (w : WordStack). RoomFrom (length w.below) c.args.steps.now) (sym c.new-stack.ensures)
+    (all-room c.args.steps.now c.requires)
 
 pub returns : goal.returns
 returns c =
     subst (λ w. Shows (seen c.args.memory) (built c.args.steps.now).top w) (sym c.top.ensures)
-    (all-from-nothing (seen c.args.memory) c.args.steps.now c.new-stack.result c.go_through.new.stack c.new-stack.ensures c.go_through.ensures)
+    (all-from-nothing (seen c.args.memory) c.args.steps.now c.new-stack.result c.go_through.new.stack
+    c.new-stack.ensures c.go_through.ensures)

@@ -5,4 +5,9 @@ use Rattle.tal_code_tests.proofs.running.both.Goals as goal
 
 pub returns : goal.returns
 returns c =
-    omega (arith, waiting-and c.in_ok-left.left c.in_ok-right.right, ap waiting_of_test c.in_ok-left.ensures, ap waiting_of_test c.in_ok-right.ensures)
+    omega (
+      arith,
+      waiting-and c.in_ok-left.left c.in_ok-right.right,
+      ap waiting_of_test c.in_ok-left.ensures,
+      ap waiting_of_test c.in_ok-right.ensures,
+    )

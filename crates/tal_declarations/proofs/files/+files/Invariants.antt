@@ -5,4 +5,5 @@ use Rattle.tal_declarations.proofs.files.+files.Given as goal
 
 -- with what is left the files become those of the whole row
 abbrev pub invariant-row_files-loop-next : goal.invariant-row_files-loop-next
-invariant-row_files-loop-next l = row_files l.scope l.files (seen_row (drop l.next-index l.more)) ≡ row_files l.scope l.initial.files (seen_row l.more)
+invariant-row_files-loop-next l = row_files l.scope l.files (seen_row (drop l.next-index l.more))
+    ≡ row_files l.scope l.initial.files (seen_row l.more)

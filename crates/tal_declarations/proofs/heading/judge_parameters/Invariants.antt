@@ -6,6 +6,7 @@ use Rattle.tal_declarations.proofs.heading.judge_parameters.Given as goal
 -- with those that are left the least so far is that of all, and the names become what all make of them
 abbrev pub invariant-loop-named : goal.invariant-loop-named
 invariant-loop-named l = record {
-  least_is : least l.so_far (parameters_faults l.outer l.before (drop l.named-index l.parameters)) ≡ least l.initial.so_far (parameters_faults l.outer l.initial.before l.parameters);
+  least_is : least l.so_far (parameters_faults l.outer l.before (drop l.named-index l.parameters))
+      ≡ least l.initial.so_far (parameters_faults l.outer l.initial.before l.parameters);
   state_is : with_locals l.before (drop l.named-index l.parameters) ≡ with_locals l.initial.before l.parameters;
 }

@@ -6,7 +6,8 @@ use Rattle.tal_interp.proofs.apply.overwrite_items.Given as goal
 abbrev pub invariant-loop-number : goal.invariant-loop-number
 invariant-loop-number l = record {
   sizes : sizes_of l.globals ≡ widths_of l.table;
-  holds : (others : List (List ℤ)) → Overwrites l.table l.fn.globals l.words others → Overwrites l.table l.globals l.left others;
+  holds : (others : List (List ℤ)) → Overwrites l.table l.fn.globals l.words others
+      → Overwrites l.table l.globals l.left others;
 }
 
 abbrev pub decreases-loop-number : goal.decreases-loop-number

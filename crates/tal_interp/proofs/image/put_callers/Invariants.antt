@@ -5,4 +5,5 @@ use Rattle.tal_interp.specs.SeenFrames.{frame_seen}
 use Rattle.tal_interp.proofs.image.put_callers.Given as goal
 
 abbrev pub invariant-loop-caller : goal.invariant-loop-caller
-invariant-loop-caller l = l.out ≡ l.initial.out ++ flat_map (λ caller. frame_words (frame_seen (places l.table) caller)) (take l.caller-index l.callers)
+invariant-loop-caller l = l.out ≡ l.initial.out
+    ++ flat_map (λ caller. frame_words (frame_seen (places l.table) caller)) (take l.caller-index l.callers)

@@ -7,6 +7,7 @@ use Rattle.tal_interp.proofs.inner.values.Given as goal
 -- what is still to be evaluated stands after the words so far
 abbrev pub invariant-loop-argument : goal.invariant-loop-argument
 invariant-loop-argument l = record {
-  words : values_of (seen l.memory) l.arguments ≡ option_map (λ rest. l.words ++ rest) (values_of (seen l.memory) (drop l.argument-index l.arguments));
+  words : values_of (seen l.memory) l.arguments
+      ≡ option_map (λ rest. l.words ++ rest) (values_of (seen l.memory) (drop l.argument-index l.arguments));
   few : length l.words ≡ l.argument-index;
 }

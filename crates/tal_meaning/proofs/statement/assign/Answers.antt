@@ -15,5 +15,6 @@ returns-in-Some c =
     let alone : name_of_expr e ≡ Some c.in-Some.named = sym c.name_of_expr.ensures ∙ c.in-Some.is in
     let value : value_of_expr s e ≡ read_by c.meaning_of.result None =
     lone-value s e c.in-Some.named alone ∙ ap (λ found. read_by found None) (sym c.meaning_of.ensures) in
-    subst (λ (found : Option Meaning). IfOk c.assign_by.result (λ w. w ≡ assign_by s (seen_spot c.args.target.now) e found))
+    subst (λ (found : Option Meaning). IfOk c.assign_by.result
+    (λ w. w ≡ assign_by s (seen_spot c.args.target.now) e found))
     (c.meaning_of.ensures ∙ ap (meaning_by s) (sym alone)) (c.assign_by.ensures e value)

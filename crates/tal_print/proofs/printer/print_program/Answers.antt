@@ -12,4 +12,5 @@ returns-clause-again c =
     let program = c.args.program.now in
     IfOk-weaker c.lay_program.result (λ bytes. bytes ≡ spelled (printed program))
     (λ bytes. (source : List ℕ) → Reads source program → ReadsAgain bytes program)
-    (λ bytes e source reads. subst (λ text. ReadsAgain text program) (sym e) (reads_again program source reads)) c.lay_program.ensures
+    (λ bytes e source reads. subst (λ text. ReadsAgain text program) (sym e) (reads_again program source reads))
+    c.lay_program.ensures

@@ -8,6 +8,7 @@ use Rattle.tal_rules.proofs.call.judge_further.Goals as goal
 
 pub loop-next-preserved : goal.loop-next-preserved
 loop-next-preserved c =
-    turn (λ ns. arguments_faults c.args.scope.now (further_arguments (seen_further (ns)))) (λ (n : NextArgument). argument_faults c.args.scope.now (seen_argument n.argument)) (λ n ns. refl)
+    turn (λ ns. arguments_faults c.args.scope.now (further_arguments (seen_further (ns))))
+    (λ (n : NextArgument). argument_faults c.args.scope.now (seen_argument n.argument)) (λ n ns. refl)
     c.args.more.now c.loop-next.next-index c.next-item.result c.loop-next.so_far c.judge_argument-so_far.result _
     c.next-item.is c.loop-next-test.true c.judge_argument-so_far.ensures c.loop-next.invariant

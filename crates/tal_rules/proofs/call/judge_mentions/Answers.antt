@@ -9,6 +9,8 @@ use Rattle.tal_rules.proofs.call.judge_mentions.Goals as goal
 pub loop-next-preserved : goal.loop-next-preserved
 loop-next-preserved c =
     turn_faults (λ d ns. checkpoint_faults c.args.scope.now d (further_arguments (seen_further ns)))
-    (λ d (n : NextArgument). mention_faults c.args.scope.now d (seen_argument n.argument)) (λ d n. with_mention d (name_of_argument (seen_argument n.argument))) (λ d n ns. refl)
-    c.args.more.now c.loop-next.next-index c.next-item.result c.loop-next.before c.judge_mention.new.before c.loop-next.so_far c.in_ok-so_far.so_far _
+    (λ d (n : NextArgument). mention_faults c.args.scope.now d (seen_argument n.argument))
+    (λ d n. with_mention d (name_of_argument (seen_argument n.argument))) (λ d n ns. refl)
+    c.args.more.now c.loop-next.next-index c.next-item.result c.loop-next.before c.judge_mention.new.before
+    c.loop-next.so_far c.in_ok-so_far.so_far _
     c.next-item.is c.loop-next-test.true c.in_ok-so_far.ensures.least c.in_ok-so_far.ensures.names c.loop-next.invariant

@@ -7,4 +7,6 @@ use Rattle.tal_rules.proofs.call.judge_mentions.Given as goal
 
 -- with what is left the least so far is that of all
 abbrev pub invariant-loop-next : goal.invariant-loop-next
-invariant-loop-next l = least l.so_far (checkpoint_faults l.scope l.before (further_arguments (seen_further (drop l.next-index l.more)))) ≡ least l.initial.so_far (checkpoint_faults l.scope l.initial.before (further_arguments (seen_further l.more)))
+invariant-loop-next l = least l.so_far (checkpoint_faults l.scope l.before
+    (further_arguments (seen_further (drop l.next-index l.more))))
+    ≡ least l.initial.so_far (checkpoint_faults l.scope l.initial.before (further_arguments (seen_further l.more)))

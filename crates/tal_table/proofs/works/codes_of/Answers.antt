@@ -4,4 +4,9 @@ use Rattle.tal_table.proofs.works.codes_of.Goals as goal
 
 pub code_of-requires : goal.code_of-requires
 code_of-requires c =
-    omega (arith, c.requires, waits-each c.args.arguments.now c.loop-argument.argument-index c.argument-item.result c.argument-item.is c.loop-argument-test.true)
+    omega (
+      arith,
+      c.requires,
+      waits-each c.args.arguments.now c.loop-argument.argument-index c.argument-item.result
+          c.argument-item.is c.loop-argument-test.true,
+    )

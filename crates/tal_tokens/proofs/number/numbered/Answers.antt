@@ -12,6 +12,8 @@ word_of v small = ap (to_z w16) (omega arith)
 
 pub returns-in-Some : goal.returns-in-Some
 returns-in-Some c =
-    let kept : to_z w16 (of_z w16 c.cast_signed.result) ≡ c.cast_signed.result = to_z-of_z w16 c.cast_signed.result (record { sfits = c.cast_signed.type_inv }) in
-    let word : c.cast_signed.result ≡ wrap (pos c.in-Some.value) = c.cast_signed.ensures ∙ sym (word_of c.in-Some.value (c.requires.small c.in-Some.value c.in-Some.is)) in
+    let kept : to_z w16 (of_z w16 c.cast_signed.result) ≡ c.cast_signed.result =
+    to_z-of_z w16 c.cast_signed.result (record { sfits = c.cast_signed.type_inv }) in
+    let word : c.cast_signed.result ≡ wrap (pos c.in-Some.value) =
+    c.cast_signed.ensures ∙ sym (word_of c.in-Some.value (c.requires.small c.in-Some.value c.in-Some.is)) in
     rw (kept, c.at.ensures, c.in-Some.is, word) refl

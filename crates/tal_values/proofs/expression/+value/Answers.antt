@@ -11,17 +11,23 @@ use Rattle.tal_values.proofs.expression.+value.Goals as goal
 pub operand-returns-in_ok-cell-in-Read : goal.operand-returns-in_ok-cell-in-Read
 operand-returns-in_ok-cell-in-Read t c =
     c.read.ensures ∙ ap (option_and_then (word_at (seen c.args.memory))) c.in_ok-cell-in-Read.ensures
-    ∙ sym (value-read (seen c.args.memory) c.in-Read.spot.now) ∙ ap (λ first. value_of (seen c.args.memory) (expr_of first)) (sym c.in-Read.is)
+    ∙ sym (value-read (seen c.args.memory) c.in-Read.spot.now)
+    ∙ ap (λ first. value_of (seen c.args.memory) (expr_of first)) (sym c.in-Read.is)
 
 pub operand-returns-in_ok-inner-in-Minus : goal.operand-returns-in_ok-inner-in-Minus
 operand-returns-in_ok-inner-in-Minus t c =
     c.negated.ensures ∙ ap (option_map (λ x. wrap (neg_ℤ x))) c.in_ok-inner-in-Minus.ensures
-    ∙ sym (value-minus (seen c.args.memory) c.in-Minus.inner.now) ∙ ap (λ first. value_of (seen c.args.memory) (expr_of first)) (sym c.in-Minus.is)
+    ∙ sym (value-minus (seen c.args.memory) c.in-Minus.inner.now)
+    ∙ ap (λ first. value_of (seen c.args.memory) (expr_of first)) (sym c.in-Minus.is)
 
 pub value-operand-requires : goal.value-operand-requires
 value-operand-requires t c =
     let within : size-Expr (expr_of c.in_ok-chain.chain.first) ≤ size-Expr c.args.expr.now =
-    omega (arith, first_within (expr_of c.in_ok-chain.chain.first) c.in_ok-chain.chain.tails.items, ap size-Expr c.in_ok-chain.ensures) in
+    omega (
+      arith,
+      first_within (expr_of c.in_ok-chain.chain.first) c.in_ok-chain.chain.tails.items,
+      ap size-Expr c.in_ok-chain.ensures,
+    ) in
     (omega (arith, c.decreases), tt)
 
 pub value-value-requires : goal.value-value-requires
@@ -33,4 +39,5 @@ value-value-requires t c =
 pub value-loop-tail-preserved : goal.value-loop-tail-preserved
 value-loop-tail-preserved t c =
     rw c.applied-left.ensures
-    (climbs_up (seen c.args.memory) c.pop.new.self.items c.in-Some.tail c.in-Some.ensures.items c.in_ok-right.ensures c.loop-tail.invariant)
+    (climbs_up (seen c.args.memory) c.pop.new.self.items c.in-Some.tail c.in-Some.ensures.items c.in_ok-right.ensures
+    c.loop-tail.invariant)

@@ -11,9 +11,11 @@ returns-in_err-write_act g c =
     let all = c.args.acts.now in
     let i = c.loop-act.act-index in
     let one = get_or all i (Step 0) in
-    puts_passed_on g.K.Sink.held g.K.Sink.faults g.K.Sink.sure _ _ (flat_map line all) _ c.from_residual.result c.from_residual.ensures.0
+    puts_passed_on g.K.Sink.held g.K.Sink.faults g.K.Sink.sure _ _ (flat_map line all) _ c.from_residual.result
+    c.from_residual.ensures.0
     (rw (lines-split line all i one c.loop-act-test.true (got all i (Step 0) c.loop-act-test.true))
-    (puts_part g.K.Sink.held g.K.Sink.faults g.K.Sink.sure _ _ (flat_map line (take i all) ++ line one) (flat_map line (drop (i + 1) all)) _
+    (puts_part g.K.Sink.held g.K.Sink.faults g.K.Sink.sure _ _ (flat_map line (take i all) ++ line one)
+    (flat_map line (drop (i + 1) all)) _
     (puts_both g.K.Sink.held g.K.Sink.faults g.K.Sink.sure _ _ _ (flat_map line (take i all)) (line one) _
     c.loop-act.invariant c.in_err-write_act.ensures)))
 

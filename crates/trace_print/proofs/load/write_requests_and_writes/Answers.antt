@@ -6,10 +6,12 @@ use Rattle.trace_print.proofs.load.write_requests_and_writes.Goals as goal
 pub returns-in_err-write_count : goal.returns-in_err-write_count
 returns-in_err-write_count g c =
     puts_passed_on g.K.Sink.held g.K.Sink.faults g.K.Sink.sure _ _ _ _ c.from_residual.result c.from_residual.ensures.0
-    (puts_part g.K.Sink.held g.K.Sink.faults g.K.Sink.sure _ _ (count_line (codes "LOAD ") c.args.counts.requests) (count_line (codes "W ") c.args.counts.writes) _
+    (puts_part g.K.Sink.held g.K.Sink.faults g.K.Sink.sure _ _ (count_line (codes "LOAD ") c.args.counts.requests)
+    (count_line (codes "W ") c.args.counts.writes) _
     c.in_err-write_count.ensures)
 
 pub returns : goal.returns
 returns g c =
-    puts_both g.K.Sink.held g.K.Sink.faults g.K.Sink.sure _ _ _ (count_line (codes "LOAD ") c.args.counts.requests) (count_line (codes "W ") c.args.counts.writes) _
+    puts_both g.K.Sink.held g.K.Sink.faults g.K.Sink.sure _ _ _ (count_line (codes "LOAD ") c.args.counts.requests)
+    (count_line (codes "W ") c.args.counts.writes) _
     c.in_ok-write_count.ensures c.write_count-2.ensures

@@ -8,10 +8,12 @@ use Rattle.trace_print.proofs.report.write_load_states.Goals as goal
 pub returns-in_err-write_load_sectors : goal.returns-in_err-write_load_sectors
 returns-in_err-write_load_sectors g c =
     puts_passed_on g.K.Sink.held g.K.Sink.faults g.K.Sink.sure _ _ _ _ c.from_residual.result c.from_residual.ensures.0
-    (puts_part g.K.Sink.held g.K.Sink.faults g.K.Sink.sure _ _ (load_lines c.args.counts ++ sector_lines c.args.site.now c.args.sectors.now) (stop_lines c.args.stopped.now) _
+    (puts_part g.K.Sink.held g.K.Sink.faults g.K.Sink.sure _ _
+    (load_lines c.args.counts ++ sector_lines c.args.site.now c.args.sectors.now) (stop_lines c.args.stopped.now) _
     c.in_err-write_load_sectors.ensures)
 
 pub returns : goal.returns
 returns g c =
-    puts_both g.K.Sink.held g.K.Sink.faults g.K.Sink.sure _ _ _ (load_lines c.args.counts ++ sector_lines c.args.site.now c.args.sectors.now) (stop_lines c.args.stopped.now) _
+    puts_both g.K.Sink.held g.K.Sink.faults g.K.Sink.sure _ _ _
+    (load_lines c.args.counts ++ sector_lines c.args.site.now c.args.sectors.now) (stop_lines c.args.stopped.now) _
     c.in_ok-write_load_sectors.ensures c.write_all_stops.ensures

@@ -7,10 +7,12 @@ use Rattle.trace_print.proofs.report.write_outside.Goals as goal
 pub returns-in_err-write_all_shown : goal.returns-in_err-write_all_shown
 returns-in_err-write_all_shown g c =
     puts_passed_on g.K.Sink.held g.K.Sink.faults g.K.Sink.sure _ _ _ _ c.from_residual.result c.from_residual.ensures.0
-    (puts_part g.K.Sink.held g.K.Sink.faults g.K.Sink.sure _ _ (shown_lines c.args.site.now c.args.shown.now) (sector_lines c.args.site.now c.args.sectors.now) _
+    (puts_part g.K.Sink.held g.K.Sink.faults g.K.Sink.sure _ _ (shown_lines c.args.site.now c.args.shown.now)
+    (sector_lines c.args.site.now c.args.sectors.now) _
     c.in_err-write_all_shown.ensures)
 
 pub returns : goal.returns
 returns g c =
-    puts_both g.K.Sink.held g.K.Sink.faults g.K.Sink.sure _ _ _ (shown_lines c.args.site.now c.args.shown.now) (sector_lines c.args.site.now c.args.sectors.now) _
+    puts_both g.K.Sink.held g.K.Sink.faults g.K.Sink.sure _ _ _ (shown_lines c.args.site.now c.args.shown.now)
+    (sector_lines c.args.site.now c.args.sectors.now) _
     c.in_ok-write_all_shown.ensures c.write_all_sectors.ensures

@@ -10,10 +10,14 @@ use Rattle.trace_print.proofs.report.write_report.Goals as goal
 pub returns-in_err-write_run : goal.returns-in_err-write_run
 returns-in_err-write_run g c =
     puts_passed_on g.K.Sink.held g.K.Sink.faults g.K.Sink.sure _ _ _ _ c.from_residual.result c.from_residual.ensures.0
-    (puts_part g.K.Sink.held g.K.Sink.faults g.K.Sink.sure _ _ (shown_lines c.args.site.now c.args.shown.now ++ sector_lines c.args.site.now c.args.sectors.now ++ stop_lines c.args.stopped.now ++ act_lines c.args.site.now c.args.acts.now) (end_line c.args.end) _
+    (puts_part g.K.Sink.held g.K.Sink.faults g.K.Sink.sure _ _
+    (shown_lines c.args.site.now c.args.shown.now ++ sector_lines c.args.site.now c.args.sectors.now
+    ++ stop_lines c.args.stopped.now ++ act_lines c.args.site.now c.args.acts.now) (end_line c.args.end) _
     c.in_err-write_run.ensures)
 
 pub returns : goal.returns
 returns g c =
-    puts_both g.K.Sink.held g.K.Sink.faults g.K.Sink.sure _ _ _ (shown_lines c.args.site.now c.args.shown.now ++ sector_lines c.args.site.now c.args.sectors.now ++ stop_lines c.args.stopped.now ++ act_lines c.args.site.now c.args.acts.now) (end_line c.args.end) _
+    puts_both g.K.Sink.held g.K.Sink.faults g.K.Sink.sure _ _ _
+    (shown_lines c.args.site.now c.args.shown.now ++ sector_lines c.args.site.now c.args.sectors.now
+    ++ stop_lines c.args.stopped.now ++ act_lines c.args.site.now c.args.acts.now) (end_line c.args.end) _
     c.in_ok-write_run.ensures c.write_end.ensures

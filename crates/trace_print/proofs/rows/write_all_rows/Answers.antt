@@ -13,9 +13,11 @@ returns-in_err-write_row g c =
     let all = c.args.rows.now in
     let i = c.loop-one.one-index in
     let one = get_or all i none in
-    puts_passed_on g.K.Sink.held g.K.Sink.faults g.K.Sink.sure _ _ (flat_map row_line all) _ c.from_residual.result c.from_residual.ensures.0
+    puts_passed_on g.K.Sink.held g.K.Sink.faults g.K.Sink.sure _ _ (flat_map row_line all) _ c.from_residual.result
+    c.from_residual.ensures.0
     (rw (lines-split row_line all i one c.loop-one-test.true (got all i none c.loop-one-test.true))
-    (puts_part g.K.Sink.held g.K.Sink.faults g.K.Sink.sure _ _ (flat_map row_line (take i all) ++ row_line one) (flat_map row_line (drop (i + 1) all)) _
+    (puts_part g.K.Sink.held g.K.Sink.faults g.K.Sink.sure _ _ (flat_map row_line (take i all) ++ row_line one)
+    (flat_map row_line (drop (i + 1) all)) _
     (puts_both g.K.Sink.held g.K.Sink.faults g.K.Sink.sure _ _ _ (flat_map row_line (take i all)) (row_line one) _
     c.loop-one.invariant c.in_err-write_row.ensures)))
 

@@ -6,4 +6,5 @@ use Rattle.trace_print.proofs.stops.write_all_stops.Given as goal
 -- the lines so far are written
 abbrev pub invariant-loop-processor : goal.invariant-loop-processor
 invariant-loop-processor g l =
-    Puts g.K.Sink.held g.K.Sink.faults g.K.Sink.sure l.fn.sink l.sink (stop_lines (take l.processor-index l.stopped)) (Ok tt)
+    Puts g.K.Sink.held g.K.Sink.faults g.K.Sink.sure l.fn.sink l.sink (stop_lines (take l.processor-index l.stopped))
+    (Ok tt)

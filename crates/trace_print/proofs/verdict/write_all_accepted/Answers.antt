@@ -10,9 +10,11 @@ returns-in_err-write_accepted g c =
     let all = c.args.specs.now in
     let i = c.loop-spec.spec-index in
     let one = c.spec-item.result in
-    puts_passed_on g.K.Sink.held g.K.Sink.faults g.K.Sink.sure _ _ (flat_map line all) _ c.from_residual.result c.from_residual.ensures.0
+    puts_passed_on g.K.Sink.held g.K.Sink.faults g.K.Sink.sure _ _ (flat_map line all) _ c.from_residual.result
+    c.from_residual.ensures.0
     (rw (lines-split line all i one c.loop-spec-test.true c.spec-item.is)
-    (puts_part g.K.Sink.held g.K.Sink.faults g.K.Sink.sure _ _ (flat_map line (take i all) ++ line one) (flat_map line (drop (i + 1) all)) _
+    (puts_part g.K.Sink.held g.K.Sink.faults g.K.Sink.sure _ _ (flat_map line (take i all) ++ line one)
+    (flat_map line (drop (i + 1) all)) _
     (puts_both g.K.Sink.held g.K.Sink.faults g.K.Sink.sure _ _ _ (flat_map line (take i all)) (line one) _
     c.loop-spec.invariant c.in_err-write_accepted.ensures)))
 

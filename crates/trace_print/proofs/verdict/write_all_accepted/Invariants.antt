@@ -5,4 +5,5 @@ use Rattle.trace_print.proofs.verdict.write_all_accepted.Given as goal
 
 -- the lines so far are written
 abbrev pub invariant-loop-spec : goal.invariant-loop-spec
-invariant-loop-spec g l = Puts g.K.Sink.held g.K.Sink.faults g.K.Sink.sure l.fn.sink l.sink (accepted_lines (take l.spec-index l.specs)) (Ok tt)
+invariant-loop-spec g l = Puts g.K.Sink.held g.K.Sink.faults g.K.Sink.sure l.fn.sink l.sink
+    (accepted_lines (take l.spec-index l.specs)) (Ok tt)

@@ -10,9 +10,11 @@ returns-in_err-write_step g c =
     let all = c.args.path.now in
     let i = c.loop-number.number-index in
     let one = get_or all i 0 in
-    puts_passed_on g.K.Sink.held g.K.Sink.faults g.K.Sink.sure _ _ (flat_map line all) _ c.from_residual.result c.from_residual.ensures.0
+    puts_passed_on g.K.Sink.held g.K.Sink.faults g.K.Sink.sure _ _ (flat_map line all) _ c.from_residual.result
+    c.from_residual.ensures.0
     (rw (lines-split line all i one c.loop-number-test.true (got all i 0 c.loop-number-test.true))
-    (puts_part g.K.Sink.held g.K.Sink.faults g.K.Sink.sure _ _ (flat_map line (take i all) ++ line one) (flat_map line (drop (i + 1) all)) _
+    (puts_part g.K.Sink.held g.K.Sink.faults g.K.Sink.sure _ _ (flat_map line (take i all) ++ line one)
+    (flat_map line (drop (i + 1) all)) _
     (puts_both g.K.Sink.held g.K.Sink.faults g.K.Sink.sure _ _ _ (flat_map line (take i all)) (line one) _
     c.loop-number.invariant c.in_err-write_step.ensures)))
 

@@ -1,4 +1,5 @@
-use Rattle.whole_states.proofs.Processes.{stays-away, inner-process, took-away, asked-awaits, got-process, answered-process, marked-process, device-away}
+use Rattle.whole_states.proofs.Processes.{stays-away, inner-process, took-away, asked-awaits, got-process}
+use Rattle.whole_states.proofs.Processes.{answered-process, marked-process, device-away}
 use Rattle.whole_states.proofs.laws.only_asking_awaits.Goals as goal
 
 pub returns : goal.returns

@@ -1,4 +1,5 @@
-use Rattle.whole_states.proofs.Processes.{stays-whole, start-process, inner-process, took-process, asked-process, got-process, answered-process, marked-process, device-process}
+use Rattle.whole_states.proofs.Processes.{stays-whole, start-process, inner-process, took-process, asked-process}
+use Rattle.whole_states.proofs.Processes.{got-process, answered-process, marked-process, device-process}
 use Rattle.whole_states.proofs.laws.states_stay_whole.Goals as goal
 
 pub returns : goal.returns

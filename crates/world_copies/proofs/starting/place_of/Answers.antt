@@ -5,4 +5,5 @@ use Rattle.process_copies.proofs.Addresses.{has-address}
 use Rattle.world_copies.proofs.starting.place_of.Goals as goal
 
 pub address_of-requires : goal.address_of-requires
-address_of-requires c = subst (λ found. IfSome found HasAddress) (sym c.in_ok-opener.ensures) (has-address c.args.site.now (who.Terminal c.args.terminal) c.requires)
+address_of-requires c = subst (λ found. IfSome found HasAddress) (sym c.in_ok-opener.ensures)
+    (has-address c.args.site.now (who.Terminal c.args.terminal) c.requires)

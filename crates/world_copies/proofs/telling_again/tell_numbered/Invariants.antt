@@ -8,4 +8,5 @@ abbrev pub invariant-loop-words : goal.invariant-loop-words
 invariant-loop-words l =
     (l.number + length l.kept ≡ l.last + l.words-index)
     × (l.again ++ sent_at l.node (map Replying (numbered l.process l.opener (l.number + 1) (drop l.words-index l.kept)))
-    ≡ l.initial.again ++ sent_at l.node (map Replying (numbered l.process l.opener (l.last + 1 - length l.kept) l.kept)))
+    ≡ l.initial.again ++ sent_at l.node (map Replying
+    (numbered l.process l.opener (l.last + 1 - length l.kept) l.kept)))

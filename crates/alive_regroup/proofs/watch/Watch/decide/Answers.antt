@@ -4,7 +4,8 @@ use Rattle.alive_regroup.specs.Watching.{Watching, is_held}
 use Rattle.alive_regroup.proofs.watch.Watch.decide.Goals as goal
 
 -- none below, and not this one
-none_so_far : (w : Watching) (processor : ℕ) → ((lower : ℕ) → lower < processor → is_held lower w ≡ false) → is_held processor w ≡ false
+none_so_far : (w : Watching) (processor : ℕ) → ((lower : ℕ) → lower < processor → is_held lower w ≡ false)
+    → is_held processor w ≡ false
     → (lower : ℕ) → lower < processor + 1 → is_held lower w ≡ false
 none_so_far w processor below here lower small =
     elim (eq-or-lt_of_le (omega arith)) [
@@ -13,4 +14,6 @@ none_so_far w processor below here lower small =
     ]
 
 pub loop-processor-preserved : goal.loop-processor-preserved
-loop-processor-preserved c lower small = none_so_far c.args.self.now c.loop-processor.processor c.loop-processor.invariant (sym c.if-holds.ensures) lower small
+loop-processor-preserved c lower small =
+    none_so_far c.args.self.now c.loop-processor.processor c.loop-processor.invariant (sym c.if-holds.ensures) lower
+    small

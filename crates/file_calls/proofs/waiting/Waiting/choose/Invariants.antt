@@ -10,5 +10,6 @@ invariant-loop-place l = record {
   requests : l.self-inside.requests.items ≡ l.fn.self.requests;
   sound : IsOnePerOpener (queue_of l.self-inside.openers l.self-inside.requests.items);
   room : l.self-inside.openers ≤ vec_capacity l.self-inside.requests;
-  chosen : chosen l.receive.table l.self-inside.requests.items ≡ chosen_from l.receive.table l.self-inside.requests.items l.place;
+  chosen : chosen l.receive.table l.self-inside.requests.items
+      ≡ chosen_from l.receive.table l.self-inside.requests.items l.place;
 }

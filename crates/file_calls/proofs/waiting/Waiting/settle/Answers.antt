@@ -10,18 +10,24 @@ use Rattle.file_calls.proofs.waiting.Waiting.settle.Goals as goal
 pub loop-place-preserved : goal.loop-place-preserved
 loop-place-preserved c = record {
   openers = c.loop-place.invariant.openers;
-  sound = subst (λ (requests : List Request). IsOnePerOpener (queue_of c.loop-place.self-inside.openers requests)) (sym c.remove-dropped.ensures.items)
-      (sound-removed c.loop-place.self-inside.openers c.loop-place.self-inside.requests.items c.loop-place.place c.loop-place.invariant.sound);
+  sound = subst (λ (requests : List Request). IsOnePerOpener (queue_of c.loop-place.self-inside.openers requests))
+      (sym c.remove-dropped.ensures.items)
+      (sound-removed c.loop-place.self-inside.openers c.loop-place.self-inside.requests.items c.loop-place.place
+      c.loop-place.invariant.sound);
   room = omega (arith, c.loop-place.invariant.room, c.remove-dropped.ensures.capacity);
   settled = c.loop-place.invariant.settled
-      ∙ settled-without c.args.receive.now.table c.loop-place.self-inside.requests.items c.loop-place.place c.index.result.now (omega (arith, c.loop-place-test.true, c.len.ensures)) c.index.ensures
+      ∙ settled-without c.args.receive.now.table c.loop-place.self-inside.requests.items c.loop-place.place
+      c.index.result.now (omega (arith, c.loop-place-test.true, c.len.ensures)) c.index.ensures
       (subst (λ (s : RequestStanding). (s ≡ InHand) ⊎ (s ≡ Old)) c.standing.ensures c.in-InHand.is)
-      ∙ ap (λ (requests : List Request). settled_from c.args.receive.now.table requests c.loop-place.place) (sym c.remove-dropped.ensures.items);
+      ∙ ap (λ (requests : List Request). settled_from c.args.receive.now.table requests c.loop-place.place)
+      (sym c.remove-dropped.ensures.items);
 }
 
 pub invariant_of-self-in-Kept : goal.invariant_of-self-in-Kept
 invariant_of-self-in-Kept c = (
-  subst (λ (requests : List Request). IsOnePerOpener (queue_of c.loop-place.self-inside.openers requests)) (sym c.remove-request.ensures.items)
-      (sound-removed c.loop-place.self-inside.openers c.loop-place.self-inside.requests.items c.loop-place.place c.loop-place.invariant.sound),
+  subst (λ (requests : List Request). IsOnePerOpener (queue_of c.loop-place.self-inside.openers requests))
+      (sym c.remove-request.ensures.items)
+      (sound-removed c.loop-place.self-inside.openers c.loop-place.self-inside.requests.items c.loop-place.place
+      c.loop-place.invariant.sound),
   omega (arith, c.loop-place.invariant.room, c.remove-request.ensures.capacity),
 )

@@ -9,7 +9,8 @@ invariant-loop-place l = record {
   openers : l.self-inside.openers ≡ l.fn.self.openers;
   sound : IsOnePerOpener (queue_of l.self-inside.openers l.self-inside.requests.items);
   room : l.self-inside.openers ≤ vec_capacity l.self-inside.requests;
-  settled : settled l.receive.table l.fn.self.requests ≡ settled_from l.receive.table l.self-inside.requests.items l.place;
+  settled : settled l.receive.table l.fn.self.requests
+      ≡ settled_from l.receive.table l.self-inside.requests.items l.place;
 }
 
 abbrev pub decreases-loop-place : goal.decreases-loop-place

@@ -4,4 +4,5 @@ use Rattle.file_calls.proofs.Taking.{chosen_from}
 use Rattle.file_calls.proofs.waiting.Waiting.wakes.Given as goal
 
 abbrev pub invariant-loop-request : goal.invariant-loop-request
-invariant-loop-request l = (l.request-items ≡ l.self.requests) × (chosen l.receive.table l.self.requests ≡ chosen_from l.receive.table l.self.requests l.request-index)
+invariant-loop-request l = (l.request-items ≡ l.self.requests)
+    × (chosen l.receive.table l.self.requests ≡ chosen_from l.receive.table l.self.requests l.request-index)

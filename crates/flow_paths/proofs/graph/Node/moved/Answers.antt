@@ -8,4 +8,5 @@ moved-requires-clause-within c = first-within 8192 _ (subst (IsWithin 8192) (sym
 
 pub moved-requires-in-Some-second-clause-within : goal.moved-requires-in-Some-second-clause-within
 moved-requires-in-Some-second-clause-within c =
-    second-within 8192 _ c.in-Some-second.edge (subst (IsWithin 8192) (sym c.self.view_is) c.requires.within) c.in-Some-second.is
+    second-within 8192 _ c.in-Some-second.edge (subst (IsWithin 8192) (sym c.self.view_is) c.requires.within)
+    c.in-Some-second.is

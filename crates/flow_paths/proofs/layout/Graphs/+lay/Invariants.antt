@@ -11,7 +11,8 @@ abbrev pub decreases-lay : goal.decreases-lay
 decreases-lay l = 3 * size_in (graph_sizes l.self.now) l.statement.now.what + 1
 
 abbrev pub decreases-lay_if : goal.decreases-lay_if
-decreases-lay_if l = 3 * (size_row (graph_sizes l.self.now) (rows l.yes.now) + size_row (graph_sizes l.self.now) (rows l.no.now)) + 3
+decreases-lay_if l =
+    3 * (size_row (graph_sizes l.self.now) (rows l.yes.now) + size_row (graph_sizes l.self.now) (rows l.no.now)) + 3
 
 abbrev pub decreases-lay_while : goal.decreases-lay_while
 decreases-lay_while l = 3 * size_row (graph_sizes l.self.now) (rows l.body.now) + 3
@@ -20,4 +21,5 @@ abbrev pub decreases-lay_for : goal.decreases-lay_for
 decreases-lay_for l = 3 * size_row (graph_sizes l.self.now) (rows l.body.now) + 3
 
 abbrev pub invariant-lay_all-loop-statement : goal.invariant-lay_all-loop-statement
-invariant-lay_all-loop-statement l = IsLaying (graph_at l.self) l.statements l.at l.after l.fn.nodes.items l.statement-index l.next l.left l.nodes.items
+invariant-lay_all-loop-statement l =
+    IsLaying (graph_at l.self) l.statements l.at l.after l.fn.nodes.items l.statement-index l.next l.left l.nodes.items

@@ -6,13 +6,15 @@ use Rattle.flow_paths.proofs.layout.Graphs.size_of.Goals as goal
 pub overflow_cast-result : goal.overflow_cast-result
 overflow_cast-result c =
     let same : size_at c.as_slice.result.now ≡ graph_sizes c.args.self.now =
-    sizes-known c.as_slice.result.now c.args.self.now (c.as_slice.ensures.value ∙ c.self.invariant ∙ ap (map length) c.self.view_is) in
+    sizes-known c.as_slice.result.now c.args.self.now
+    (c.as_slice.ensures.value ∙ c.self.invariant ∙ ap (map length) c.self.view_is) in
     let exact = ap (λ (known : ℕ → ℕ). size_in known c.args.statement.now.what) same in
     omega (arith, c.size_of.ensures, c.requires)
 
 pub returns : goal.returns
 returns c =
     let same : size_at c.as_slice.result.now ≡ graph_sizes c.args.self.now =
-    sizes-known c.as_slice.result.now c.args.self.now (c.as_slice.ensures.value ∙ c.self.invariant ∙ ap (map length) c.self.view_is) in
+    sizes-known c.as_slice.result.now c.args.self.now
+    (c.as_slice.ensures.value ∙ c.self.invariant ∙ ap (map length) c.self.view_is) in
     let exact = ap (λ (known : ℕ → ℕ). size_in known c.args.statement.now.what) same in
     omega (arith, c.size_of.ensures, c.requires)

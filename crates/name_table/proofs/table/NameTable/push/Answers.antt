@@ -8,7 +8,9 @@ use Rattle.name_table.proofs.table.NameTable.push.Goals as goal
 pub returns-clause-ok : goal.returns-clause-ok
 returns-clause-ok g c =
     let name = c.args.name in
-    let new : has_name c.self.inside.entries.entries name ≡ false = ap (λ entries. has_name entries name) c.self.view_is ∙ c.requires.new in
+    let new : has_name c.self.inside.entries.entries name ≡ false =
+    ap (λ entries. has_name entries name) c.self.view_is ∙ c.requires.new in
     c.in_ok-insert.ensures.entries
-    ∙ insert_entry-new ghosts.eq c.self.inside.entries name c.args.value (not_found name c.self.inside.entries.entries new)
+    ∙ insert_entry-new ghosts.eq c.self.inside.entries name c.args.value
+    (not_found name c.self.inside.entries.entries new)
     ∙ ap (λ entries. entries ++ (name, c.args.value) ∷ []) c.self.view_is

@@ -8,5 +8,6 @@ use Rattle.node_copies.proofs.one.NodeCopy.take.Goals as goal
 pub take-requires-clause-next : goal.take-requires-clause-next
 take-requires-clause-next c =
     chosen-next c.self.inside.control.core.receive c.self.inside.waiting.requests c.in-Some.request
-    (ap (λ (table : ReceiveBlock). option_map (λ (found : Chosen). found.request) (chosen table c.self.inside.waiting.requests)) (sym c.receive.ensures.table)
+    (ap (λ (table : ReceiveBlock). option_map (λ (found : Chosen). found.request)
+    (chosen table c.self.inside.waiting.requests)) (sym c.receive.ensures.table)
     ∙ sym c.in-Some.ensures.request)

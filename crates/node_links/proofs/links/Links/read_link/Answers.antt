@@ -9,6 +9,7 @@ invariant_of-self c =
     elim c.match-get_mut.branch [
       | in-Some w ↦
           let stood = sym c.get_mut.ensures.value ∙ ap option_copied_mut w.in-Some.is in
-          rw w.self-inside-is (IsTimed-set _ _ _ w.in-Some.link.now _ stood (ap (λ link. link.opened) w.read.ensures.after) c.self.invariant)
+          rw w.self-inside-is (IsTimed-set _ _ _ w.in-Some.link.now _ stood
+          (ap (λ link. link.opened) w.read.ensures.after) c.self.invariant)
       | in-None w ↦ rw w.self-inside-is c.self.invariant
     ]

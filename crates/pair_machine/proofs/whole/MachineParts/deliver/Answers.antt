@@ -11,4 +11,5 @@ receive-requires-clause-opener c =
     (is-among c.self.inside.wires.bus c.args.k c.in-Some.packet (sym c.in-Some.ensures.packet))
 
 pub receive-requires-clause-room : goal.receive-requires-clause-room
-receive-requires-clause-room c = subst WorldHasRoom (ap (λ (s : MachineState). s.world) (sym c.self.view_is)) c.requires.room
+receive-requires-clause-room c =
+    subst WorldHasRoom (ap (λ (s : MachineState). s.world) (sym c.self.view_is)) c.requires.room

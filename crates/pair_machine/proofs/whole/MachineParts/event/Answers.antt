@@ -9,7 +9,8 @@ pub enter-requires-clause-letters : goal.enter-requires-clause-letters
 enter-requires-clause-letters c = played-counted c.args.self.now c.requires.letters (Enter c.in-Enter.terminal)
 
 pub deliver-requires-clause-letters : goal.deliver-requires-clause-letters
-deliver-requires-clause-letters c = played-counted c.args.self.now c.requires.letters (Deliver c.in-Deliver.y c.in-Deliver.k)
+deliver-requires-clause-letters c =
+    played-counted c.args.self.now c.requires.letters (Deliver c.in-Deliver.y c.in-Deliver.k)
 
 pub tick-requires-clause-letters : goal.tick-requires-clause-letters
 tick-requires-clause-letters c = played-counted c.args.self.now c.requires.letters (Tick c.in-Tick.node)

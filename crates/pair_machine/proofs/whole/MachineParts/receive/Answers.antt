@@ -4,4 +4,5 @@ use Rattle.number_ranges.specs.HasRoom.{WorldHasRoom}
 use Rattle.pair_machine.proofs.whole.MachineParts.receive.Goals as goal
 
 pub hand-requires-clause-room : goal.hand-requires-clause-room
-hand-requires-clause-room c = subst WorldHasRoom (ap (λ (s : MachineState). s.world) (sym c.self.view_is)) c.requires.room
+hand-requires-clause-room c =
+    subst WorldHasRoom (ap (λ (s : MachineState). s.world) (sym c.self.view_is)) c.requires.room

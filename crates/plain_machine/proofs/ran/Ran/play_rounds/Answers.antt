@@ -11,9 +11,11 @@ returns-then-len-before c =
     let site = c.args.wires.now in
     let ran = c.loop.self in
     let equal : length (round site ran).acts ≡ length ran.acts =
-    ap (λ ran. length ran.acts) (sym c.in_ok-play_round.ensures) ∙ sym c.len.ensures ∙ c.if-len-before.true ∙ c.len-before.ensures in
+    ap (λ ran. length ran.acts) (sym c.in_ok-play_round.ensures) ∙ sym c.len.ensures ∙ c.if-len-before.true
+    ∙ c.len-before.ensures in
     let same : round site ran ≡ ran = round-same site ran equal in
-    c.in_ok-play_round.ensures ∙ same ∙ sym (rounds_on-same site (c.args.rounds - c.loop.counter) ran same) ∙ sym c.loop.invariant.0
+    c.in_ok-play_round.ensures ∙ same ∙ sym (rounds_on-same site (c.args.rounds - c.loop.counter) ran same)
+    ∙ sym c.loop.invariant.0
 
 pub loop-preserved : goal.loop-preserved
 loop-preserved c = (

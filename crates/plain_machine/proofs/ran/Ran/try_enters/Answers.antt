@@ -7,17 +7,27 @@ use Rattle.plain_machine.proofs.ran.Ran.try_enters.Goals as goal
 
 pub loop-terminal-preserved : goal.loop-terminal-preserved
 loop-terminal-preserved c =
-    let within : c.loop-terminal.terminal < length c.args.wires.now.terminals = omega (arith, c.loop-terminal-test.true, c.terminal_count-terminal-end.ensures) in (
+    let within : c.loop-terminal.terminal < length c.args.wires.now.terminals =
+    omega (arith, c.loop-terminal-test.true, c.terminal_count-terminal-end.ensures) in (
       c.loop-terminal.invariant.0
-          ∙ swept-more c.args.wires.now enter_of c.loop-terminal.terminal (length c.args.wires.now.terminals) c.loop-terminal.self within
-          ∙ ap (swept c.args.wires.now enter_of (c.loop-terminal.terminal + 1) (length c.args.wires.now.terminals - (c.loop-terminal.terminal + 1))) (sym c.in_ok-try_act.ensures),
+          ∙ swept-more c.args.wires.now enter_of c.loop-terminal.terminal (length c.args.wires.now.terminals)
+          c.loop-terminal.self within
+          ∙ ap (swept c.args.wires.now enter_of (c.loop-terminal.terminal + 1)
+          (length c.args.wires.now.terminals - (c.loop-terminal.terminal + 1))) (sym c.in_ok-try_act.ensures),
       omega (
         arith,
         c.loop-terminal.invariant.1,
-        tried-within c.args.wires.now (enter_of c.loop-terminal.self.plain c.loop-terminal.terminal) c.loop-terminal.self,
+        tried-within c.args.wires.now (enter_of c.loop-terminal.self.plain c.loop-terminal.terminal)
+            c.loop-terminal.self,
         ap (λ (ran : Ran). most_write ran.plain.processes) c.in_ok-try_act.ensures,
       ),
     )
 
 pub try_act-requires : goal.try_act-requires
-try_act-requires c = omega (arith, c.requires, c.loop-terminal.invariant.1, c.loop-terminal-test.true, c.terminal_count-terminal-end.ensures)
+try_act-requires c = omega (
+  arith,
+  c.requires,
+  c.loop-terminal.invariant.1,
+  c.loop-terminal-test.true,
+  c.terminal_count-terminal-end.ensures,
+)

@@ -8,5 +8,6 @@ pub device-call-requires-clause-room : goal.device-call-requires-clause-room
 device-call-requires-clause-room c =
     let there : slice_get c.args.self.now.processes c.from-number.result ≡ Some c.index_mut.result.now =
     ap (λ (plain : Plain). slice_get plain.processes c.from-number.result) (sym c.self.view_is)
-    ∙ slice_get_read c.self.inside.processes.items _ _ _ refl (omega (arith, c.self.inside.processes.ok.0)) c.index_mut.ensures.value in
+    ∙ slice_get_read c.self.inside.processes.items _ _ _ refl (omega (arith, c.self.inside.processes.ok.0))
+    c.index_mut.ensures.value in
     omega (arith, c.requires.room, write-at c.args.self.now.processes c.from-number.result c.index_mut.result.now there)

@@ -7,4 +7,5 @@ pub loop-number-preserved : goal.loop-number-preserved
 loop-number-preserved c =
     let within : c.loop-number.number < length c.args.self.now.processes = omega arith in
     c.loop-number.invariant
-    ∙ none_of-after c.args.wires.now c.args.self.now next_move c.loop-number.number (length c.args.self.now.processes) within (sym c.if-can_move.ensures)
+    ∙ none_of-after c.args.wires.now c.args.self.now next_move c.loop-number.number (length c.args.self.now.processes)
+    within (sym c.if-can_move.ensures)

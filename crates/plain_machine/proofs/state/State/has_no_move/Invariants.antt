@@ -5,4 +5,5 @@ use Rattle.plain_machine.proofs.state.State.has_no_move.Given as goal
 
 abbrev pub invariant-loop-number : goal.invariant-loop-number
 invariant-loop-number l =
-    none_of l.wires l.self next_move 0 (length l.self.processes) ≡ none_of l.wires l.self next_move l.number (length l.self.processes - l.number)
+    none_of l.wires l.self next_move 0 (length l.self.processes)
+    ≡ none_of l.wires l.self next_move l.number (length l.self.processes - l.number)

@@ -6,7 +6,8 @@ use Rattle.plain_program.proofs.frame.Frame.put_all.Given as goal
 abbrev pub invariant-loop-last : goal.invariant-loop-last
 invariant-loop-last l =
     (runs_of l.left ++ stack l.self-inside.rest.items ≡ runs_of l.statements ++ stack l.initial.self-inside.rest.items)
-    × (l.self-inside.procedure ≡ l.initial.self-inside.procedure) × (l.self-inside.locals ≡ l.initial.self-inside.locals)
+    × (l.self-inside.procedure ≡ l.initial.self-inside.procedure)
+    × (l.self-inside.locals ≡ l.initial.self-inside.locals)
 
 abbrev pub decreases-loop-last : goal.decreases-loop-last
 decreases-loop-last l = length l.left

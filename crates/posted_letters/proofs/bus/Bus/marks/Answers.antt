@@ -14,15 +14,19 @@ loop-k-preserved c =
     elim c.match-get.branch [
       | in-Some+in-Some-place_of w ↦
           let there = sym c.get.ensures ∙ ap option_copied w.in-Some.is in
-          let at = ap (λ n. position (is_of n) c.args.owed.now) (sym w.number.ensures) ∙ sym w.place_of.ensures.value ∙ w.in-Some-place_of.is in
+          let at = ap (λ n. position (is_of n) c.args.owed.now) (sym w.number.ensures) ∙ sym w.place_of.ensures.value
+          ∙ w.in-Some-place_of.is in
           ap (λ v. v.items) w.marks-is ∙ ap (λ bs. set bs w.in-Some-place_of.place true) c.loop-k.invariant
-          ∙ sym (next_at c.loop-k.k w.in-Some-place_of.place c.args.self.now w.in-Some.packet.now c.args.owed.now c.requires there at)
+          ∙ sym (next_at c.loop-k.k w.in-Some-place_of.place c.args.self.now w.in-Some.packet.now c.args.owed.now
+          c.requires there at)
       | in-Some+in_default-place_of w ↦
           let there = sym c.get.ensures ∙ ap option_copied w.in-Some.is in
-          let at = ap (λ n. position (is_of n) c.args.owed.now) (sym w.number.ensures) ∙ sym w.place_of.ensures.value ∙ w.in_default-place_of.is in
+          let at = ap (λ n. position (is_of n) c.args.owed.now) (sym w.number.ensures) ∙ sym w.place_of.ensures.value
+          ∙ w.in_default-place_of.is in
           ap (λ v. v.items) w.marks-is ∙ c.loop-k.invariant
           ∙ sym (next_none c.loop-k.k c.args.self.now w.in-Some.packet.now c.args.owed.now c.requires there at)
       | in_default w ↦
           let there = sym c.get.ensures ∙ ap option_copied w.in_default.is in
-          ap (λ v. v.items) w.marks-is ∙ c.loop-k.invariant ∙ sym (next_past c.loop-k.k c.args.self.now c.args.owed.now there)
+          ap (λ v. v.items) w.marks-is ∙ c.loop-k.invariant
+          ∙ sym (next_past c.loop-k.k c.args.self.now c.args.owed.now there)
     ]

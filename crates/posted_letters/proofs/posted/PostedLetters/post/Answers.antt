@@ -5,6 +5,7 @@ use Rattle.posted_letters.proofs.posted.PostedLetters.post.Goals as goal
 
 pub invariant_of-self-2 : goal.invariant_of-self-2
 invariant_of-self-2 c =
-    let rising = one_more 0 c.self.inside.count c.self.inside.owed.items c.new.result (ap (λ sent. sent.number) c.new.ensures) c.self.invariant in
+    let rising = one_more 0 c.self.inside.count c.self.inside.owed.items c.new.result
+    (ap (λ sent. sent.number) c.new.ensures) c.self.invariant in
     let all : c.self.inside.owed.items ++ c.new.result ∷ [] ≡ c.push.new.self.items = search rules in
     subst (λ xs. RisesWithin 0 (c.self.inside.count + 1) xs) all rising

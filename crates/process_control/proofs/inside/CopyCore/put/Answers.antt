@@ -6,8 +6,12 @@ use Rattle.process_control.proofs.inside.CopyCore.put.Goals as goal
 
 pub invariant_of-self-2 : goal.invariant_of-self-2
 invariant_of-self-2 g c =
-    let table = put-table c.fits.result c.put_block-fits.result c.args.image.now.receive c.self.inside.receive.table c.put_block-fits.new.self.table
+    let table = put-table c.fits.result c.put_block-fits.result c.args.image.now.receive c.self.inside.receive.table
+    c.put_block-fits.new.self.table
     (c.put_block-fits.ensures.told ∙ sym c.fits.ensures) c.if-not-fits.false c.put_block-fits.ensures.table in
-    applying (g.B.Behaviour.state c.self.inside.behaviour) (g.B.Behaviour.state c.apply.new.self) c.self.inside.asker c.self.inside.receive c.self.invariant
-    c.is_some-in_hand.result c.as_slice-2.result.now c.as_slice-3.result.now c.put_files.new.asker c.put_block-fits.new.self c.if-not-apply.ensures.applied
-    (c.is_some-in_hand.ensures ∙ ap (λ (t : ReceiveBlock). is_some t.in_hand) (sym table)) c.put_files.ensures c.put_block-fits.ensures.sound
+    applying (g.B.Behaviour.state c.self.inside.behaviour) (g.B.Behaviour.state c.apply.new.self) c.self.inside.asker
+    c.self.inside.receive c.self.invariant
+    c.is_some-in_hand.result c.as_slice-2.result.now c.as_slice-3.result.now c.put_files.new.asker
+    c.put_block-fits.new.self c.if-not-apply.ensures.applied
+    (c.is_some-in_hand.ensures ∙ ap (λ (t : ReceiveBlock). is_some t.in_hand) (sym table)) c.put_files.ensures
+    c.put_block-fits.ensures.sound

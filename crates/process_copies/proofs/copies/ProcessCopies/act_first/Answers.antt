@@ -24,8 +24,11 @@ returns-clause-stepped c =
         sectors = sectors_on inside.device;
       };
     } in
-    let after : Scene = record { one = c.act.new.self; sectors = sectors_on c.act.new.device; records = c.act.new.records } in
-    subst (λ (p : Placed). HasStepped (step_by_act p.number First p.pair records (own_of p.site p.number First p.pair records c.args.stands)) c.in_ok-step.step p
+    let after : Scene =
+    record { one = c.act.new.self; sectors = sectors_on c.act.new.device; records = c.act.new.records } in
+    subst (λ (p : Placed). HasStepped (step_by_act p.number First p.pair records
+    (own_of p.site p.number First p.pair records c.args.stands)) c.in_ok-step.step p
     (with-first before after) records c.act.new.records) c.self.view_is
-    (first-acts before inside.first.depths records (own_of before.site before.number First before.pair records c.args.stands) c.in_ok-step.step after
+    (first-acts before inside.first.depths records
+    (own_of before.site before.number First before.pair records c.args.stands) c.in_ok-step.step after
     (c.in_ok-step.ensures.acted inside.site.value (search rules) (search rules)))

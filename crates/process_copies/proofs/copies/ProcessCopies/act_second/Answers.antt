@@ -24,8 +24,11 @@ returns-clause-stepped c =
         sectors = sectors_on inside.device;
       };
     } in
-    let after : Scene = record { one = c.act.new.self; sectors = sectors_on c.act.new.device; records = c.act.new.records } in
-    subst (λ (p : Placed). HasStepped (step_by_act p.number Second p.pair records (own_of p.site p.number Second p.pair records c.args.stands)) c.in_ok-step.step p
+    let after : Scene =
+    record { one = c.act.new.self; sectors = sectors_on c.act.new.device; records = c.act.new.records } in
+    subst (λ (p : Placed). HasStepped (step_by_act p.number Second p.pair records
+    (own_of p.site p.number Second p.pair records c.args.stands)) c.in_ok-step.step p
     (with-second before after) records c.act.new.records) c.self.view_is
-    (second-acts before inside.second.depths records (own_of before.site before.number Second before.pair records c.args.stands) c.in_ok-step.step after
+    (second-acts before inside.second.depths records
+    (own_of before.site before.number Second before.pair records c.args.stands) c.in_ok-step.step after
     (c.in_ok-step.ensures.acted inside.site.value (search rules) (search rules)))

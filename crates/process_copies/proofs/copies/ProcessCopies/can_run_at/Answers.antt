@@ -6,4 +6,5 @@ pub returns-in_default : goal.returns-in_default
 returns-in_default c = λ records.
     let placed = c.args.self.now in
     c.can_act.ensures records
-    ∙ sym (by-point placed.site placed.number c.args.which placed.pair c.args.marks.now records c.args.stands c.in_default.not-Mark)
+    ∙ sym (by-point placed.site placed.number c.args.which placed.pair c.args.marks.now records c.args.stands
+    c.in_default.not-AtCheckpoint)

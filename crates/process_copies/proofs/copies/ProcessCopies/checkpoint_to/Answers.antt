@@ -4,6 +4,8 @@ use Rattle.process_copies.proofs.copies.ProcessCopies.checkpoint_to.Goals as goa
 
 pub returns-clause-step : goal.returns-clause-step
 returns-clause-step c =
-    settles-applied c.args.self.now c.apply.new.self c.applied.new.self c.args.which c.args.message.now c.args.records.now c.applied.new.records
-    c.in_ok-step.step (sym c.apply.ensures.told ∙ c.if-not-apply.false) c.apply.ensures.process c.in_ok-step.ensures.told c.in_ok-step.ensures.process
+    settles-applied c.args.self.now c.apply.new.self c.applied.new.self c.args.which c.args.message.now
+    c.args.records.now c.applied.new.records
+    c.in_ok-step.step (sym c.apply.ensures.told ∙ c.if-not-apply.false) c.apply.ensures.process
+    c.in_ok-step.ensures.told c.in_ok-step.ensures.process
     c.in_ok-step.ensures.records

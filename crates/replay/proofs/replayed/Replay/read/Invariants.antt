@@ -7,7 +7,8 @@ use Rattle.replay.proofs.replayed.Replay.read.Given as goal
 abbrev pub invariant-loop-line : goal.invariant-loop-line
 invariant-loop-line l =
     GoesOn l.initial.self l.self × ((l.number + length l.rest ≤ length l.report)
-    × (most_write l.self.plain.state.processes + length l.rest ≤ most_write l.initial.self.plain.state.processes + length l.report))
+    × (most_write l.self.plain.state.processes + length l.rest
+    ≤ most_write l.initial.self.plain.state.processes + length l.report))
 
 abbrev pub decreases-loop-line : goal.decreases-loop-line
 decreases-loop-line l = length l.rest

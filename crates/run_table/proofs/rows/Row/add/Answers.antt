@@ -11,4 +11,5 @@ pub overflow_add-self-in-Cut : goal.overflow_add-self-in-Cut
 overflow_add-self-in-Cut c = has_room is_cut c.requires.0 _ (ap (λ (row : Row). row.cut) c.requires.1) c.requires.2
 
 pub overflow_add-self-in-Second : goal.overflow_add-self-in-Second
-overflow_add-self-in-Second c = has_room is_second c.requires.0 _ (ap (λ (row : Row). row.second) c.requires.1) c.requires.2
+overflow_add-self-in-Second c =
+    has_room is_second c.requires.0 _ (ap (λ (row : Row). row.second) c.requires.1) c.requires.2

@@ -7,13 +7,16 @@ use Rattle.sync_ids.proofs.receive.Receive.new.Goals as goal
 
 pub invariant_of-result : goal.invariant_of-result
 invariant_of-result c =
-    subst IsSound (sym (ap (λ (openers : List Opener). remembered openers None) c.in_ok-openers.ensures ∙ remembered-untaken c.args.openers.now))
+    subst IsSound (sym (ap (λ (openers : List Opener). remembered openers None) c.in_ok-openers.ensures
+    ∙ remembered-untaken c.args.openers.now))
     (sound-untaken c.args.openers.now c.requires.few c.requires.depths)
 
 pub returns-clause-value : goal.returns-clause-value
-returns-clause-value c = ap (λ (openers : List Opener). remembered openers None) c.in_ok-openers.ensures ∙ remembered-untaken c.args.openers.now
+returns-clause-value c = ap (λ (openers : List Opener). remembered openers None) c.in_ok-openers.ensures
+    ∙ remembered-untaken c.args.openers.now
 
 pub returns-clause-sound : goal.returns-clause-sound
 returns-clause-sound c =
-    subst IsSound (sym (ap (λ (openers : List Opener). remembered openers None) c.in_ok-openers.ensures ∙ remembered-untaken c.args.openers.now))
+    subst IsSound (sym (ap (λ (openers : List Opener). remembered openers None) c.in_ok-openers.ensures
+    ∙ remembered-untaken c.args.openers.now))
     (sound-untaken c.args.openers.now c.requires.few c.requires.depths)

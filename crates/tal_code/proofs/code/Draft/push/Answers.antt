@@ -9,4 +9,5 @@ invariant_of-self-2 c =
     (subst (λ (p : PartStack). length (parts_after c.args.step p).below ≤ 80) (sym c.self.view_is) c.requires)
 
 pub returns : goal.returns
-returns c = ap built c.in_ok-push.ensures.ok ∙ after-push c.self.inside.steps c.args.step nothing ∙ ap (parts_after c.args.step) c.self.view_is
+returns c = ap built c.in_ok-push.ensures.ok ∙ after-push c.self.inside.steps c.args.step nothing
+    ∙ ap (parts_after c.args.step) c.self.view_is

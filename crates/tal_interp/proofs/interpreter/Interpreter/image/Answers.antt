@@ -14,13 +14,17 @@ put_frames-requires-clause-procedures c = let s = c.requires.sound in
     frames-below c.args.self.now.program c.args.self.now.state.frames s.loaded.limits s.whole.frames
 
 pub put_items-requires-clause-few : goal.put_items-requires-clause-few
-put_items-requires-clause-few c = items-few c.args.self.now.program c.args.items.now c.requires.listed.0 c.requires.sound.loaded.limits c.requires.listed.1
+put_items-requires-clause-few c = items-few c.args.self.now.program c.args.items.now c.requires.listed.0
+    c.requires.sound.loaded.limits c.requires.listed.1
 
 pub put_items-requires-clause-numbers : goal.put_items-requires-clause-numbers
 put_items-requires-clause-numbers c =
-    items-below c.args.self.now.program c.args.items.now c.requires.listed.0 c.requires.sound.loaded.limits c.requires.listed.1
+    items-below c.args.self.now.program c.args.items.now c.requires.listed.0 c.requires.sound.loaded.limits
+    c.requires.listed.1
 
 pub returns : goal.returns
 returns c =
-    image-parts c.args.self.now.program c.args.self.now.state c.args.items.now c.put_frames.new.out c.put_items.new.out c.requires.sound.whole.ended
-    (rw (c.from_vec-all.ensures, c.in_ok-with_capacity.ensures.items) at c.in_ok-put_frames.ensures) c.in_ok-put_items.ensures
+    image-parts c.args.self.now.program c.args.self.now.state c.args.items.now c.put_frames.new.out c.put_items.new.out
+    c.requires.sound.whole.ended
+    (rw (c.from_vec-all.ensures, c.in_ok-with_capacity.ensures.items) at c.in_ok-put_frames.ensures)
+    c.in_ok-put_items.ensures

@@ -12,7 +12,8 @@ returns-in-Assign c =
     let s = c.args.self.now.state in
     c.store.ensures
     ∙ ap (λ (t : ProgramState). record { program = program; state = t })
-    (assign-by program s c.in-Assign.to c.in-Assign.value (rest_at (places program) c.in-Assign.next) c.cell-cell.result c.value-word.result
+    (assign-by program s c.in-Assign.to c.in-Assign.value (rest_at (places program) c.in-Assign.next)
+    c.cell-cell.result c.value-word.result
     (c.cell-cell.ensures ∙ ap (λ memory. cell_of memory c.in-Assign.to) c.memory-memory.ensures)
     (c.value-word.ensures ∙ ap (λ memory. value_of memory c.in-Assign.value) c.memory-memory.ensures)
     (ap (seen (places program)) (sym c.in-Assign.is) ∙ c.in-Some.ensures.some.deed))
@@ -23,6 +24,7 @@ returns-in-Test c =
     let s = c.args.self.now.state in
     c.choose.ensures
     ∙ ap (λ (t : ProgramState). record { program = program; state = t })
-    (test-by program s c.in-Test.test (rest_at (places program) c.in-Test.yes) (rest_at (places program) c.in-Test.no) c.truth-holds.result
+    (test-by program s c.in-Test.test (rest_at (places program) c.in-Test.yes) (rest_at (places program) c.in-Test.no)
+    c.truth-holds.result
     (c.truth-holds.ensures ∙ ap (λ memory. truth_of memory c.in-Test.test) c.memory.ensures)
     (ap (seen (places program)) (sym c.in-Test.is) ∙ c.in-Some.ensures.some.deed))

@@ -5,7 +5,8 @@ use Rattle.tal_recogniser.proofs.stack.Stack.push.Goals as goal
 
 pub prove-unreachable-requires : goal.prove-unreachable-requires
 prove-unreachable-requires c =
-    let few : marks c.self.inside.symbols.items ≤ length c.self.inside.symbols.items = few_marks c.self.inside.symbols.items in
+    let few : marks c.self.inside.symbols.items ≤ length c.self.inside.symbols.items =
+    few_marks c.self.inside.symbols.items in
     let a = c.len-held.ensures in
     let b = c.in_ok-push_front.ensures.len in
     let d = c.self.invariant in

@@ -8,22 +8,26 @@ use Rattle.tal_table.proofs.Filled.{table-is, few-locals}
 use Rattle.tal_table.proofs.table.Table.load.Goals as goal
 
 pub headings_of-requires : goal.headings_of-requires
-headings_of-requires c = few-locals c.args.program.now c.as_slice-procedures.result.now c.as_slice-procedures.ensures c.requires.limits
+headings_of-requires c =
+    few-locals c.args.program.now c.as_slice-procedures.result.now c.as_slice-procedures.ensures c.requires.limits
 
 pub nodes_of-requires-clause-small : goal.nodes_of-requires-clause-small
-nodes_of-requires-clause-small c = subst (λ (procedures : List Procedure). AreSmall (numbers_in_all procedures)) (sym c.as_slice-procedures.ensures)
+nodes_of-requires-clause-small c =
+    subst (λ (procedures : List Procedure). AreSmall (numbers_in_all procedures)) (sym c.as_slice-procedures.ensures)
     (λ number among. (c.requires.limits.numbers number among).1)
 
 pub nodes_of-requires-clause-waiting : goal.nodes_of-requires-clause-waiting
 nodes_of-requires-clause-waiting c = λ k procedure there.
-    c.requires.waiting k procedure (ap (λ (procedures : List Procedure). slice_get procedures k) (sym c.as_slice-procedures.ensures) ∙ there)
+    c.requires.waiting k procedure (ap (λ (procedures : List Procedure). slice_get procedures k)
+    (sym c.as_slice-procedures.ensures) ∙ there)
 
 pub invariant_of-result : goal.invariant_of-result
 invariant_of-result c =
     let value : c.of.result.value ≡ c.args.program.now = c.of.ensures in
     let items : c.in_ok-items.items ≡ c.args.program.now.items = search rules in
     let table : IsTable c.args.program.now c.in_ok-nodes.nodes.items c.in_ok-headings.headings.items =
-    table-is c.args.program.now c.as_slice-procedures.result.now c.in_ok-nodes.nodes.items c.in_ok-headings.headings.items c.as_slice-procedures.ensures
+    table-is c.args.program.now c.as_slice-procedures.result.now c.in_ok-nodes.nodes.items
+    c.in_ok-headings.headings.items c.as_slice-procedures.ensures
     c.requires.numbered c.requires.limits c.requires.regular c.in_ok-nodes.ensures c.in_ok-headings.ensures in
     subst (λ (program : Program). (c.args.program.now.main ≡ program.main) × ((c.in_ok-items.items ≡ program.items)
     × IsTable program c.in_ok-nodes.nodes.items c.in_ok-headings.headings.items)) (sym value) (refl, (items, table))

@@ -7,8 +7,10 @@ use Rattle.world_copies.proofs.copies.WorldCopies.boot.Goals as goal
 pub invariant_of-result : goal.invariant_of-result
 invariant_of-result c =
     stands-first c.in_ok-site.site c.in_ok-processes.processes.items c.in_ok-places.places
-    (c.in_ok-processes.ensures ∙ ap (λ site. placed_from site 0 site.processes) (c.get-3.ensures ∙ sym c.in_ok-site.ensures))
-    (c.in_ok-places.ensures ∙ ap (λ site. terminal_row site 0 site.terminals) (c.get.ensures ∙ sym c.in_ok-site.ensures))
+    (c.in_ok-processes.ensures ∙ ap (λ site. placed_from site 0 site.processes)
+    (c.get-3.ensures ∙ sym c.in_ok-site.ensures))
+    (c.in_ok-places.ensures ∙ ap (λ site. terminal_row site 0 site.terminals)
+    (c.get.ensures ∙ sym c.in_ok-site.ensures))
 
 pub returns : goal.returns
 returns c =

@@ -11,7 +11,9 @@ loop-place-preserved c =
     let within : c.loop-place.place < length s.world.processes =
     omega (arith, c.loop-place-test.true, c.process_count-place-end.ensures, c.loop-place.invariant.1) in (
       c.loop-place.invariant.0
-          ∙ sym (ap (λ (after : SiteWorld). record after { world = closed_from (c.loop-place.place + 1) after.world }) c.in_ok-close_process.ensures
+          ∙ sym (ap (λ (after : SiteWorld). record after { world = closed_from (c.loop-place.place + 1) after.world })
+          c.in_ok-close_process.ensures
           ∙ ap (λ (w : World). record s { world = w }) (closes-next s.world c.loop-place.place within)),
-      ap (λ (after : SiteWorld). length after.world.processes) c.in_ok-close_process.ensures ∙ closes-count s.world c.loop-place.place ∙ c.loop-place.invariant.1,
+      ap (λ (after : SiteWorld). length after.world.processes) c.in_ok-close_process.ensures
+          ∙ closes-count s.world c.loop-place.place ∙ c.loop-place.invariant.1,
     )

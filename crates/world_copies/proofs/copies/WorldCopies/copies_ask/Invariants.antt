@@ -6,5 +6,7 @@ use Rattle.world_copies.proofs.copies.WorldCopies.copies_ask.Given as goal
 -- what is asked so far and what is left
 abbrev pub invariant-loop-number : goal.invariant-loop-number
 invariant-loop-number l =
-    l.again ++ sent_at l.node (of_copies (asks_again l.self.site l.self.world l.node l.processor) l.number (drop l.number l.self.world.processes))
-    ≡ l.initial.again ++ sent_at l.node (of_copies (asks_again l.self.site l.self.world l.node l.processor) 0 l.self.world.processes)
+    l.again ++ sent_at l.node (of_copies (asks_again l.self.site l.self.world l.node l.processor) l.number
+    (drop l.number l.self.world.processes))
+    ≡ l.initial.again ++ sent_at l.node (of_copies (asks_again l.self.site l.self.world l.node l.processor) 0
+    l.self.world.processes)

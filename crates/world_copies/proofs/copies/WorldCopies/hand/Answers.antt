@@ -8,7 +8,8 @@ use Rattle.world_copies.specs.Told.{sent_in}
 use Rattle.world_copies.proofs.copies.WorldCopies.hand.Goals as goal
 
 same : (c : goal.In_ok-step-in-Checkpointing)
-    → brought c.args.self.now.site c.get.result.now.process c.args.node (Checkpointing c.in-Checkpointing.checkpoint) c.args.self.now.world
+    → brought c.args.self.now.site c.get.result.now.process c.args.node (Checkpointing c.in-Checkpointing.checkpoint)
+    c.args.self.now.world
     ≡ handed_done c.args.self.now.site c.args.node (message_of c.args.message) c.args.self.now.world
 same c =
     let s : SiteWorld = c.args.self.now in
@@ -20,4 +21,5 @@ pub returns-in_ok-step-in-Checkpointing-clause-told : goal.returns-in_ok-step-in
 returns-in_ok-step-in-Checkpointing-clause-told c = c.in_ok-step-in-Checkpointing.ensures.told ∙ ap sent_in (same c)
 
 pub returns-in_ok-step-in-Checkpointing-clause-state : goal.returns-in_ok-step-in-Checkpointing-clause-state
-returns-in_ok-step-in-Checkpointing-clause-state c = c.in_ok-step-in-Checkpointing.ensures.state ∙ ap (changed_by c.args.self.now) (same c)
+returns-in_ok-step-in-Checkpointing-clause-state c =
+    c.in_ok-step-in-Checkpointing.ensures.state ∙ ap (changed_by c.args.self.now) (same c)

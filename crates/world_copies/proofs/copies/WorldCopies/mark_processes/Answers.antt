@@ -10,13 +10,15 @@ use Rattle.world_copies.proofs.copies.WorldCopies.mark_processes.Goals as goal
 
 pub mark_all-requires : goal.mark_all-requires
 mark_all-requires c =
-    subst AllWatchersHaveRoom (sym (ap (λ (s : SiteWorld). s.world.processes) c.self.view_is) ∙ ap pairs_in (sym c.as_mut_slice.ensures.value)) c.requires
+    subst AllWatchersHaveRoom (sym (ap (λ (s : SiteWorld). s.world.processes) c.self.view_is)
+    ∙ ap pairs_in (sym c.as_mut_slice.ensures.value)) c.requires
 
 pub invariant_of-self : goal.invariant_of-self
 invariant_of-self c =
     let before = c.self.inside.processes in
     let after = with_items_is before c.mark_all.new.processes (search (rules, places)) in
-    let seated = subst (λ items. ArePlaced c.self.inside.site items) (sym c.as_mut_slice.ensures.value) c.self.invariant.0 in
+    let seated =
+    subst (λ items. ArePlaced c.self.inside.site items) (sym c.as_mut_slice.ensures.value) c.self.invariant.0 in
     let same : length c.mark_all.new.processes ≡ length before.items = search (rules, places) in
     rw after (c.mark_all.ensures.placed c.self.inside.site seated, same ∙ c.self.invariant.1, c.self.invariant.2)
 
@@ -24,7 +26,8 @@ pub invariant_of-self-2 : goal.invariant_of-self-2
 invariant_of-self-2 c =
     let before = c.self.inside.processes in
     let after = with_items_is before c.mark_all.new.processes (search (rules, places)) in
-    let seated = subst (λ items. ArePlaced c.self.inside.site items) (sym c.as_mut_slice.ensures.value) c.self.invariant.0 in
+    let seated =
+    subst (λ items. ArePlaced c.self.inside.site items) (sym c.as_mut_slice.ensures.value) c.self.invariant.0 in
     let same : length c.mark_all.new.processes ≡ length before.items = search (rules, places) in
     rw after (c.mark_all.ensures.placed c.self.inside.site seated, same ∙ c.self.invariant.1, c.self.invariant.2)
 

@@ -5,4 +5,5 @@ use Rattle.world_copies.proofs.copies.WorldCopies.none_enters.Given as goal
 
 abbrev pub invariant-loop-terminal : goal.invariant-loop-terminal
 invariant-loop-terminal l = none_enters l.self.site l.self.world
-    ≡ all_from (λ terminal. is_none (enter_done l.self.site terminal l.self.world)) l.terminal (length l.self.world.terminals - l.terminal)
+    ≡ all_from (λ terminal. is_none (enter_done l.self.site terminal l.self.world)) l.terminal
+    (length l.self.world.terminals - l.terminal)

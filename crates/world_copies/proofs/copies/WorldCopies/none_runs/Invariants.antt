@@ -5,4 +5,5 @@ use Rattle.world_copies.proofs.copies.WorldCopies.none_runs.Given as goal
 
 abbrev pub invariant-loop-number : goal.invariant-loop-number
 invariant-loop-number l =
-    none_runs l.self.site l.self.world ≡ all_from (λ number. is_none (run_done l.self.site number l.self.world)) l.number (length l.self.world.processes - l.number)
+    none_runs l.self.site l.self.world ≡ all_from (λ number. is_none (run_done l.self.site number l.self.world))
+    l.number (length l.self.world.processes - l.number)

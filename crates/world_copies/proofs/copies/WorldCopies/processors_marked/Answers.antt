@@ -6,6 +6,8 @@ use Rattle.world_copies.proofs.copies.WorldCopies.processors_marked.Goals as goa
 pub loop-node-preserved : goal.loop-node-preserved
 loop-node-preserved c =
     let s = c.args.self.now in
-    let within : c.loop-node.node < length s.world.stopped = omega (arith, c.loop-node-test.true, c.processor_count-node-end.ensures) in
+    let within : c.loop-node.node < length s.world.stopped =
+    omega (arith, c.loop-node-test.true, c.processor_count-node-end.ensures) in
     c.loop-node.invariant
-    ∙ all-after (λ node. has_marked_all s.world node) c.loop-node.node (length s.world.stopped) within (sym c.if-not-has_marked_all.ensures)
+    ∙ all-after (λ node. has_marked_all s.world node) c.loop-node.node (length s.world.stopped) within
+    (sym c.if-not-has_marked_all.ensures)
