@@ -1,0 +1,3 @@
+pub mod Advising
+pub mod Gathered
+pub mod Lists
