@@ -1,0 +1,46 @@
+-- Events that are one part.
+use Rattle.std.specs.Option.{option_and_then}
+use Rattle.std.proofs.Common.{◌≡◌, ℕ, ℤ, Bool, true, if◌then◌else◌, List, Option, Some, None, slice_get, refl, ap, sym}
+use Rattle.std.proofs.Common.{◌∙◌}
+use Rattle.schedule.specs.declared.event.Event.TheVariants.{Deliver, Repeat, Tick}
+use Rattle.packet_words.specs.declared.bus_name.BusName.{BusName}
+use Rattle.packet_words.specs.declared.bus_name.BusName.TheVariants as bus
+use Rattle.packet_words.specs.declared.packet.Packet.{Packet}
+use Rattle.machine_states.specs.States.{Makes, Skips}
+use Rattle.world_semantics.specs.World.{is_running}
+use Rattle.packet_wires.specs.Lines.{line_pulled}
+use Rattle.packet_wires.specs.Nodes.{Node}
+use Rattle.packet_wires.specs.Play.{Packeted, Underway, begun, deliver_acted, ended, handed_words, packet_at, play}
+use Rattle.packet_wires.specs.Play.{pulls, pulls_its, received, repeat_acted}
+use Rattle.packet_wires.specs.Wires.{Wires, arrived, bus_named, nothing_sent, ticked, with_sent, without_packet}
+use Rattle.event_parts.specs.Parts.{carried_out, completed_by, delivered, repeated}
+
+nodes-same : (name : BusName) (k : ℕ) (wires : Wires) → (without_packet name k wires).nodes ≡ wires.nodes
+nodes-same bus.X k wires = refl
+nodes-same bus.Y k wires = refl
+
+pub delivers : (s : Packeted) (y : Bool) (k : ℕ) (packet : Packet) → packet_at s (bus_named y) k ≡ Some packet
+    → is_running s.world.stopped packet.receiver ≡ true → completed_by (Some packet) s.wires.nodes ≡ None
+    → play s (Deliver y k) ≡ Makes (record s { wires = delivered (bus_named y) k (Some packet) s.wires })
+delivers s y k packet found runs none =
+    let name : BusName = bus_named y in
+    let off : Wires = without_packet name k s.wires in
+    let after : Underway = record (begun s) { wires = arrived name packet (nothing_sent s.wires.nodes) } in
+    ap (λ (o : Option Packet). ended off (deliver_acted name (begun s) o)) found
+    ∙ ap (λ (b : Bool). ended off (Makes (if b then received name packet (begun s) else begun s))) runs
+    ∙ ap (λ (w : Option (List ℤ)). ended off (Makes (handed_words packet.receiver w after))) none
+    ∙ ap (λ (nodes : List Node). Makes (record s { wires = with_sent (arrived name packet (nothing_sent nodes)) off }))
+    (sym (nodes-same name k s.wires))
+
+pub repeats : (s : Packeted) (y : Bool) (k : ℕ) (packet : Packet) → packet_at s (bus_named y) k ≡ Some packet
+    → play s (Repeat y k) ≡ Makes (record s { wires = repeated (bus_named y) (Some packet) s.wires })
+repeats s y k packet found = ap (λ (o : Option Packet). ended s.wires (repeat_acted (bus_named y) (begun s) o)) found
+
+pub ticks : (s : Packeted) (node : ℕ) → is_running s.world.stopped node ≡ true
+    → option_and_then (line_pulled node) (slice_get (ticked s.site.processors node (nothing_sent s.wires.nodes)).nodes
+    node) ≡ None
+    → play s (Tick node) ≡ Makes (record s { wires = carried_out (ticked s.site.processors node) s.wires })
+ticks s node runs none =
+    let after : Underway = record (begun s) { wires = ticked s.site.processors node (nothing_sent s.wires.nodes) } in
+    ap (λ (b : Bool). ended s.wires (if b then pulls_its node after else Skips)) runs
+    ∙ ap (λ (line : Option ℕ). ended s.wires (pulls node after line)) none

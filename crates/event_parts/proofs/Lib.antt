@@ -1,0 +1,5 @@
+pub mod Adds
+pub mod Events
+pub mod Numbers
+pub mod Turns
+pub mod Watches

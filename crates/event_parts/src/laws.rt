@@ -1,0 +1,85 @@
+//! Laws of the parts of an event.
+ghost use Rattle.std.specs.Prelude.{◌≡◌, ℕ, ℤ, Bool, true, List, Some, None, slice_get};
+ghost use Rattle.std.specs.Option.{option_and_then, option_map};
+ghost use Rattle.schedule.specs.declared.event.Event.TheVariants.{Deliver, Repeat, Tick};
+ghost use Rattle.packet_words.specs.declared.bus_name.BusName.{BusName};
+ghost use Rattle.packet_words.specs.declared.packet.Packet.{Packet};
+ghost use Rattle.alive_regroup.specs.Watching.{Watching, after_tick};
+ghost use Rattle.machine_states.specs.States.{Makes};
+ghost use Rattle.world_semantics.specs.World.{is_running};
+ghost use Rattle.letters.specs.Routes.{Letter};
+ghost use Rattle.message_layout.specs.Messages.{NodeMessage};
+ghost use Rattle.packet_wires.specs.Lines.{line_pulled};
+ghost use Rattle.packet_wires.specs.Play.{Packeted, begun, over, packet_at, play};
+ghost use Rattle.packet_wires.specs.Wires.{Midst, Wires, all_posted, arrived, at_end, bus_named, cut_off, declares};
+ghost use Rattle.packet_wires.specs.Wires.{goes_over, learns, nothing_sent, push_at, sends, ticked};
+ghost use Rattle.event_parts.specs.Numbers.{CanPush, HasNumbersAt};
+ghost use Rattle.event_parts.specs.Parts.{OnlyAdds, carried_out, completed_by, delivered, repeated, watch_at};
+
+/// An event that is one part makes of the wires what is made where that part is carried out, after the event took its
+/// packet off.
+pub fn a_part_may_be_an_event()
+    ensures { (s : Packeted) (part : Midst → Midst) (wires : Wires) → wires.nodes ≡ s.wires.nodes
+        → (over wires (record (begun s) { wires = part (begun s).wires })).wires ≡ carried_out part wires }
+{}
+
+/// What an event makes of the wires where no message is whole with its packet, and where no line is pulled: the part
+/// that is named.
+pub fn events_of_packets_are_parts()
+    ensures delivers { (s : Packeted) (y : Bool) (k : ℕ) (packet : Packet) → packet_at s (bus_named y) k ≡ Some packet
+        → is_running s.world.stopped packet.receiver ≡ true → completed_by (Some packet) s.wires.nodes ≡ None
+        → play s (Deliver y k) ≡ Makes (record s { wires = delivered (bus_named y) k (Some packet) s.wires }) }
+    ensures repeats { (s : Packeted) (y : Bool) (k : ℕ) (packet : Packet) → packet_at s (bus_named y) k ≡ Some packet
+        → play s (Repeat y k) ≡ Makes (record s { wires = repeated (bus_named y) (Some packet) s.wires }) }
+    ensures ticks { (s : Packeted) (node : ℕ) → is_running s.world.stopped node ≡ true
+        → option_and_then (line_pulled node) (slice_get
+        (ticked s.site.processors node (nothing_sent s.wires.nodes)).nodes node) ≡ None
+        → play s (Tick node) ≡ Makes (record s { wires = carried_out (ticked s.site.processors node) s.wires }) }
+{}
+
+/// Two parts that are carried out one after the other make of the wires what both make in turn, if the second one only
+/// adds to what the first one sent; and then both together only add.
+pub fn parts_are_carried_out_in_turn()
+    ensures wires { (first second : Midst → Midst) (wires : Wires) → OnlyAdds second
+        → carried_out second (carried_out first wires) ≡ carried_out (λ midst. second (first midst)) wires }
+    ensures adds { (first second : Midst → Midst) → OnlyAdds first → OnlyAdds second
+        → OnlyAdds (λ midst. second (first midst)) }
+{}
+
+/// Each thing that a node does in an event only adds to what was sent before it.
+pub fn what_nodes_do_only_adds()
+    ensures packet { (name : BusName) (packet : Packet) → OnlyAdds (goes_over name packet) }
+    ensures learns { (x : ℕ) (change : Watching → Watching) → OnlyAdds (learns x change) }
+    ensures pushes { (x y : ℕ) (words : List ℤ) → OnlyAdds (at_end x y (push_at x y words)) }
+    ensures sends { (x y : ℕ) (message : NodeMessage) → OnlyAdds (sends x y message) }
+    ensures posts { (stopped : List Bool) (letters : List Letter) → OnlyAdds (all_posted stopped letters) }
+    ensures arrives { (name : BusName) (packet : Packet) → OnlyAdds (arrived name packet) }
+    ensures ticks { (processors x : ℕ) → OnlyAdds (ticked processors x) }
+    ensures cuts { (x y : ℕ) → OnlyAdds (cut_off x y) }
+    ensures declares { (processors x processor : ℕ) → OnlyAdds (declares processors x processor) }
+{}
+
+/// Where what is pushed finds a number at every end, it does so after each thing that a node does. A packet that comes
+/// may take one where its end has numbers left.
+pub fn each_push_finds_a_number()
+    ensures learns { (x : ℕ) (change : Watching → Watching) (midst : Midst) → CanPush midst.nodes
+        → CanPush (learns x change midst).nodes }
+    ensures pushes { (x y : ℕ) (words : List ℤ) (midst : Midst) → CanPush midst.nodes
+        → CanPush (at_end x y (push_at x y words) midst).nodes }
+    ensures posts { (stopped : List Bool) (letters : List Letter) (midst : Midst) → CanPush midst.nodes
+        → CanPush (all_posted stopped letters midst).nodes }
+    ensures arrives { (name : BusName) (packet : Packet) (midst : Midst)
+        → HasNumbersAt packet.receiver packet.sender midst.nodes → CanPush midst.nodes
+        → CanPush (arrived name packet midst).nodes }
+    ensures ticks { (processors x : ℕ) (midst : Midst) → CanPush midst.nodes
+        → CanPush (ticked processors x midst).nodes }
+    ensures cuts { (x y : ℕ) (midst : Midst) → CanPush midst.nodes → CanPush (cut_off x y midst).nodes }
+    ensures declares { (processors x processor : ℕ) (midst : Midst) → CanPush midst.nodes
+        → CanPush (declares processors x processor midst).nodes }
+{}
+
+/// What a node knows of the processors changes in its tick as a tick of its watch changes it.
+pub fn a_tick_is_one_of_its_watch()
+    ensures { (processors x : ℕ) (midst : Midst)
+        → watch_at (ticked processors x midst).nodes x ≡ option_map after_tick (watch_at midst.nodes x) }
+{}
