@@ -9,4 +9,5 @@ pub mod SectorLine
 pub mod ShownLine
 pub mod StopLine
 pub mod TalNumbers
+pub mod VerdictLine
 pub mod VerdictText
