@@ -1,5 +1,5 @@
 //! Reads all lines of a report.
-ghost use Rattle.std.specs.Prelude.{◌≡◌, ◌<◌, IfErr, IfOk, Ok, length};
+ghost use Rattle.std.specs.Prelude.{◌≡◌, ◌<◌, ◌≤◌, IfErr, IfOk, Ok, length};
 ghost use Rattle.plain_semantics.specs.SiteLimits.{KeepsSiteLimits};
 ghost use Rattle.report_reader.specs.Reading.{IsFaultOf, ended_by, read_report};
 
@@ -42,6 +42,7 @@ pub fn read_report(alloc: Global, site: &Site, report: &[u8]) -> Result<Reading,
     requires limits { KeepsSiteLimits site.now }
     requires short { length report.now < 4294967295 }
     ensures ok { IfOk result (λ reading. read_report site.now report.now ≡ Ok reading) }
+    ensures few { IfOk result (λ reading. length reading.told ≤ length report.now) }
     ensures err { IfErr result (IsFaultOf site.now report.now) }
 {
     let lists = opener_lists(alloc, site)?;
