@@ -1,0 +1,4 @@
+pub mod Lines
+pub mod Replays
+pub mod Reported
+pub mod Verdicts

@@ -1,0 +1,125 @@
+//! The report that acts have, in memory.
+ghost use Rattle.std.specs.Prelude.{◌≡◌, ◌<◌, [], Some, IfOk};
+ghost use Rattle.std.specs.Option.{IsSome};
+ghost use Rattle.plain_semantics.specs.SiteLimits.{KeepsSiteLimits};
+ghost use Rattle.report_reader.specs.Reading.{acts_in, stops_in};
+ghost use Rattle.shown_sectors.specs.Sectors.{sectors_after};
+ghost use Rattle.trace_print.specs.ReportText.{report_text};
+
+use gd_io::{Gave, Sink, WriteFault};
+use gd_words::{List, NoMemory};
+use report_reader::Told;
+use shown_sectors::sectors_after;
+use std::alloc::Global;
+use tal_tree::{Act, Shown, Site};
+use trace_print::{End, write_report};
+
+/// A sink in memory that grows with what is written, until memory runs out.
+#[derive(Drop)]
+pub struct TextSink {
+    held: Vec<u8>,
+    faults: u64,
+    lost: Option<NoMemory>,
+    ghost told: { 0 < faults → IsSome lost },
+}
+
+impl TextSink {
+    fn new(alloc: Global) -> TextSink
+        ensures held { ⟦<TextSink as Sink>⟧.held result ≡ Some [] }
+        ensures faults { ⟦<TextSink as Sink>⟧.faults result ≡ 0 }
+    {
+        TextSink {
+            held: Vec::new(alloc),
+            faults: 0,
+            lost: None,
+        }
+    }
+
+    /// What is written so far.
+    pub fn bytes(&self) -> &[u8]
+        ensures { ⟦<TextSink as Sink>⟧.held self.now ≡ Some result.now }
+    {
+        self.held.as_slice()
+    }
+
+    /// The want of memory for which a write failed.
+    fn memory(&self) -> NoMemory
+        requires { 0 < ⟦<TextSink as Sink>⟧.faults self.now }
+    {
+        match self.lost {
+            Some(memory) => memory,
+            None => unreachable!(),
+        }
+    }
+}
+
+impl Sink for TextSink {
+    ghost use Rattle.std.specs.Prelude.{Some};
+
+    ghost held = { λ sink. Some sink.held.items };
+
+    ghost faults = { λ sink. sink.faults };
+
+    ghost sure = { λ sink n. ⊥ };
+
+    fn put(&mut self, piece: &[u8]) -> Gave {
+        match self.held.extend_from_slice(piece) {
+            Ok(()) => Gave::Gone(piece.len()),
+            Err(error) => {
+                self.lost = Some(NoMemory::from(error));
+                self.faults = self.faults.saturating_add(1);
+                Gave::Failed
+            }
+        }
+    }
+}
+
+/// The acts that lines tell, in order.
+pub fn acts_of(alloc: Global, told: &[Told]) -> Result<List<Act>, NoMemory>
+    ensures { IfOk result (λ acts. acts ≡ acts_in told.now) }
+{
+    let mut acts = List::new(alloc);
+    for one in told {
+        if let Told::Act(act) = one {
+            acts.push(*act)?;
+        }
+    }
+    Ok(acts)
+}
+
+/// The processors that lines tell, in order.
+fn stops_of(alloc: Global, told: &[Told]) -> Result<List<u8>, NoMemory>
+    ensures { IfOk result (λ stops. stops ≡ stops_in told.now) }
+{
+    let mut stops = List::new(alloc);
+    for one in told {
+        if let Told::Stop(processor) = one {
+            stops.push(*processor)?;
+        }
+    }
+    Ok(stops)
+}
+
+/// The report with these things shown, these acts and this end, and the processors that lines tell.
+pub fn text_of(
+    alloc: Global,
+    site: &Site,
+    shown: &[Shown],
+    told: &[Told],
+    acts: &[Act],
+    end: End,
+) -> Result<TextSink, NoMemory>
+    requires { KeepsSiteLimits site.now }
+    ensures { IfOk result (λ sink. ⟦<TextSink as Sink>⟧.held sink
+        ≡ Some (report_text site.now shown.now (sectors_after site.now shown.now) (stops_in told.now) acts.now end)) }
+{
+    let sectors = sectors_after(alloc, site, shown)?;
+    let stopped = stops_of(alloc, told)?;
+    let mut sink = TextSink::new(alloc);
+    let sectors = sectors.as_slice();
+    let stopped = stopped.as_slice();
+    match write_report(&mut sink, site, shown, sectors, stopped, acts, end) {
+        Ok(()) => Ok(sink),
+        Err(WriteFault) => Err(sink.memory()),
+    }
+}
