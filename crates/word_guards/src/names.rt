@@ -10,6 +10,7 @@ pub fn a_name_is_spelled()
     ensures sign_alone { name_of (codes "$") ≡ None }
     ensures no_sign { name_of (codes "add") ≡ None }
     ensures other_sign { name_of (codes "$a_b") ≡ None }
+    ensures empty { name_of (codes "") ≡ None }
 {}
 
 /// An identifier has letters, digits, `_` and `^`, no digit first, and is kept in upper case.
@@ -17,6 +18,8 @@ pub fn an_identifier_is_spelled()
     ensures kept { ident_of (codes "got_1^x") ≡ Some (codes "GOT_1^X") }
     ensures digit_first { ident_of (codes "1got") ≡ None }
     ensures dollar { ident_of (codes "a$") ≡ None }
+    ensures sign_first { ident_of (codes "^_1a") ≡ Some (codes "^_1A") }
+    ensures other_first { ident_of (codes "$a") ≡ None }
     ensures empty { ident_of (codes "") ≡ None }
 {}
 

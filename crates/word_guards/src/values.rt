@@ -40,8 +40,15 @@ pub fn a_right_side_may_be_unseen()
 pub fn a_relation_is_signed()
     ensures less { holds Less (negsuc 0) (pos 0) ≡ true }
     ensures not_less { holds Less (pos 2) (pos 2) ≡ false }
+    ensures equal { holds Equal (pos 2) (pos 2) ≡ true }
+    ensures not_equal { holds Equal (negsuc 1) (pos 2) ≡ false }
     ensures at_most { holds AtMost (pos 2) (pos 2) ≡ true }
+    ensures not_at_most { holds AtMost (pos 3) (pos 2) ≡ false }
     ensures greater { holds Greater (negsuc 0) (pos 0) ≡ false }
+    ensures greater_so { holds Greater (pos 0) (negsuc 0) ≡ true }
     ensures at_least { holds AtLeast (pos 2) (pos 2) ≡ true }
+    ensures at_least_so { holds AtLeast (pos 3) (pos 2) ≡ true }
+    ensures not_at_least { holds AtLeast (pos 2) (pos 3) ≡ false }
     ensures differs { holds Differs (pos 2) (pos 2) ≡ false }
+    ensures differs_so { holds Differs (negsuc 1) (pos 2) ≡ true }
 {}
