@@ -83,3 +83,21 @@ writing_site = record disc_site {
   terminals =
       record { name = 36 ∷ 84 ∷ []; target = 0; requests = (pos 2 ∷ pos 1 ∷ pos 7 ∷ []) ∷ [] } ∷ [];
 }
+
+-- a program that opens the disc twice, and a site with it before the program above and with two terminals that ask the
+-- disc
+abbrev pub opening_twice : Program
+opening_twice = record opening {
+  files = record { item = 0; target = target.Process (36 ∷ 68 ∷ []); depth = 2 }
+      ∷ record { item = 1; target = target.Process (36 ∷ 68 ∷ []); depth = 4 } ∷ [];
+}
+
+abbrev pub shared_site : Site
+shared_site = record {
+  processors = 2;
+  processes = record { name = 36 ∷ 65 ∷ []; primary = 0; backup = 1; what = kind.Pair opening_twice }
+      ∷ record { name = 36 ∷ 66 ∷ []; primary = 0; backup = 1; what = kind.Pair opening }
+      ∷ record { name = 36 ∷ 68 ∷ []; primary = 0; backup = 1; what = kind.Disc 4 } ∷ [];
+  terminals = record { name = 36 ∷ 84 ∷ []; target = 2; requests = [] }
+      ∷ record { name = 36 ∷ 85 ∷ []; target = 2; requests = [] } ∷ [];
+}

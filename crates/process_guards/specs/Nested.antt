@@ -9,6 +9,7 @@ use Rattle.tal_tree.specs.declared.expression.Cond.{Truth}
 use Rattle.tal_tree.specs.declared.expression.Expr.{Number}
 use Rattle.tal_tree.specs.declared.expression.Variable.TheVariants.{Local}
 use Rattle.process_semantics.specs.declared.point.Point.{Point}
+use Rattle.process_semantics.specs.declared.point.Point.TheVariants as point
 use Rattle.process_semantics.specs.Process.{ProcessState, Runs, Serves}
 use Rattle.process_semantics.specs.State.{Entry, Run, Test, Last, Frame, start}
 use Rattle.process_guards.specs.States.{procedure_of}
@@ -82,3 +83,7 @@ ended = Runs nested (record {
 -- a disc after 171,072 writes, which are twice 65,536 and 40,000
 abbrev pub disc_at : Point → Option (List ℤ) → Option (List ℤ) → ProcessState
 disc_at label request reply = Serves 2 (record { label = label; request = request; reply = reply; last_write = 171072 })
+
+-- a disc with nothing in hand, after so many writes
+abbrev pub disc_after : ℕ → ProcessState
+disc_after writes = Serves 2 (record { label = point.Take; request = None; reply = None; last_write = writes })

@@ -5,7 +5,7 @@ ghost use Rattle.process_semantics.specs.Process.{Serves, after_checkpoint};
 ghost use Rattle.process_semantics.specs.Disc.{disc_start};
 ghost use Rattle.process_semantics.specs.State.{Run, Test, Last};
 ghost use Rattle.process_guards.specs.Nested.{marks, gives, repeats, stops, main_at, called_at, calling, busy, running};
-ghost use Rattle.process_guards.specs.Nested.{fresh, ended, disc_at};
+ghost use Rattle.process_guards.specs.Nested.{fresh, ended, disc_at, disc_after};
 
 /// An image has the frames from MAIN up: how many, and of each the procedure, the number that comes next, or that of
 /// the call in progress, and the locals. Then come the items that are listed: how many, and of each its number and
@@ -98,4 +98,14 @@ pub fn a_disc_is_restored()
     ensures too_long { restored (Serves 2 disc_start) true (pos 17 ∷ replicate 20 (pos 0)) ≡ None }
     ensures too_many { restored (Serves 2 disc_start) false (pos 0 ∷ pos 2 ∷ negsuc 25535 ∷ pos 0 ∷ pos 0 ∷ []) ≡ None }
     ensures too_few { restored (Serves 2 disc_start) false (pos 0 ∷ pos 2 ∷ []) ≡ None }
+{}
+
+/// The number of a disc's last write is two patterns of 16 bits, also where a half has its highest bit set.
+pub fn a_number_of_writes_is_two_patterns()
+    ensures most { image_of [] (disc_after 4294967295) ≡ pos 0 ∷ negsuc 0 ∷ negsuc 0 ∷ pos 0 ∷ [] }
+    ensures half { image_of [] (disc_after 2147483648) ≡ pos 0 ∷ negsuc 32767 ∷ pos 0 ∷ pos 0 ∷ [] }
+    ensures most_restored { restored (Serves 2 disc_start) false (pos 0 ∷ negsuc 0 ∷ negsuc 0 ∷ pos 0 ∷ [])
+        ≡ Some (disc_after 4294967295) }
+    ensures half_restored { restored (Serves 2 disc_start) false (pos 0 ∷ negsuc 32767 ∷ pos 0 ∷ pos 0 ∷ [])
+        ≡ Some (disc_after 2147483648) }
 {}

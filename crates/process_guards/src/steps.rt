@@ -90,4 +90,5 @@ pub fn a_process_ends()
     ensures trap { inner code (standing (pos 6)
         (Run (does (Assign (spot.Simple 0) (Two Div (word (pos 1)) (word (pos 0))))) ∷ [])) ≡ over (pos 6) }
     ensures at_the_end { inner code (standing (pos 6) []) ≡ over (pos 6) }
+    ensures with_a_request { inner code (in_hand (standing (pos 6) (Run (does Stop) ∷ []))) ≡ in_hand (over (pos 6)) }
 {}

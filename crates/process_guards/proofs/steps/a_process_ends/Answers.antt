@@ -21,3 +21,8 @@ pub returns-clause-at_the_end : goal.returns-clause-at_the_end
 unfolding int_wrap out-What out shape-the_row-Statement-0 hidden-the_row-Statement-0 shape-the_row-Spot-0
     hidden-the_row-Spot-0 shape-the_row-Expr-1 hidden-the_row-Expr-1 hidden
 returns-clause-at_the_end c = refl
+
+pub returns-clause-with_a_request : goal.returns-clause-with_a_request
+unfolding int_wrap out-What out shape-the_row-Statement-0 hidden-the_row-Statement-0 shape-the_row-Spot-0
+    hidden-the_row-Spot-0 shape-the_row-Expr-1 hidden-the_row-Expr-1 hidden
+returns-clause-with_a_request c = refl
