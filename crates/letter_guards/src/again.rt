@@ -6,9 +6,10 @@ ghost use Rattle.computed_changes.specs.Fitting.{depths_of};
 ghost use Rattle.computed_changes.specs.Stopped.{down_done};
 ghost use Rattle.world_semantics.specs.Messages.{sent_at};
 ghost use Rattle.world_semantics.specs.World.{pair_at_boot, terminal_node};
-ghost use Rattle.letters.specs.Again.{kept_for, of_copies, sent_again};
+ghost use Rattle.letters.specs.Again.{kept_for, kept_from, of_copies, sent_again};
 ghost use Rattle.letters.specs.Posts.{post_after_down, without_those_between};
 ghost use Rattle.gd_words.specs.declared.message.Reply.{Reply};
+ghost use Rattle.tal_tree.specs.declared.site.Who.TheVariants.{File, Terminal};
 ghost use Rattle.letter_guards.specs.Worlds.{asked_by, bank, deeper_site, site, user, awaiting, world_at, world};
 ghost use Rattle.letter_guards.specs.Worlds.{keeping_two, two_kept, taking_over, before_takeover, marked_by, bank_asks};
 ghost use Rattle.letter_guards.specs.Worlds.{terminal_asks, user_is_told, user_is_told_of, terminal_is_told};
@@ -87,4 +88,17 @@ pub fn replies_are_kept_by_the_depth_of_the_file()
     ensures depths { depths_of deeper_site 1 ≡ 3 ∷ 1 ∷ [] }
     ensures one { depths_of site 1 ≡ 1 ∷ 1 ∷ [] }
     ensures none { depths_of site 2 ≡ [] }
+{}
+
+/// Each opener has its own kept replies, also behind one that stays where it is.
+pub fn each_opener_has_its_own_kept_replies()
+    ensures both { kept_from world 0 2 1 (two_kept None) 0
+        (record { who = File 2 0; depth = 2 } ∷ record { who = File 2 0; depth = 1 } ∷ [])
+        ≡ record { process = 1; opener = 0; number = 4; words = pos 7 ∷ [] }
+        ∷ record { process = 1; opener = 0; number = 5; words = pos 6 ∷ [] }
+        ∷ record { process = 1; opener = 1; number = 1; words = pos 8 ∷ [] } ∷ [] }
+    ensures behind { kept_from world 0 2 1 (two_kept None) 0
+        (record { who = Terminal 1; depth = 1 } ∷ record { who = File 2 0; depth = 1 } ∷ [])
+        ≡ record { process = 1; opener = 1; number = 1; words = pos 8 ∷ [] } ∷ [] }
+    ensures stay { kept_from world 0 3 1 (two_kept None) 0 (record { who = File 2 0; depth = 2 } ∷ []) ≡ [] }
 {}

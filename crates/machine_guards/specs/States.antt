@@ -66,3 +66,10 @@ marking stopped nodes w = record w { stopped = stopped; marks = map (λ node. re
 -- wires on which these letters are owed, and nothing is on the bus
 abbrev pub owing : List Sent → Wires
 owing owed = record { count = 9; bus = []; owed = owed }
+
+-- a process whose copies are in these processors, in these roles
+abbrev pub placed : ℕ → Role → ℕ → Role → Pair → Pair
+placed first role second other pair = record pair {
+  first = record pair.first { processor = first; role = role };
+  second = record pair.second { processor = second; role = other };
+}

@@ -1,12 +1,13 @@
-//! Guards of what is played: an answer tells what was done, a stop leaves no process out, nothing is marked before it
-//! stops, no second stop comes without a first, a loss pays nothing, a takeover goes on from the last checkpoint, and a
-//! state is idle where nothing is left. A wrong definition is refused here, and so is every machine whose event settles
-//! another one.
+//! Guards of what is played: a site begins with nothing sent or kept, an answer tells what was done, a stop leaves no
+//! process out, nothing is marked before it stops, no second stop comes without a first, a loss pays nothing, a
+//! takeover goes on from the last checkpoint, and a state is idle where nothing is left. A wrong definition is refused
+//! here, and so is every machine whose event settles another one.
 //!
 //! Below stand `message_wires`, `machine_states`, `computed_changes` and `world_semantics`, whose definitions are
 //! guarded; nothing stands above.
 #![tactic(auto)]
 
+pub mod beginnings;
 pub mod idle;
 pub mod machines;
 pub mod owed;
