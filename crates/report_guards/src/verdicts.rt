@@ -2,12 +2,16 @@ ghost use Rattle.std.specs.Prelude.{◌≡◌, [], ◌∷◌, ◌++◌, codes, �
 ghost use Rattle.std.specs.Fmt.{decimal};
 ghost use Rattle.path_semantics.specs.declared.reason.Reason.TheVariants.{Data, SyncBlock, Input, Depth};
 ghost use Rattle.path_semantics.specs.declared.reason.RefusalFault.TheVariants.{TooDeep, TooLarge, Broken};
-ghost use Rattle.trace_print.specs.VerdictText.{accepted_text, refusal_text, refused_line, step_line};
+ghost use Rattle.tal_tree.specs.declared.site.ProcessSpec.{ProcessSpec};
+ghost use Rattle.trace_print.specs.VerdictText.{accepted_line, accepted_lines, accepted_text, refusal_text};
+ghost use Rattle.trace_print.specs.VerdictText.{refused_line, step_line};
 ghost use Rattle.report_guards.specs.Sites.{site};
 
-/// Where every program is accepted each pair has a line, and a disc none.
+/// Where every program is accepted each pair has a line, in the order of the deck, and a disc none.
 pub fn what_is_accepted_has_its_lines()
-    ensures { accepted_text site ≡ codes "ACCEPTED $BANK" ++ 10 ∷ [] ++ codes "END checked" ++ 10 ∷ [] }
+    ensures all { accepted_text site ≡ codes "ACCEPTED $BANK" ++ 10 ∷ [] ++ codes "END checked" ++ 10 ∷ [] }
+    ensures order { (one : ProcessSpec) (rest : List ProcessSpec)
+        → accepted_lines (one ∷ rest) ≡ accepted_line one ++ accepted_lines rest }
 {}
 
 /// A refusal is told by the program's process and its cause: a global by its name, and a file by that of its variable.
