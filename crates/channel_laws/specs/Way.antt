@@ -66,12 +66,12 @@ opened (message ∷ rest) = 1
 
 -- at the sender's end: the pushed messages are those acknowledged whole, then the queue. So many pieces are
 -- acknowledged, and numbered are these and the outstanding one
-pub record AtSender (pushes : List (List ℤ)) (after_acknowledgement : ℕ) (s : Sending) : Type 0 where
+pub record AtSender (pushes : List (List ℤ)) (acknowledged : ℕ) (s : Sending) : Type 0 where
   pub done : List (List ℤ)
   pub sent : pushes ≡ done ++ s.queue
   pub place : IsWithin s.place s.queue
-  pub count : after_acknowledgement ≡ total done + s.place
-  pub numbered : s.numbered ≡ after_acknowledgement + opened s.queue
+  pub count : acknowledged ≡ total done + s.place
+  pub numbered : s.numbered ≡ acknowledged + opened s.queue
 
 -- at the receiver's end: the pushed messages are those handed over, then the rest. Of the first of the rest some pieces
 -- are kept, and so are its words in them
@@ -87,9 +87,9 @@ pub record AtReceiver (pushes out : List (List ℤ)) (r : Receiving) : Type 0 wh
 pub record IsJoint (w : Way) : Type 0 where
   pub filled : Filled w.pushes
   pub acknowledged : ℕ
-  pub sending : AtSender w.pushes after_acknowledgement w.sender
+  pub sending : AtSender w.pushes acknowledged w.sender
   pub receiving : AtReceiver w.pushes w.out w.receiver
-  pub acknowledged_is_kept : after_acknowledgement ≤ w.receiver.kept
+  pub acknowledged_is_kept : acknowledged ≤ w.receiver.kept
   pub kept_is_numbered : w.receiver.kept ≤ w.sender.numbered
 
 -- What goes on the buses

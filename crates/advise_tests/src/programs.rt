@@ -1,0 +1,22 @@
+ghost use Rattle.std.specs.Prelude.{IfOk};
+ghost use Rattle.tal_tree.specs.Limits.{IsWithinLimits};
+ghost use Rattle.tal_tree.specs.Ordered.{IsOrdered};
+ghost use Rattle.tal_tree.specs.Regular.{IsRegular};
+
+use std::alloc::Global;
+use std::test::Fail;
+use tal_reader::read_program;
+use tal_tree::Program;
+
+/// The program of a text; no text of these tests is longer than a million bytes.
+pub fn program_of(alloc: Global, text: &[u8]) -> Result<Program, Fail>
+    ensures ordered { IfOk result IsOrdered }
+    ensures limits { IfOk result IsWithinLimits }
+    ensures regular { IfOk result IsRegular }
+{
+    if text.len() > 1_000_000 {
+        return Err(Fail::from("a longer text"));
+    }
+    let program = read_program(alloc, text)?;
+    Ok(program)
+}
