@@ -8,7 +8,7 @@ use Rattle.clap.specs.Words.{Row, Text, first_of}
 use Rattle.deck_lines.specs.Numbers.{written_number}
 use Rattle.command_words.specs.Line.{parse_of}
 use Rattle.command_words.specs.declared.asked.Command.{Command}
-use Rattle.command_words.specs.declared.asked.Command.TheVariants.{Run, Check, Load, Sweep}
+use Rattle.command_words.specs.declared.asked.Command.TheVariants.{Run, Check, Load, Sweep, Verify}
 use Rattle.player.specs.declared.stop.ProcessorStop.{ProcessorStop}
 
 -- a stop of P, which is at most 15, just before the event that K events precede
@@ -52,13 +52,19 @@ abbrev pub sweep_as : Option Text → Bool → Option Text → Option Command
 sweep_as (Some number) false None = sweep_of (written_number number)
 sweep_as _ _ _ = None
 
+-- `verify` takes nothing
+abbrev pub verify_as : Option Text → Bool → Option Text → Option Command
+verify_as None false None = Some Verify
+verify_as _ _ _ = None
+
 -- what a mode asks for with this number, with or without `--acts`, and with this value of `--fail`
 abbrev pub command_as : Text → Option Text → Bool → Option Text → Option Command
 command_as mode number acts fail =
     if bytes_eq mode (codes "run") then run_as number acts fail
     else if bytes_eq mode (codes "check") then check_as number acts fail
     else if bytes_eq mode (codes "load") then load_as number acts fail
-    else if bytes_eq mode (codes "sweep") then sweep_as number acts fail else None
+    else if bytes_eq mode (codes "sweep") then sweep_as number acts fail
+    else if bytes_eq mode (codes "verify") then verify_as number acts fail else None
 
 -- whether `--acts` is given, which gives it the value `true`
 abbrev pub asks_for_acts : List Row → Bool
@@ -81,3 +87,4 @@ IsInRange (Run acts (Some stop)) = stop.processor ≤ 15
 IsInRange Check = Unit {0}
 IsInRange (Load n) = (1 ≤ n) × (n ≤ 200)
 IsInRange (Sweep n) = (1 ≤ n) × (n ≤ 10000)
+IsInRange Verify = Unit {0}

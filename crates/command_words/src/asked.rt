@@ -1,7 +1,7 @@
 ghost use Rattle.std.specs.Prelude.{◌≡◌, IfOk, IfSome, map, option_map, string_bytes};
 ghost use Rattle.clap.specs.Words.{found_of, rows_of};
 ghost use Rattle.command_words.specs.Asked.{IsInRange, asks_for_acts, asked_by, check_as, command_as, command_in};
-ghost use Rattle.command_words.specs.Asked.{load_as, load_of, run_as, stop_at, stop_of, sweep_as, sweep_of};
+ghost use Rattle.command_words.specs.Asked.{load_as, load_of, run_as, stop_at, stop_of, sweep_as, sweep_of, verify_as};
 
 use crate::line::{parsed, text_of};
 use clap::ArgMatches;
@@ -26,6 +26,8 @@ pub enum Command {
     /// To judge the programs of a deck, and, where all are accepted, to play it once for each of its processors and
     /// each number of events below this one, 1 to 10,000, with a stop of that processor after so many.
     Sweep(u32),
+    /// To judge the programs of a deck, and, where all are accepted, the report that follows it.
+    Verify,
 }
 
 /// The command that the words ask for, the program's name first; none where they ask for none.
@@ -70,6 +72,7 @@ fn command_as(mode: &str, number: Option<&str>, acts: bool, fail: Option<&str>) 
         "check" => check_as(number, acts, fail),
         "load" => load_as(number, acts, fail),
         "sweep" => sweep_as(number, acts, fail),
+        "verify" => verify_as(number, acts, fail),
         _ => None,
     }
 }
@@ -131,6 +134,15 @@ fn sweep_of(number: Option<u32>) -> Option<Command>
 {
     match number {
         Some(n) if 1 <= n && n <= 10_000 => Some(Command::Sweep(n)),
+        _ => None,
+    }
+}
+
+fn verify_as(number: Option<&str>, acts: bool, fail: Option<&str>) -> Option<Command>
+    ensures { result ≡ verify_as (option_map (λ s. s.now) number.entry) acts (option_map (λ s. s.now) fail.entry) }
+{
+    match (number, acts, fail) {
+        (None, false, None) => Some(Command::Verify),
         _ => None,
     }
 }

@@ -1,7 +1,7 @@
 ghost use Rattle.std.specs.Prelude.{◌≡◌, true, false, [], ◌∷◌, Some, None, codes};
 ghost use Rattle.command_words.specs.Asked.{asked_by};
 ghost use Rattle.command_words.specs.Guarded.{asked, run_with_stop};
-ghost use Rattle.command_words.specs.declared.asked.Command.TheVariants.{Run, Check, Load, Sweep};
+ghost use Rattle.command_words.specs.declared.asked.Command.TheVariants.{Run, Check, Load, Sweep, Verify};
 
 /// `run` alone, with its flags in any order, with the value of `--fail` as a word of its own or after `=`, and before
 /// `--`.
@@ -36,12 +36,20 @@ pub fn sweep_is_asked_for()
     ensures fail { asked (codes "sweep" ∷ codes "1" ∷ codes "--fail" ∷ codes "1:7" ∷ []) ≡ None }
 {}
 
+/// `verify` alone.
+pub fn verify_is_asked_for()
+    ensures alone { asked (codes "verify" ∷ []) ≡ Some Verify }
+    ensures number { asked (codes "verify" ∷ codes "1" ∷ []) ≡ None }
+    ensures acts { asked (codes "verify" ∷ codes "--acts" ∷ []) ≡ None }
+    ensures fail { asked (codes "verify" ∷ codes "--fail" ∷ codes "1:7" ∷ []) ≡ None }
+{}
+
 /// There is a mode, and just one.
 pub fn modes_are_wanted()
     ensures no_name { asked_by [] ≡ None }
     ensures nothing { asked [] ≡ None }
     ensures empty { asked ([] ∷ []) ≡ None }
-    ensures other { asked (codes "verify" ∷ []) ≡ None }
+    ensures other { asked (codes "judge" ∷ []) ≡ None }
     ensures longer { asked (codes "runs" ∷ []) ≡ None }
     ensures two { asked (codes "run" ∷ codes "check" ∷ []) ≡ None }
     ensures help { asked (codes "--help" ∷ []) ≡ None }
