@@ -10,6 +10,7 @@ ghost use Rattle.trace_print.specs.NumbersText.{numbers_text};
 ghost use Rattle.trace_print.specs.RowLine.{row_line, sweep_text};
 ghost use Rattle.run_table.specs.declared.table.ProcessorRow.{ProcessorRow};
 ghost use Rattle.trace_print.specs.StopLine.{stop_lines};
+ghost use Rattle.trace_print.specs.VerdictLine.{rejected_line, verified_line};
 
 /// A fault of the deck is told by its line in the deck, 0 for none, and its number; a limit has its own number after
 /// these.
@@ -102,4 +103,11 @@ pub fn an_end_has_its_line()
     ensures refused { end_line Refused ≡ codes "END refused" ++ 10 ∷ [] }
     ensures swept { end_line Swept ≡ codes "END swept" ++ 10 ∷ [] }
     ensures usage { usage_line ≡ codes "USAGE guardian MODE [N] [--acts] [--fail P:K]" ++ 10 ∷ [] }
+{}
+
+/// A report that was judged has one line: how many acts it tells, or at which line and for the cause of which number it
+/// is rejected.
+pub fn a_verdict_has_its_line()
+    ensures verified { verified_line 11 ≡ codes "VERIFIED " ++ decimal 11 ++ 10 ∷ [] }
+    ensures rejected { rejected_line 3 2 ≡ codes "REJECTED " ++ decimal 3 ++ codes " " ++ decimal 2 ++ 10 ∷ [] }
 {}
