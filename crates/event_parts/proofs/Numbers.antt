@@ -148,7 +148,7 @@ can-learns x change midst can = by (slice_get midst.nodes x) refl
     by None is = can
     by (Some node) is = can-watch x node (change node.watch) midst.nodes is can
 
-can-for-each : (does : ℕ → Midst → Midst) → ((y : ℕ) → Keeps (does y)) → (ys : List ℕ) → Keeps (for_each does ys)
+pub can-for-each : (does : ℕ → Midst → Midst) → ((y : ℕ) → Keeps (does y)) → (ys : List ℕ) → Keeps (for_each does ys)
 can-for-each does keeps [] midst can = can
 can-for-each does keeps (y ∷ ys) midst can = can-for-each does keeps ys (does y midst) (keeps y midst can)
 

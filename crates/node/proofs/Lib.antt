@@ -1,0 +1,5 @@
+pub mod Arrivals
+pub mod Ends
+pub mod Lines
+pub mod Loops
+pub mod Quiet

@@ -1,0 +1,7 @@
+use Rattle.std.proofs.Common.{◌∙◌, ap}
+use Rattle.packet_wires.specs.Lines.{line_pulled}
+use Rattle.packet_wires.specs.Nodes.{Node}
+use Rattle.node.proofs.node.Node.line.Goals as goal
+
+pub returns : goal.returns
+returns c = c.first_held.ensures ∙ ap (λ (node : Node). line_pulled c.args.me node) c.self.view_is

@@ -1,0 +1,233 @@
+ghost use Rattle.std.specs.Prelude.{◌≡◌, ◌<◌, ◌==◌, ◌&&◌, not, length, slice_get, IfOk, OnOk};
+ghost use Rattle.std.specs.Bool.{OnTrue};
+ghost use Rattle.std.specs.List.{list_all};
+ghost use Rattle.alive_regroup.specs.Watching as watching;
+ghost use Rattle.alive_regroup.specs.Watching.{changed_at, is_held, told_by_tick};
+ghost use Rattle.link_control.specs.Ends.{after_down, after_packet, after_push, after_tick, alive_of, handed_by_packet};
+ghost use Rattle.link_control.specs.Ends.{is_empty, sent_by_packet, sent_by_push, sent_by_tick};
+ghost use Rattle.packet_wires.specs.Idle.{holds_nothing};
+ghost use Rattle.packet_wires.specs.Lines.{first_held, line_pulled};
+ghost use Rattle.packet_wires.specs.Nodes.{node_at_boot};
+ghost use Rattle.event_parts.specs.Numbers.{HasNumbersWith, NodeCanPush};
+ghost use Rattle.node.specs.Calls.{IsQuiet, told_at_end, with_end_changed, with_watch_changed};
+
+use alive_regroup::{ProcessorSet, Watch};
+use gd_words::{List, NoMemory};
+use link_control::{Arrived, Channel, Resent};
+use packet_words::{Incarnation, Packet};
+use std::alloc::Global;
+use std::marker::Model;
+
+/// How many nodes there may be: 16 processors and the node of the terminals.
+pub(crate) const NODES: u8 = 17;
+
+/// No node was ever loaded anew.
+const NEVER_RELOADED: Incarnation = Incarnation {
+    sender: 0,
+    receiver: 0,
+};
+
+/// A node: its ends of the channels with all nodes, by their numbers, and what it knows of the processors. Memory is
+/// taken at the beginning, for messages that wait and for pieces that come of a long message.
+#[derive(Drop)]
+pub struct Node {
+    ends: Vec<Channel>,
+    watch: Watch,
+    /// Whether an end may hold something. Where none does, a tick looks at none.
+    busy: bool,
+}
+
+impl Model for Node {
+    ghost use Rattle.std.specs.Prelude.{◌≡◌, true, false};
+    ghost use Rattle.std.specs.List.{list_all};
+    ghost use Rattle.link_control.specs.Ends.{is_empty};
+    ghost use Rattle.packet_wires.specs.Nodes as nodes;
+
+    ghost Value = { nodes.Node };
+
+    ghost view = { λ node. record { ends = node.ends.items; watch = node.watch } };
+
+    ghost invariant = { λ node. node.busy ≡ false → list_all is_empty node.ends.items ≡ true };
+}
+
+impl Node {
+    /// A node of a site of so many processors at the beginning.
+    pub fn boot(alloc: Global, processors: u8, me: u8) -> Result<Node, NoMemory>
+        ensures { IfOk result (λ node. node ≡ node_at_boot processors me) }
+    {
+        let mut ends = Vec::with_capacity(alloc, usize::from(NODES))?;
+        for other in 0..NODES {
+            ends.push(Channel::new(alloc, me, other, NEVER_RELOADED))?;
+        }
+        Ok(Node {
+            ends,
+            watch: Watch::new(me, processors),
+            busy: true,
+        })
+    }
+
+    /// Takes a message for a node; it gives the packet that goes out now, over bus X.
+    pub fn push(&mut self, to: u8, message: List<i16>) -> Result<Option<Packet>, NoMemory>
+        requires some { 0 < length message }
+        requires numbered { NodeCanPush self.old }
+        ensures sent { IfOk result (λ packet. packet ≡ told_at_end to (sent_by_push message) self.old) }
+        ensures after { OnOk result (self.new ≡ with_end_changed to (after_push message) self.old) }
+    {
+        let place = usize::from(to);
+        if place >= self.ends.len() {
+            return Ok(None);
+        }
+        self.busy = true;
+        let packet = self.ends[place].push(message)?;
+        Ok(packet)
+    }
+
+    /// A piece or an acknowledgement comes from the node that it names.
+    pub fn on_packet(&mut self, packet: &Packet) -> Result<Arrived, NoMemory>
+        requires { HasNumbersWith packet.now.sender self.old }
+        ensures sent { IfOk result (λ arrived. arrived.send
+            ≡ told_at_end packet.now.sender (sent_by_packet packet.now) self.old) }
+        ensures delivered { IfOk result (λ arrived. arrived.delivered
+            ≡ told_at_end packet.now.sender (handed_by_packet packet.now) self.old) }
+        ensures after { OnOk result (self.new ≡ with_end_changed packet.now.sender (after_packet packet.now) self.old) }
+    {
+        let place = usize::from(packet.sender);
+        if place >= self.ends.len() {
+            return Ok(Arrived {
+                send: None,
+                delivered: None,
+            });
+        }
+        self.busy = true;
+        let arrived = self.ends[place].on_packet(packet)?;
+        Ok(arrived)
+    }
+
+    /// A tick at the end with a node; it gives what is sent again.
+    pub fn on_tick(&mut self, to: u8) -> Option<Resent>
+        ensures sent { result ≡ told_at_end to sent_by_tick self.old }
+        ensures after { self.new ≡ with_end_changed to after_tick self.old }
+    {
+        let place = usize::from(to);
+        if place >= self.ends.len() {
+            return None;
+        }
+        self.busy = true;
+        self.ends[place].on_tick()
+    }
+
+    /// The node throws its end with a processor away.
+    pub fn throw_away(&mut self, processor: u8)
+        ensures { self.new ≡ with_end_changed processor after_down self.old }
+    {
+        let place = usize::from(processor);
+        if place < self.ends.len() {
+            self.busy = true;
+            self.ends[place].down();
+        }
+    }
+
+    /// The packet that tells a node that this one is alive, unless that one is marked down.
+    pub fn alive_to(&self, to: u8) -> Option<Packet>
+        ensures { result ≡ told_at_end to alive_of self.now }
+    {
+        let place = usize::from(to);
+        if place >= self.ends.len() {
+            return None;
+        }
+        self.ends[place].alive()
+    }
+
+    /// Whether the end with a node has nothing outstanding or queued.
+    pub fn holds_nothing(&self, to: u8) -> bool
+        ensures { result ≡ holds_nothing (slice_get self.now.ends to) }
+    {
+        match self.ends.get(usize::from(to)) {
+            None => true,
+            Some(channel) => channel.is_empty(),
+        }
+    }
+
+    /// Whether the node is known to hold nothing at any end: no message to send, and no piece that isn't acknowledged.
+    pub fn is_quiet(&self) -> bool
+        ensures { OnTrue result (IsQuiet self.now) }
+    {
+        !self.busy
+    }
+
+    /// Finds out whether the node holds something.
+    pub fn settle(&mut self)
+        ensures { self.new ≡ self.old }
+    {
+        self.busy = !all_empty(self.ends.as_slice());
+    }
+
+    /// A tick of what the node knows of the processors: the silent set to report, where a check changed it.
+    pub fn check(&mut self) -> Option<ProcessorSet>
+        ensures told { result ≡ told_by_tick self.old.watch }
+        ensures after { self.new ≡ with_watch_changed watching.after_tick self.old }
+    {
+        self.watch.tick()
+    }
+
+    /// An alive packet came from a processor.
+    pub fn hear(&mut self, from: u8)
+        ensures { self.new ≡ with_watch_changed (changed_at from watching.neighbour_after_alive) self.old }
+    {
+        self.watch.heard(from);
+    }
+
+    /// A report came from a processor.
+    pub fn note(&mut self, from: u8, silent: ProcessorSet)
+        ensures { self.new ≡ with_watch_changed (changed_at from (watching.neighbour_after_report silent)) self.old }
+    {
+        self.watch.on_report(from, silent);
+    }
+
+    /// The node has marked a processor.
+    pub fn mark(&mut self, processor: u8)
+        ensures { self.new ≡ with_watch_changed (changed_at processor watching.neighbour_after_down) self.old }
+    {
+        self.watch.on_down(processor);
+    }
+
+    /// The processor whose line the node of this number pulls now.
+    pub fn line(&self, me: u8) -> Option<u8>
+        ensures { result ≡ line_pulled me self.now }
+    {
+        first_held(&self.watch, me)
+    }
+
+    /// The processor whose line it would pull after a tick made now.
+    pub fn line_after_tick(&self, me: u8) -> Option<u8>
+        ensures { result ≡ line_pulled me (with_watch_changed watching.after_tick self.now) }
+    {
+        let mut later = self.watch;
+        later.tick();
+        first_held(&later, me)
+    }
+}
+
+fn all_empty(ends: &[Channel]) -> bool
+    ensures { result ≡ list_all is_empty ends.now }
+{
+    ends.iter().all(|end| end.is_empty())
+}
+
+/// The first processor but the node itself of which all agree that it is silent.
+fn first_held(watch: &Watch, me: u8) -> Option<u8>
+    ensures { result ≡ first_held me watch.now 0 16 }
+{
+    for processor in 0..16 {
+        if is_other_held(watch, me, processor) {
+            return Some(processor);
+        }
+    }
+    None
+}
+
+fn is_other_held(watch: &Watch, me: u8, processor: u8) -> bool
+    ensures { result ≡ (not (processor == me) && is_held processor watch.now) }
+{
+    processor != me && watch.holds(processor)
+}

@@ -1,0 +1,497 @@
+ghost use Rattle.std.specs.Prelude.{◌≡◌, ◌<◌, ◌==◌, ◌++◌, ◌∷◌, [], ℕ, Some, if◌then◌else◌, length, slice_get, IfOk};
+ghost use Rattle.std.specs.Prelude.{OnOk};
+ghost use Rattle.std.specs.Bool.{OnTrue};
+ghost use Rattle.std.specs.Option.{option_and_then, option_copied};
+ghost use Rattle.packet_words.specs.declared.packet.Packet.{Packet};
+ghost use Rattle.alive_regroup.specs.Watching as watching;
+ghost use Rattle.alive_regroup.specs.Watching.{changed_at};
+ghost use Rattle.packet_wires.specs.Idle.{holds_nothing};
+ghost use Rattle.packet_wires.specs.Lines.{line_pulled};
+ghost use Rattle.packet_wires.specs.Nodes.{Node, end_at, others};
+ghost use Rattle.packet_wires.specs.Play.{completed};
+ghost use Rattle.packet_wires.specs.Wires.{alive_at, any_goes_over, arrived, at_end, checks, cut_off, declares};
+ghost use Rattle.packet_wires.specs.Wires.{down_at, for_each, goes_again, goes_over, learns, nothing_sent, on_bus};
+ghost use Rattle.packet_wires.specs.Wires.{push_at, reports, resends, tells_alive, tick_at, ticked, wires_at_boot};
+ghost use Rattle.packet_wires.specs.Wires.{without_packet};
+ghost use Rattle.event_parts.specs.Numbers.{CanPush, HasNumbersAt};
+ghost use Rattle.event_parts.specs.Parts.{carried_out, completed_by, delivered, repeated};
+ghost use Rattle.node.specs.Calls.{IsQuiet, alive_address, arrive_by, both_go};
+
+use crate::node::{NODES, Node};
+use alive_regroup::ProcessorSet;
+use bus_model::Bus;
+use gd_words::{List, NoMemory};
+use link_control::Resent;
+use message_words::{down_words, report_words};
+use packet_words::{BusName, Packet, PacketKind};
+use std::alloc::Global;
+use std::marker::Model;
+
+/// The number of the node of the terminals.
+const TERMINAL_NODE: u8 = 16;
+
+/// Both buses and all nodes. Memory is taken at the beginning, for messages that are sent, for pieces that come of a
+/// long message, and for messages that are handed over; for nothing else.
+#[derive(Drop)]
+pub struct PacketWires {
+    x: Bus,
+    y: Bus,
+    nodes: Vec<Node>,
+    alloc: Global,
+}
+
+impl Model for PacketWires {
+    ghost use Rattle.packet_wires.specs.Wires as wires;
+
+    ghost Value = { wires.Wires };
+
+    ghost view = { λ all. record { x = all.x; y = all.y; nodes = all.nodes.items } };
+}
+
+impl PacketWires {
+    /// The wires of a site of so many processors at the beginning.
+    pub fn boot(alloc: Global, processors: u8) -> Result<PacketWires, NoMemory>
+        ensures { IfOk result (λ wires. wires ≡ wires_at_boot processors) }
+    {
+        let x = Bus::new(alloc)?;
+        let y = Bus::new(alloc)?;
+        let mut nodes = Vec::with_capacity(alloc, usize::from(NODES))?;
+        for node in 0..NODES {
+            nodes.push(Node::boot(alloc, processors, node)?)?;
+        }
+        Ok(PacketWires { x, y, nodes, alloc })
+    }
+
+    /// How many packets are on a bus.
+    pub fn count(&self, bus: BusName) -> usize
+        ensures { result ≡ length (on_bus bus self.now) }
+    {
+        match bus {
+            BusName::X => self.x.len(),
+            BusName::Y => self.y.len(),
+        }
+    }
+
+    /// The packet at a position of a bus.
+    pub fn packet_at(&self, bus: BusName, position: usize) -> Option<&Packet>
+        ensures { option_copied result ≡ slice_get (on_bus bus self.now) position }
+    {
+        match bus {
+            BusName::X => self.x.get(position),
+            BusName::Y => self.y.get(position),
+        }
+    }
+
+    /// Takes the packet at a position off its bus.
+    pub fn take(&mut self, bus: BusName, position: usize) -> Option<Packet>
+        ensures packet { result ≡ slice_get (on_bus bus self.old) position }
+        ensures after { self.new ≡ without_packet bus position self.old }
+    {
+        match bus {
+            BusName::X => self.x.take(position),
+            BusName::Y => self.y.take(position),
+        }
+    }
+
+    /// Sends the packet at a position once more over its bus, where one is there.
+    pub fn repeat(&mut self, bus: BusName, position: usize)
+        ensures { self.new ≡ repeated bus (slice_get (on_bus bus self.old) position) self.old }
+    {
+        match bus {
+            BusName::X => {
+                self.x.repeat(position);
+            }
+            BusName::Y => {
+                self.y.repeat(position);
+            }
+        }
+    }
+
+    /// Whether the end that a node has with another holds nothing, outstanding or queued.
+    pub fn holds_nothing(&self, from: u8, to: u8) -> bool
+        ensures { result ≡ holds_nothing (end_at self.now.nodes from to) }
+    {
+        match self.nodes.get(usize::from(from)) {
+            None => true,
+            Some(node) => node.holds_nothing(to),
+        }
+    }
+
+    /// A packet goes over a bus.
+    fn put(&mut self, bus: BusName, packet: Packet)
+        ensures { self.new ≡ carried_out (goes_over bus packet) self.old }
+    {
+        match bus {
+            BusName::X => {
+                self.x.send(packet);
+            }
+            BusName::Y => {
+                self.y.send(packet);
+            }
+        }
+    }
+
+    fn put_any(&mut self, bus: BusName, packet: Option<Packet>)
+        ensures { self.new ≡ carried_out (any_goes_over bus packet) self.old }
+    {
+        if let Some(packet) = packet {
+            self.put(bus, packet);
+        }
+    }
+
+    fn put_again(&mut self, resent: Option<Resent>)
+        ensures { self.new ≡ carried_out (goes_again resent) self.old }
+    {
+        if let Some(resent) = resent {
+            self.put(resent.bus, resent.packet);
+        }
+    }
+
+    fn put_both(&mut self, packet: Option<Packet>)
+        ensures { self.new ≡ carried_out (both_go packet) self.old }
+    {
+        if let Some(packet) = packet {
+            self.x.send(packet.copy());
+            self.y.send(packet);
+        }
+    }
+
+    /// A node sends a message to a node, in its words.
+    pub fn send(&mut self, from: u8, to: u8, message: List<i16>) -> Result<(), NoMemory>
+        requires some { 0 < length message }
+        requires numbered { CanPush self.old.nodes }
+        ensures { OnOk result (self.new ≡ carried_out (at_end from to (push_at from to message)) self.old) }
+    {
+        let place = usize::from(from);
+        if place >= self.nodes.len() {
+            return Ok(());
+        }
+        let packet = self.nodes[place].push(to, message)?;
+        self.put_any(BusName::X, packet);
+        Ok(())
+    }
+
+    /// The packet at a position of a bus is taken off and comes at its receiver. It gives the message that is whole
+    /// with it. An alive packet is looked at where it stands.
+    pub fn deliver(&mut self, bus: BusName, position: usize) -> Result<Option<List<i16>>, NoMemory>
+        requires { (packet : Packet) → slice_get (on_bus bus self.old) position ≡ Some packet
+            → HasNumbersAt packet.receiver packet.sender self.old.nodes }
+        ensures completed { IfOk result (λ words. words
+            ≡ completed_by (slice_get (on_bus bus self.old) position) self.old.nodes) }
+        ensures after { OnOk result (self.new ≡ delivered bus position (slice_get (on_bus bus self.old) position)
+            self.old) }
+    {
+        if let Some((receiver, sender)) = self.alive_address(bus, position) {
+            let _heard = self.take(bus, position);
+            self.hear(receiver, sender);
+            return Ok(None);
+        }
+        let Some(packet) = self.take(bus, position) else {
+            return Ok(None);
+        };
+        let words = self.arrive(bus, &packet)?;
+        Ok(words)
+    }
+
+    fn alive_address(&self, bus: BusName, position: usize) -> Option<(u8, u8)>
+        ensures { result ≡ alive_address (slice_get (on_bus bus self.now) position) }
+    {
+        match bus {
+            BusName::X => alive_address(self.x.get(position)),
+            BusName::Y => alive_address(self.y.get(position)),
+        }
+    }
+
+    /// A packet comes at its receiver. It gives the message that is whole with it.
+    fn arrive(&mut self, bus: BusName, packet: &Packet) -> Result<Option<List<i16>>, NoMemory>
+        requires { HasNumbersAt packet.now.receiver packet.now.sender self.old.nodes }
+        ensures completed { IfOk result (λ words. words
+            ≡ completed packet.now (end_at self.old.nodes packet.now.receiver packet.now.sender)) }
+        ensures after { OnOk result (self.new ≡ carried_out (arrived bus packet.now) self.old) }
+    {
+        match &packet.kind {
+            PacketKind::Alive => {
+                self.hear(packet.receiver, packet.sender);
+                Ok(None)
+            }
+            PacketKind::Piece {
+                number: _,
+                piece: _,
+            } => {
+                let words = self.come_in(bus, packet)?;
+                Ok(words)
+            }
+            PacketKind::Acknowledgement { number: _ } => {
+                let words = self.come_in(BusName::X, packet)?;
+                Ok(words)
+            }
+        }
+    }
+
+    /// A packet comes at its receiver's end, whose answer takes this bus.
+    fn come_in(&mut self, bus: BusName, packet: &Packet) -> Result<Option<List<i16>>, NoMemory>
+        requires { HasNumbersAt packet.now.receiver packet.now.sender self.old.nodes }
+        ensures completed { IfOk result (λ words. words
+            ≡ completed packet.now (end_at self.old.nodes packet.now.receiver packet.now.sender)) }
+        ensures after { OnOk result (self.new ≡ carried_out
+            (at_end packet.now.receiver packet.now.sender (arrive_by bus packet.now)) self.old) }
+    {
+        let place = usize::from(packet.receiver);
+        if place >= self.nodes.len() {
+            return Ok(None);
+        }
+        let arrived = self.nodes[place].on_packet(packet)?;
+        self.put_any(bus, arrived.send);
+        Ok(arrived.delivered)
+    }
+
+    /// A node hears that a processor is alive.
+    fn hear(&mut self, node: u8, from: u8)
+        ensures { self.new ≡ carried_out (learns node (changed_at from watching.neighbour_after_alive)) self.old }
+    {
+        let place = usize::from(node);
+        if place < self.nodes.len() {
+            self.nodes[place].hear(from);
+        }
+    }
+
+    /// A node notes the silent set that a processor reported.
+    pub fn note(&mut self, node: u8, from: u8, silent: ProcessorSet)
+        ensures { self.new ≡ carried_out (learns node (changed_at from (watching.neighbour_after_report silent)))
+            self.old }
+    {
+        let place = usize::from(node);
+        if place < self.nodes.len() {
+            self.nodes[place].note(from, silent);
+        }
+    }
+
+    /// A node ticks: it tells the others that it is alive, checks and reports, and sends again what is outstanding.
+    pub fn tick(&mut self, from: u8, processors: u8) -> Result<(), NoMemory>
+        requires { CanPush self.old.nodes }
+        ensures { OnOk result (self.new ≡ carried_out (ticked processors from) self.old) }
+    {
+        self.tell_alive(from, processors);
+        self.check(from, processors)?;
+        self.resend(from);
+        Ok(())
+    }
+
+    fn tell_alive(&mut self, from: u8, processors: u8)
+        ensures { self.new ≡ carried_out (tells_alive processors from) self.old }
+    {
+        if from == TERMINAL_NODE {
+            return;
+        }
+        for to in 0..processors {
+            self.tell_other(from, to);
+        }
+    }
+
+    fn tell_other(&mut self, from: u8, to: u8)
+        ensures { self.new ≡ (if to == from then self.old else carried_out (at_end from to alive_at) self.old) }
+    {
+        if to != from {
+            self.tell_one(from, to);
+        }
+    }
+
+    fn tell_one(&mut self, from: u8, to: u8)
+        ensures { self.new ≡ carried_out (at_end from to alive_at) self.old }
+    {
+        let place = usize::from(from);
+        if place >= self.nodes.len() {
+            return;
+        }
+        let packet = self.nodes[place].alive_to(to);
+        self.put_both(packet);
+    }
+
+    fn check(&mut self, from: u8, processors: u8) -> Result<(), NoMemory>
+        requires { CanPush self.old.nodes }
+        ensures { OnOk result (self.new ≡ carried_out (checks processors from) self.old) }
+    {
+        let place = usize::from(from);
+        if place >= self.nodes.len() {
+            return Ok(());
+        }
+        let told = self.nodes[place].check();
+        self.report(from, processors, told)?;
+        Ok(())
+    }
+
+    fn report(
+        &mut self,
+        from: u8,
+        processors: u8,
+        told: Option<ProcessorSet>,
+    ) -> Result<(), NoMemory>
+        requires { CanPush self.old.nodes }
+        ensures { OnOk result (self.new ≡ carried_out (reports processors from told) self.old) }
+    {
+        if let Some(silent) = told {
+            let words = report_words(self.alloc, from, silent)?;
+            self.send_others(from, processors, words.as_slice())?;
+        }
+        Ok(())
+    }
+
+    /// A node sends a message of these words to each processor but itself, in rising order.
+    fn send_others(&mut self, from: u8, processors: u8, words: &[i16]) -> Result<(), NoMemory>
+        requires some { 0 < length words.now }
+        requires numbered { CanPush self.old.nodes }
+        ensures { OnOk result (self.new ≡ carried_out
+            (for_each (λ y. at_end from y (push_at from y words.now)) (others processors from)) self.old) }
+    {
+        for to in 0..processors {
+            self.send_other(from, to, words)?;
+        }
+        Ok(())
+    }
+
+    fn send_other(&mut self, from: u8, to: u8, words: &[i16]) -> Result<(), NoMemory>
+        requires some { 0 < length words.now }
+        requires numbered { CanPush self.old.nodes }
+        ensures { OnOk result (self.new ≡ (if to == from then self.old else carried_out
+            (at_end from to (push_at from to words.now)) self.old)) }
+    {
+        if to != from {
+            self.send_copy(from, to, words)?;
+        }
+        Ok(())
+    }
+
+    fn send_copy(&mut self, from: u8, to: u8, words: &[i16]) -> Result<(), NoMemory>
+        requires some { 0 < length words.now }
+        requires numbered { CanPush self.old.nodes }
+        ensures { OnOk result (self.new ≡ carried_out (at_end from to (push_at from to words.now)) self.old) }
+    {
+        let mut message = List::from_vec(Vec::with_capacity(self.alloc, words.len())?);
+        message.extend_from_slice(words)?;
+        self.send(from, to, message)?;
+        Ok(())
+    }
+
+    fn resend(&mut self, from: u8)
+        ensures { self.new ≡ carried_out (resends from) self.old }
+    {
+        if self.is_quiet(from) {
+            return;
+        }
+        self.resend_all(from);
+        self.settle(from);
+    }
+
+    /// Whether a node, where there is one, is known to hold nothing.
+    fn is_quiet(&self, node: u8) -> bool
+        ensures { OnTrue result ((there : Node) → slice_get self.now.nodes node ≡ Some there → IsQuiet there) }
+    {
+        match self.nodes.get(usize::from(node)) {
+            None => true,
+            Some(node) => node.is_quiet(),
+        }
+    }
+
+    fn settle(&mut self, node: u8)
+        ensures { self.new ≡ self.old }
+    {
+        let place = usize::from(node);
+        if place < self.nodes.len() {
+            self.nodes[place].settle();
+        }
+    }
+
+    fn resend_all(&mut self, from: u8)
+        ensures { self.new ≡ carried_out (resends from) self.old }
+    {
+        for to in 0..NODES {
+            self.resend_to(from, to);
+        }
+    }
+
+    fn resend_to(&mut self, from: u8, to: u8)
+        ensures { self.new ≡ carried_out (at_end from to (tick_at from to)) self.old }
+    {
+        let place = usize::from(from);
+        if place >= self.nodes.len() {
+            return;
+        }
+        let resent = self.nodes[place].on_tick(to);
+        self.put_again(resent);
+    }
+
+    /// The processor whose line a node pulls now.
+    pub fn line(&self, node: u8) -> Option<u8>
+        ensures { result ≡ option_and_then (line_pulled node) (slice_get self.now.nodes node) }
+    {
+        let place = usize::from(node);
+        if place >= self.nodes.len() {
+            return None;
+        }
+        self.nodes[place].line(node)
+    }
+
+    /// The processor whose line a node would pull after a tick made now.
+    pub fn line_after_tick(&self, node: u8) -> Option<u8>
+        ensures { (processors : ℕ) → result ≡ option_and_then (line_pulled node)
+            (slice_get (ticked processors node (nothing_sent self.now.nodes)).nodes node) }
+    {
+        let place = usize::from(node);
+        if place >= self.nodes.len() {
+            return None;
+        }
+        self.nodes[place].line_after_tick(node)
+    }
+
+    /// A node cuts a processor off: it throws its end with it away, and has marked it.
+    pub fn cut_off(&mut self, node: u8, processor: u8)
+        ensures { self.new ≡ carried_out (cut_off node processor) self.old }
+    {
+        self.throw_away(node, processor);
+        self.mark(node, processor);
+    }
+
+    fn throw_away(&mut self, node: u8, processor: u8)
+        ensures { self.new ≡ carried_out (at_end node processor (down_at node processor)) self.old }
+    {
+        let place = usize::from(node);
+        if place < self.nodes.len() {
+            self.nodes[place].throw_away(processor);
+        }
+    }
+
+    fn mark(&mut self, node: u8, processor: u8)
+        ensures { self.new ≡ carried_out (learns node (changed_at processor watching.neighbour_after_down)) self.old }
+    {
+        let place = usize::from(node);
+        if place < self.nodes.len() {
+            self.nodes[place].mark(processor);
+        }
+    }
+
+    /// A node tells all others that a processor is down, the node of the terminals last.
+    pub fn declare(&mut self, from: u8, processors: u8, processor: u8) -> Result<(), NoMemory>
+        requires { CanPush self.old.nodes }
+        ensures { OnOk result (self.new ≡ carried_out (declares processors from processor) self.old) }
+    {
+        let words = down_words(self.alloc, processor)?;
+        self.send_others(from, processors, words.as_slice())?;
+        self.send(from, TERMINAL_NODE, words)?;
+        Ok(())
+    }
+}
+
+/// The receiver and the sender of an alive packet.
+fn alive_address(packet: Option<&Packet>) -> Option<(u8, u8)>
+    ensures { result ≡ alive_address (option_copied packet.entry) }
+{
+    let packet = packet?;
+    match &packet.kind {
+        PacketKind::Alive => Some((packet.receiver, packet.sender)),
+        PacketKind::Piece {
+            number: _,
+            piece: _,
+        } => None,
+        PacketKind::Acknowledgement { number: _ } => None,
+    }
+}
