@@ -1,0 +1,28 @@
+ghost use Rattle.std.specs.Prelude.{◌≡◌, true, Some, None};
+ghost use Rattle.alive_regroup.specs.Watching.{changed_at, is_marked, neighbour_after_down};
+ghost use Rattle.link_control.specs.Ends.{after_down, alive_of, sent_by_push};
+ghost use Rattle.node.specs.Calls.{IsQuiet, told_at_end, with_end_changed, with_watch_changed};
+ghost use Rattle.node_guards.specs.Nodes.{busy_node, done_node, first_node, only_piece};
+ghost use Rattle.node_guards.specs.Packets.{alive, message_of};
+
+/// A call at an end concerns that end alone, and nothing where the node has none.
+pub fn a_call_concerns_its_end()
+    ensures told { told_at_end 1 (sent_by_push (message_of 1)) first_node ≡ Some (only_piece 0 1) }
+    ensures none_told { told_at_end 17 (sent_by_push (message_of 1)) first_node ≡ None }
+    ensures changed { told_at_end 1 alive_of (with_end_changed 1 after_down first_node) ≡ None }
+    ensures others { told_at_end 2 alive_of (with_end_changed 1 after_down first_node) ≡ Some (alive 0 2) }
+    ensures none_changed { with_end_changed 17 after_down first_node ≡ first_node }
+{}
+
+/// What a node learns of processors changes no end.
+pub fn learning_changes_no_end()
+    ensures watch { is_marked 1 (with_watch_changed (changed_at 1 neighbour_after_down) first_node).watch ≡ true }
+    ensures ends { (with_watch_changed (changed_at 1 neighbour_after_down) first_node).ends ≡ first_node.ends }
+{}
+
+/// A node is quiet until it pushes a message, and again when that is acknowledged.
+pub fn a_node_is_quiet_without_messages()
+    ensures first { IsQuiet first_node }
+    ensures busy { IsQuiet busy_node → ⊥ }
+    ensures done { IsQuiet done_node }
+{}
