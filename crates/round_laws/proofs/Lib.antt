@@ -1,0 +1,4 @@
+pub mod Delivering
+pub mod Plans
+pub mod Stretching
+pub mod Turning

@@ -1,0 +1,5 @@
+pub mod Buses
+pub mod Due
+pub mod Rounds
+pub mod Stretches
+pub mod Turns
