@@ -1,7 +1,9 @@
-ghost use Rattle.std.specs.Prelude.{◌≡◌, ◌∷◌, ◌++◌, replicate, true, false};
+ghost use Rattle.std.specs.Prelude.{◌≡◌, [], ◌∷◌, ◌++◌, ℕ, replicate, true, false};
 ghost use Rattle.schedule.specs.declared.event.Event.TheVariants as event;
-ghost use Rattle.schedule.specs.declared.line.Line.TheVariants.{Mix};
-ghost use Rattle.player.specs.Played.{events_of, mixed_from_42, packets, processes, ticks};
+ghost use Rattle.schedule.specs.declared.line.Line.TheVariants.{Drain, Mix, One, Until};
+ghost use Rattle.player.specs.declared.standing.MixedPlace.TheVariants as place;
+ghost use Rattle.player.specs.Mixes.{handled, turn};
+ghost use Rattle.player.specs.Played.{alive_of, events_of, mixed_from_42, packets, processes, round, ticks};
 
 /// Of five packets the words that are drawn from 42 name the third, to be lost, then the third of four, to be repeated,
 /// then that of three, the second of two and the last. Then come those of bus Y, the second and the first.
@@ -10,4 +12,27 @@ pub fn a_word_names_its_packet()
         ≡ mixed_from_42 ++ event.Lose false 2 ∷ event.Repeat false 2 ∷ event.Deliver false 2 ∷ event.Deliver false 2
         ∷ event.Deliver false 1 ∷ event.Deliver false 0
         ∷ event.Deliver true 1 ∷ event.Deliver true 0 ∷ ticks }
+{}
+
+/// Of the eight choices one repeats a packet, which is delivered then, and one loses it. All others deliver it.
+pub fn six_of_eight_choices_deliver()
+    ensures repeat { (k left draws : ℕ) → handled false k 0 left draws
+        ≡ turn (event.Repeat false k) (place.Repeated false k left) draws }
+    ensures lose { (k left draws : ℕ) → handled false k 1 left draws
+        ≡ turn (event.Lose false k) (place.Delivers false left) draws }
+    ensures two { (k left draws : ℕ) → handled false k 2 left draws
+        ≡ turn (event.Deliver false k) (place.Delivers false left) draws }
+    ensures four { (k left draws : ℕ) → handled false k 4 left draws
+        ≡ turn (event.Deliver false k) (place.Delivers false left) draws }
+    ensures seven { (k left draws : ℕ) → handled true k 7 left draws
+        ≡ turn (event.Deliver true k) (place.Delivers true left) draws }
+{}
+
+/// On all other lines an alive packet is treated as any other: it is delivered in rounds, and lost where the line says
+/// so.
+pub fn alive_packets_are_as_others_elsewhere()
+    ensures drain { events_of (processes 1) (Drain 1) (replicate 30 (alive_of 1)) ≡ round }
+    ensures until { events_of (processes 1) (Until true 3 1) (replicate 30 (alive_of 1)) ≡ round }
+    ensures single { events_of (processes 1) (One (event.Lose false 0)) (replicate 9 (alive_of 1))
+        ≡ event.Lose false 0 ∷ [] }
 {}

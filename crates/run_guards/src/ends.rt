@@ -1,4 +1,4 @@
-ghost use Rattle.std.specs.Prelude.{◌≡◌, ◌<◌, ◌+◌, ℕ, List, Option, length, true, false};
+ghost use Rattle.std.specs.Prelude.{◌≡◌, ◌<◌, ◌+◌, [], ℕ, List, Option, length, map, true, false};
 ghost use Rattle.tal_tree.specs.declared.site.Site.{Site};
 ghost use Rattle.schedule.specs.declared.event.Event.{Event};
 ghost use Rattle.schedule.specs.declared.line.Line.{Line};
@@ -6,6 +6,8 @@ ghost use Rattle.player.specs.declared.stop.ProcessorStop.{ProcessorStop};
 ghost use Rattle.message_wires.specs.Idle.{is_idle};
 ghost use Rattle.message_wires.specs.Play.{MachineState};
 ghost use Rattle.pair_machine.specs.Seen.{closed_state};
+ghost use Rattle.world_semantics.specs.Shares.{let_go};
+ghost use Rattle.world_semantics.specs.World.{Pair};
 ghost use Rattle.schedule_runs.specs.Ends.{EndsAs, IsRunOf};
 ghost use Rattle.schedule_runs.specs.Runs.{RunsOut, RunsToStop};
 ghost use Rattle.schedule_runs.specs.declared.ran.Ending.TheVariants.{Idle, Cut, Second};
@@ -31,4 +33,16 @@ pub fn a_run_is_short_and_whole()
     ensures { (site : Site) (lines : List Line) (stop : Option ProcessorStop) (ran : Ran) → IsRunOf site lines stop ran
         → (events : List Event) × (length events < 4294967295) × (ran.machine.is_broken ≡ false) × (s : MachineState)
         × EndsAs site lines stop events s ran.machine.state ran.asked ran.ending }
+{}
+
+/// Once a run was closed no copy of a process holds an act. All else of the copies stays as it was, and so does what is
+/// on the wires.
+pub fn a_closed_run_holds_nothing()
+    ensures each { (s : MachineState) → (closed_state s).world.processes ≡ map let_go s.world.processes }
+    ensures none { (pair : Pair) → ((let_go pair).first.held ≡ []) × ((let_go pair).second.held ≡ []) }
+    ensures cores { (pair : Pair) → ((let_go pair).first.core ≡ pair.first.core)
+        × ((let_go pair).second.core ≡ pair.second.core) }
+    ensures positions { (pair : Pair) → ((let_go pair).first.position ≡ pair.first.position)
+        × ((let_go pair).second.position ≡ pair.second.position) }
+    ensures wires { (s : MachineState) → (closed_state s).wires ≡ s.wires }
 {}
