@@ -10,6 +10,7 @@ ghost use Rattle.player.specs.declared.stop.ProcessorStop.{ProcessorStop};
 ghost use Rattle.trace_print.specs.FaultLine.{IsOfDeck};
 ghost use Rattle.verdicts.specs.Refused.{AreAccepted, IsFirstRefused};
 ghost use Rattle.load_deck.specs.LoadText.{load_text};
+ghost use Rattle.run_table.specs.declared.table.ProcessorRow.{ProcessorRow};
 ghost use Rattle.runner.specs.Decided.{IsDueOfAccepted, IsDueOfBytes, IsDueOfCommand, IsDueOfDeck, IsDueOfPrograms};
 ghost use Rattle.runner.specs.Decided.{IsDueOfRun, IsDueOfSource, IsDueOn, IsOfWholeDeck, IsReportOf};
 ghost use Rattle.runner.specs.Tasks.{can_stop, load_task};
@@ -86,6 +87,7 @@ pub fn a_deck_is_read_to_its_end()
     ensures report { (report : Report) → IsOfWholeDeck (due.Report report) }
     ensures refused { (refused : RefusedSite) → IsOfWholeDeck (due.ProgramRefused refused) }
     ensures accepted { (site : Site) → IsOfWholeDeck (due.Accepted site) }
+    ensures swept { (rows : List ProcessorRow) → IsOfWholeDeck (due.Swept rows) }
     ensures fault { (line : ℕ) → IsOfWholeDeck (due.DeckRefused (OpensItself line)) }
     ensures too_long { IsOfWholeDeck (due.DeckRefused TooLong) → ⊥ }
     ensures read_fault { IsOfWholeDeck due.ReadFault → ⊥ }

@@ -9,7 +9,8 @@ ghost use Rattle.trace_print.specs.FaultLine.{fault_line};
 ghost use Rattle.trace_print.specs.RowLine.{sweep_text};
 ghost use Rattle.run_table.specs.declared.table.ProcessorRow.{ProcessorRow};
 ghost use Rattle.trace_print.specs.VerdictText.{accepted_text, refusal_text};
-ghost use Rattle.runner.specs.Written.{outcome_of, run_of, status_of, text_of};
+ghost use Rattle.runner.specs.RunEnds.{status_of_run};
+ghost use Rattle.runner.specs.Written.{outcome_of, run_of, status_of, text_of, text_of_run};
 ghost use Rattle.runner.specs.declared.due.Due.{Due};
 ghost use Rattle.runner.specs.declared.due.Due.TheVariants as due;
 ghost use Rattle.runner.specs.declared.due.RefusedSite.{RefusedSite};
@@ -33,6 +34,8 @@ pub fn what_is_due_is_written()
         × (status_of (due.Accepted site) ≡ status.Done) }
     ensures swept { (rows : List ProcessorRow)
         → (text_of (due.Swept rows) ≡ sweep_text rows) × (status_of (due.Swept rows) ≡ status.Done) }
+    ensures report { (report : Report) → (text_of (due.Report report) ≡ text_of_run report)
+        × (status_of (due.Report report) ≡ status_of_run report.run.ran.ending) }
 {}
 
 /// A write fault changes the status and not the run; and only a report has one.
