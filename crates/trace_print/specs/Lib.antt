@@ -1,4 +1,5 @@
 pub mod ActLine
+pub mod AdviceText
 pub mod EndLine
 pub mod FaultLine
 pub mod LoadLines

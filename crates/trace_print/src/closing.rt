@@ -6,7 +6,7 @@ use crate::line::Line;
 use gd_io::{Sink, WriteFault, put_all};
 
 /// How a report ends: nothing more could happen, the run was cut short, a second processor would have stopped, all
-/// programs were accepted, one was refused, or all stops were tried.
+/// programs were accepted, one was refused, all stops were tried, or all programs have advice.
 #[derive(Clone, Copy, PartialEq, Eq)]
 pub enum End {
     Idle,
@@ -15,6 +15,7 @@ pub enum End {
     Checked,
     Refused,
     Swept,
+    Advised,
 }
 
 /// Writes the line of a run's end. It takes no memory.
@@ -47,6 +48,7 @@ fn end_text(end: End) -> Line
         End::Checked => line.push(b"END checked\n"),
         End::Refused => line.push(b"END refused\n"),
         End::Swept => line.push(b"END swept\n"),
+        End::Advised => line.push(b"END advised\n"),
     }
     line
 }

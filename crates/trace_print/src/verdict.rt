@@ -194,7 +194,8 @@ fn push_reason(line: &mut Line, site: &Site, process: u8, reason: Reason)
     }
 }
 
-fn global_name(site: &Site, process: u8, item: u16) -> &[u8]
+/// The name of a global, empty where it isn't there.
+pub(crate) fn global_name(site: &Site, process: u8, item: u16) -> &[u8]
     ensures name { result.now ≡ global_name site.now process item }
     ensures short { length result.now ≤ 31 }
 {

@@ -1,4 +1,4 @@
-use Rattle.std.proofs.Common.{◌+◌, ◌++◌, [], flat_map, take, drop, get_or}
+use Rattle.std.proofs.Common.{◌+◌, ◌++◌, flat_map, take, drop, get_or}
 use Rattle.tal_tree.specs.declared.act.Act.TheVariants.{Step}
 use Rattle.gd_io.specs.Joining.{puts_both, puts_part, puts_passed_on}
 use Rattle.trace_print.specs.ActLine.{act_line}

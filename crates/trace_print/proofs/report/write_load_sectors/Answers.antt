@@ -1,4 +1,3 @@
-use Rattle.std.specs.Prelude.{◌++◌}
 use Rattle.gd_io.specs.Joining.{puts_both, puts_part, puts_passed_on}
 use Rattle.trace_print.specs.LoadLines.{load_lines}
 use Rattle.trace_print.specs.SectorLine.{sector_lines}

@@ -1,5 +1,4 @@
 use Rattle.std.proofs.Common.{◌+◌, ◌++◌, [], flat_map, take, drop, get_or}
-use Rattle.shown_sectors.specs.declared.sectors.SectorWords.{SectorWords}
 use Rattle.gd_io.specs.Joining.{puts_both, puts_part, puts_passed_on}
 use Rattle.trace_print.specs.SectorLine.{sector_line}
 use Rattle.trace_print.proofs.Lines.{lines-more, lines-split, got}

@@ -1,7 +1,7 @@
-use Rattle.std.proofs.Common.{◌+◌, ◌++◌, flat_map, take, drop, get_or}
+use Rattle.std.proofs.Common.{◌+◌, ◌++◌, flat_map, take, drop}
 use Rattle.gd_io.specs.Joining.{puts_both, puts_part, puts_passed_on}
 use Rattle.trace_print.specs.VerdictText.{accepted_line}
-use Rattle.trace_print.proofs.Lines.{lines-more, lines-split, got}
+use Rattle.trace_print.proofs.Lines.{lines-more, lines-split}
 use Rattle.trace_print.proofs.verdict.write_all_accepted.Goals as goal
 
 pub returns-in_err-write_accepted : goal.returns-in_err-write_accepted
