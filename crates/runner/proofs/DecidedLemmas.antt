@@ -73,6 +73,8 @@ read_fault_only (due.DeckRefused fault) (Ok done) e = absurd (cc)
 read_fault_only (due.ProgramRefused refused) (Ok done) e = absurd (cc)
 read_fault_only (due.Accepted site) (Ok done) e = absurd (cc)
 read_fault_only (due.Swept rows) (Ok done) e = absurd (cc)
+read_fault_only (due.Verified n) (Ok done) e = absurd (cc)
+read_fault_only (due.Rejected line cause) (Ok done) e = absurd (cc)
 read_fault_only (due.Report report) (Ok done) e = absurd (run_read report.run.ran.ending e)
 read_fault_only decided (Err fault) e = absurd (cc)
 
@@ -95,6 +97,8 @@ accepted_is_due task deck (due.DeckRefused fault) accepted is = (accepted, is)
 accepted_is_due task deck (due.Accepted site) accepted is = (accepted, is)
 accepted_is_due task deck (due.Report report) accepted is = (accepted, is)
 accepted_is_due task deck (due.Swept rows) accepted is = (accepted, is)
+accepted_is_due task deck (due.Verified n) accepted is = (accepted, is)
+accepted_is_due task deck (due.Rejected line cause) accepted is = (accepted, is)
 
 -- the usage, a read fault or a fault of the deck is due of no accepted programs
 no_usage : (task : Task) (deck : Deck) → IsDueOfAccepted task deck due.Usage → ⊥
@@ -124,6 +128,8 @@ programs_are_due task deck (due.ProgramRefused refused) can is = (can, is)
 programs_are_due task deck (due.Accepted site) can is = (can, is)
 programs_are_due task deck (due.Report report) can is = (can, is)
 programs_are_due task deck (due.Swept rows) can is = (can, is)
+programs_are_due task deck (due.Verified n) can is = (can, is)
+programs_are_due task deck (due.Rejected line cause) can is = (can, is)
 
 -- what is due of the deck that bytes spell
 pub deck_is_due : (task : Task) (bytes : List ℕ) (deck : Deck) (decided : Due) → Decks bytes deck
@@ -137,6 +143,8 @@ deck_is_due task bytes deck (due.ProgramRefused refused) decks is = (deck, decks
 deck_is_due task bytes deck (due.Accepted site) decks is = (deck, decks, is)
 deck_is_due task bytes deck (due.Report report) decks is = (deck, decks, is)
 deck_is_due task bytes deck (due.Swept rows) decks is = (deck, decks, is)
+deck_is_due task bytes deck (due.Verified n) decks is = (deck, decks, is)
+deck_is_due task bytes deck (due.Rejected line cause) decks is = (deck, decks, is)
 
 -- no read fault is due of bytes
 bytes_are_read : (task : Task) (bytes : List ℕ) → IsDueOfBytes task bytes due.ReadFault → ⊥
@@ -158,3 +166,5 @@ bytes_are_due task left before now bytes (due.ProgramRefused refused) told is = 
 bytes_are_due task left before now bytes (due.Accepted site) told is = (bytes, told, is)
 bytes_are_due task left before now bytes (due.Report report) told is = (bytes, told, is)
 bytes_are_due task left before now bytes (due.Swept rows) told is = (bytes, told, is)
+bytes_are_due task left before now bytes (due.Verified n) told is = (bytes, told, is)
+bytes_are_due task left before now bytes (due.Rejected line cause) told is = (bytes, told, is)

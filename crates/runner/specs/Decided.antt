@@ -21,6 +21,7 @@ use Rattle.verdicts.specs.Refused.{AreAccepted, IsFirstRefused}
 use Rattle.runner.specs.RunEnds.{acts_of_run, shown_in}
 use Rattle.runner.specs.Stopped.{stopped_from}
 use Rattle.runner.specs.Tasks.{can_stop, load_task}
+use Rattle.runner.specs.Verified.{IsDueOfInput}
 use Rattle.runner.specs.declared.due.Due.{Due}
 use Rattle.runner.specs.declared.due.Due.TheVariants as due
 use Rattle.runner.specs.declared.due.Report.{Report}
@@ -99,12 +100,20 @@ IsDueOfSource task left before now due.ReadFault = HasRisen before now
 IsDueOfSource task left before now (due.NoMemory _) = Unit {0}
 IsDueOfSource task left before now decided = (bytes : List ℕ) × IsTold left bytes × IsDueOfBytes task bytes decided
 
--- what is due by a command: of the deck that is read, or of the load deck, whose text is read as any other
+-- what is due of a source of a deck and a report
+abbrev pub IsDueOfVerify : Option (List ℕ) → ℕ → ℕ → Due → Type 0
+IsDueOfVerify left before now due.ReadFault = HasRisen before now
+IsDueOfVerify left before now (due.NoMemory _) = Unit {0}
+IsDueOfVerify left before now decided = (bytes : List ℕ) × IsTold left bytes × IsDueOfInput bytes decided
+
+-- what is due by a command: of the deck that is read, with the report that follows it, or of the load deck, whose text
+-- is read as any other
 abbrev pub IsDueOfCommand : Command → Option (List ℕ) → ℕ → ℕ → Due → Type 0
 IsDueOfCommand (command.Run acts stop) left before now decided =
     IsDueOfSource (task.Run (telling.Lines acts) stop) left before now decided
 IsDueOfCommand command.Check left before now decided = IsDueOfSource task.Check left before now decided
 IsDueOfCommand (command.Sweep runs) left before now decided = IsDueOfSource (task.Sweep runs) left before now decided
+IsDueOfCommand command.Verify left before now decided = IsDueOfVerify left before now decided
 IsDueOfCommand (command.Load requests) left before now decided =
     IsDueOfBytes (load_task requests) (load_text requests) decided
 
@@ -125,15 +134,18 @@ reads_deck (Some (command.Run acts stop)) = true
 reads_deck (Some command.Check) = true
 reads_deck (Some (command.Load requests)) = false
 reads_deck (Some (command.Sweep runs)) = true
+reads_deck (Some command.Verify) = true
 
--- what is due only once the deck was read to its end: a report, a sweep or a verdict, a refusal for what the deck says,
--- or the usage, where the deck hasn't the processor that is to stop
+-- what is due only once the deck, and the report that follows it, was read to its end: a report, a sweep or a verdict,
+-- a refusal for what the deck says, or the usage, where the deck hasn't the processor that is to stop
 abbrev pub IsOfWholeDeck : Due → Type 0
 IsOfWholeDeck due.Usage = Unit {0}
 IsOfWholeDeck (due.Report report) = Unit {0}
 IsOfWholeDeck (due.ProgramRefused refused) = Unit {0}
 IsOfWholeDeck (due.Accepted site) = Unit {0}
 IsOfWholeDeck (due.Swept rows) = Unit {0}
+IsOfWholeDeck (due.Verified acts) = Unit {0}
+IsOfWholeDeck (due.Rejected line cause) = Unit {0}
 IsOfWholeDeck (due.DeckRefused TooLong) = ⊥
 IsOfWholeDeck (due.DeckRefused fault) = Unit {0}
 IsOfWholeDeck _ = ⊥

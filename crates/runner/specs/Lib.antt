@@ -4,4 +4,5 @@ pub mod Numbers
 pub mod RunEnds
 pub mod Stopped
 pub mod Tasks
+pub mod Verified
 pub mod Written

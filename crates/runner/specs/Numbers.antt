@@ -2,7 +2,7 @@
 use Rattle.std.specs.Prelude.{ℕ}
 use Rattle.runner.specs.declared.outcome.Status.{Status}
 use Rattle.runner.specs.declared.outcome.Status.TheVariants.{Done, Usage, DeckRefused, Refused, Cut, SecondStop}
-use Rattle.runner.specs.declared.outcome.Status.TheVariants.{ReadFault, WriteFault, NoMemory}
+use Rattle.runner.specs.declared.outcome.Status.TheVariants.{ReadFault, WriteFault, NoMemory, Rejected}
 
 abbrev pub status_number : Status → ℕ
 status_number Done = 0
@@ -14,3 +14,4 @@ status_number (SecondStop processor) = 5
 status_number ReadFault = 6
 status_number WriteFault = 7
 status_number (NoMemory _) = 8
+status_number (Rejected line cause) = 9

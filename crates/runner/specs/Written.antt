@@ -8,7 +8,10 @@ use Rattle.trace_print.specs.EndLine.{usage_line}
 use Rattle.trace_print.specs.FaultLine.{fault_line, IsOfDeck}
 use Rattle.trace_print.specs.ReportText.{load_report_text, report_text}
 use Rattle.trace_print.specs.RowLine.{sweep_text}
+use Rattle.trace_print.specs.VerdictLine.{rejected_line, verified_line}
 use Rattle.trace_print.specs.VerdictText.{accepted_text, refusal_text}
+use Rattle.report_judge.specs.declared.judge.Why.{Why}
+use Rattle.report_judge.specs.declared.judge.Why.TheVariants as why
 use Rattle.runner.specs.RunEnds.{acts_of_run, end_of, load_counts, shown_in, status_of_run}
 use Rattle.runner.specs.declared.due.Due.{Due}
 use Rattle.runner.specs.declared.due.Due.TheVariants as due
@@ -36,6 +39,13 @@ text_telling (telling.Counts requests) report =
 abbrev pub text_of_run : Report → List ℕ
 text_of_run report = text_telling report.tells report
 
+-- the number of the cause for which a report is rejected
+abbrev pub cause_of : Why → ℕ
+cause_of why.Form = 1
+cause_of why.Act = 2
+cause_of why.Differs = 3
+cause_of why.NotIdle = 4
+
 -- the text that is due; nothing where reading failed or memory ran out
 abbrev pub text_of : Due → List ℕ
 text_of due.Usage = usage_line
@@ -47,6 +57,8 @@ text_of (due.ProgramRefused refused) =
 text_of (due.Accepted site) = accepted_text site
 text_of (due.Report report) = text_of_run report
 text_of (due.Swept rows) = sweep_text rows
+text_of (due.Verified acts) = verified_line acts
+text_of (due.Rejected line cause) = rejected_line line (cause_of cause)
 
 abbrev pub status_of : Due → Status
 status_of due.Usage = status.Usage
@@ -57,6 +69,8 @@ status_of (due.ProgramRefused refused) = status.Refused refused.found.process re
 status_of (due.Accepted site) = status.Done
 status_of (due.Report report) = status_of_run report.run.ran.ending
 status_of (due.Swept rows) = status.Done
+status_of (due.Verified acts) = status.Done
+status_of (due.Rejected line cause) = status.Rejected line cause
 
 abbrev pub run_of : Due → Option RunEnd
 run_of (due.Report report) = Some report.run

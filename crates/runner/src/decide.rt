@@ -15,6 +15,7 @@ use crate::outcome::RunEnd;
 use crate::stopped::stopped_processors;
 use crate::sweep::swept;
 use crate::task::{Task, Telling};
+use crate::verified::due_of_verify;
 use accepted_decks::{
     a_run_of_an_accepted_site_keeps_possible_acts, an_accepted_deck_meets_the_premises,
 };
@@ -67,6 +68,7 @@ fn due_of_command<S: Source>(alloc: Global, command: Command, source: &mut S) ->
         Command::Check => due_of_source(alloc, Task::Check, source),
         Command::Load(requests) => due_of_load(alloc, requests),
         Command::Sweep(runs) => due_of_source(alloc, Task::Sweep { runs }, source),
+        Command::Verify => due_of_verify(alloc, source),
     }
 }
 
@@ -107,7 +109,7 @@ fn due_of_bytes(alloc: Global, task: Task, bytes: &[u8]) -> Due
     }
 }
 
-fn due_of_fault(fault: DeckFault) -> Due
+pub(crate) fn due_of_fault(fault: DeckFault) -> Due
     ensures { result ≡ due_of_fault fault }
 {
     match fault {

@@ -2,6 +2,7 @@ use crate::outcome::RunEnd;
 use crate::task::Telling;
 use gd_words::{List, NoMemory};
 use logs::Shared;
+use report_judge::Why;
 use run_table::Table;
 use shown_sectors::SectorWords;
 use tal_tree::{DeckFault, Site};
@@ -22,6 +23,10 @@ pub enum Due {
     Report(Report),
     /// The runs of a sweep were made, and these are the rows of the processors.
     Swept(Table),
+    /// The report is one of its deck, and tells so many acts.
+    Verified(u32),
+    /// The report is rejected at the line of this number, from 1.
+    Rejected { line: u32, why: Why },
 }
 
 /// A run that was made: its site, the run, what stands on the sectors that were written, the processors that have

@@ -3,7 +3,8 @@ ghost use Rattle.gd_io.specs.Puts.{Puts};
 ghost use Rattle.runner.specs.Ends.{Ends};
 ghost use Rattle.runner.specs.Numbers.{status_number};
 ghost use Rattle.runner.specs.RunEnds.{end_of};
-ghost use Rattle.runner.specs.Written.{text_of, text_of_run, text_telling, told_acts, run_of, outcome_of, CanBeWritten};
+ghost use Rattle.runner.specs.Written.{text_of, text_of_run, text_telling, told_acts, run_of, outcome_of, cause_of};
+ghost use Rattle.runner.specs.Written.{CanBeWritten};
 ghost use Rattle.runner.specs.declared.outcome.Outcome.{Outcome};
 
 use crate::decide::decide;
@@ -11,12 +12,13 @@ use crate::due::{Due, RefusedSite, Report};
 use crate::outcome::{Outcome, RunEnd, Status};
 use crate::task::Telling;
 use gd_io::{Sink, Source, WriteFault};
+use report_judge::Why;
 use schedule_runs::Ending;
 use std::alloc::Global;
 use tal_tree::Act;
 use trace_print::{
-    End, write_checked, write_fault, write_load_report, write_refusal, write_report, write_sweep,
-    write_usage,
+    End, write_checked, write_fault, write_load_report, write_refusal, write_rejected,
+    write_report, write_sweep, write_usage, write_verified,
 };
 use verdicts::RefusedProgram;
 
@@ -42,7 +44,9 @@ pub fn exit_number<S: Source, K: Sink>(
 /// processor. Any other words give the usage, and so does a processor that the deck hasn't. `load N` reads no deck: it
 /// runs the load deck with N requests of each terminal, and tells in place of each write and reply how many there were.
 /// `sweep N` judges a deck as `run` does, runs it once for each of its processors and each number of events below N,
-/// with a stop of that processor after so many, and tells for each processor how its runs ended.
+/// with a stop of that processor after so many, and tells for each processor how its runs ended. `verify` reads a deck
+/// and after it a report as `run --acts` writes one, judges the programs as `run` does, and tells whether the report is
+/// one of the deck by the machine of single unfailing processes, or at which line and for which cause it isn't.
 pub fn command<S: Source, K: Sink>(
     alloc: Global,
     words: &[String],
@@ -68,6 +72,8 @@ fn write_due<K: Sink>(sink: &mut K, due: &Due) -> Result<(), WriteFault>
         Due::Accepted(site) => write_checked(sink, site),
         Due::Report(report) => write_run(sink, report),
         Due::Swept(table) => write_sweep(sink, table.rows()),
+        Due::Verified(acts) => write_verified(sink, *acts),
+        Due::Rejected { line, why } => write_rejected(sink, *line, cause_of(*why)),
         Due::ReadFault => Ok(()),
         Due::NoMemory(_) => Ok(()),
     }
@@ -122,6 +128,18 @@ fn told_acts(run: &RunEnd, acts: bool) -> &[Act]
     if acts { run.acts() } else { &[] }
 }
 
+/// The number of the cause for which a report is rejected.
+fn cause_of(why: Why) -> u8
+    ensures { result ≡ cause_of why }
+{
+    match why {
+        Why::Form => 1,
+        Why::Act => 2,
+        Why::Differs => 3,
+        Why::NotIdle => 4,
+    }
+}
+
 fn end_of(ending: Ending) -> End
     ensures { result ≡ end_of ending }
 {
@@ -154,6 +172,8 @@ fn done(due: Due) -> Outcome
         Due::ProgramRefused(refused) => Outcome::without_run(status_of_refused(refused)),
         Due::Accepted(_) => Outcome::without_run(Status::Done),
         Due::Swept(_) => Outcome::without_run(Status::Done),
+        Due::Verified(_) => Outcome::without_run(Status::Done),
+        Due::Rejected { line, why } => Outcome::without_run(Status::Rejected { line, why }),
         Due::Report(report) => Outcome {
             status: report.run.status(),
             run: Some(report.run),
@@ -186,6 +206,8 @@ fn cut_off(due: Due) -> Outcome
         Due::ProgramRefused(_) => None,
         Due::Accepted(_) => None,
         Due::Swept(_) => None,
+        Due::Verified(_) => None,
+        Due::Rejected { line: _, why: _ } => None,
     };
     Outcome {
         status: Status::WriteFault,

@@ -4,6 +4,7 @@ ghost use Rattle.std.specs.Prelude.{◌≡◌};
 
 use gd_words::NoMemory;
 use path_semantics::RefusalFault;
+use report_judge::Why;
 use schedule_runs::{Ending, Ran};
 use tal_tree::{Act, DeckFault, Shown};
 use trace_print::LoadCounts;
@@ -27,7 +28,8 @@ impl Outcome {
 /// How a call ended.
 #[derive(Drop)]
 pub enum Status {
-    /// The run ended idle, or all programs are accepted and no more was asked, or all runs of a sweep were made.
+    /// The run ended idle, or all programs are accepted and no more was asked, or all runs of a sweep were made, or the
+    /// report is one of its deck.
     Done,
     /// The words are no command, or the processor that is to stop isn't one of the deck.
     Usage,
@@ -42,6 +44,8 @@ pub enum Status {
     ReadFault,
     WriteFault,
     NoMemory(NoMemory),
+    /// The report isn't one of its deck, by its line of this number, from 1.
+    Rejected { line: u32, why: Why },
 }
 
 impl Status {
@@ -62,6 +66,7 @@ impl Status {
             Status::ReadFault => 6,
             Status::WriteFault => 7,
             Status::NoMemory(_) => 8,
+            Status::Rejected { line: _, why: _ } => 9,
         }
     }
 }
