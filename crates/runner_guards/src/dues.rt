@@ -1,19 +1,24 @@
-ghost use Rattle.std.specs.Prelude.{◌≡◌, ℕ, List, Option, true, false};
+ghost use Rattle.std.specs.Prelude.{◌≡◌, ◌++◌, ℕ, List, Ok, Err, Option, true, false};
 ghost use Rattle.tal_tree.specs.declared.fault.DeckFault.{DeckFault};
 ghost use Rattle.tal_tree.specs.declared.fault.DeckFault.TheVariants.{OpensItself, TooLong};
 ghost use Rattle.tal_tree.specs.declared.site.Site.{Site};
 ghost use Rattle.command_words.specs.declared.asked.Command.TheVariants as command;
+ghost use Rattle.deck_reader.specs.Decks.{Decks};
 ghost use Rattle.deck_reader.specs.Refusals.{IsRefusalOf};
 ghost use Rattle.deck_reader.specs.declared.deck.Deck.{Deck};
 ghost use Rattle.gd_io.specs.Faults.{HasRisen};
 ghost use Rattle.player.specs.declared.stop.ProcessorStop.{ProcessorStop};
+ghost use Rattle.report_judge.specs.Verdicts.{IsVerdict};
+ghost use Rattle.report_judge.specs.declared.judge.VerifyRefusal.TheVariants as refusal;
+ghost use Rattle.report_judge.specs.declared.judge.Why.{Why};
 ghost use Rattle.trace_print.specs.FaultLine.{IsOfDeck};
 ghost use Rattle.verdicts.specs.Refused.{AreAccepted, IsFirstRefused};
 ghost use Rattle.load_deck.specs.LoadText.{load_text};
 ghost use Rattle.run_table.specs.declared.table.ProcessorRow.{ProcessorRow};
 ghost use Rattle.runner.specs.Decided.{IsDueOfAccepted, IsDueOfBytes, IsDueOfCommand, IsDueOfDeck, IsDueOfPrograms};
-ghost use Rattle.runner.specs.Decided.{IsDueOfRun, IsDueOfSource, IsDueOn, IsOfWholeDeck, IsReportOf};
+ghost use Rattle.runner.specs.Decided.{IsDueOfRun, IsDueOfSource, IsDueOfVerify, IsDueOn, IsOfWholeDeck, IsReportOf};
 ghost use Rattle.runner.specs.Tasks.{can_stop, load_task};
+ghost use Rattle.runner.specs.Verified.{IsDueOfInput, IsDueOfJudged, IsDueOfReport, deck_in, report_in};
 ghost use Rattle.runner.specs.Written.{CanBeWritten};
 ghost use Rattle.runner.specs.declared.due.Due.{Due};
 ghost use Rattle.runner.specs.declared.due.Due.TheVariants as due;
@@ -75,9 +80,27 @@ pub fn a_command_reads_its_deck()
     ensures sweep { (runs : ℕ) (left : Option (List ℕ)) (before now : ℕ) (decided : Due)
         → IsDueOfCommand (command.Sweep runs) left before now decided
         → IsDueOfSource (Sweep runs) left before now decided }
+    ensures verify { (left : Option (List ℕ)) (before now : ℕ) (decided : Due)
+        → IsDueOfCommand command.Verify left before now decided
+        → IsDueOfVerify left before now decided }
     ensures load { (requests : ℕ) (left : Option (List ℕ)) (before now : ℕ) (decided : Due)
         → IsDueOfCommand (command.Load requests) left before now decided
         → IsDueOfBytes (load_task requests) (load_text requests) decided }
+{}
+
+/// A report is judged by its own deck, which is what stands before it, and only where all programs of that deck are
+/// accepted.
+pub fn a_verdict_is_of_its_report()
+    ensures accepted { (deck : Deck) (report : List ℕ) (acts : ℕ) → IsDueOfJudged deck report (due.Verified acts)
+        → AreAccepted deck.site.processes }
+    ensures verified { (site : Site) (report : List ℕ) (acts : ℕ) → IsDueOfReport site report (due.Verified acts)
+        → IsVerdict site report (Ok acts) }
+    ensures rejected { (site : Site) (report : List ℕ) (line : ℕ) (cause : Why)
+        → IsDueOfReport site report (due.Rejected line cause)
+        → IsVerdict site report (Err (refusal.Rejected line cause)) }
+    ensures spelt { (bytes : List ℕ) (acts : ℕ) → IsDueOfInput bytes (due.Verified acts)
+        → (deck : Deck) × Decks (deck_in bytes) deck × IsDueOfJudged deck (report_in bytes) (due.Verified acts) }
+    ensures whole { (bytes : List ℕ) → deck_in bytes ++ report_in bytes ≡ bytes }
 {}
 
 /// A deck was read to its end where a report, a verdict, the usage or a fault of a line is due, but for one that is too
@@ -88,6 +111,8 @@ pub fn a_deck_is_read_to_its_end()
     ensures refused { (refused : RefusedSite) → IsOfWholeDeck (due.ProgramRefused refused) }
     ensures accepted { (site : Site) → IsOfWholeDeck (due.Accepted site) }
     ensures swept { (rows : List ProcessorRow) → IsOfWholeDeck (due.Swept rows) }
+    ensures verified { (acts : ℕ) → IsOfWholeDeck (due.Verified acts) }
+    ensures rejected { (line : ℕ) (cause : Why) → IsOfWholeDeck (due.Rejected line cause) }
     ensures fault { (line : ℕ) → IsOfWholeDeck (due.DeckRefused (OpensItself line)) }
     ensures too_long { IsOfWholeDeck (due.DeckRefused TooLong) → ⊥ }
     ensures read_fault { IsOfWholeDeck due.ReadFault → ⊥ }

@@ -8,9 +8,12 @@ ghost use Rattle.trace_print.specs.EndLine.{usage_line};
 ghost use Rattle.trace_print.specs.FaultLine.{fault_line};
 ghost use Rattle.trace_print.specs.RowLine.{sweep_text};
 ghost use Rattle.run_table.specs.declared.table.ProcessorRow.{ProcessorRow};
+ghost use Rattle.trace_print.specs.VerdictLine.{rejected_line, verified_line};
 ghost use Rattle.trace_print.specs.VerdictText.{accepted_text, refusal_text};
+ghost use Rattle.report_judge.specs.declared.judge.Why.{Why};
+ghost use Rattle.report_judge.specs.declared.judge.Why.TheVariants as why;
 ghost use Rattle.runner.specs.RunEnds.{status_of_run};
-ghost use Rattle.runner.specs.Written.{outcome_of, run_of, status_of, text_of, text_of_run};
+ghost use Rattle.runner.specs.Written.{cause_of, outcome_of, run_of, status_of, text_of, text_of_run};
 ghost use Rattle.runner.specs.declared.due.Due.{Due};
 ghost use Rattle.runner.specs.declared.due.Due.TheVariants as due;
 ghost use Rattle.runner.specs.declared.due.RefusedSite.{RefusedSite};
@@ -36,6 +39,11 @@ pub fn what_is_due_is_written()
         → (text_of (due.Swept rows) ≡ sweep_text rows) × (status_of (due.Swept rows) ≡ status.Done) }
     ensures report { (report : Report) → (text_of (due.Report report) ≡ text_of_run report)
         × (status_of (due.Report report) ≡ status_of_run report.run.ran.ending) }
+    ensures verified { (acts : ℕ) → (text_of (due.Verified acts) ≡ verified_line acts)
+        × (status_of (due.Verified acts) ≡ status.Done) }
+    ensures rejected { (line : ℕ) (cause : Why)
+        → (text_of (due.Rejected line cause) ≡ rejected_line line (cause_of cause))
+        × (status_of (due.Rejected line cause) ≡ status.Rejected line cause) }
 {}
 
 /// A write fault changes the status and not the run; and only a report has one.
@@ -47,4 +55,14 @@ pub fn a_write_fault_leaves_the_run()
     ensures report { (report : Report) → run_of (due.Report report) ≡ Some report.run }
     ensures accepted { (site : Site) → run_of (due.Accepted site) ≡ None }
     ensures swept { (rows : List ProcessorRow) → run_of (due.Swept rows) ≡ None }
+    ensures verified { (acts : ℕ) → run_of (due.Verified acts) ≡ None }
+    ensures rejected { (line : ℕ) (cause : Why) → run_of (due.Rejected line cause) ≡ None }
+{}
+
+/// A cause for which a report is rejected has its number.
+pub fn a_cause_has_its_number()
+    ensures form { cause_of why.Form ≡ 1 }
+    ensures act { cause_of why.Act ≡ 2 }
+    ensures differs { cause_of why.Differs ≡ 3 }
+    ensures not_idle { cause_of why.NotIdle ≡ 4 }
 {}

@@ -3,6 +3,7 @@ ghost use Rattle.gd_words.specs.Memory.{no_memory};
 ghost use Rattle.tal_tree.specs.declared.fault.DeckFault.{DeckFault};
 ghost use Rattle.tal_tree.specs.declared.site.Site.{Site};
 ghost use Rattle.path_semantics.specs.declared.reason.RefusalFault.{RefusalFault};
+ghost use Rattle.report_judge.specs.declared.judge.Why.{Why};
 ghost use Rattle.runner.specs.Numbers.{status_number};
 ghost use Rattle.runner.specs.Stopped.{stopped_from};
 ghost use Rattle.runner.specs.Tasks.{can_stop, load_task};
@@ -22,6 +23,7 @@ pub fn a_status_has_its_number()
     ensures read_fault { status_number status.ReadFault ≡ 6 }
     ensures write_fault { status_number status.WriteFault ≡ 7 }
     ensures no_memory { status_number (status.NoMemory no_memory) ≡ 8 }
+    ensures rejected { (line : ℕ) (cause : Why) → status_number (status.Rejected line cause) ≡ 9 }
 {}
 
 /// The processors that have stopped are told by their numbers, rising.
