@@ -47,6 +47,8 @@ module _ (task : Task) (deck : Deck) (able : can_stop task deck.site ≡ true)
   of-deck (due.Accepted site) is = inr is.1.1
   of-deck (due.Report report) is = inr is.1.1
   of-deck (due.Swept rows) is = inr is.1.1
+  of-deck (due.Verified n) is = inr is.1.1
+  of-deck (due.Rejected line cause) is = inr is.1.1
 
   module _ (bytes : List ℕ) (spelt : Decks bytes deck) where
     -- a deck that the bytes spell too is the same one
@@ -64,6 +66,8 @@ module _ (task : Task) (deck : Deck) (able : can_stop task deck.site ≡ true)
     of-bytes (due.ProgramRefused refused) (other, too, is) = of-spelt other (due.ProgramRefused refused) too is
     of-bytes (due.Report report) (other, too, is) = of-spelt other (due.Report report) too is
     of-bytes (due.Swept rows) (other, too, is) = of-spelt other (due.Swept rows) too is
+    of-bytes (due.Verified n) (other, too, is) = of-spelt other (due.Verified n) too is
+    of-bytes (due.Rejected line cause) (other, too, is) = of-spelt other (due.Rejected line cause) too is
 
     -- what is read of a source is what it told
     of-told : (found : List ℕ) (decided : Due) → bytes ≡ found → IsDueOfBytes task found decided
@@ -81,3 +85,6 @@ module _ (task : Task) (deck : Deck) (able : can_stop task deck.site ≡ true)
         of-told found (due.ProgramRefused refused) told is
     of-source before now (due.Report report) (found, told, is) read = of-told found (due.Report report) told is
     of-source before now (due.Swept rows) (found, told, is) read = of-told found (due.Swept rows) told is
+    of-source before now (due.Verified n) (found, told, is) read = of-told found (due.Verified n) told is
+    of-source before now (due.Rejected line cause) (found, told, is) read =
+        of-told found (due.Rejected line cause) told is

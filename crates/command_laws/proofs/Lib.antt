@@ -3,3 +3,4 @@ pub mod Commands
 pub mod Faults
 pub mod OneDue
 mod OneSweep
+pub mod Verifies

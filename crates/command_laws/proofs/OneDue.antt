@@ -1,17 +1,18 @@
 -- What is due of words and bytes is one.
-use Rattle.std.proofs.Common.{◌≡◌, ◌<◌, ◌⊎◌, inl, inr, ℕ, true, false, List, Option, Some, None, refl, subst, sym, ap}
-use Rattle.std.proofs.Common.{◌∙◌}
-use Rattle.std.specs.Prelude.{Bool, Err}
+use Rattle.std.proofs.Common.{◌≡◌, ◌<◌, ◌≤◌, ◌⊎◌, inl, inr, ℕ, true, false, List, length, Option, Some, None, refl}
+use Rattle.std.proofs.Common.{subst, sym, ap, ◌∙◌, arith}
+use Rattle.std.specs.Prelude.{Bool, Result, Ok, Err}
 use Rattle.std.proofs.lemmas.Bool.{cases_order}
 use Rattle.gd_words.specs.Memory.{no_memory}
 use Rattle.tal_tree.specs.declared.fault.DeckFault.{DeckFault}
+use Rattle.tal_tree.specs.declared.fault.DeckFault.TheVariants.{TooLong}
 use Rattle.tal_tree.specs.declared.site.ProcessSpec.{ProcessSpec}
 use Rattle.tal_tree.specs.declared.program.Program.{Program}
 use Rattle.tal_tree.specs.declared.site.Site.{Site}
 use Rattle.path_semantics.specs.Accepted.{IsAccepted}
 use Rattle.command_words.specs.Asked.{asked_by}
 use Rattle.command_words.specs.declared.asked.Command.{Command}
-use Rattle.command_words.specs.declared.asked.Command.TheVariants.{Check, Load, Run, Sweep}
+use Rattle.command_words.specs.declared.asked.Command.TheVariants.{Check, Load, Run, Sweep, Verify}
 use Rattle.deck_reader.specs.Decks.{Decks}
 use Rattle.deck_reader.specs.Refusals.{IsRefusalOf}
 use Rattle.deck_reader.specs.declared.deck.Deck.{Deck}
@@ -27,8 +28,15 @@ use Rattle.single_runs.proofs.Runs.{one-run}
 use Rattle.statement_lines.specs.Lines.{lines_of}
 use Rattle.verdicts.specs.Refused.{AreAccepted, IsFirstRefused, program_at}
 use Rattle.verdicts.specs.declared.refused.RefusedProgram.{RefusedProgram}
+use Rattle.report_judge.specs.Verdicts.{IsVerdict as IsJudgement}
+use Rattle.report_judge.specs.declared.judge.VerifyRefusal.{VerifyRefusal}
+use Rattle.report_judge.specs.declared.judge.VerifyRefusal.TheVariants as refusal
+use Rattle.report_judge.specs.declared.judge.Why.{Why}
+use Rattle.report_laws.proofs.OneVerdict.{one-verdict}
+use Rattle.report_laws.specs.OneVerdict.{IsSameVerdict}
+use Rattle.runner.specs.Verified.{IsDueOfInput, IsDueOfJudged, deck_in, report_in}
 use Rattle.runner.specs.Decided.{IsDue, IsDueOfAccepted, IsDueOfBytes, IsDueOfDeck, IsDueOfRun, IsDueOfSource}
-use Rattle.runner.specs.Decided.{IsDueOfSweep, IsDueOn, IsReportOf}
+use Rattle.runner.specs.Decided.{IsDueOfSweep, IsDueOfVerify, IsDueOn, IsReportOf}
 use Rattle.runner.specs.RunEnds.{shown_in}
 use Rattle.runner.specs.Stopped.{stopped_from}
 use Rattle.runner.specs.Tasks.{can_stop, load_task}
@@ -126,6 +134,8 @@ is-free (due.ProgramRefused refused) = tt
 is-free (due.Accepted site) = tt
 is-free (due.Report report) = tt
 is-free (due.Swept rows) = tt
+is-free (due.Verified n) = tt
+is-free (due.Rejected line cause) = tt
 
 failing-is-free : (one : Due) → IsSameDue one due.ReadFault
 failing-is-free due.Usage = tt
@@ -136,6 +146,8 @@ failing-is-free (due.ProgramRefused refused) = tt
 failing-is-free (due.Accepted site) = tt
 failing-is-free (due.Report report) = tt
 failing-is-free (due.Swept rows) = tt
+failing-is-free (due.Verified n) = tt
+failing-is-free (due.Rejected line cause) = tt
 
 not-both : (test : Bool) → test ≡ true → test ≡ false → ⊥
 not-both test is isnt = absurd (cc)
@@ -159,6 +171,8 @@ of-deck task deck (due.DeckRefused fault) is = good is.0 is.1.0 is.1.1
 of-deck task deck (due.Accepted site) is = good is.0 is.1.0 is.1.1
 of-deck task deck (due.Report report) is = good is.0 is.1.0 is.1.1
 of-deck task deck (due.Swept rows) is = good is.0 is.1.0 is.1.1
+of-deck task deck (due.Verified n) is = good is.0 is.1.0 is.1.1
+of-deck task deck (due.Rejected line cause) is = good is.0 is.1.0 is.1.1
 
 same-run : (deck : Deck) (stop : Option ProcessorStop) (tells : Telling) (one other : Due)
     → IsDueOfRun deck stop tells one → IsDueOfRun deck stop tells other
@@ -233,6 +247,9 @@ of-bytes task bytes (due.ProgramRefused found) (deck, is_spelt, is) =
 of-bytes task bytes (due.Accepted site) (deck, is_spelt, is) = of-spelt task bytes deck (due.Accepted site) is_spelt is
 of-bytes task bytes (due.Report report) (deck, is_spelt, is) = of-spelt task bytes deck (due.Report report) is_spelt is
 of-bytes task bytes (due.Swept rows) (deck, is_spelt, is) = of-spelt task bytes deck (due.Swept rows) is_spelt is
+of-bytes task bytes (due.Verified n) (deck, is_spelt, is) = of-spelt task bytes deck (due.Verified n) is_spelt is
+of-bytes task bytes (due.Rejected line cause) (deck, is_spelt, is) =
+    of-spelt task bytes deck (due.Rejected line cause) is_spelt is
 
 same-of-bytes : (task : Task) (bytes : List ℕ) (one other : Due) → IsOfBytes task bytes one
     → IsOfBytes task bytes other → IsSameDue one other
@@ -272,19 +289,180 @@ of-source task bytes before now (due.Accepted site) (found, told, is) =
 of-source task bytes before now (due.Report report) (found, told, is) =
     of-told task bytes found (due.Report report) told is
 of-source task bytes before now (due.Swept rows) (found, told, is) = of-told task bytes found (due.Swept rows) told is
+of-source task bytes before now (due.Verified n) (found, told, is) = of-told task bytes found (due.Verified n) told is
+of-source task bytes before now (due.Rejected line cause) (found, told, is) =
+    of-told task bytes found (due.Rejected line cause) told is
+
+failing-first : (other : Due) → IsSameDue due.ReadFault other
+failing-first (due.NoMemory _) = tt
+failing-first due.Usage = tt
+failing-first due.ReadFault = tt
+failing-first (due.DeckRefused fault) = tt
+failing-first (due.ProgramRefused refusal) = tt
+failing-first (due.Accepted site) = tt
+failing-first (due.Report report) = tt
+failing-first (due.Swept rows) = tt
+failing-first (due.Verified n) = tt
+failing-first (due.Rejected line cause) = tt
 
 same-of-source : (task : Task) (bytes : List ℕ) (one other : Due) → IsOfSource task bytes one
     → IsOfSource task bytes other → IsSameDue one other
 same-of-source task bytes one other (read is) (read two) = same-of-bytes task bytes one other is two
 same-of-source task bytes one _ is failing = failing-is-free one
-same-of-source task bytes _ (due.NoMemory _) failing two = tt
-same-of-source task bytes _ due.Usage failing two = tt
-same-of-source task bytes _ due.ReadFault failing two = tt
-same-of-source task bytes _ (due.DeckRefused fault) failing two = tt
-same-of-source task bytes _ (due.ProgramRefused refusal) failing two = tt
-same-of-source task bytes _ (due.Accepted site) failing two = tt
-same-of-source task bytes _ (due.Report report) failing two = tt
-same-of-source task bytes _ (due.Swept rows) failing two = tt
+same-of-source task bytes _ other failing (read two) = failing-first other
+
+-- Reports that are judged
+
+-- what may be due of a deck and its report
+data IsOfJudged (deck : Deck) (report : List ℕ) : Due → Type 0 where
+  no_room : IsOfJudged deck report (due.NoMemory no_memory)
+  not_accepted : (found : RefusedSite) → found.site ≡ deck.site → IsFirstRefused deck.site.processes found.found
+      → IsOfJudged deck report (due.ProgramRefused found)
+  verified : (acts : ℕ) → AreAccepted deck.site.processes → IsJudgement deck.site report (Ok acts)
+      → IsOfJudged deck report (due.Verified acts)
+  rejected : (line : ℕ) (cause : Why) → AreAccepted deck.site.processes
+      → IsJudgement deck.site report (Err (refusal.Rejected line cause))
+      → IsOfJudged deck report (due.Rejected line cause)
+
+of-judged : (deck : Deck) (report : List ℕ) (decided : Due) → IsDueOfJudged deck report decided
+    → IsOfJudged deck report decided
+of-judged deck report (due.NoMemory _) is = no_room
+of-judged deck report (due.ProgramRefused found) is = not_accepted found is.0 is.1
+of-judged deck report (due.Verified acts) is = verified acts is.0 is.1
+of-judged deck report (due.Rejected line cause) is = rejected line cause is.0 is.1
+of-judged deck report due.Usage is = absurd is.1
+of-judged deck report due.ReadFault is = absurd is.1
+of-judged deck report (due.DeckRefused fault) is = absurd is.1
+of-judged deck report (due.Accepted site) is = absurd is.1
+of-judged deck report (due.Report run) is = absurd is.1
+of-judged deck report (due.Swept rows) is = absurd is.1
+
+-- what is due by a verdict
+abbrev due_by : Result ℕ VerifyRefusal → Due
+due_by (Ok acts) = due.Verified acts
+due_by (Err (refusal.Rejected line cause)) = due.Rejected line cause
+due_by (Err (refusal.NoMemory memory)) = due.NoMemory memory
+
+same-verdict : (deck : Deck) (report : List ℕ) (one other : Result ℕ VerifyRefusal) → IsJudgement deck.site report one
+    → IsJudgement deck.site report other
+    → IsSameDue (due_by one) (due_by other)
+same-verdict deck report one other is two = by one other (one-verdict deck.site report one other is two)
+  where
+    by : (one other : Result ℕ VerifyRefusal) → IsSameVerdict one other → IsSameDue (due_by one) (due_by other)
+    by (Err (refusal.NoMemory memory)) other same = tt
+    by (Ok acts) (Err (refusal.NoMemory memory)) same = tt
+    by (Err (refusal.Rejected line cause)) (Err (refusal.NoMemory memory)) same = tt
+    by (Ok acts) (Ok later) same = ap due_by same
+    by (Ok acts) (Err (refusal.Rejected line cause)) same = absurd (cc)
+    by (Err (refusal.Rejected line cause)) (Ok acts) same = absurd (cc)
+    by (Err (refusal.Rejected line cause)) (Err (refusal.Rejected number why)) same = ap due_by same
+
+same-of-judged : (deck : Deck) (report : List ℕ) (one other : Due) → IsOfJudged deck report one
+    → IsOfJudged deck report other → IsSameDue one other
+same-of-judged deck report _ other no_room two = tt
+same-of-judged deck report one _ is no_room = is-free one
+same-of-judged deck report _ _ (not_accepted found site first) (not_accepted other its later) =
+    same-refusal deck.site.processes found other (site ∙ sym its) first later
+same-of-judged deck report _ _ (not_accepted found site first) (verified acts accepted is) =
+    absurd (none-refused deck.site.processes found.found accepted first)
+same-of-judged deck report _ _ (not_accepted found site first) (rejected line cause accepted is) =
+    absurd (none-refused deck.site.processes found.found accepted first)
+same-of-judged deck report _ _ (verified acts accepted is) (not_accepted found site first) =
+    absurd (none-refused deck.site.processes found.found accepted first)
+same-of-judged deck report _ _ (rejected line cause accepted is) (not_accepted found site first) =
+    absurd (none-refused deck.site.processes found.found accepted first)
+same-of-judged deck report _ _ (verified acts accepted is) (verified later too two) =
+    same-verdict deck report (Ok acts) (Ok later) is two
+same-of-judged deck report _ _ (verified acts accepted is) (rejected line cause too two) =
+    same-verdict deck report (Ok acts) (Err (refusal.Rejected line cause)) is two
+same-of-judged deck report _ _ (rejected line cause accepted is) (verified acts too two) =
+    same-verdict deck report (Err (refusal.Rejected line cause)) (Ok acts) is two
+same-of-judged deck report _ _ (rejected line cause accepted is) (rejected other why too two) =
+    same-verdict deck report (Err (refusal.Rejected line cause)) (Err (refusal.Rejected other why)) is two
+
+-- what may be due of bytes that begin with a deck
+data IsOfInput (bytes : List ℕ) : Due → Type 0 where
+  too_many : 67108864 < length bytes → IsOfInput bytes (due.DeckRefused TooLong)
+  no_such_deck : (fault : DeckFault) → length bytes ≤ 67108864 → IsRefusalOf (deck_in bytes) fault
+      → IsOfInput bytes (due.DeckRefused fault)
+  with_deck : {decided : Due} (deck : Deck) → length bytes ≤ 67108864 → Decks (deck_in bytes) deck
+      → IsOfJudged deck (report_in bytes) decided → IsOfInput bytes decided
+  no_memory_left : IsOfInput bytes (due.NoMemory no_memory)
+
+of-input : (bytes : List ℕ) (decided : Due) → IsDueOfInput bytes decided → IsOfInput bytes decided
+of-input bytes (due.NoMemory _) is = no_memory_left
+of-input bytes (due.DeckRefused fault) (inl is) =
+    subst (λ (f : DeckFault). IsOfInput bytes (due.DeckRefused f)) (sym is.1) (too_many is.0)
+of-input bytes (due.DeckRefused fault) (inr is) = no_such_deck fault is.0 is.1
+of-input bytes due.Usage (few, deck, decks, is) =
+    with_deck deck few decks (of-judged deck (report_in bytes) due.Usage is)
+of-input bytes due.ReadFault (few, deck, decks, is) =
+    with_deck deck few decks (of-judged deck (report_in bytes) due.ReadFault is)
+of-input bytes (due.ProgramRefused found) (few, deck, decks, is) =
+    with_deck deck few decks (of-judged deck (report_in bytes) (due.ProgramRefused found) is)
+of-input bytes (due.Accepted site) (few, deck, decks, is) =
+    with_deck deck few decks (of-judged deck (report_in bytes) (due.Accepted site) is)
+of-input bytes (due.Report report) (few, deck, decks, is) =
+    with_deck deck few decks (of-judged deck (report_in bytes) (due.Report report) is)
+of-input bytes (due.Swept rows) (few, deck, decks, is) =
+    with_deck deck few decks (of-judged deck (report_in bytes) (due.Swept rows) is)
+of-input bytes (due.Verified acts) (few, deck, decks, is) =
+    with_deck deck few decks (of-judged deck (report_in bytes) (due.Verified acts) is)
+of-input bytes (due.Rejected line cause) (few, deck, decks, is) =
+    with_deck deck few decks (of-judged deck (report_in bytes) (due.Rejected line cause) is)
+
+same-of-input : (bytes : List ℕ) (one other : Due) → IsOfInput bytes one → IsOfInput bytes other → IsSameDue one other
+same-of-input bytes _ other no_memory_left two = tt
+same-of-input bytes one _ is no_memory_left = is-free one
+same-of-input bytes _ _ (too_many many) (too_many more) = refl
+same-of-input bytes _ _ (too_many many) (no_such_deck fault few is) = absurd (omega (arith, many, few))
+same-of-input bytes _ _ (too_many many) (with_deck deck few decks is) = absurd (omega (arith, many, few))
+same-of-input bytes _ _ (no_such_deck fault few is) (too_many many) = absurd (omega (arith, many, few))
+same-of-input bytes _ _ (with_deck deck few decks is) (too_many many) = absurd (omega (arith, many, few))
+same-of-input bytes _ _ (no_such_deck fault few is) (no_such_deck other too two) =
+    ap due.DeckRefused (one_refusal (deck_in bytes) fault other is two)
+same-of-input bytes _ _ (no_such_deck fault few is) (with_deck deck too decks two) =
+    absurd (no_deck (deck_in bytes) fault deck is decks)
+same-of-input bytes _ _ (with_deck deck too decks two) (no_such_deck fault few is) =
+    absurd (no_deck (deck_in bytes) fault deck is decks)
+same-of-input bytes one other (with_deck deck few decks is) (with_deck same too again two) =
+    same-of-judged deck (report_in bytes) one other is
+    (subst (λ (d : Deck). IsOfJudged d (report_in bytes) other) (one_deck (deck_in bytes) same deck again decks) two)
+
+of-read : (bytes found : List ℕ) (decided : Due) → bytes ≡ found → IsDueOfInput found decided → IsOfInput bytes decided
+of-read bytes found decided same is =
+    of-input bytes decided (subst (λ (all : List ℕ). IsDueOfInput all decided) (sym same) is)
+
+-- what may be due of a source of a deck and a report
+data IsOfVerify (bytes : List ℕ) : Due → Type 0 where
+  cut_off : IsOfVerify bytes due.ReadFault
+  from_input : {decided : Due} → IsOfInput bytes decided → IsOfVerify bytes decided
+
+of-verify : (bytes : List ℕ) (before now : ℕ) (decided : Due) → IsDueOfVerify (Some bytes) before now decided
+    → IsOfVerify bytes decided
+of-verify bytes before now due.ReadFault is = cut_off
+of-verify bytes before now (due.NoMemory _) is = from_input no_memory_left
+of-verify bytes before now due.Usage (found, told, is) = from_input (of-read bytes found due.Usage told is)
+of-verify bytes before now (due.DeckRefused fault) (found, told, is) =
+    from_input (of-read bytes found (due.DeckRefused fault) told is)
+of-verify bytes before now (due.ProgramRefused refusal) (found, told, is) =
+    from_input (of-read bytes found (due.ProgramRefused refusal) told is)
+of-verify bytes before now (due.Accepted site) (found, told, is) =
+    from_input (of-read bytes found (due.Accepted site) told is)
+of-verify bytes before now (due.Report report) (found, told, is) =
+    from_input (of-read bytes found (due.Report report) told is)
+of-verify bytes before now (due.Swept rows) (found, told, is) =
+    from_input (of-read bytes found (due.Swept rows) told is)
+of-verify bytes before now (due.Verified acts) (found, told, is) =
+    from_input (of-read bytes found (due.Verified acts) told is)
+of-verify bytes before now (due.Rejected line cause) (found, told, is) =
+    from_input (of-read bytes found (due.Rejected line cause) told is)
+
+same-of-verify : (bytes : List ℕ) (one other : Due) → IsOfVerify bytes one → IsOfVerify bytes other
+    → IsSameDue one other
+same-of-verify bytes one other (from_input is) (from_input two) = same-of-input bytes one other is two
+same-of-verify bytes one _ is cut_off = failing-is-free one
+same-of-verify bytes _ other cut_off (from_input two) = failing-first other
 
 -- Words
 
@@ -306,6 +484,8 @@ same-asked (Some Check) bytes before now earlier later one other is two =
 same-asked (Some (Sweep runs)) bytes before now earlier later one other is two =
     same-of-source (task.Sweep runs) bytes one other (of-source (task.Sweep runs) bytes before now one is)
     (of-source (task.Sweep runs) bytes earlier later other two)
+same-asked (Some Verify) bytes before now earlier later one other is two =
+    same-of-verify bytes one other (of-verify bytes before now one is) (of-verify bytes earlier later other two)
 same-asked (Some (Load requests)) bytes before now earlier later one other is two =
     same-of-bytes (load_task requests) (load_text requests) one other
     (of-bytes (load_task requests) (load_text requests) one is)

@@ -1,2 +1,3 @@
 pub mod OneDue
+pub mod ReportedInput
 pub mod RunStatus

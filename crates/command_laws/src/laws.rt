@@ -1,12 +1,14 @@
 ghost use Rattle.std.specs.Prelude.{◌≡◌, ◌≢◌, ◌⊎◌, ℕ, Bool, true, List, Option, Some, None, length};
 ghost use Rattle.gd_words.specs.Memory.{no_memory};
 ghost use Rattle.command_words.specs.Asked.{asked_by};
-ghost use Rattle.command_words.specs.declared.asked.Command.TheVariants.{Check, Load, Run, Sweep};
+ghost use Rattle.command_words.specs.declared.asked.Command.TheVariants.{Check, Load, Run, Sweep, Verify};
 ghost use Rattle.deck_reader.specs.Decks.{Decks};
 ghost use Rattle.deck_reader.specs.declared.deck.Deck.{Deck};
 ghost use Rattle.gd_io.specs.Faults.{HasRisen};
 ghost use Rattle.load_laws.specs.LoadDeck.{load_deck};
 ghost use Rattle.player.specs.declared.stop.ProcessorStop.{ProcessorStop};
+ghost use Rattle.report_reader.specs.Reading.{acts_in};
+ghost use Rattle.report_reader.specs.declared.reading.Reading.{Reading};
 ghost use Rattle.runner.specs.Decided.{IsDue, IsDueOfRun, IsDueOfSweep, IsReportOf};
 ghost use Rattle.runner.specs.Ends.{Ends};
 ghost use Rattle.runner.specs.Tasks.{can_stop};
@@ -19,6 +21,7 @@ ghost use Rattle.runner.specs.declared.outcome.Status.TheVariants as status;
 ghost use Rattle.runner.specs.declared.task.Task.TheVariants as task;
 ghost use Rattle.runner.specs.declared.task.Telling.TheVariants.{Counts, Lines};
 ghost use Rattle.command_laws.specs.OneDue.{IsSameDue};
+ghost use Rattle.command_laws.specs.ReportedInput.{IsReportedInput};
 ghost use Rattle.command_laws.specs.RunStatus.{IsStatusOfCheck, IsStatusOfLoad, IsStatusOfRun};
 ghost use Rattle.verdicts.specs.Refused.{AreAccepted};
 
@@ -80,6 +83,25 @@ pub fn no_accepted_deck_is_refused_a_sweep<S: Source, K: Sink>()
         → Ends S.left S.faults S.sure K.held K.faults K.sure words source source_now sink sink_now outcome
         → (bytes : List ℕ) (runs : ℕ) (deck : Deck) → asked_by words ≡ Some (Sweep runs)
         → S.left source ≡ Some bytes → S.sure source → Decks bytes deck → AreAccepted deck.site.processes
+        → IsStatusOfCheck outcome.status }
+{}
+
+/// Where the words ask for a report to be judged, and the source tells bytes that begin with a deck whose programs are
+/// accepted and go on with a report of it, it is due to say so, unless reading fails or memory runs out.
+pub fn a_report_of_a_deck_is_verified()
+    ensures { (words : List (List ℕ)) (bytes : List ℕ) (before now : ℕ) (deck : Deck) (reading : Reading)
+        (decided : Due)
+        → asked_by words ≡ Some Verify → IsReportedInput bytes deck reading
+        → IsDue words (Some bytes) before now decided → decided ≢ due.ReadFault
+        → (decided ≡ due.Verified (length (acts_in reading.told))) ⊎ (decided ≡ due.NoMemory no_memory) }
+{}
+
+/// So such a command ends well, where the source is sure of itself, unless memory runs out or a write fails.
+pub fn no_report_of_a_deck_is_rejected<S: Source, K: Sink>()
+    ensures { (words : List (List ℕ)) (source source_now : S) (sink sink_now : K) (outcome : Outcome)
+        → Ends S.left S.faults S.sure K.held K.faults K.sure words source source_now sink sink_now outcome
+        → (bytes : List ℕ) (deck : Deck) (reading : Reading) → asked_by words ≡ Some Verify
+        → S.left source ≡ Some bytes → S.sure source → IsReportedInput bytes deck reading
         → IsStatusOfCheck outcome.status }
 {}
 
