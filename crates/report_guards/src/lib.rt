@@ -1,10 +1,11 @@
-//! Guards of the report: the numbers by which faults are told, the lines of what is shown, of sectors, acts and
-//! verdicts, their order, and the lines that end a report. A wrong definition is refused here.
+//! Guards of the report: the numbers by which faults are told, the lines of what is shown, of sectors, acts,
+//! verdicts and advice, their order, and the lines that end a report. A wrong definition is refused here.
 //!
 //! Below stand `trace_print` and `shown_sectors`, whose definitions are guarded; nothing stands above.
 #![tactic(auto)]
 
 pub mod acts;
+pub mod advice;
 pub mod lines;
 pub mod shown;
 pub mod verdicts;
