@@ -7,7 +7,7 @@ use Rattle.std.proofs.lemmas.Bool.{and_parts, leb-true}
 use Rattle.clap.specs.Words.{Row, Text, first_of}
 use Rattle.deck_lines.specs.Numbers.{written_number}
 use Rattle.command_words.specs.Asked.{IsInRange, asks_for_acts, asked_by, check_as, command_as, command_in, load_as}
-use Rattle.command_words.specs.Asked.{load_of, run_as, stop_at, stop_of, sweep_as, sweep_of, verify_as}
+use Rattle.command_words.specs.Asked.{advise_as, load_of, run_as, stop_at, stop_of, sweep_as, sweep_of, verify_as}
 use Rattle.command_words.specs.Line.{parse_of}
 use Rattle.command_words.specs.declared.asked.Command.TheVariants.{Run, Load, Sweep}
 use Rattle.player.specs.declared.stop.ProcessorStop.{ProcessorStop}
@@ -78,23 +78,30 @@ verified None true fail = tt
 verified None false (Some fail) = tt
 verified None false None = tt
 
-by_mode : (runs checks loads sweeps verifies : Bool) (number : Option Text) (acts : Bool) (fail : Option Text)
+advised : (number : Option Text) (acts : Bool) (fail : Option Text) → IfSome (advise_as number acts fail) IsInRange
+advised (Some number) acts fail = tt
+advised None true fail = tt
+advised None false (Some fail) = tt
+advised None false None = tt
+
+by_mode : (runs checks loads sweeps verifies advises : Bool) (number : Option Text) (acts : Bool) (fail : Option Text)
     → IfSome (if runs then run_as number acts fail else if checks then check_as number acts fail
-    else if loads then load_as number acts fail else if sweeps then sweep_as number acts fail else if verifies then
-    verify_as number acts fail else None) IsInRange
-by_mode true checks loads sweeps verifies number acts fail = run number acts fail
-by_mode false true loads sweeps verifies number acts fail = check number acts fail
-by_mode false false true sweeps verifies number acts fail = loaded number acts fail
-by_mode false false false true verifies number acts fail = swept number acts fail
-by_mode false false false false true number acts fail = verified number acts fail
-by_mode false false false false false number acts fail = tt
+    else if loads then load_as number acts fail else if sweeps then sweep_as number acts fail
+    else if verifies then verify_as number acts fail else if advises then advise_as number acts fail else None) IsInRange
+by_mode true checks loads sweeps verifies advises number acts fail = run number acts fail
+by_mode false true loads sweeps verifies advises number acts fail = check number acts fail
+by_mode false false true sweeps verifies advises number acts fail = loaded number acts fail
+by_mode false false false true verifies advises number acts fail = swept number acts fail
+by_mode false false false false true advises number acts fail = verified number acts fail
+by_mode false false false false false true number acts fail = advised number acts fail
+by_mode false false false false false false number acts fail = tt
 
 moded : (mode number : Option Text) (acts : Bool) (fail : Option Text)
     → IfSome (option_and_then (λ mode. command_as mode number acts fail) mode) IsInRange
 moded None number acts fail = tt
 moded (Some mode) number acts fail =
     by_mode (bytes_eq mode (codes "run")) (bytes_eq mode (codes "check")) (bytes_eq mode (codes "load"))
-    (bytes_eq mode (codes "sweep")) (bytes_eq mode (codes "verify")) number acts fail
+    (bytes_eq mode (codes "sweep")) (bytes_eq mode (codes "verify")) (bytes_eq mode (codes "advise")) number acts fail
 
 pub in_range : (rows : List Row) → IfSome (command_in rows) IsInRange
 in_range rows = moded (first_of (codes "mode") rows) (first_of (codes "number") rows) (asks_for_acts rows)

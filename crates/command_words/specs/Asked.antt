@@ -8,7 +8,7 @@ use Rattle.clap.specs.Words.{Row, Text, first_of}
 use Rattle.deck_lines.specs.Numbers.{written_number}
 use Rattle.command_words.specs.Line.{parse_of}
 use Rattle.command_words.specs.declared.asked.Command.{Command}
-use Rattle.command_words.specs.declared.asked.Command.TheVariants.{Run, Check, Load, Sweep, Verify}
+use Rattle.command_words.specs.declared.asked.Command.TheVariants.{Run, Check, Load, Sweep, Verify, Advise}
 use Rattle.player.specs.declared.stop.ProcessorStop.{ProcessorStop}
 
 -- a stop of P, which is at most 15, just before the event that K events precede
@@ -57,6 +57,11 @@ abbrev pub verify_as : Option Text → Bool → Option Text → Option Command
 verify_as None false None = Some Verify
 verify_as _ _ _ = None
 
+-- `advise` takes nothing
+abbrev pub advise_as : Option Text → Bool → Option Text → Option Command
+advise_as None false None = Some Advise
+advise_as _ _ _ = None
+
 -- what a mode asks for with this number, with or without `--acts`, and with this value of `--fail`
 abbrev pub command_as : Text → Option Text → Bool → Option Text → Option Command
 command_as mode number acts fail =
@@ -64,7 +69,8 @@ command_as mode number acts fail =
     else if bytes_eq mode (codes "check") then check_as number acts fail
     else if bytes_eq mode (codes "load") then load_as number acts fail
     else if bytes_eq mode (codes "sweep") then sweep_as number acts fail
-    else if bytes_eq mode (codes "verify") then verify_as number acts fail else None
+    else if bytes_eq mode (codes "verify") then verify_as number acts fail
+    else if bytes_eq mode (codes "advise") then advise_as number acts fail else None
 
 -- whether `--acts` is given, which gives it the value `true`
 abbrev pub asks_for_acts : List Row → Bool
@@ -88,3 +94,4 @@ IsInRange Check = Unit {0}
 IsInRange (Load n) = (1 ≤ n) × (n ≤ 200)
 IsInRange (Sweep n) = (1 ≤ n) × (n ≤ 10000)
 IsInRange Verify = Unit {0}
+IsInRange Advise = Unit {0}

@@ -1,7 +1,8 @@
 ghost use Rattle.std.specs.Prelude.{◌≡◌, IfOk, IfSome, map, option_map, string_bytes};
 ghost use Rattle.clap.specs.Words.{found_of, rows_of};
 ghost use Rattle.command_words.specs.Asked.{IsInRange, asks_for_acts, asked_by, check_as, command_as, command_in};
-ghost use Rattle.command_words.specs.Asked.{load_as, load_of, run_as, stop_at, stop_of, sweep_as, sweep_of, verify_as};
+ghost use Rattle.command_words.specs.Asked.{advise_as, load_as, load_of, run_as, stop_at, stop_of, sweep_as};
+ghost use Rattle.command_words.specs.Asked.{sweep_of, verify_as};
 
 use crate::line::{parsed, text_of};
 use clap::ArgMatches;
@@ -28,6 +29,8 @@ pub enum Command {
     Sweep(u32),
     /// To judge the programs of a deck, and, where all are accepted, the report that follows it.
     Verify,
+    /// To say what the programs of a deck have to name and keep at the least.
+    Advise,
 }
 
 /// The command that the words ask for, the program's name first; none where they ask for none.
@@ -73,6 +76,7 @@ fn command_as(mode: &str, number: Option<&str>, acts: bool, fail: Option<&str>) 
         "load" => load_as(number, acts, fail),
         "sweep" => sweep_as(number, acts, fail),
         "verify" => verify_as(number, acts, fail),
+        "advise" => advise_as(number, acts, fail),
         _ => None,
     }
 }
@@ -98,6 +102,15 @@ fn check_as(number: Option<&str>, acts: bool, fail: Option<&str>) -> Option<Comm
 {
     match (number, acts, fail) {
         (None, false, None) => Some(Command::Check),
+        _ => None,
+    }
+}
+
+fn advise_as(number: Option<&str>, acts: bool, fail: Option<&str>) -> Option<Command>
+    ensures { result ≡ advise_as (option_map (λ s. s.now) number.entry) acts (option_map (λ s. s.now) fail.entry) }
+{
+    match (number, acts, fail) {
+        (None, false, None) => Some(Command::Advise),
         _ => None,
     }
 }

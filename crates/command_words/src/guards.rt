@@ -1,7 +1,7 @@
 ghost use Rattle.std.specs.Prelude.{◌≡◌, true, false, [], ◌∷◌, Some, None, codes};
 ghost use Rattle.command_words.specs.Asked.{asked_by};
 ghost use Rattle.command_words.specs.Guarded.{asked, run_with_stop};
-ghost use Rattle.command_words.specs.declared.asked.Command.TheVariants.{Run, Check, Load, Sweep, Verify};
+ghost use Rattle.command_words.specs.declared.asked.Command.TheVariants.{Run, Check, Load, Sweep, Verify, Advise};
 
 /// `run` alone, with its flags in any order, with the value of `--fail` as a word of its own or after `=`, and before
 /// `--`.
@@ -42,6 +42,15 @@ pub fn verify_is_asked_for()
     ensures number { asked (codes "verify" ∷ codes "1" ∷ []) ≡ None }
     ensures acts { asked (codes "verify" ∷ codes "--acts" ∷ []) ≡ None }
     ensures fail { asked (codes "verify" ∷ codes "--fail" ∷ codes "1:7" ∷ []) ≡ None }
+{}
+
+/// `advise` alone, with no number and no flag.
+pub fn advise_is_asked_for()
+    ensures alone { asked (codes "advise" ∷ []) ≡ Some Advise }
+    ensures number { asked (codes "advise" ∷ codes "1" ∷ []) ≡ None }
+    ensures acts { asked (codes "advise" ∷ codes "--acts" ∷ []) ≡ None }
+    ensures fail { asked (codes "advise" ∷ codes "--fail" ∷ codes "1:7" ∷ []) ≡ None }
+    ensures longer { asked (codes "advised" ∷ []) ≡ None }
 {}
 
 /// There is a mode, and just one.
