@@ -1,0 +1,3 @@
+pub mod Watched
+pub mod Fresh
+pub mod Runs
