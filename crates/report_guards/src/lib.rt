@@ -5,7 +5,7 @@
 #![tactic(auto)]
 
 pub mod acts;
-pub mod advice;
+pub mod advised;
 pub mod lines;
 pub mod shown;
 pub mod verdicts;
