@@ -60,6 +60,13 @@ impl Model for WorldCopies {
 }
 
 impl WorldCopies {
+    /// The site.
+    pub fn site(&self) -> &Site
+        ensures { result.now ≡ self.now.site }
+    {
+        self.site.get()
+    }
+
     /// Which processors have stopped.
     pub fn stopped(&self) -> &[bool]
         ensures { result.now ≡ self.now.world.stopped }
