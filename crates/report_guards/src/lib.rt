@@ -5,7 +5,7 @@
 #![tactic(auto)]
 
 pub mod acts;
-pub mod advised;
+pub mod advice_lines;
 pub mod lines;
 pub mod shown;
-pub mod verdicts;
+pub mod verdict_lines;

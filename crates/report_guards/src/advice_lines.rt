@@ -24,8 +24,13 @@ pub fn depths_have_their_lines()
 
 /// A pair's line comes first, then its lists, then its depths, and the end comes last.
 pub fn advice_is_told_pair_by_pair()
-    ensures pair { pair_text site (record { process = 1; advice = record {
-        lists = record { statement = 7; line = 13; items = []; files = 1 ∷ [] } ∷ []; depths = 1 ∷ 2 ∷ [] } })
+    ensures pair { pair_text site (record {
+      process = 1;
+      advice = record {
+        lists = record { statement = 7; line = 13; items = []; files = 1 ∷ [] } ∷ [];
+        depths = 1 ∷ 2 ∷ [];
+      };
+    })
         ≡ codes "ADVICE $BANK" ++ 10 ∷ [] ++ ((codes "C " ++ decimal 7 ++ codes " " ++ decimal 13 ++ []
         ++ codes " DISK" ++ 10 ∷ []) ++ []) ++ ((codes "O DISK " ++ decimal 2 ++ 10 ∷ []) ++ []) }
     ensures alone { advised_text site (record { process = 1; advice = record { lists = []; depths = [] } } ∷ [])
