@@ -79,8 +79,9 @@ abbrev Onward : {S P : Type 0} → Sizes → (S → Bool → List P) → (S → 
 Onward {S} {P} sizes buses goes kind all rest start s plan = (next : S) → goes s plan.event next
     → Stage sizes buses goes kind all rest start next plan.agenda.standing plan.agenda.lines plan.agenda.held_back
 
-pub as-turn : {S P : Type 0} (sizes : Sizes) (buses : S → Bool → List P) (counts : S → Counts) → CountsBuses buses counts
-    → (s : S) (from : Place) (event : Event) (to : Place) → Turns sizes (counts s).x (counts s).y from event to
+pub as-turn : {S P : Type 0} (sizes : Sizes) (buses : S → Bool → List P) (counts : S → Counts)
+    → CountsBuses buses counts → (s : S) (from : Place) (event : Event) (to : Place)
+    → Turns sizes (counts s).x (counts s).y from event to
     → TurnsIn sizes buses s from event to
 as-turn sizes buses counts counted s from event to turn =
     subst (λ x. Turns sizes x (length (buses s true)) from event to) (counted s).0

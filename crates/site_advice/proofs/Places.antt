@@ -96,9 +96,11 @@ module _ (specs : List ProcessSpec) (k : ℕ) (spec : ProcessSpec) (inside : k <
       by_place : (place < k) ⊎ (place ≡ k) → (advice : Advice) × IsAnswer program advice
       by_place (inl earlier) = before place program earlier there
       by_place (inr same) =
-          let at : program_at specs k ≡ Some program = ap (program_at specs) (sym same) ∙ there in
-          (advice, subst (λ (p : Program). IsAnswer p advice)
-          (same-program given.program program given.there (there-is program at)) given.answer)
+          let at : program_at specs k ≡ Some program = ap (program_at specs) (sym same) ∙ there in (
+            advice,
+            subst (λ (p : Program). IsAnswer p advice)
+                (same-program given.program program given.there (there-is program at)) given.answer,
+          )
 
   pub more-gathered : (old new : List PairAdvice) → AreGathered specs k old → IsMore k spec.what old new
       → AreGathered specs (k + 1) new

@@ -18,14 +18,22 @@ use site_advice::PairAdvice;
 use tal_tree::{FileUse, Kind, Program, Site, Target};
 
 /// Writes the advice for the pairs of a site, in order, and the end. It takes no memory.
-pub fn write_advised<K: Sink>(sink: &mut K, site: &Site, pairs: &[PairAdvice]) -> Result<(), WriteFault>
+pub fn write_advised<K: Sink>(
+    sink: &mut K,
+    site: &Site,
+    pairs: &[PairAdvice],
+) -> Result<(), WriteFault>
     ensures { Puts K.held K.faults K.sure sink.old sink.new (advised_text site.now pairs.now) result }
 {
     write_all_pairs(sink, site, pairs)?;
     write_end(sink, End::Advised)
 }
 
-fn write_all_pairs<K: Sink>(sink: &mut K, site: &Site, pairs: &[PairAdvice]) -> Result<(), WriteFault>
+fn write_all_pairs<K: Sink>(
+    sink: &mut K,
+    site: &Site,
+    pairs: &[PairAdvice],
+) -> Result<(), WriteFault>
     ensures { Puts K.held K.faults K.sure sink.old sink.new (pair_texts site.now pairs.now) result }
 {
     for pair in pairs {
@@ -184,12 +192,7 @@ fn write_files<K: Sink>(
     Ok(())
 }
 
-fn write_file<K: Sink>(
-    sink: &mut K,
-    site: &Site,
-    process: u8,
-    file: u8,
-) -> Result<(), WriteFault>
+fn write_file<K: Sink>(sink: &mut K, site: &Site, process: u8, file: u8) -> Result<(), WriteFault>
     ensures { Puts K.held K.faults K.sure sink.old sink.new (32 ∷ variable_name site.now process file) result }
 {
     let name = spaced(variable_name(site, process, file));

@@ -1,0 +1,143 @@
+-- The machine over packets has two buses.
+use Rattle.std.proofs.Common.{◌≡◌, inl, inr, ℕ, zero, suc, ◌∙◌, Bool, true, false, if◌then◌else◌, List, [], ◌∷◌, ◌++◌}
+use Rattle.std.proofs.Common.{slice_get, Option, Some, None, refl, ap, sym, subst}
+use Rattle.std.proofs.lemmas.List.{append_assoc, append-nil}
+use Rattle.std.specs.List.{remove}
+use Rattle.schedule.specs.declared.event.Event.{Event}
+use Rattle.schedule.specs.declared.event.Event.TheVariants.{Run, Enter, Deliver, Lose, Repeat, Tick, Fail}
+use Rattle.packet_words.specs.declared.bus_name.BusName.TheVariants as bus
+use Rattle.packet_words.specs.declared.packet.Packet.{Packet}
+use Rattle.bus_model.specs.Packets.{sent, has_room}
+use Rattle.world_semantics.specs.World.{is_running}
+use Rattle.world_semantics.specs.Running.{Done, run_done}
+use Rattle.computed_changes.specs.Entered.{enter_done}
+use Rattle.computed_changes.specs.Stopped.{stop_done}
+use Rattle.machine_states.specs.States.{Played, Makes, Skips, WouldStop}
+use Rattle.message_wires.specs.Play.{has_stopped}
+use Rattle.packet_wires.specs.Wires.{Wires, Midst, bus_named, packets_over, all_put}
+use Rattle.packet_wires.specs.Play.{Packeted, Underway, begun, deliver_acted, ended, fail_acted, lose_acted}
+use Rattle.packet_wires.specs.Play.{made_by, over, packet_at, play, received, repeat_acted, taken_off, tick_acted}
+use Rattle.round_laws.specs.Buses.{IsGrown, Leaves, HasBuses}
+use Rattle.packet_rounds.specs.Played.{buses_of, IsPlay}
+
+-- What is put on a bus comes behind what is there
+
+grown-none : {P : Type 0} (on : List P) → IsGrown on on
+grown-none on = ([], sym (append-nil on))
+
+grown-on : {P : Type 0} (one other last : List P) → IsGrown one other → IsGrown other last → IsGrown one last
+grown-on one other last g h = (g.0 ++ h.0, h.1 ∙ ap (λ l. l ++ h.0) g.1 ∙ append_assoc one g.0 h.0)
+
+sent-grown : (packet : Packet) (on : List Packet) → IsGrown on (sent packet on)
+sent-grown packet on = by (has_room on)
+  where
+    by : (room : Bool) → IsGrown on (if room then on ++ packet ∷ [] else on)
+    by true = (packet ∷ [], refl)
+    by false = grown-none on
+
+pub put-grown : (packets on : List Packet) → IsGrown on (all_put packets on)
+put-grown [] on = grown-none on
+put-grown (packet ∷ packets) on =
+    grown-on on (sent packet on) (all_put packets (sent packet on)) (sent-grown packet on)
+    (put-grown packets (sent packet on))
+
+-- nothing is taken off where nothing stands
+none-there : (on : List Packet) (k : ℕ) → slice_get on k ≡ None → remove on k ≡ on
+none-there [] zero none = refl
+none-there [] (suc k) none = refl
+none-there (packet ∷ on) zero none = absurd (cc)
+none-there (packet ∷ on) (suc k) none = ap (λ l. packet ∷ l) (none-there on k none)
+
+skipped-grown : (on : List Packet) (k : ℕ) → slice_get on k ≡ None → IsGrown (remove on k) on
+skipped-grown on k none = ([], sym (append-nil (remove on k) ∙ none-there on k none))
+
+-- Events
+
+abbrev LeavesIf : Packeted → Event → Played Wires → Type 0
+LeavesIf s event (Makes next) = (bus : Bool) → Leaves bus event (buses_of s bus) (buses_of next bus)
+LeavesIf s event Skips = (bus : Bool) → Leaves bus event (buses_of s bus) (buses_of s bus)
+LeavesIf s event (WouldStop processor) = Unit {0}
+
+-- what takes nothing off
+plain-made : (s : Packeted) (after : Underway) (bus : Bool)
+    → IsGrown (buses_of s bus) (buses_of (over s.wires after) bus)
+plain-made s after false = put-grown (packets_over bus.X after.wires.out) s.wires.x
+plain-made s after true = put-grown (packets_over bus.Y after.wires.out) s.wires.y
+
+-- what takes a packet off
+deliver-made : (s : Packeted) (y : Bool) (k : ℕ) (after : Underway) (bus : Bool)
+    → Leaves bus (Deliver y k) (buses_of s bus) (buses_of (over (taken_off (Deliver y k) s.wires) after) bus)
+deliver-made s false k after false = put-grown (packets_over bus.X after.wires.out) (remove s.wires.x k)
+deliver-made s false k after true = put-grown (packets_over bus.Y after.wires.out) s.wires.y
+deliver-made s true k after false = put-grown (packets_over bus.X after.wires.out) s.wires.x
+deliver-made s true k after true = put-grown (packets_over bus.Y after.wires.out) (remove s.wires.y k)
+
+deliver-skipped : (s : Packeted) (y : Bool) (k : ℕ) → packet_at s (bus_named y) k ≡ None → (bus : Bool)
+    → Leaves bus (Deliver y k) (buses_of s bus) (buses_of s bus)
+deliver-skipped s false k none false = skipped-grown s.wires.x k none
+deliver-skipped s false k none true = grown-none s.wires.y
+deliver-skipped s true k none false = grown-none s.wires.x
+deliver-skipped s true k none true = skipped-grown s.wires.y k none
+
+leaves : (s : Packeted) (event : Event) → LeavesIf s event (play s event)
+leaves s (Run number) = by (made_by (begun s) (run_done s.site number s.world))
+  where
+    by : (played : Played Midst) → LeavesIf s (Run number) (ended s.wires played)
+    by (Makes after) = plain-made s after
+    by Skips = λ bus. grown-none (buses_of s bus)
+    by (WouldStop processor) = tt
+leaves s (Enter terminal) = by (made_by (begun s) (enter_done s.site terminal s.world))
+  where
+    by : (played : Played Midst) → LeavesIf s (Enter terminal) (ended s.wires played)
+    by (Makes after) = plain-made s after
+    by Skips = λ bus. grown-none (buses_of s bus)
+    by (WouldStop processor) = tt
+leaves s (Tick node) = by (tick_acted node (begun s))
+  where
+    by : (played : Played Midst) → LeavesIf s (Tick node) (ended s.wires played)
+    by (Makes after) = plain-made s after
+    by Skips = λ bus. grown-none (buses_of s bus)
+    by (WouldStop processor) = tt
+leaves s (Repeat y k) = by (repeat_acted (bus_named y) (begun s) (packet_at s (bus_named y) k))
+  where
+    by : (played : Played Midst) → LeavesIf s (Repeat y k) (ended s.wires played)
+    by (Makes after) = plain-made s after
+    by Skips = λ bus. grown-none (buses_of s bus)
+    by (WouldStop processor) = tt
+leaves s (Deliver y k) = by (packet_at s (bus_named y) k) refl
+  where
+    by : (packet : Option Packet) → packet_at s (bus_named y) k ≡ packet
+        → LeavesIf s (Deliver y k) (ended (taken_off (Deliver y k) s.wires) (deliver_acted (bus_named y) (begun s)
+        packet))
+    by None is = deliver-skipped s y k is
+    by (Some packet) is = deliver-made s y k
+        (if is_running s.world.stopped packet.receiver then received (bus_named y) packet (begun s) else begun s)
+leaves s (Lose y k) = by (packet_at s (bus_named y) k) refl
+  where
+    by : (packet : Option Packet) → packet_at s (bus_named y) k ≡ packet
+        → LeavesIf s (Lose y k) (ended (taken_off (Lose y k) s.wires) (lose_acted (begun s) packet))
+    by None is = deliver-skipped s y k is
+    by (Some packet) is = deliver-made s y k (begun s)
+leaves s (Fail processor) = by (stop_done processor s.world)
+  where
+    same : (bus : Bool) → buses_of s bus ≡ buses_of s bus
+    same bus = refl
+
+    made : (done : Done) (bus : Bool)
+        → buses_of (over s.wires (record (begun s) { world = done.world })) bus ≡ buses_of s bus
+    made done false = refl
+    made done true = refl
+
+    first : (done : Done) (any : Bool) → LeavesIf s (Fail processor) (ended s.wires
+        (if any then WouldStop processor else Makes (record (begun s) { world = done.world })))
+    first done true = tt
+    first done false = made done
+
+    by : (done : Option Done) → LeavesIf s (Fail processor) (ended s.wires (fail_acted processor (begun s) done))
+    by None = same
+    by (Some done) = first done (has_stopped s.world.stopped)
+
+pub has-buses : HasBuses buses_of IsPlay
+has-buses s event next (inl made) bus = subst (LeavesIf s event) made (leaves s event) bus
+has-buses s event next (inr skipped) bus = subst (λ (t : Packeted). Leaves bus event (buses_of s bus) (buses_of t bus))
+    (sym skipped.1) (subst (LeavesIf s event) skipped.0 (leaves s event) bus)

@@ -1,0 +1,3 @@
+pub mod Buses
+pub mod Nets
+pub mod Rounds

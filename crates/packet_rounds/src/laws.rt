@@ -1,0 +1,53 @@
+ghost use Rattle.std.specs.Prelude.{◌≡◌, ◌≤◌, ℕ, ◌+◌, Bool, true, List, Some};
+ghost use Rattle.tal_tree.specs.declared.site.Site.{Site};
+ghost use Rattle.schedule.specs.declared.event.Counts.{Counts};
+ghost use Rattle.schedule.specs.declared.event.Event.{Event};
+ghost use Rattle.schedule.specs.declared.line.Line.{Line};
+ghost use Rattle.player.specs.declared.standing.Sizes.{Sizes};
+ghost use Rattle.player.specs.declared.standing.Rule.{Rule};
+ghost use Rattle.agendas.specs.Agendas.{Agenda};
+ghost use Rattle.link_control.specs.Ends.{End};
+ghost use Rattle.world_semantics.specs.World.{is_running};
+ghost use Rattle.channel_laws.specs.Way.{IsEnded, IsOutstanding};
+ghost use Rattle.packet_wires.specs.Nodes.{end_at};
+ghost use Rattle.packet_wires.specs.Play.{Packeted};
+ghost use Rattle.packet_wires.specs.Runs.{IsPlayed};
+ghost use Rattle.round_laws.specs.Buses.{IsGrown};
+ghost use Rattle.round_laws.specs.Rounds.{IsWholeRound};
+ghost use Rattle.round_laws.specs.Stretches.{BeginsRound, CountsBuses, EndsRound, GoesOn, is_drain};
+ghost use Rattle.packet_rounds.specs.Played.{IsClearPlay, IsPlay, buses_of, sizes_of};
+
+/// A whole round delivers all that was on both buses as it began, whatever is lost for want of room on the way: what
+/// comes off a bus begins with what was on it.
+pub fn a_round_over_packets_delivers_all()
+    ensures { (sizes : Sizes) (start next : Packeted) → (r : IsWholeRound sizes buses_of IsPlay start next)
+        → (bus : Bool) → IsGrown (buses_of start bus) (r.came bus) }
+{}
+
+/// Whatever was played before, four whole rounds in a row of one `drain` or `until` line, or more of them, end each
+/// piece that is outstanding as they begin between two nodes that still run as they end, where all their events are
+/// clear.
+pub fn four_clear_rounds_end_a_piece()
+    ensures { (site : Site) → site.processors ≤ 16 → (events : List Event) (start : Packeted)
+        → IsPlayed site events start
+        → (counts : Packeted → Counts) → CountsBuses buses_of counts → (rule : Rule) → is_drain rule ≡ true
+        → (left more : ℕ) (rest : List Line) (before now : ℕ) (agenda there : Agenda) (s : Packeted)
+        → BeginsRound (sizes_of site) (counts start) agenda rule (left + more + 4) rest
+        → GoesOn (sizes_of site) counts IsClearPlay before agenda start now there s → EndsRound there rule left rest
+        → (a b n : ℕ) → is_running s.world.stopped a ≡ true → is_running s.world.stopped b ≡ true → (e f : End)
+        → end_at start.wires.nodes a b ≡ Some e → IsOutstanding n e.sending → end_at s.wires.nodes a b ≡ Some f
+        → IsEnded n f.sending }
+{}
+
+/// So do six.
+pub fn six_clear_rounds_end_a_piece()
+    ensures { (site : Site) → site.processors ≤ 16 → (events : List Event) (start : Packeted)
+        → IsPlayed site events start
+        → (counts : Packeted → Counts) → CountsBuses buses_of counts → (rule : Rule) → is_drain rule ≡ true
+        → (left : ℕ) (rest : List Line) (before now : ℕ) (agenda there : Agenda) (s : Packeted)
+        → BeginsRound (sizes_of site) (counts start) agenda rule (left + 6) rest
+        → GoesOn (sizes_of site) counts IsClearPlay before agenda start now there s → EndsRound there rule left rest
+        → (a b n : ℕ) → is_running s.world.stopped a ≡ true → is_running s.world.stopped b ≡ true → (e f : End)
+        → end_at start.wires.nodes a b ≡ Some e → IsOutstanding n e.sending → end_at s.wires.nodes a b ≡ Some f
+        → IsEnded n f.sending }
+{}
