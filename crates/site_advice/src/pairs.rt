@@ -1,5 +1,5 @@
 ghost use Rattle.std.specs.Prelude.{◌≤◌, length, IfOk};
-ghost use Rattle.verdicts.specs.Refused.{AreJudgeable, IsJudgeable, IsJudgeableKind};
+ghost use Rattle.verdicts.specs.Judgeable.{AreJudgeable, IsJudgeable, IsJudgeableKind};
 ghost use Rattle.site_advice.specs.Pushed.{IsCause, IsPushed};
 ghost use Rattle.site_advice.specs.SiteAdvised.{IsSiteAdvice, IsUnadvised};
 

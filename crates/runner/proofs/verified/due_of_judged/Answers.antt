@@ -1,5 +1,6 @@
 use Rattle.std.proofs.Common.{◌≤◌, length, subst, sym}
-use Rattle.verdicts.specs.Refused.{AreAccepted, AreJudgeable}
+use Rattle.verdicts.specs.Judgeable.{AreJudgeable}
+use Rattle.verdicts.specs.Refused.{AreAccepted}
 use Rattle.runner.proofs.VerifiedLemmas.{report_is_due}
 use Rattle.runner.proofs.verified.due_of_judged.Goals as goal
 

@@ -1,2 +1,0 @@
-mod Playable
-mod Made
