@@ -19,7 +19,7 @@ use Rattle.trace_print.specs.TalNumbers.{IsOfText}
 use Rattle.runner.specs.Decided.{IsTold, IsDueOfAccepted, IsDueOfBytes, IsDueOfDeck, IsDueOfPrograms, IsDueOfSource}
 use Rattle.runner.specs.Decided.{due_of_fault}
 use Rattle.runner.specs.RunEnds.{status_of_run}
-use Rattle.runner.specs.Tasks.{can_stop}
+use Rattle.runner.specs.Tasks.{can_stop, judges}
 use Rattle.runner.specs.Written.{outcome_of, CanBeWritten}
 use Rattle.runner.specs.declared.due.Due.{Due}
 use Rattle.runner.specs.declared.due.Due.TheVariants as due
@@ -75,6 +75,8 @@ read_fault_only (due.Accepted site) (Ok done) e = absurd (cc)
 read_fault_only (due.Swept rows) (Ok done) e = absurd (cc)
 read_fault_only (due.Verified n) (Ok done) e = absurd (cc)
 read_fault_only (due.Rejected line cause) (Ok done) e = absurd (cc)
+read_fault_only (due.Advised advised) (Ok done) e = absurd (cc)
+read_fault_only (due.Unadvised refused) (Ok done) e = absurd (cc)
 read_fault_only (due.Report report) (Ok done) e = absurd (run_read report.run.ran.ending e)
 read_fault_only decided (Err fault) e = absurd (cc)
 
@@ -83,13 +85,15 @@ pub read_fault_is_due : (decided : Due) (result : Result ⊤ WriteFault) (outcom
     → outcome.status ≡ status.ReadFault → decided ≡ due.ReadFault
 read_fault_is_due decided result outcome is e = read_fault_only decided result (sym (ap (λ o. o.status) is) ∙ e)
 
--- what is due of a deck whose programs are all accepted
-pub accepted_is_due : (task : Task) (deck : Deck) (decided : Due) → AreAccepted deck.site.processes
+-- what is due of a deck whose programs are all accepted, where they have to be
+pub accepted_is_due : (task : Task) (deck : Deck) (decided : Due)
+    → (judges task ≡ true → AreAccepted deck.site.processes)
     → IsDueOfAccepted task deck decided
     → IsDueOfPrograms task deck decided
 accepted_is_due (task.Run acts stop) deck (due.ProgramRefused refused) accepted is = absurd is
 accepted_is_due task.Check deck (due.ProgramRefused refused) accepted is = absurd (cc)
 accepted_is_due (task.Sweep runs) deck (due.ProgramRefused refused) accepted is = absurd is
+accepted_is_due task.Advise deck (due.ProgramRefused refused) accepted is = absurd is
 accepted_is_due task deck (due.NoMemory _) accepted is = tt
 accepted_is_due task deck due.Usage accepted is = (accepted, is)
 accepted_is_due task deck due.ReadFault accepted is = (accepted, is)
@@ -99,22 +103,27 @@ accepted_is_due task deck (due.Report report) accepted is = (accepted, is)
 accepted_is_due task deck (due.Swept rows) accepted is = (accepted, is)
 accepted_is_due task deck (due.Verified n) accepted is = (accepted, is)
 accepted_is_due task deck (due.Rejected line cause) accepted is = (accepted, is)
+accepted_is_due task deck (due.Advised advised) accepted is = (accepted, is)
+accepted_is_due task deck (due.Unadvised refused) accepted is = (accepted, is)
 
 -- the usage, a read fault or a fault of the deck is due of no accepted programs
 no_usage : (task : Task) (deck : Deck) → IsDueOfAccepted task deck due.Usage → ⊥
 no_usage (task.Run acts stop) deck is = is
 no_usage task.Check deck is = cc
 no_usage (task.Sweep runs) deck is = is
+no_usage task.Advise deck is = is
 
 no_read_fault : (task : Task) (deck : Deck) → IsDueOfAccepted task deck due.ReadFault → ⊥
 no_read_fault (task.Run acts stop) deck is = is
 no_read_fault task.Check deck is = cc
 no_read_fault (task.Sweep runs) deck is = is
+no_read_fault task.Advise deck is = is
 
 no_deck_fault : (task : Task) (deck : Deck) (f : DeckFault) → IsDueOfAccepted task deck (due.DeckRefused f) → ⊥
 no_deck_fault (task.Run acts stop) deck f is = is
 no_deck_fault task.Check deck f is = cc
 no_deck_fault (task.Sweep runs) deck f is = is
+no_deck_fault task.Advise deck f is = is
 
 -- what is due of the programs of a deck on which the stop can be made
 pub programs_are_due : (task : Task) (deck : Deck) (decided : Due) → can_stop task deck.site ≡ true
@@ -130,6 +139,8 @@ programs_are_due task deck (due.Report report) can is = (can, is)
 programs_are_due task deck (due.Swept rows) can is = (can, is)
 programs_are_due task deck (due.Verified n) can is = (can, is)
 programs_are_due task deck (due.Rejected line cause) can is = (can, is)
+programs_are_due task deck (due.Advised advised) can is = (can, is)
+programs_are_due task deck (due.Unadvised refused) can is = (can, is)
 
 -- what is due of the deck that bytes spell
 pub deck_is_due : (task : Task) (bytes : List ℕ) (deck : Deck) (decided : Due) → Decks bytes deck
@@ -145,6 +156,8 @@ deck_is_due task bytes deck (due.Report report) decks is = (deck, decks, is)
 deck_is_due task bytes deck (due.Swept rows) decks is = (deck, decks, is)
 deck_is_due task bytes deck (due.Verified n) decks is = (deck, decks, is)
 deck_is_due task bytes deck (due.Rejected line cause) decks is = (deck, decks, is)
+deck_is_due task bytes deck (due.Advised advised) decks is = (deck, decks, is)
+deck_is_due task bytes deck (due.Unadvised refused) decks is = (deck, decks, is)
 
 -- no read fault is due of bytes
 bytes_are_read : (task : Task) (bytes : List ℕ) → IsDueOfBytes task bytes due.ReadFault → ⊥
@@ -168,3 +181,5 @@ bytes_are_due task left before now bytes (due.Report report) told is = (bytes, t
 bytes_are_due task left before now bytes (due.Swept rows) told is = (bytes, told, is)
 bytes_are_due task left before now bytes (due.Verified n) told is = (bytes, told, is)
 bytes_are_due task left before now bytes (due.Rejected line cause) told is = (bytes, told, is)
+bytes_are_due task left before now bytes (due.Advised advised) told is = (bytes, told, is)
+bytes_are_due task left before now bytes (due.Unadvised refused) told is = (bytes, told, is)

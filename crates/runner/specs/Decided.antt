@@ -17,10 +17,11 @@ use Rattle.schedule_runs.specs.Ends.{IsRunOf}
 use Rattle.schedule_runs.specs.declared.ran.Ending.TheVariants.{Idle}
 use Rattle.schedule_sweeps.specs.Sweeps.{IsSweepOf}
 use Rattle.shown_sectors.specs.Sectors.{sectors_after}
+use Rattle.site_advice.specs.SiteAdvised.{AreAdvised, IsFirstUnadvised}
 use Rattle.verdicts.specs.Refused.{AreAccepted, IsFirstRefused}
 use Rattle.runner.specs.RunEnds.{acts_of_run, shown_in}
 use Rattle.runner.specs.Stopped.{stopped_from}
-use Rattle.runner.specs.Tasks.{can_stop, load_task}
+use Rattle.runner.specs.Tasks.{can_stop, judges, load_task}
 use Rattle.runner.specs.Verified.{IsDueOfInput}
 use Rattle.runner.specs.declared.due.Due.{Due}
 use Rattle.runner.specs.declared.due.Due.TheVariants as due
@@ -59,19 +60,30 @@ IsDueOfSweep deck runs (due.Swept rows) = IsSweepOf deck.site deck.lines runs ro
 IsDueOfSweep deck runs (due.NoMemory _) = Unit {0}
 IsDueOfSweep deck runs _ = ⊥
 
--- what is due of a deck whose programs are all accepted, by what is to be done with it
+-- what is due of a deck for whose programs advice is asked: that for each, or the first for which there is none
+abbrev pub IsDueOfAdvice : Deck → Due → Type 0
+IsDueOfAdvice deck (due.Advised advised) =
+    (advised.site ≡ deck.site) × AreAdvised deck.site.processes advised.pairs
+IsDueOfAdvice deck (due.Unadvised refused) =
+    (refused.site ≡ deck.site) × IsFirstUnadvised deck.site.processes refused.found
+IsDueOfAdvice deck (due.NoMemory _) = Unit {0}
+IsDueOfAdvice deck _ = ⊥
+
+-- what is due of a deck whose programs are all accepted, where they have to be, by what is to be done with it
 abbrev pub IsDueOfAccepted : Task → Deck → Due → Type 0
 IsDueOfAccepted (task.Run tells stop) deck decided = IsDueOfRun deck stop tells decided
 IsDueOfAccepted task.Check deck decided = decided ≡ due.Accepted deck.site
 IsDueOfAccepted (task.Sweep runs) deck decided = IsDueOfSweep deck runs decided
+IsDueOfAccepted task.Advise deck decided = IsDueOfAdvice deck decided
 
 -- what is due of the programs of a deck: the first that is refused, or else what is due by what is to be done, and then
--- all are accepted
+-- all are accepted; where they needn't be, just that
 abbrev pub IsDueOfPrograms : Task → Deck → Due → Type 0
 IsDueOfPrograms task deck (due.ProgramRefused refused) =
-    (refused.site ≡ deck.site) × IsFirstRefused deck.site.processes refused.found
+    (refused.site ≡ deck.site) × IsFirstRefused deck.site.processes refused.found × (judges task ≡ true)
 IsDueOfPrograms task deck (due.NoMemory _) = Unit {0}
-IsDueOfPrograms task deck decided = AreAccepted deck.site.processes × IsDueOfAccepted task deck decided
+IsDueOfPrograms task deck decided =
+    (judges task ≡ true → AreAccepted deck.site.processes) × IsDueOfAccepted task deck decided
 
 -- what is due of a deck: the usage where a processor is to stop that it hasn't, else what is due of its programs
 abbrev pub IsDueOfDeck : Task → Deck → Due → Type 0
@@ -114,6 +126,7 @@ IsDueOfCommand (command.Run acts stop) left before now decided =
 IsDueOfCommand command.Check left before now decided = IsDueOfSource task.Check left before now decided
 IsDueOfCommand (command.Sweep runs) left before now decided = IsDueOfSource (task.Sweep runs) left before now decided
 IsDueOfCommand command.Verify left before now decided = IsDueOfVerify left before now decided
+IsDueOfCommand command.Advise left before now decided = IsDueOfSource task.Advise left before now decided
 IsDueOfCommand (command.Load requests) left before now decided =
     IsDueOfBytes (load_task requests) (load_text requests) decided
 
@@ -135,9 +148,10 @@ reads_deck (Some command.Check) = true
 reads_deck (Some (command.Load requests)) = false
 reads_deck (Some (command.Sweep runs)) = true
 reads_deck (Some command.Verify) = true
+reads_deck (Some command.Advise) = true
 
--- what is due only once the deck, and the report that follows it, was read to its end: a report, a sweep or a verdict,
--- a refusal for what the deck says, or the usage, where the deck hasn't the processor that is to stop
+-- what is due only once the deck, and the report that follows it, was read to its end: a report, a sweep, advice or a
+-- verdict, a refusal for what the deck says, or the usage, where the deck hasn't the processor that is to stop
 abbrev pub IsOfWholeDeck : Due → Type 0
 IsOfWholeDeck due.Usage = Unit {0}
 IsOfWholeDeck (due.Report report) = Unit {0}
@@ -146,6 +160,8 @@ IsOfWholeDeck (due.Accepted site) = Unit {0}
 IsOfWholeDeck (due.Swept rows) = Unit {0}
 IsOfWholeDeck (due.Verified acts) = Unit {0}
 IsOfWholeDeck (due.Rejected line cause) = Unit {0}
+IsOfWholeDeck (due.Advised advised) = Unit {0}
+IsOfWholeDeck (due.Unadvised refused) = Unit {0}
 IsOfWholeDeck (due.DeckRefused TooLong) = ⊥
 IsOfWholeDeck (due.DeckRefused fault) = Unit {0}
 IsOfWholeDeck _ = ⊥

@@ -4,6 +4,7 @@ use Rattle.gd_io.specs.Puts.{Puts}
 use Rattle.gd_io.specs.declared.writing.WriteFault.{WriteFault}
 use Rattle.plain_semantics.specs.SiteLimits.{KeepsSiteLimits}
 use Rattle.tal_tree.specs.declared.act.Act.{Act}
+use Rattle.trace_print.specs.AdviceText.{advised_text}
 use Rattle.trace_print.specs.EndLine.{usage_line}
 use Rattle.trace_print.specs.FaultLine.{fault_line, IsOfDeck}
 use Rattle.trace_print.specs.ReportText.{load_report_text, report_text}
@@ -59,6 +60,9 @@ text_of (due.Report report) = text_of_run report
 text_of (due.Swept rows) = sweep_text rows
 text_of (due.Verified acts) = verified_line acts
 text_of (due.Rejected line cause) = rejected_line line (cause_of cause)
+text_of (due.Advised advised) = advised_text advised.site advised.pairs
+text_of (due.Unadvised refused) =
+    refusal_text refused.site refused.found.process refused.found.refusal refused.found.lines
 
 abbrev pub status_of : Due → Status
 status_of due.Usage = status.Usage
@@ -71,6 +75,8 @@ status_of (due.Report report) = status_of_run report.run.ran.ending
 status_of (due.Swept rows) = status.Done
 status_of (due.Verified acts) = status.Done
 status_of (due.Rejected line cause) = status.Rejected line cause
+status_of (due.Advised advised) = status.Done
+status_of (due.Unadvised refused) = status.Refused refused.found.process refused.found.refusal
 
 abbrev pub run_of : Due → Option RunEnd
 run_of (due.Report report) = Some report.run

@@ -4,13 +4,14 @@ ghost use Rattle.command_words.specs.Asked.{asked_by, IsInRange};
 ghost use Rattle.load_deck.specs.LoadText.{load_text};
 ghost use Rattle.plain_semantics.specs.SiteLimits.{KeepsSiteLimits};
 ghost use Rattle.verdicts.specs.Refused.{AreAccepted};
-ghost use Rattle.runner.specs.Tasks.{load_task};
+ghost use Rattle.runner.specs.Tasks.{judges, load_task};
 ghost use Rattle.runner.specs.Written.{CanBeWritten};
 ghost use Rattle.runner.specs.Decided.{IsDue, IsDueOfCommand, IsDueOfSource, IsDueOfBytes, IsDueOfDeck};
 ghost use Rattle.runner.specs.Decided.{IsDueOfPrograms, IsDueOfAccepted, IsDueOfRun, IsDueOfSweep};
+ghost use Rattle.runner.specs.Decided.{IsDueOfAdvice};
 ghost use Rattle.runner.specs.Decided.{IsReportOf, IsSpelt, IsOfWholeDeck, due_of_fault, reads_deck};
 
-use crate::due::{Due, RefusedSite, Report};
+use crate::due::{AdvisedSite, Due, RefusedSite, Report};
 use crate::outcome::RunEnd;
 use crate::stopped::stopped_processors;
 use crate::sweep::swept;
@@ -28,6 +29,7 @@ use logs::Shared;
 use player::ProcessorStop;
 use schedule_runs::run;
 use shown_sectors::sectors_after;
+use site_advice::{SiteAdvice, advise_all};
 use std::alloc::Global;
 use tal_tree::DeckFault;
 use verdicts::first_refused;
@@ -69,6 +71,7 @@ fn due_of_command<S: Source>(alloc: Global, command: Command, source: &mut S) ->
         Command::Load(requests) => due_of_load(alloc, requests),
         Command::Sweep(runs) => due_of_source(alloc, Task::Sweep { runs }, source),
         Command::Verify => due_of_verify(alloc, source),
+        Command::Advise => due_of_source(alloc, Task::Advise, source),
     }
 }
 
@@ -134,6 +137,9 @@ fn due_of_programs(alloc: Global, task: Task, deck: Deck) -> Due
     ensures due { IsDueOfPrograms task deck result }
     ensures written { CanBeWritten result }
 {
+    if !task.judges() {
+        return due_of_accepted(alloc, task, deck);
+    }
     an_accepted_deck_meets_the_premises();
     match first_refused(alloc, deck.site.processes.as_slice()) {
         Err(memory) => Due::NoMemory(memory),
@@ -145,9 +151,10 @@ fn due_of_programs(alloc: Global, task: Task, deck: Deck) -> Due
     }
 }
 
+/// Does with a deck what is to be done, once its programs are judged, where they have to be.
 fn due_of_accepted(alloc: Global, task: Task, deck: Deck) -> Due
     requires spelt { IsSpelt deck }
-    requires accepted { AreAccepted deck.site.processes }
+    requires accepted { judges task ≡ true → AreAccepted deck.site.processes }
     ensures due { IsDueOfAccepted task deck result }
     ensures written { CanBeWritten result }
 {
@@ -158,6 +165,26 @@ fn due_of_accepted(alloc: Global, task: Task, deck: Deck) -> Due
             Due::Accepted(site)
         }
         Task::Sweep { runs } => due_of_sweep(alloc, deck, runs),
+        Task::Advise => due_of_advice(alloc, deck),
+    }
+}
+
+fn due_of_advice(alloc: Global, deck: Deck) -> Due
+    requires { IsSpelt deck }
+    ensures due { IsDueOfAdvice deck result }
+    ensures written { CanBeWritten result }
+{
+    an_accepted_deck_meets_the_premises();
+    match advise_all(alloc, deck.site.processes.as_slice()) {
+        Err(memory) => Due::NoMemory(memory),
+        Ok(SiteAdvice::Given(pairs)) => {
+            let Deck { site, lines: _ } = deck;
+            Due::Advised(AdvisedSite { site, pairs })
+        }
+        Ok(SiteAdvice::Refused(found)) => {
+            let Deck { site, lines: _ } = deck;
+            Due::Unadvised(RefusedSite { site, found })
+        }
     }
 }
 

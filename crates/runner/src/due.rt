@@ -5,6 +5,7 @@ use logs::Shared;
 use report_judge::Why;
 use run_table::Table;
 use shown_sectors::SectorWords;
+use site_advice::PairAdvice;
 use tal_tree::{DeckFault, Site};
 use verdicts::RefusedProgram;
 
@@ -27,6 +28,10 @@ pub enum Due {
     Verified(u32),
     /// The report is rejected at the line of this number, from 1.
     Rejected { line: u32, why: Why },
+    /// The advice for the programs of the site.
+    Advised(AdvisedSite),
+    /// No lists and depths mend a program.
+    Unadvised(RefusedSite),
 }
 
 /// A run that was made: its site, the run, what stands on the sectors that were written, the processors that have
@@ -38,6 +43,13 @@ pub struct Report {
     pub sectors: List<SectorWords>,
     pub stopped: List<u8>,
     pub tells: Telling,
+}
+
+/// A site, and the advice for each pair, in deck order.
+#[derive(Drop)]
+pub struct AdvisedSite {
+    pub site: Site,
+    pub pairs: List<PairAdvice>,
 }
 
 /// A site, and its first program that is refused.

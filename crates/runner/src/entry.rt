@@ -17,8 +17,8 @@ use schedule_runs::Ending;
 use std::alloc::Global;
 use tal_tree::Act;
 use trace_print::{
-    End, write_checked, write_fault, write_load_report, write_refusal, write_rejected,
-    write_report, write_sweep, write_usage, write_verified,
+    End, write_advised, write_checked, write_fault, write_load_report, write_refusal,
+    write_rejected, write_report, write_sweep, write_usage, write_verified,
 };
 use verdicts::RefusedProgram;
 
@@ -44,9 +44,11 @@ pub fn exit_number<S: Source, K: Sink>(
 /// processor. Any other words give the usage, and so does a processor that the deck hasn't. `load N` reads no deck: it
 /// runs the load deck with N requests of each terminal, and tells in place of each write and reply how many there were.
 /// `sweep N` judges a deck as `run` does, runs it once for each of its processors and each number of events below N,
-/// with a stop of that processor after so many, and tells for each processor how its runs ended. `verify` reads a deck
-/// and after it a report as `run --acts` writes one, judges the programs as `run` does, and tells whether the report is
-/// one of the deck by the machine of single unfailing processes, or at which line and for which cause it isn't.
+/// with a stop of that processor after so many, and tells for each processor how its runs ended. `advise` tells for
+/// each program what its CHECKPOINTs have to name and how many replies its files need, or why the first is refused that
+/// nothing mends. `verify` reads a deck and after it a report as `run --acts` writes one, judges the programs as `run`
+/// does, and tells whether the report is one of the deck by the machine of single unfailing processes, or at which line
+/// and for which cause it isn't.
 pub fn command<S: Source, K: Sink>(
     alloc: Global,
     words: &[String],
@@ -74,6 +76,8 @@ fn write_due<K: Sink>(sink: &mut K, due: &Due) -> Result<(), WriteFault>
         Due::Swept(table) => write_sweep(sink, table.rows()),
         Due::Verified(acts) => write_verified(sink, *acts),
         Due::Rejected { line, why } => write_rejected(sink, *line, cause_of(*why)),
+        Due::Advised(advised) => write_advised(sink, &advised.site, advised.pairs.as_slice()),
+        Due::Unadvised(refused) => write_refused(sink, refused),
         Due::ReadFault => Ok(()),
         Due::NoMemory(_) => Ok(()),
     }
@@ -174,6 +178,8 @@ fn done(due: Due) -> Outcome
         Due::Swept(_) => Outcome::without_run(Status::Done),
         Due::Verified(_) => Outcome::without_run(Status::Done),
         Due::Rejected { line, why } => Outcome::without_run(Status::Rejected { line, why }),
+        Due::Advised(_) => Outcome::without_run(Status::Done),
+        Due::Unadvised(refused) => Outcome::without_run(status_of_refused(refused)),
         Due::Report(report) => Outcome {
             status: report.run.status(),
             run: Some(report.run),
@@ -208,6 +214,8 @@ fn cut_off(due: Due) -> Outcome
         Due::Swept(_) => None,
         Due::Verified(_) => None,
         Due::Rejected { line: _, why: _ } => None,
+        Due::Advised(_) => None,
+        Due::Unadvised(_) => None,
     };
     Outcome {
         status: Status::WriteFault,

@@ -28,14 +28,15 @@ impl Outcome {
 /// How a call ended.
 #[derive(Drop)]
 pub enum Status {
-    /// The run ended idle, or all programs are accepted and no more was asked, or all runs of a sweep were made, or the
-    /// report is one of its deck.
+    /// The run ended idle, or all programs are accepted and no more was asked, or all runs of a sweep were made, or all
+    /// programs have advice, or the report is one of its deck.
     Done,
     /// The words are no command, or the processor that is to stop isn't one of the deck.
     Usage,
     /// The bytes aren't a deck.
     DeckRefused(DeckFault),
-    /// The program of the process at this place in the deck isn't accepted, and those before it are.
+    /// The program of the process at this place in the deck isn't accepted, and those before it are; or there is no
+    /// advice for it, and there is for those before it.
     Refused { process: u8, refusal: RefusalFault },
     /// The schedule was over, and something was left to do.
     Cut,

@@ -1,5 +1,5 @@
 ghost use Rattle.std.specs.Prelude.{◌≡◌};
-ghost use Rattle.runner.specs.Tasks.{can_stop, load_task};
+ghost use Rattle.runner.specs.Tasks.{can_stop, judges, load_task};
 
 use player::ProcessorStop;
 use tal_tree::Site;
@@ -30,6 +30,8 @@ pub enum Task {
     Sweep {
         runs: u32,
     },
+    /// To say what its programs have to name and keep at the least.
+    Advise,
 }
 
 impl Task {
@@ -58,6 +60,17 @@ impl Task {
             } => true,
             Task::Check => true,
             Task::Sweep { runs: _ } => true,
+            Task::Advise => true,
+        }
+    }
+
+    /// Whether the programs have to be accepted before anything is done with the deck.
+    pub(crate) fn judges(self) -> bool
+        ensures { result ≡ judges self }
+    {
+        match self {
+            Task::Advise => false,
+            _ => true,
         }
     }
 }
