@@ -1,4 +1,4 @@
-ghost use Rattle.std.specs.Prelude.{◌≡◌, ◌++◌, ℕ, List, Ok, Err, Option, true, false};
+ghost use Rattle.std.specs.Prelude.{◌≡◌, ◌++◌, ℕ, List, Ok, Err, None, Option, true, false};
 ghost use Rattle.tal_tree.specs.declared.fault.DeckFault.{DeckFault};
 ghost use Rattle.tal_tree.specs.declared.fault.DeckFault.TheVariants.{OpensItself, TooLong};
 ghost use Rattle.tal_tree.specs.declared.site.Site.{Site};
@@ -12,20 +12,23 @@ ghost use Rattle.report_judge.specs.Verdicts.{IsVerdict};
 ghost use Rattle.report_judge.specs.declared.judge.VerifyRefusal.TheVariants as refusal;
 ghost use Rattle.report_judge.specs.declared.judge.Why.{Why};
 ghost use Rattle.trace_print.specs.FaultLine.{IsOfDeck};
+ghost use Rattle.site_advice.specs.SiteAdvised.{AreAdvised, IsFirstUnadvised};
 ghost use Rattle.verdicts.specs.Refused.{AreAccepted, IsFirstRefused};
 ghost use Rattle.load_deck.specs.LoadText.{load_text};
 ghost use Rattle.run_table.specs.declared.table.ProcessorRow.{ProcessorRow};
 ghost use Rattle.runner.specs.Decided.{IsDueOfAccepted, IsDueOfBytes, IsDueOfCommand, IsDueOfDeck, IsDueOfPrograms};
-ghost use Rattle.runner.specs.Decided.{IsDueOfRun, IsDueOfSource, IsDueOfVerify, IsDueOn, IsOfWholeDeck, IsReportOf};
-ghost use Rattle.runner.specs.Tasks.{can_stop, load_task};
+ghost use Rattle.runner.specs.Decided.{IsDueOfAdvice, IsDueOfRun, IsDueOfSource, IsDueOfVerify, IsDueOn};
+ghost use Rattle.runner.specs.Decided.{IsOfWholeDeck, IsReportOf};
+ghost use Rattle.runner.specs.Tasks.{can_stop, judges, load_task};
 ghost use Rattle.runner.specs.Verified.{IsDueOfInput, IsDueOfJudged, IsDueOfReport, deck_in, report_in};
 ghost use Rattle.runner.specs.Written.{CanBeWritten};
+ghost use Rattle.runner.specs.declared.due.AdvisedSite.{AdvisedSite};
 ghost use Rattle.runner.specs.declared.due.Due.{Due};
 ghost use Rattle.runner.specs.declared.due.Due.TheVariants as due;
 ghost use Rattle.runner.specs.declared.due.RefusedSite.{RefusedSite};
 ghost use Rattle.runner.specs.declared.due.Report.{Report};
 ghost use Rattle.runner.specs.declared.task.Task.{Task};
-ghost use Rattle.runner.specs.declared.task.Task.TheVariants.{Check, Run, Sweep};
+ghost use Rattle.runner.specs.declared.task.Task.TheVariants.{Advise, Check, Run, Sweep};
 ghost use Rattle.runner.specs.declared.task.Telling.{Telling};
 ghost use Rattle.runner.specs.declared.task.Telling.TheVariants.{Lines};
 
@@ -48,6 +51,8 @@ pub fn a_refusal_is_of_what_was_read()
     ensures program { (task : Task) (deck : Deck) (refused : RefusedSite)
         → IsDueOfPrograms task deck (due.ProgramRefused refused)
         → IsFirstRefused deck.site.processes refused.found }
+    ensures judged { (deck : Deck) (refused : RefusedSite)
+        → IsDueOfPrograms Advise deck (due.ProgramRefused refused) → ⊥ }
     ensures site { (task : Task) (deck : Deck) (refused : RefusedSite)
         → IsDueOfPrograms task deck (due.ProgramRefused refused) → refused.site ≡ deck.site }
     ensures line { (fault : DeckFault) → CanBeWritten (due.DeckRefused fault) → IsOfDeck fault }
@@ -60,12 +65,29 @@ pub fn a_report_is_of_an_accepted_deck()
         → AreAccepted deck.site.processes }
     ensures site { (deck : Deck) (site : Site) → IsDueOfAccepted Check deck (due.Accepted site)
         → due.Accepted site ≡ due.Accepted deck.site }
-    ensures report { (deck : Deck) (task : Task) (report : Report) → IsDueOfPrograms task deck (due.Report report)
-        → AreAccepted deck.site.processes }
+    ensures report { (deck : Deck) (task : Task) (report : Report) → judges task ≡ true
+        → IsDueOfPrograms task deck (due.Report report) → AreAccepted deck.site.processes }
     ensures run { (deck : Deck) (stop : Option ProcessorStop) (tells : Telling) (report : Report)
         → IsDueOfRun deck stop tells (due.Report report) → IsReportOf deck stop report }
     ensures tells { (deck : Deck) (stop : Option ProcessorStop) (tells : Telling) (report : Report)
         → IsDueOfRun deck stop tells (due.Report report) → report.tells ≡ tells }
+{}
+
+/// Advice is for each pair of the deck, whether its program is accepted or not, or is refused for the first that
+/// nothing mends; and no other verdict or report comes of asking for it.
+pub fn advice_is_for_the_programs_of_the_deck()
+    ensures advised { (deck : Deck) (advised : AdvisedSite) → IsDueOfPrograms Advise deck (due.Advised advised)
+        → AreAdvised deck.site.processes advised.pairs }
+    ensures site { (deck : Deck) (advised : AdvisedSite) → IsDueOfAdvice deck (due.Advised advised)
+        → advised.site ≡ deck.site }
+    ensures refused { (deck : Deck) (refused : RefusedSite) → IsDueOfPrograms Advise deck (due.Unadvised refused)
+        → IsFirstUnadvised deck.site.processes refused.found }
+    ensures its_site { (deck : Deck) (refused : RefusedSite) → IsDueOfAdvice deck (due.Unadvised refused)
+        → refused.site ≡ deck.site }
+    ensures accepted { (deck : Deck) (site : Site) → IsDueOfAccepted Advise deck (due.Accepted site) → ⊥ }
+    ensures report { (deck : Deck) (report : Report) → IsDueOfAccepted Advise deck (due.Report report) → ⊥ }
+    ensures run { (deck : Deck) (advised : AdvisedSite)
+        → IsDueOfRun deck None (Lines true) (due.Advised advised) → ⊥ }
 {}
 
 /// A run is of the deck that is read, with the acts and the stop that the words ask for; a load is of its own deck, and
@@ -83,6 +105,9 @@ pub fn a_command_reads_its_deck()
     ensures verify { (left : Option (List ℕ)) (before now : ℕ) (decided : Due)
         → IsDueOfCommand command.Verify left before now decided
         → IsDueOfVerify left before now decided }
+    ensures advise { (left : Option (List ℕ)) (before now : ℕ) (decided : Due)
+        → IsDueOfCommand command.Advise left before now decided
+        → IsDueOfSource Advise left before now decided }
     ensures load { (requests : ℕ) (left : Option (List ℕ)) (before now : ℕ) (decided : Due)
         → IsDueOfCommand (command.Load requests) left before now decided
         → IsDueOfBytes (load_task requests) (load_text requests) decided }
@@ -103,8 +128,8 @@ pub fn a_verdict_is_of_its_report()
     ensures whole { (bytes : List ℕ) → deck_in bytes ++ report_in bytes ≡ bytes }
 {}
 
-/// A deck was read to its end where a report, a verdict, the usage or a fault of a line is due, but for one that is too
-/// long.
+/// A deck was read to its end where a report, a verdict, advice, the usage or a fault of a line is due, but for one that
+/// is too long.
 pub fn a_deck_is_read_to_its_end()
     ensures usage { IsOfWholeDeck due.Usage }
     ensures report { (report : Report) → IsOfWholeDeck (due.Report report) }
@@ -113,6 +138,8 @@ pub fn a_deck_is_read_to_its_end()
     ensures swept { (rows : List ProcessorRow) → IsOfWholeDeck (due.Swept rows) }
     ensures verified { (acts : ℕ) → IsOfWholeDeck (due.Verified acts) }
     ensures rejected { (line : ℕ) (cause : Why) → IsOfWholeDeck (due.Rejected line cause) }
+    ensures advised { (advised : AdvisedSite) → IsOfWholeDeck (due.Advised advised) }
+    ensures unadvised { (refused : RefusedSite) → IsOfWholeDeck (due.Unadvised refused) }
     ensures fault { (line : ℕ) → IsOfWholeDeck (due.DeckRefused (OpensItself line)) }
     ensures too_long { IsOfWholeDeck (due.DeckRefused TooLong) → ⊥ }
     ensures read_fault { IsOfWholeDeck due.ReadFault → ⊥ }

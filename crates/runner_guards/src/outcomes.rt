@@ -4,6 +4,7 @@ ghost use Rattle.tal_tree.specs.declared.fault.DeckFault.{DeckFault};
 ghost use Rattle.tal_tree.specs.declared.site.Site.{Site};
 ghost use Rattle.path_semantics.specs.declared.reason.RefusalFault.{RefusalFault};
 ghost use Rattle.gd_io.specs.declared.writing.WriteFault.{WriteFault};
+ghost use Rattle.trace_print.specs.AdviceText.{advised_text};
 ghost use Rattle.trace_print.specs.EndLine.{usage_line};
 ghost use Rattle.trace_print.specs.FaultLine.{fault_line};
 ghost use Rattle.trace_print.specs.RowLine.{sweep_text};
@@ -14,6 +15,7 @@ ghost use Rattle.report_judge.specs.declared.judge.Why.{Why};
 ghost use Rattle.report_judge.specs.declared.judge.Why.TheVariants as why;
 ghost use Rattle.runner.specs.RunEnds.{status_of_run};
 ghost use Rattle.runner.specs.Written.{cause_of, outcome_of, run_of, status_of, text_of, text_of_run};
+ghost use Rattle.runner.specs.declared.due.AdvisedSite.{AdvisedSite};
 ghost use Rattle.runner.specs.declared.due.Due.{Due};
 ghost use Rattle.runner.specs.declared.due.Due.TheVariants as due;
 ghost use Rattle.runner.specs.declared.due.RefusedSite.{RefusedSite};
@@ -44,6 +46,13 @@ pub fn what_is_due_is_written()
     ensures rejected { (line : ℕ) (cause : Why)
         → (text_of (due.Rejected line cause) ≡ rejected_line line (cause_of cause))
         × (status_of (due.Rejected line cause) ≡ status.Rejected line cause) }
+    ensures advised { (advised : AdvisedSite)
+        → (text_of (due.Advised advised) ≡ advised_text advised.site advised.pairs)
+        × (status_of (due.Advised advised) ≡ status.Done) }
+    ensures unadvised { (refused : RefusedSite)
+        → (text_of (due.Unadvised refused)
+        ≡ refusal_text refused.site refused.found.process refused.found.refusal refused.found.lines)
+        × (status_of (due.Unadvised refused) ≡ status.Refused refused.found.process refused.found.refusal) }
 {}
 
 /// A write fault changes the status and not the run; and only a report has one.
@@ -57,6 +66,7 @@ pub fn a_write_fault_leaves_the_run()
     ensures swept { (rows : List ProcessorRow) → run_of (due.Swept rows) ≡ None }
     ensures verified { (acts : ℕ) → run_of (due.Verified acts) ≡ None }
     ensures rejected { (line : ℕ) (cause : Why) → run_of (due.Rejected line cause) ≡ None }
+    ensures advised { (advised : AdvisedSite) → run_of (due.Advised advised) ≡ None }
 {}
 
 /// A cause for which a report is rejected has its number.

@@ -1,4 +1,4 @@
-ghost use Rattle.std.specs.Prelude.{◌≡◌, ◌∷◌, [], ℕ, Some, None, true, false};
+ghost use Rattle.std.specs.Prelude.{◌≡◌, ◌∷◌, [], ℕ, Option, Some, None, true, false};
 ghost use Rattle.gd_words.specs.Memory.{no_memory};
 ghost use Rattle.tal_tree.specs.declared.fault.DeckFault.{DeckFault};
 ghost use Rattle.tal_tree.specs.declared.site.Site.{Site};
@@ -6,10 +6,11 @@ ghost use Rattle.path_semantics.specs.declared.reason.RefusalFault.{RefusalFault
 ghost use Rattle.report_judge.specs.declared.judge.Why.{Why};
 ghost use Rattle.runner.specs.Numbers.{status_number};
 ghost use Rattle.runner.specs.Stopped.{stopped_from};
-ghost use Rattle.runner.specs.Tasks.{can_stop, load_task};
+ghost use Rattle.runner.specs.Tasks.{can_stop, judges, load_task};
 ghost use Rattle.runner.specs.declared.outcome.Status.TheVariants as status;
-ghost use Rattle.runner.specs.declared.task.Task.TheVariants.{Check, Run, Sweep};
+ghost use Rattle.runner.specs.declared.task.Task.TheVariants.{Advise, Check, Run, Sweep};
 ghost use Rattle.runner.specs.declared.task.Telling.{Telling};
+ghost use Rattle.player.specs.declared.stop.ProcessorStop.{ProcessorStop};
 ghost use Rattle.runner.specs.declared.task.Telling.TheVariants.{Counts};
 
 /// The program ends with the number of its status.
@@ -40,5 +41,14 @@ pub fn a_task_is_that_of_its_command()
     ensures no_stop { (site : Site) (tells : Telling) → can_stop (Run tells None) site ≡ true }
     ensures check { (site : Site) → can_stop Check site ≡ true }
     ensures sweep { (site : Site) (runs : ℕ) → can_stop (Sweep runs) site ≡ true }
+    ensures advise { (site : Site) → can_stop Advise site ≡ true }
     ensures load { (requests : ℕ) → load_task requests ≡ Run (Counts requests) None }
+{}
+
+/// Programs have to be accepted for all but advice.
+pub fn programs_are_judged_for_all_but_advice()
+    ensures run { (tells : Telling) (stop : Option ProcessorStop) → judges (Run tells stop) ≡ true }
+    ensures check { judges Check ≡ true }
+    ensures sweep { (runs : ℕ) → judges (Sweep runs) ≡ true }
+    ensures advise { judges Advise ≡ false }
 {}

@@ -45,11 +45,12 @@ pub fn a_report_is_by_what_it_tells()
         (end_of report.run.ran.ending) }
 {}
 
-/// A deck is read to run, check or sweep it, and not for a load or for words that are no command.
+/// A deck is read to run, check or sweep it or to advise, and not for a load or for words that are no command.
 pub fn a_deck_is_read_for_what_needs_it()
     ensures run { (acts : Bool) (stop : Option ProcessorStop) → reads_deck (Some (command.Run acts stop)) ≡ true }
     ensures check { reads_deck (Some command.Check) ≡ true }
     ensures sweep { (runs : ℕ) → reads_deck (Some (command.Sweep runs)) ≡ true }
+    ensures advise { reads_deck (Some command.Advise) ≡ true }
     ensures load { (requests : ℕ) → reads_deck (Some (command.Load requests)) ≡ false }
     ensures nothing { reads_deck None ≡ false }
 {}
