@@ -269,9 +269,9 @@ pub nobody-stopped : {S P : Type 0} (sizes : Sizes) (w : Sight S P) (counts : S 
     (goes : S → Event → S → Type 0) → IsWatched sizes.processors w goes → CountsBuses w.buses counts
     → sizes.processors ≤ 16 → (before : ℕ) (agenda : Agenda) (s next : S) → RunsFresh sizes w counts agenda s
     → (plan : Plan) → upcoming sizes before (counts s) agenda ≡ Some plan → goes s plan.event next → (node p : ℕ)
-    → plan.event ≡ Tick node → node < sizes.processors → p < sizes.processors → w.runs s p ≡ true
+    → plan.event ≡ Tick node → p < sizes.processors → w.runs s p ≡ true
     → w.runs next p ≡ true
-nobody-stopped {S} {P} sizes w counts goes watched counted few before agenda s next h plan comes g node p is low low_p
+nobody-stopped {S} {P} sizes w counts goes watched counted few before agenda s next h plan comes g node p is low_p
     ran =
     by (w.runs next p) refl
   where
@@ -279,4 +279,4 @@ nobody-stopped {S} {P} sizes w counts goes watched counted few before agenda s n
     by true same = refl
     by false gone = let line = watched.stops s next node p (subst (λ e. goes s e next) is g) ran gone in
         absurd (nobody-silent sizes w counts counted few before agenda s h plan comes node p is
-        (record { one = low; other = low_p; apart = line.apart; here = line.runs; there = ran }) line.silent)
+        (record { one = line.one; other = low_p; apart = line.apart; here = line.runs; there = ran }) line.silent)

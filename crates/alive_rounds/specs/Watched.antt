@@ -52,8 +52,9 @@ pub record TicksWatch {S P : Type 0} (processors : ℕ) (w : Sight S P) (s next 
   pub sends : (q : ℕ) → q < processors → q ≢ node → w.runs next q ≡ true → IsThere (w.knows s node q)
       → IsAmong (w.alive node q) (w.buses next false)
 
--- a node pulls the line of a processor at a tick: it runs, it isn't that one, and finds it silent
-pub record PullsLine {S P : Type 0} (w : Sight S P) (s : S) (node p : ℕ) : Type 0 where
+-- a node pulls the line of a processor at a tick: it is another processor, it runs, and it finds that one silent
+pub record PullsLine {S P : Type 0} (processors : ℕ) (w : Sight S P) (s : S) (node p : ℕ) : Type 0 where
+  pub one : node < processors
   pub runs : w.runs s node ≡ true
   pub apart : node ≢ p
   pub silent : option_map is_silent (after_tick_of (w.checks s node) (w.knows s node p)) ≡ Some true
@@ -69,4 +70,4 @@ pub record IsWatched {S P : Type 0} (processors : ℕ) (w : Sight S P) (goes : S
   pub ticks : (s next : S) (node : ℕ) → goes s (Tick node) next → node < processors → w.runs next node ≡ true
       → TicksWatch processors w s next node
   pub stops : (s next : S) (node p : ℕ) → goes s (Tick node) next → w.runs s p ≡ true → w.runs next p ≡ false
-      → PullsLine w s node p
+      → PullsLine processors w s node p

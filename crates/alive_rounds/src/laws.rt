@@ -36,5 +36,5 @@ pub fn a_calm_schedule_stops_nobody_at_a_tick()
         → PlaysOn sizes counts (Plays machine) start lines stop events agenda s
         → (plan : Plan) → upcoming sizes (length events) (counts s) agenda ≡ Some plan
         → (next : ℕ) → Plays machine s plan.event next → (node p : ℕ) → plan.event ≡ Tick node
-        → node < sizes.processors → p < sizes.processors → w.runs s p ≡ true → w.runs next p ≡ true }
+        → p < sizes.processors → w.runs s p ≡ true → w.runs next p ≡ true }
 {}

@@ -50,12 +50,12 @@ set-ran stopped k q runs = by (same k q)
     by (differ apart) = ap (runs_by q) (sym (set-other stopped k q true apart)) ∙ runs
 
 -- what an event leaves of the site, and who ran before it
-record Remains (s next : Packeted) : Type 0 where
-  site : next.site ≡ s.site
-  size : length next.world.stopped ≡ length s.world.stopped
-  ran : (q : ℕ) → is_running next.world.stopped q ≡ true → is_running s.world.stopped q ≡ true
+pub record Remains (s next : Packeted) : Type 0 where
+  pub site : next.site ≡ s.site
+  pub size : length next.world.stopped ≡ length s.world.stopped
+  pub ran : (q : ℕ) → is_running next.world.stopped q ≡ true → is_running s.world.stopped q ≡ true
 
-remains : (s : Packeted) (event : Event) (next : Packeted) → play s event ≡ Makes next → Remains s next
+pub remains : (s : Packeted) (event : Event) (next : Packeted) → play s event ≡ Makes next → Remains s next
 remains s event next made = by (play s event) (play-goes s event) made
   where
     by : (played : Played Wires) → going.Goes s played → played ≡ Makes next → Remains s next
@@ -91,7 +91,7 @@ pub record IsNetted (site : Site) (s : Packeted) : Type 0 where
   pub size : length s.world.stopped ≡ site.processors
   pub same : s.site ≡ site
 
-terminals-run : (stopped : List Bool) → length stopped ≤ 16 → is_running stopped 16 ≡ true
+pub terminals-run : (stopped : List Bool) → length stopped ≤ 16 → is_running stopped 16 ≡ true
 terminals-run stopped few = by (slice_get stopped 16) refl
   where
     by : (one : Option Bool) → slice_get stopped 16 ≡ one → runs_by 16 one ≡ true

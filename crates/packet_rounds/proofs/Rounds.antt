@@ -192,7 +192,7 @@ tick-acts s node here skips = by (is_running s.world.stopped node) here skips
     by true is skips = ended-acts node after s.wires (pulls_its node after)
         (pulls-acts node after (line_of node after)) skips
 
-clear-buses : HasBuses buses_of IsClearPlay
+pub clear-buses : HasBuses buses_of IsClearPlay
 clear-buses s event next g = has-buses s event next g.1
 
 -- its own tick in a round
@@ -411,7 +411,7 @@ rounds-end sizes n a b k first s start is few which rounds here there e f at out
     subst (λ (d : End). IsEnded n d.sending) (m.is.tied.ends a b f here later) m.come
 
 -- a node that runs is a processor of the site, or carries the terminals
-in-site : (stopped : List Bool) (processors a : ℕ) → length stopped ≡ processors → is_running stopped a ≡ true
+pub in-site : (stopped : List Bool) (processors a : ℕ) → length stopped ≡ processors → is_running stopped a ≡ true
     → (a < processors) ⊎ (a ≡ 16)
 in-site stopped processors a size here = by (slice_get stopped a) refl here
   where

@@ -1,0 +1,90 @@
+-- What events other than ticks do to what nodes know.
+use Rattle.std.proofs.Common.{◌≡◌, ℕ, Bool, true, false, if◌then◌else◌, slice_get, Option, Some}
+use Rattle.std.proofs.Common.{None, refl}
+use Rattle.schedule.specs.declared.event.Event.{Event}
+use Rattle.schedule.specs.declared.event.Event.TheVariants.{Run, Enter, Deliver, Lose, Repeat, Tick, Fail}
+use Rattle.packet_words.specs.declared.packet.Packet.{Packet}
+use Rattle.world_semantics.specs.World.{is_running}
+use Rattle.world_semantics.specs.Running.{Done, run_done}
+use Rattle.computed_changes.specs.Entered.{enter_done}
+use Rattle.computed_changes.specs.Stopped.{stop_where, stopped_world}
+use Rattle.message_wires_laws.proofs.Stopping.{StopsNone, run-none, enter-none}
+use Rattle.message_wires.specs.Play.{has_stopped}
+use Rattle.machine_states.specs.States.{Played, Makes, Skips, WouldStop}
+use Rattle.packet_wires.specs.Wires.{Midst, bus_named}
+use Rattle.packet_wires.specs.Play.{Packeted, Underway, acted, begun, deliver_acted, fail_acted, lose_acted, made_by}
+use Rattle.packet_wires.specs.Play.{packet_at, received, repeat_acted}
+use Rattle.calm_runs.proofs.Sending.{over-still}
+use Rattle.calm_runs.proofs.Watching.{StateKeeps, state-none, any-keeps, received-keeps, still-keeps}
+
+-- neither a tick nor a stop
+abbrev pub is_quiet : Event → Bool
+is_quiet (Run number) = true
+is_quiet (Enter terminal) = true
+is_quiet (Deliver y k) = true
+is_quiet (Lose y k) = true
+is_quiet (Repeat y k) = true
+is_quiet (Tick node) = false
+is_quiet (Fail processor) = false
+
+abbrev pub KeepsIf : Packeted → Played Midst → Type 0
+KeepsIf s (Makes after) = StateKeeps (begun s) after
+KeepsIf s Skips = Unit {0}
+KeepsIf s (WouldStop processor) = ⊥
+
+made-keeps : (s : Packeted) (done : Option Done) → StopsNone s.world done → KeepsIf s (made_by (begun s) done)
+made-keeps s None none = tt
+made-keeps s (Some done) none = any-keeps (begun s) (Some done) none
+
+pub quiet-keeps : (s : Packeted) (event : Event) → is_quiet event ≡ true → KeepsIf s (acted s event)
+quiet-keeps s (Run number) quiet = made-keeps s (run_done s.site number s.world) (run-none s.site s.world number)
+quiet-keeps s (Enter terminal) quiet =
+    made-keeps s (enter_done s.site terminal s.world) (enter-none s.site s.world terminal)
+quiet-keeps s (Deliver y k) quiet = by (packet_at s (bus_named y) k)
+  where
+    to : (packet : Packet) (runs : Bool)
+        → StateKeeps (begun s) (if runs then received (bus_named y) packet (begun s) else begun s)
+    to packet true = received-keeps (bus_named y) packet (begun s)
+    to packet false = state-none (begun s)
+
+    by : (packet : Option Packet) → KeepsIf s (deliver_acted (bus_named y) (begun s) packet)
+    by None = tt
+    by (Some packet) = to packet (is_running s.world.stopped packet.receiver)
+quiet-keeps s (Lose y k) quiet = by (packet_at s (bus_named y) k)
+  where
+    by : (packet : Option Packet) → KeepsIf s (lose_acted (begun s) packet)
+    by None = tt
+    by (Some packet) = state-none (begun s)
+quiet-keeps s (Repeat y k) quiet = by (packet_at s (bus_named y) k)
+  where
+    by : (packet : Option Packet) → KeepsIf s (repeat_acted (bus_named y) (begun s) packet)
+    by None = tt
+    by (Some packet) = record {
+      stopped = refl;
+      keep = still-keeps s.world.stopped (begun s).wires _ (over-still (bus_named y) packet (begun s).wires);
+    }
+quiet-keeps s (Tick node) quiet = absurd (cc)
+quiet-keeps s (Fail processor) quiet = absurd (cc)
+
+-- a stop changes nothing but who runs
+pub record StopsSo (s : Packeted) (after : Underway) : Type 0 where
+  pub wires : after.wires ≡ (begun s).wires
+  pub shown : after.world.shown ≡ s.world.shown
+
+abbrev pub StopsIf : Packeted → Played Midst → Type 0
+StopsIf s (Makes after) = StopsSo s after
+StopsIf s Skips = Unit {0}
+StopsIf s (WouldStop processor) = has_stopped s.world.stopped ≡ true
+
+pub stop-leaves : (s : Packeted) (processor : ℕ) → StopsIf s (acted s (Fail processor))
+stop-leaves s processor = by (slice_get s.world.stopped processor)
+  where
+    first : (any : Bool) → has_stopped s.world.stopped ≡ any → StopsIf s
+        (if any then WouldStop processor else Makes (record (begun s) { world = stopped_world processor s.world }))
+    first true is = is
+    first false is = record { wires = refl; shown = refl }
+
+    by : (o : Option Bool) → StopsIf s (fail_acted processor (begun s) (stop_where processor s.world o))
+    by None = tt
+    by (Some true) = tt
+    by (Some false) = first (has_stopped s.world.stopped) refl

@@ -1,0 +1,307 @@
+-- Why in a calm schedule nobody who runs is stopped but by its one stop.
+use Rattle.std.proofs.Common.{◌≡◌, ◌≤◌, ◌<◌, ◌⊎◌, inl, inr, ℕ, zero, suc, ◌+◌, ◌∙◌, Bool, true, false, List, [], ◌∷◌}
+use Rattle.std.proofs.Common.{length, replicate, slice_get, Option, Some, None, refl, ap, sym, subst, arith, cond}
+use Rattle.std.proofs.Common.{◌&&◌}
+use Rattle.std.specs.List.{count_by, list_all}
+use Rattle.std.specs.Option.{is_some}
+use Rattle.std.proofs.lemmas.List.Sums.{sum_by-cons}
+use Rattle.std.proofs.lemmas.Option.{slice_get_within}
+use Rattle.tal_tree.specs.declared.site.Site.{Site}
+use Rattle.schedule.specs.declared.event.Counts.{Counts}
+use Rattle.schedule.specs.declared.event.Event.{Event}
+use Rattle.schedule.specs.declared.event.Event.TheVariants.{Run, Enter, Deliver, Lose, Repeat, Tick, Fail}
+use Rattle.schedule.specs.declared.line.Line.{Line}
+use Rattle.schedule.specs.declared.line.Line.TheVariants.{One, Many, Drain, Mix, Mute, Until}
+use Rattle.player.specs.declared.stop.ProcessorStop.{ProcessorStop}
+use Rattle.agendas.specs.Agendas.{Agenda, Plan, PlaysOn, plays_none, plays_on, upcoming}
+use Rattle.calm_schedules.specs.Calm.{IsCalm, is_calm_line, is_stop, stops_one}
+use Rattle.world_semantics.specs.World.{is_running, runs_by}
+use Rattle.message_wires.specs.Play.{has_stopped}
+use Rattle.machine_states.specs.States.{Played, Makes, Skips, WouldStop}
+use Rattle.packet_wires.specs.Wires.{Midst}
+use Rattle.packet_wires.specs.Play.{Packeted, acted, ended, packeted_at_boot, play, taken_off}
+use Rattle.single_stops.specs.StopsAsked.{stops_asked, stops_in, stops_of, stops_of_lines}
+use Rattle.single_stops.proofs.Costs.{IsPaid, to_come, upcoming-paid}
+use Rattle.round_laws.specs.Stretches.{CountsBuses}
+use Rattle.alive_rounds.specs.Runs.{CountsShown, RunsFresh, shows_nothing}
+use Rattle.alive_rounds.proofs.Running.{nobody-silent, nobody-stopped, runs-fresh}
+use Rattle.packet_rounds.specs.Played.{IsClearPlay, IsPlay, buses_of, sizes_of}
+use Rattle.packet_rounds.proofs.Nets.{remains}
+use Rattle.calm_runs.specs.Sights.{CountsOfShown, packets_seen}
+use Rattle.calm_runs.proofs.Acting.{KeepsIf, StopsIf, is_quiet, quiet-keeps, stop-leaves}
+use Rattle.calm_runs.proofs.Sound.{IsSound, SoundPlay, boot-fresh, boot-sound, line-pulled, sound-buses, sound-on}
+use Rattle.calm_runs.proofs.Sound.{tick-made, watched}
+use Rattle.calm_runs.proofs.Ticking.{TicksIf, ticks-so}
+
+-- Ticks and stops show nothing
+
+fail-shown : (s : Packeted) (processor : ℕ) (next : Packeted) → play s (Fail processor) ≡ Makes next
+    → next.world.shown ≡ s.world.shown
+fail-shown s processor next made = by (acted s (Fail processor)) (stop-leaves s processor) made
+  where
+    by : (played : Played Midst) → StopsIf s played → ended s.wires played ≡ Makes next
+        → next.world.shown ≡ s.world.shown
+    by (Makes after) so made =
+        let same : next.world.shown ≡ after.world.shown = cc in same ∙ so.shown
+    by Skips so made = absurd (cc)
+    by (WouldStop k) so made = absurd (cc)
+
+play-shown : (s : Packeted) (event : Event) (next : Packeted) → shows_nothing event ≡ true → IsPlay s event next
+    → next.world.shown ≡ s.world.shown
+play-shown s event next shows (inr skips) = ap (λ (u : Packeted). u.world.shown) skips.1
+play-shown s (Tick node) next shows (inl made) = let t = tick-made s node next made in
+    ap (λ (u : Packeted). u.world.shown) t.next_is ∙ t.so.shown
+play-shown s (Fail processor) next shows (inl made) = fail-shown s processor next made
+play-shown s (Run number) next shows (inl made) = absurd (cc)
+play-shown s (Enter number) next shows (inl made) = absurd (cc)
+play-shown s (Deliver y k) next shows (inl made) = absurd (cc)
+play-shown s (Lose y k) next shows (inl made) = absurd (cc)
+play-shown s (Repeat y k) next shows (inl made) = absurd (cc)
+
+counts-shown : (site : Site) (counts : Packeted → Counts) → CountsOfShown counts → CountsShown (SoundPlay site) counts
+counts-shown site counts shown s event next shows g = shown next s (play-shown s event next shows g.1.1)
+
+-- In a run of a calm schedule
+
+module _ (site : Site) (few : site.processors ≤ 16) (counts : Packeted → Counts) (counted : CountsBuses buses_of counts)
+    (shown : CountsOfShown counts) (lines : List Line) (stop : Option ProcessorStop)
+    (calm : list_all is_calm_line lines ≡ true) where
+  sounded : (events : List Event) (agenda : Agenda) (s : Packeted)
+      → PlaysOn (sizes_of site) counts IsClearPlay (packeted_at_boot site) lines stop events agenda s
+      → IsSound site s
+      × PlaysOn (sizes_of site) counts (SoundPlay site) (packeted_at_boot site) lines stop events agenda s
+  sounded _ _ _ plays_none = (boot-sound site few, plays_none)
+  sounded _ _ _ (plays_on {events = events} {agenda = agenda} {s = s} {next = next} plan before comes g) =
+      let b = sounded events agenda s before in
+      (sound-on site few s plan.event next g.1 b.0, plays_on plan b.1 comes (b.0, g))
+
+  fresh : (events : List Event) (agenda : Agenda) (s : Packeted)
+      → PlaysOn (sizes_of site) counts IsClearPlay (packeted_at_boot site) lines stop events agenda s
+      → RunsFresh (sizes_of site) packets_seen counts agenda s
+  fresh events agenda s played =
+      runs-fresh (sizes_of site) packets_seen counts (SoundPlay site) (watched site few) few (sound-buses site) counted
+      (counts-shown site counts shown) (packeted_at_boot site) lines stop calm (boot-fresh site few) events agenda s
+      (sounded events agenda s played).1
+
+  quiet-stays : (s : Packeted) (event : Event) (next : Packeted) → is_quiet event ≡ true → IsPlay s event next
+      → next.world.stopped ≡ s.world.stopped
+  quiet-stays s event next quiet (inr skips) = ap (λ (u : Packeted). u.world.stopped) skips.1
+  quiet-stays s event next quiet (inl made) = by (acted s event) (quiet-keeps s event quiet) made
+    where
+      by : (played : Played Midst) → KeepsIf s played → ended (taken_off event s.wires) played ≡ Makes next
+          → next.world.stopped ≡ s.world.stopped
+      by (Makes after) k made =
+          let same : next.world.stopped ≡ after.world.stopped = cc in same ∙ k.stopped
+      by Skips k made = absurd (cc)
+      by (WouldStop processor) k made = absurd (cc)
+
+  -- who runs goes on running, whatever comes next but a stop
+  pub goes-on-running : (events : List Event) (agenda : Agenda) (s : Packeted)
+      → PlaysOn (sizes_of site) counts IsClearPlay (packeted_at_boot site) lines stop events agenda s → (plan : Plan)
+      → upcoming (sizes_of site) (length events) (counts s) agenda ≡ Some plan → (next : Packeted)
+      → IsClearPlay s plan.event next → is_stop plan.event ≡ false → (p : ℕ) → p < site.processors
+      → is_running s.world.stopped p ≡ true → is_running next.world.stopped p ≡ true
+  goes-on-running events agenda s played plan comes next g no_stop p low here = by plan.event refl
+    where
+      quiet : (event : Event) → plan.event ≡ event → is_quiet event ≡ true → is_running next.world.stopped p ≡ true
+      quiet event is calm = subst (λ l. is_running l p ≡ true)
+          (sym (quiet-stays s event next calm (subst (λ e. IsPlay s e next) is g.1))) here
+
+      by : (event : Event) → plan.event ≡ event → is_running next.world.stopped p ≡ true
+      by (Run number) is = quiet (Run number) is refl
+      by (Enter number) is = quiet (Enter number) is refl
+      by (Deliver y k) is = quiet (Deliver y k) is refl
+      by (Lose y k) is = quiet (Lose y k) is refl
+      by (Repeat y k) is = quiet (Repeat y k) is refl
+      by (Fail processor) is = absurd (let bad : true ≡ false = ap is_stop (sym is) ∙ no_stop in cc)
+      by (Tick node) is = nobody-stopped (sizes_of site) packets_seen counts (SoundPlay site) (watched site few) counted
+          few
+          (length events) agenda s next (fresh events agenda s played) plan comes (
+            (sounded events agenda s played).0,
+            g,
+          )
+          node p is low here
+
+  -- Stops are paid
+
+  record IsSingle (agenda : Agenda) (s : Packeted) : Type 0 where
+    at_most : to_come agenda ≤ 1
+    none : has_stopped s.world.stopped ≡ true → to_come agenda ≡ 0
+
+  first-gone : (stopped : List Bool) → has_stopped stopped ≡ true → (p : ℕ) × (slice_get stopped p ≡ Some true)
+  first-gone [] gone = absurd (cc)
+  first-gone (true ∷ stopped) gone = (0, refl)
+  first-gone (false ∷ stopped) gone = let more = first-gone stopped gone in (suc more.0, more.1)
+
+  one-gone : (stopped : List Bool) (p : ℕ) → slice_get stopped p ≡ Some true → has_stopped stopped ≡ true
+  one-gone [] p there = absurd (cc)
+  one-gone (true ∷ stopped) p there = refl
+  one-gone (false ∷ stopped) zero there = absurd (cc)
+  one-gone (false ∷ stopped) (suc p) there = one-gone stopped p there
+
+  none-at-first : (n : ℕ) → has_stopped (replicate n false) ≡ false
+  none-at-first zero = refl
+  none-at-first (suc n) = none-at-first n
+
+  gone-before : (s next : Packeted) → length next.world.stopped ≡ length s.world.stopped
+      → ((p : ℕ) → p < length s.world.stopped → is_running s.world.stopped p ≡ true
+      → is_running next.world.stopped p ≡ true)
+      → has_stopped next.world.stopped ≡ true → has_stopped s.world.stopped ≡ true
+  gone-before s next size stays gone = by (slice_get s.world.stopped one.0) refl
+    where
+      one : (p : ℕ) × (slice_get next.world.stopped p ≡ Some true)
+      one = first-gone next.world.stopped gone
+
+      low : one.0 < length s.world.stopped
+      low = let within = slice_get_within next.world.stopped one.0 true one.1 in omega (arith, within, size)
+
+      by : (o : Option Bool) → slice_get s.world.stopped one.0 ≡ o → has_stopped s.world.stopped ≡ true
+      by (Some true) there = one-gone s.world.stopped one.0 there
+      by (Some false) there = absurd (let runs = stays one.0 low (ap (runs_by one.0) there) in
+          let bad : true ≡ false = sym runs ∙ ap (runs_by one.0) one.1 in cc)
+      by None there = absurd (beyond s.world.stopped one.0 there low)
+        where
+          beyond : (xs : List Bool) (k : ℕ) → slice_get xs k ≡ None → k < length xs → ⊥
+          beyond [] k none low = omega (arith, low)
+          beyond (x ∷ xs) zero none low = absurd (cc)
+          beyond (x ∷ xs) (suc k) none low = beyond xs k none (omega (arith, low))
+
+  stop-or-not : (event : Event)
+      → ((is_stop event ≡ true) × (stops_in event 1 ≡ 1)) ⊎ ((is_stop event ≡ false) × (stops_in event 1 ≡ 0))
+  stop-or-not (Run number) = inr (refl, refl)
+  stop-or-not (Enter number) = inr (refl, refl)
+  stop-or-not (Deliver y k) = inr (refl, refl)
+  stop-or-not (Lose y k) = inr (refl, refl)
+  stop-or-not (Repeat y k) = inr (refl, refl)
+  stop-or-not (Tick node) = inr (refl, refl)
+  stop-or-not (Fail processor) = inl (refl, refl)
+
+  size-on : (s : Packeted) (event : Event) (next : Packeted) → IsPlay s event next
+      → length next.world.stopped ≡ length s.world.stopped
+  size-on s event next (inl made) = (remains s event next made).size
+  size-on s event next (inr skips) = ap (λ (u : Packeted). length u.world.stopped) skips.1
+
+  paid-by : (agenda : Agenda) (s : Packeted) (before : ℕ) (plan : Plan)
+      → upcoming (sizes_of site) before (counts s) agenda ≡ Some plan
+      → stops_in plan.event 1 + to_come plan.agenda ≤ to_come agenda
+  paid-by agenda s before plan comes =
+      subst (IsPaid (to_come agenda)) comes (upcoming-paid (sizes_of site) before (counts s) agenda)
+
+  single : stops_asked lines stop ≤ 1 → (events : List Event) (agenda : Agenda) (s : Packeted)
+      → PlaysOn (sizes_of site) counts IsClearPlay (packeted_at_boot site) lines stop events agenda s
+      → IsSingle agenda s
+  single asked _ _ _ plays_none = record {
+    at_most = omega (arith, asked);
+    none = λ gone. absurd (let bad : false ≡ true = sym (none-at-first site.processors) ∙ gone in cc);
+  }
+  single asked _ _ _ (plays_on {events = events} {agenda = agenda} {s = s} {next = next} plan before comes g) =
+      by (single asked events agenda s before) (stop-or-not plan.event)
+    where
+      paid : stops_in plan.event 1 + to_come plan.agenda ≤ to_come agenda
+      paid = paid-by agenda s (length events) plan comes
+
+      by : IsSingle agenda s
+          → ((is_stop plan.event ≡ true) × (stops_in plan.event 1 ≡ 1))
+          ⊎ ((is_stop plan.event ≡ false) × (stops_in plan.event 1 ≡ 0)) → IsSingle plan.agenda next
+      by one (inl stops) = let most = one.at_most in let cost = stops.1 in record {
+        at_most = omega (arith, most, paid, cost);
+        none = λ gone. omega (arith, most, paid, cost);
+      }
+      by one (inr free) = let most = one.at_most in record {
+        at_most = omega (arith, most, paid);
+        none = λ gone. let none = one.none (gone-before s next (size-on s plan.event next g.1)
+            (λ p low here. goes-on-running events agenda s before plan comes next g free.0 p
+            (let size = (sounded events agenda s before).0.size in omega (arith, low, size)) here) gone) in
+            omega (arith, none, paid);
+      }
+
+  -- nothing that comes next would stop a second processor
+  pub never-second : stops_asked lines stop ≤ 1 → (events : List Event) (agenda : Agenda) (s : Packeted)
+      → PlaysOn (sizes_of site) counts IsClearPlay (packeted_at_boot site) lines stop events agenda s → (plan : Plan)
+      → upcoming (sizes_of site) (length events) (counts s) agenda ≡ Some plan → (j : ℕ)
+      → play s plan.event ≡ WouldStop j → ⊥
+  never-second asked events agenda s played plan comes j would = by plan.event refl
+    where
+      sound : IsSound site s
+      sound = (sounded events agenda s played).0
+
+      at : (event : Event) → plan.event ≡ event → play s event ≡ WouldStop j
+      at event is = subst (λ e. play s e ≡ WouldStop j) is would
+
+      quiet : (event : Event) → plan.event ≡ event → is_quiet event ≡ true → ⊥
+      quiet event is calm = of (acted s event) (quiet-keeps s event calm) (at event is)
+        where
+          of : (p : Played Midst) → KeepsIf s p → ended (taken_off event s.wires) p ≡ WouldStop j → ⊥
+          of (Makes after) k bad = absurd (cc)
+          of Skips k bad = absurd (cc)
+          of (WouldStop processor) k bad = k
+
+      stopping : (processor : ℕ) → plan.event ≡ Fail processor → ⊥
+      stopping processor is = of (acted s (Fail processor)) (stop-leaves s processor) (at (Fail processor) is)
+        where
+          of : (p : Played Midst) → StopsIf s p → ended s.wires p ≡ WouldStop j → ⊥
+          of (Makes after) k bad = absurd (cc)
+          of Skips k bad = absurd (cc)
+          of (WouldStop other) gone bad =
+              let none = (single asked events agenda s played).none gone in
+              let paid = paid-by agenda s (length events) plan comes in
+              let cost : stops_in plan.event 1 ≡ 1 = ap (λ e. stops_in e 1) is in omega (arith, none, paid, cost)
+
+      ticking : (node : ℕ) → plan.event ≡ Tick node → ⊥
+      ticking node is = of (acted s (Tick node)) (ticks-so s node) (at (Tick node) is)
+        where
+          of : (p : Played Midst) → TicksIf node s p → ended s.wires p ≡ WouldStop j → ⊥
+          of (Makes after) k bad = absurd (cc)
+          of Skips k bad = absurd (cc)
+          of (WouldStop k) so bad =
+              let line = line-pulled site few s node k sound so.0 so.1 in
+              let within = slice_get_within s.world.stopped k false so.2 in let size = sound.size in
+              nobody-silent (sizes_of site) packets_seen counts counted few (length events) agenda s
+              (fresh events agenda s played) plan comes node k is (record {
+                one = line.one;
+                other = (let low : k < site.processors = omega (arith, within, size) in low);
+                apart = line.apart;
+                here = line.runs;
+                there = ap (runs_by k) so.2;
+              }) line.silent
+
+      by : (event : Event) → plan.event ≡ event → ⊥
+      by (Run number) is = quiet (Run number) is refl
+      by (Enter number) is = quiet (Enter number) is refl
+      by (Deliver y k) is = quiet (Deliver y k) is refl
+      by (Lose y k) is = quiet (Lose y k) is refl
+      by (Repeat y k) is = quiet (Repeat y k) is refl
+      by (Tick node) is = ticking node is
+      by (Fail processor) is = stopping processor is
+
+-- A calm schedule asks for one stop at most
+
+line-stops : (line : Line) → is_calm_line line ≡ true → stops_of line ≡ cond (stops_one line) 1 0
+line-stops (One (Fail processor)) calm = refl
+line-stops (One (Run number)) calm = refl
+line-stops (One (Enter number)) calm = refl
+line-stops (One (Deliver y k)) calm = refl
+line-stops (One (Lose y k)) calm = refl
+line-stops (One (Repeat y k)) calm = refl
+line-stops (One (Tick node)) calm = refl
+line-stops (Many event times) calm = absurd (cc)
+line-stops (Drain rounds) calm = refl
+line-stops (Mix start rounds) calm = refl
+line-stops (Mute node rounds) calm = refl
+line-stops (Until writes count rounds) calm = refl
+
+both : (a b : Bool) → (a && b) ≡ true → (a ≡ true) × (b ≡ true)
+both true b is = (refl, is)
+both false b is = absurd (cc)
+
+lines-stop : (lines : List Line) → list_all is_calm_line lines ≡ true → stops_of_lines lines ≡ count_by stops_one lines
+lines-stop [] calm = refl
+lines-stop (line ∷ lines) calm =
+    let c = both (is_calm_line line) (list_all is_calm_line lines) calm in
+    let one = line-stops line c.0 in let more = lines-stop lines c.1 in
+    let all = sum_by-cons (λ line. cond (stops_one line) 1 0) line lines in omega (arith, one, more, all)
+
+pub calm-asks : (lines : List Line) (stop : Option ProcessorStop) → IsCalm lines (is_some stop)
+    → stops_asked lines stop ≤ 1
+calm-asks lines None calm = let same = lines-stop lines calm.0 in let most = calm.1 in omega (arith, same, most)
+calm-asks lines (Some stop) calm = let same = lines-stop lines calm.0 in let most = calm.1 in omega (arith, same, most)

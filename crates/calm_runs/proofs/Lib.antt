@@ -1,0 +1,6 @@
+pub mod Acting
+pub mod Calm
+pub mod Sending
+pub mod Sound
+pub mod Ticking
+pub mod Watching
