@@ -1,0 +1,50 @@
+-- What an event needs: numbers that have successors, and messages that keep to the layout. Our own rule.
+use Rattle.std.specs.Prelude.{◌≡◌, ◌++◌, ℕ, List, Option, Some, None, slice_get}
+use Rattle.std.specs.List.{All}
+use Rattle.tal_tree.specs.declared.site.Site.{Site}
+use Rattle.world_semantics.specs.World.{World}
+use Rattle.world_semantics.specs.Messages.{Message, Sending}
+use Rattle.world_semantics.specs.Running.{Done, run_done}
+use Rattle.computed_changes.specs.Entered.{enter_done}
+use Rattle.computed_changes.specs.Handed.{handed_done}
+use Rattle.computed_changes.specs.Stopped.{down_done, stopped_world}
+use Rattle.letters.specs.Again.{sent_again}
+use Rattle.link_control.specs.Ends.{End, HasNumbersLeft}
+use Rattle.message_layout.specs.Layout.{Fits, IsCarriedWithin}
+use Rattle.message_layout.specs.Messages.{Carrying}
+use Rattle.packet_wires.specs.Nodes.{Node}
+use Rattle.packet_wires.specs.Play.{Packeted}
+use Rattle.number_ranges.specs.HasRoom.{WorldHasRoom}
+
+-- each message that is sent keeps to the layout
+abbrev pub AreWithin : List Sending → Type 0
+AreWithin = All (λ sending. IsCarriedWithin sending.message)
+
+abbrev pub AreWithinIfAny : Option (List Sending) → Type 0
+AreWithinIfAny None = Unit {0}
+AreWithinIfAny (Some sendings) = AreWithin sendings
+
+-- and so does all that a mark sends, and what is sent again
+abbrev pub MarksWithin : Site → World → Type 0
+MarksWithin site w = (node processor : ℕ) (done : Done) → down_done node processor w ≡ Some done
+    → AreWithin (done.sendings ++ sent_again site w done.world node processor)
+
+-- whatever changes the world next, what that sends keeps to the layout. A line that is pulled stops its processor first
+pub record SendsWithin (site : Site) (w : World) : Type 0 where
+  pub runs : (number : ℕ) (done : Done) → run_done site number w ≡ Some done → AreWithin done.sendings
+  pub enters : (terminal : ℕ) (done : Done) → enter_done site terminal w ≡ Some done → AreWithin done.sendings
+  pub handed : (node : ℕ) (message : Message) (done : Done) → Fits site (Carrying message)
+      → handed_done site node message w ≡ Some done → AreWithin done.sendings
+  pub marked : MarksWithin site w
+  pub pulled : (processor : ℕ) → MarksWithin site (stopped_world processor w)
+
+-- each end of each node has numbers left
+abbrev pub HaveNumbersLeft : List Node → Type 0
+HaveNumbersLeft nodes = (x y : ℕ) (node : Node) (e : End) → slice_get nodes x ≡ Some node
+    → slice_get node.ends y ≡ Some e → HasNumbersLeft e
+
+-- what the next event needs
+pub record IsReady (s : Packeted) : Type 0 where
+  pub room : WorldHasRoom s.world
+  pub numbers : HaveNumbersLeft s.wires.nodes
+  pub messages : SendsWithin s.site s.world

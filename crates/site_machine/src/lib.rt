@@ -1,0 +1,16 @@
+//! The machine over packets: the world of copies in code, and under it both buses and all nodes.
+//!
+//! Below stand `world_copies` with the world, `node` with the wires, `message_words` with messages in words, and
+//! `packet_wires` with what each event makes of a state. The layer above uses that each call settles what `play` says.
+//! An event requires that each number which it raises has a successor, and that what it sends keeps to the layout
+//! (`specs/Needs.antt`).
+#![tactic(auto)]
+
+mod delivering;
+mod failing;
+mod posting;
+mod running;
+pub mod whole;
+mod wording;
+
+pub use whole::MachineParts;
