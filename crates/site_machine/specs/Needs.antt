@@ -10,9 +10,10 @@ use Rattle.computed_changes.specs.Handed.{handed_done}
 use Rattle.computed_changes.specs.Stopped.{down_done, stopped_world}
 use Rattle.letters.specs.Again.{sent_again}
 use Rattle.link_control.specs.Ends.{End, HasNumbersLeft}
-use Rattle.message_layout.specs.Layout.{Fits, IsCarriedWithin}
-use Rattle.message_layout.specs.Messages.{Carrying}
+use Rattle.message_layout.specs.Layout.{Fits, IsCarriedWithin, IsWithin}
+use Rattle.message_layout.specs.Messages.{NodeMessage, Carrying}
 use Rattle.packet_wires.specs.Nodes.{Node}
+use Rattle.event_parts.specs.Numbers.{CanPush}
 use Rattle.packet_wires.specs.Play.{Packeted}
 use Rattle.number_ranges.specs.HasRoom.{WorldHasRoom}
 
@@ -37,6 +38,17 @@ pub record SendsWithin (site : Site) (w : World) : Type 0 where
       → handed_done site node message w ≡ Some done → AreWithin done.sendings
   pub marked : MarksWithin site w
   pub pulled : (processor : ℕ) → MarksWithin site (stopped_world processor w)
+
+-- a message that was read, if one was, keeps to the layout
+abbrev pub IsReadWithin : Option NodeMessage → Type 0
+IsReadWithin None = Unit {0}
+IsReadWithin (Some message) = IsWithin message
+
+-- what a message needs that is handed over
+pub record CanHand (s : Packeted) : Type 0 where
+  pub room : WorldHasRoom s.world
+  pub numbered : CanPush s.wires.nodes
+  pub messages : SendsWithin s.site s.world
 
 -- each end of each node has numbers left
 abbrev pub HaveNumbersLeft : List Node → Type 0

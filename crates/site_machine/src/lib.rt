@@ -8,6 +8,9 @@
 
 mod delivering;
 mod failing;
+mod handing;
+mod knowing;
+mod marking;
 mod posting;
 mod running;
 pub mod whole;

@@ -1,0 +1,103 @@
+-- A packet that is delivered, by what becomes of it.
+use Rattle.std.specs.Option.{option_map}
+use Rattle.std.proofs.Common.{◌≡◌, ℕ, ℤ, Bool, true, false, if◌then◌else◌, List, Option, Some, None, refl, ap, sym}
+use Rattle.std.proofs.Common.{subst, ◌∙◌}
+use Rattle.world_semantics.proofs.Lists.{some-same}
+use Rattle.packet_words.specs.declared.bus_name.BusName.{BusName}
+use Rattle.packet_words.specs.declared.bus_name.BusName.TheVariants as bus
+use Rattle.packet_words.specs.declared.packet.Packet.{Packet}
+use Rattle.world_semantics.specs.World.{is_running}
+use Rattle.machine_states.specs.States.{Settles}
+use Rattle.machine_states.specs.declared.effect.Effect.TheVariants as effect
+use Rattle.packet_wires.specs.Nodes.{end_at}
+use Rattle.packet_wires.specs.Play.{Packeted, begun, completed, deliver_acted, ended, handed_words, over, received}
+use Rattle.packet_wires.specs.Wires.{Wires, arrived, nothing_sent, without_packet}
+use Rattle.event_parts.specs.Numbers.{CanPush}
+use Rattle.event_parts.specs.Parts.{carried_out, completed_by, delivered}
+use Rattle.event_parts.proofs.Numbers.{can-arrived}
+use Rattle.site_machine.specs.Needs.{CanHand, HaveNumbersLeft, IsReady}
+use Rattle.site_machine.specs.Told.{after_part}
+use Rattle.site_machine.proofs.Turns.{handed-in-turn}
+
+module _ (name : BusName) (k : ℕ) (s : Packeted) where
+  abbrev off : Wires
+  off = without_packet name k s.wires
+
+  pub none-delivered : (found : Option Packet) → None ≡ option_map (λ (packet : Packet). packet.receiver) found
+      → Settles (ended off (deliver_acted name (begun s) found)) s effect.Skipped s
+  none-delivered None is = (refl, refl)
+  none-delivered (Some packet) is = absurd cc
+
+  dropped : (of : BusName) → record s { wires = without_packet of k s.wires }
+      ≡ over (without_packet of k s.wires) (begun s)
+  dropped bus.X = refl
+  dropped bus.Y = refl
+
+  pub delivery-dropped : (found : Option Packet) (receiver : ℕ) (after : Packeted)
+      → Some receiver ≡ option_map (λ (packet : Packet). packet.receiver) found
+      → is_running s.world.stopped receiver ≡ false → after ≡ record s { wires = off }
+      → Settles (ended off (deliver_acted name (begun s) found)) s effect.Done after
+  delivery-dropped None receiver after is stops same = absurd cc
+  delivery-dropped (Some packet) receiver after is stops same = (
+    refl,
+    same ∙ dropped name
+        ∙ sym (ap (λ (runs : Bool). over off (if runs then received name packet (begun s) else begun s))
+        (ap (is_running s.world.stopped) (sym (some-same is)) ∙ stops)),
+  )
+
+  turned : (of : BusName) (packet : Packet)
+      → after_part (handed_words packet.receiver
+      (completed packet (end_at s.wires.nodes packet.receiver packet.sender)))
+      (record s { wires = carried_out (arrived of packet) (without_packet of k s.wires) })
+      ≡ over (without_packet of k s.wires) (received of packet (begun s))
+  turned bus.X packet =
+      sym (handed-in-turn (arrived bus.X packet) packet.receiver
+      (completed packet (end_at s.wires.nodes packet.receiver packet.sender))
+      (record s { wires = without_packet bus.X k s.wires }))
+  turned bus.Y packet =
+      sym (handed-in-turn (arrived bus.Y packet) packet.receiver
+      (completed packet (end_at s.wires.nodes packet.receiver packet.sender))
+      (record s { wires = without_packet bus.Y k s.wires }))
+
+  pub delivery-comes : (found : Option Packet) (receiver : ℕ) (mid after : Packeted) (words : Option (List ℤ))
+      → Some receiver ≡ option_map (λ (packet : Packet). packet.receiver) found
+      → is_running s.world.stopped receiver ≡ true → words ≡ completed_by found s.wires.nodes
+      → mid ≡ record s { wires = delivered name k found s.wires }
+      → after ≡ after_part (handed_words receiver words) mid
+      → Settles (ended off (deliver_acted name (begun s) found)) s effect.Done after
+  delivery-comes None receiver mid after words is runs whole came hands = absurd cc
+  delivery-comes (Some packet) receiver mid after words is runs whole came hands = (
+    refl,
+    hands
+        ∙ ap (after_part (handed_words receiver words)) came
+        ∙ ap (λ (w : Option (List ℤ)). after_part (handed_words receiver w)
+        (record s { wires = delivered name k (Some packet) s.wires })) whole
+        ∙ ap (λ (r : ℕ). after_part (handed_words r (completed_by (Some packet) s.wires.nodes))
+        (record s { wires = delivered name k (Some packet) s.wires })) (some-same is)
+        ∙ turned name packet
+        ∙ sym (ap (λ (b : Bool). over off (if b then received name packet (begun s) else begun s))
+        (ap (is_running s.world.stopped) (sym (some-same is)) ∙ runs)),
+  )
+
+  arrives : (of : BusName) (packet : Packet) → HaveNumbersLeft s.wires.nodes → CanPush s.wires.nodes
+      → CanPush (arrived of packet (nothing_sent (without_packet of k s.wires).nodes)).nodes
+  arrives bus.X packet left can = can-arrived bus.X packet (nothing_sent s.wires.nodes)
+      (λ node there e has. left packet.receiver packet.sender node e there has) can
+  arrives bus.Y packet left can = can-arrived bus.Y packet (nothing_sent s.wires.nodes)
+      (λ node there e has. left packet.receiver packet.sender node e there has) can
+
+  pub can-delivered : (found : Option Packet) → HaveNumbersLeft s.wires.nodes → CanPush s.wires.nodes
+      → CanPush (delivered name k found s.wires).nodes
+  can-delivered None left can = can
+  can-delivered (Some packet) left can = arrives name packet left can
+
+  pub can-hand : (mid : Packeted) (found : Option Packet) → IsReady s
+      → mid ≡ record s { wires = delivered name k found s.wires } → CanHand mid
+  can-hand mid found ready same =
+      let can : CanPush s.wires.nodes =
+      λ x node there y e has up idle. (ready.numbers x y node e there has).0 in
+      subst CanHand (sym same) (record {
+        room = ready.room;
+        numbered = can-delivered found ready.numbers can;
+        messages = ready.messages;
+      })

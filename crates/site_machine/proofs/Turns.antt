@@ -1,0 +1,88 @@
+-- What is handed over after a packet came: it changes the world, whatever was sent before it, and only adds to that.
+use Rattle.std.proofs.Common.{◌≡◌, ℕ, ℤ, ◌++◌, List, Option, Some, None, refl, ap, sym, ◌∙◌}
+use Rattle.tal_tree.specs.declared.site.Site.{Site}
+use Rattle.alive_regroup.specs.Watching as watching
+use Rattle.alive_regroup.specs.Watching.{changed_at}
+use Rattle.world_semantics.specs.World.{World}
+use Rattle.world_semantics.specs.Running.{Done}
+use Rattle.computed_changes.specs.Handed.{handed_done}
+use Rattle.computed_changes.specs.Stopped.{down_done}
+use Rattle.letters.specs.Again.{sent_again}
+use Rattle.letters.specs.Routes.{letters_of}
+use Rattle.message_layout.specs.Messages.{NodeMessage, Carrying, Reporting, Declaring}
+use Rattle.message_layout.specs.Reading.{understood}
+use Rattle.packet_wires.specs.Play.{Packeted, Underway, after_any, begun, handed, handed_any, handed_words, marked_by}
+use Rattle.packet_wires.specs.Play.{over}
+use Rattle.packet_wires.specs.Wires.{Midst, Wires, all_posted, cut_off, learns, nothing_sent}
+use Rattle.event_parts.specs.Parts.{OnlyAdds, carried_out}
+use Rattle.event_parts.proofs.Adds.{adds-all-posted, adds-cut-off, adds-learns, adds-nothing, adds-then}
+use Rattle.event_parts.proofs.Turns.{carried-then}
+use Rattle.site_machine.specs.Told.{after_part}
+
+record IsPart (does : Underway → Underway) (site : Site) (w : World) : Type 0 where
+  world : World
+  part : Midst → Midst
+  adds : OnlyAdds part
+  same : (midst : Midst) → does (record { site = site; world = w; wires = midst })
+      ≡ record { site = site; world = world; wires = part midst }
+
+module _ (site : Site) (w : World) (node : ℕ) where
+  any-part : (done : Option Done) → IsPart (λ u. after_any u done) site w
+  any-part None = record { world = w; part = λ midst. midst; adds = adds-nothing; same = λ midst. refl }
+  any-part (Some done) = record {
+    world = done.world;
+    part = all_posted done.world.stopped (letters_of site done.world done.sendings);
+    adds = adds-all-posted done.world.stopped (letters_of site done.world done.sendings);
+    same = λ midst. refl;
+  }
+
+  mark-part : (processor : ℕ) (done : Option Done) → IsPart (λ u. marked_by node processor u done) site w
+  mark-part processor None = record { world = w; part = λ midst. midst; adds = adds-nothing; same = λ midst. refl }
+  mark-part processor (Some done) =
+      let posts : Midst → Midst = all_posted done.world.stopped
+      (letters_of site done.world (done.sendings ++ sent_again site w done.world node processor)) in record {
+        world = done.world;
+        part = λ midst. posts (cut_off node processor midst);
+        adds = adds-then (cut_off node processor) posts (adds-cut-off node processor)
+            (adds-all-posted done.world.stopped
+            (letters_of site done.world (done.sendings ++ sent_again site w done.world node processor)));
+        same = λ midst. refl;
+      }
+
+  handed-part : (message : NodeMessage) → IsPart (handed node message) site w
+  handed-part (Carrying message) =
+      let one = any-part (handed_done site node message w) in
+      record { world = one.world; part = one.part; adds = one.adds; same = one.same }
+  handed-part (Reporting from silent) = record {
+    world = w;
+    part = learns node (changed_at from (watching.neighbour_after_report silent));
+    adds = adds-learns node (changed_at from (watching.neighbour_after_report silent));
+    same = λ midst. refl;
+  }
+  handed-part (Declaring processor) =
+      let one = mark-part processor (down_done node processor w) in
+      record { world = one.world; part = one.part; adds = one.adds; same = one.same }
+
+  read-part : (message : Option NodeMessage) → IsPart (handed_any node message) site w
+  read-part None = record { world = w; part = λ midst. midst; adds = adds-nothing; same = λ midst. refl }
+  read-part (Some message) =
+      let one = handed-part message in
+      record { world = one.world; part = one.part; adds = one.adds; same = one.same }
+
+  words-part : (words : Option (List ℤ)) → IsPart (handed_words node words) site w
+  words-part None = record { world = w; part = λ midst. midst; adds = adds-nothing; same = λ midst. refl }
+  words-part (Some words) =
+      let one = read-part (understood site words) in
+      record { world = one.world; part = one.part; adds = one.adds; same = one.same }
+
+-- the same as a part of its own, after another part was carried out
+pub handed-in-turn : (first : Midst → Midst) (node : ℕ) (words : Option (List ℤ)) (s : Packeted)
+    → over s.wires (handed_words node words (record (begun s) { wires = first (nothing_sent s.wires.nodes) }))
+    ≡ after_part (handed_words node words) (record s { wires = carried_out first s.wires })
+handed-in-turn first node words s =
+    let one = words-part s.site s.world node words in
+    let then : Wires = carried_out first s.wires in
+    ap (over s.wires) (one.same (first (nothing_sent s.wires.nodes)))
+    ∙ ap (λ (wires : Wires). record { site = s.site; world = one.world; wires = wires })
+    (sym (carried-then first one.part s.wires one.adds))
+    ∙ sym (ap (over then) (one.same (nothing_sent then.nodes)))

@@ -1,0 +1,9 @@
+use Rattle.computed_changes.specs.Stopped.{world_at_down}
+use Rattle.site_machine.proofs.Marks.{marked-steps}
+use Rattle.site_machine.proofs.whole.MachineParts.mark_down.Goals as goal
+
+pub returns : goal.returns
+returns c =
+    marked-steps c.args.self.now _ _ _ c.args.node c.args.processor _
+    (world_at_down c.args.node c.args.processor c.args.self.now.world)
+    c.in_ok-sendings.ensures.state c.in_ok-sendings.ensures.told c.cut_off.ensures c.in_ok-post_all.ensures

@@ -1,0 +1,7 @@
+use Rattle.std.proofs.Common.{subst, sym}
+use Rattle.packet_wires.specs.Play.{Packeted}
+use Rattle.world_copies.specs.Room.{AllWatchersHaveRoom}
+use Rattle.site_machine.proofs.whole.MachineParts.mark_world.Goals as goal
+
+pub mark-requires : goal.mark-requires
+mark-requires c = subst (λ (s : Packeted). AllWatchersHaveRoom s.world.processes) (sym c.self.view_is) c.requires
