@@ -26,6 +26,8 @@ report_is_due deck report (due.ProgramRefused refused) accepted is = absurd is
 report_is_due deck report (due.Accepted site) accepted is = absurd is
 report_is_due deck report (due.Report run) accepted is = absurd is
 report_is_due deck report (due.Swept rows) accepted is = absurd is
+report_is_due deck report (due.Advised advised) accepted is = absurd is
+report_is_due deck report (due.Unadvised refused) accepted is = absurd is
 
 -- what is due of the bytes that begin with a deck
 pub judged_is_due : (bytes : List ℕ) (deck : Deck) (decided : Due) → length bytes ≤ 67108864
@@ -41,6 +43,8 @@ judged_is_due bytes deck (due.DeckRefused f) few decks is = absurd is.1
 judged_is_due bytes deck (due.Accepted site) few decks is = absurd is.1
 judged_is_due bytes deck (due.Report run) few decks is = absurd is.1
 judged_is_due bytes deck (due.Swept rows) few decks is = absurd is.1
+judged_is_due bytes deck (due.Advised advised) few decks is = absurd is.1
+judged_is_due bytes deck (due.Unadvised refused) few decks is = absurd is.1
 
 -- why the deck is refused is due
 pub input_fault_is_due : (bytes : List ℕ) (f : DeckFault) → length bytes ≤ 67108864
@@ -61,6 +65,8 @@ input_is_due left before now bytes (due.ProgramRefused refused) told is = (bytes
 input_is_due left before now bytes (due.Accepted site) told is = (bytes, told, is)
 input_is_due left before now bytes (due.Report run) told is = (bytes, told, is)
 input_is_due left before now bytes (due.Swept rows) told is = (bytes, told, is)
+input_is_due left before now bytes (due.Advised advised) told is = (bytes, told, is)
+input_is_due left before now bytes (due.Unadvised refused) told is = (bytes, told, is)
 input_is_due left before now bytes (due.Verified acts) told is = (bytes, told, is)
 input_is_due left before now bytes (due.Rejected line cause) told is = (bytes, told, is)
 

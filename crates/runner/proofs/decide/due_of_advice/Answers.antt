@@ -1,5 +1,5 @@
 use Rattle.std.proofs.Common.{◌≤◌, length, subst, sym}
-use Rattle.verdicts.specs.Refused.{AreJudgeable}
+use Rattle.verdicts.specs.Judgeable.{AreJudgeable}
 use Rattle.runner.proofs.decide.due_of_advice.Goals as goal
 
 pub advise_all-requires-clause-few : goal.advise_all-requires-clause-few
