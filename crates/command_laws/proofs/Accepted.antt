@@ -49,6 +49,8 @@ module _ (task : Task) (deck : Deck) (able : can_stop task deck.site ≡ true)
   of-deck (due.Swept rows) is = inr is.1.1
   of-deck (due.Verified n) is = inr is.1.1
   of-deck (due.Rejected line cause) is = inr is.1.1
+  of-deck (due.Advised advised) is = inr is.1.1
+  of-deck (due.Unadvised refused) is = inr is.1.1
 
   module _ (bytes : List ℕ) (spelt : Decks bytes deck) where
     -- a deck that the bytes spell too is the same one
@@ -68,6 +70,8 @@ module _ (task : Task) (deck : Deck) (able : can_stop task deck.site ≡ true)
     of-bytes (due.Swept rows) (other, too, is) = of-spelt other (due.Swept rows) too is
     of-bytes (due.Verified n) (other, too, is) = of-spelt other (due.Verified n) too is
     of-bytes (due.Rejected line cause) (other, too, is) = of-spelt other (due.Rejected line cause) too is
+    of-bytes (due.Advised advised) (other, too, is) = of-spelt other (due.Advised advised) too is
+    of-bytes (due.Unadvised refused) (other, too, is) = of-spelt other (due.Unadvised refused) too is
 
     -- what is read of a source is what it told
     of-told : (found : List ℕ) (decided : Due) → bytes ≡ found → IsDueOfBytes task found decided
@@ -88,3 +92,5 @@ module _ (task : Task) (deck : Deck) (able : can_stop task deck.site ≡ true)
     of-source before now (due.Verified n) (found, told, is) read = of-told found (due.Verified n) told is
     of-source before now (due.Rejected line cause) (found, told, is) read =
         of-told found (due.Rejected line cause) told is
+    of-source before now (due.Advised advised) (found, told, is) read = of-told found (due.Advised advised) told is
+    of-source before now (due.Unadvised refused) (found, told, is) read = of-told found (due.Unadvised refused) told is

@@ -4,7 +4,7 @@ use Rattle.std.proofs.Common.{ap, ◌∙◌, arith}
 use Rattle.std.specs.Prelude.{⊤, IsOk, IsErr, OnErr, length}
 use Rattle.command_words.specs.Asked.{asked_by}
 use Rattle.command_words.specs.declared.asked.Command.{Command}
-use Rattle.command_words.specs.declared.asked.Command.TheVariants.{Check, Load, Run, Sweep, Verify}
+use Rattle.command_words.specs.declared.asked.Command.TheVariants.{Advise, Check, Load, Run, Sweep, Verify}
 use Rattle.gd_io.specs.Faults.{HasRisen}
 use Rattle.gd_io.specs.declared.writing.WriteFault.{WriteFault}
 use Rattle.load_deck.specs.LoadText.{load_text}
@@ -29,6 +29,7 @@ failed-by (Some (Run acts stop)) left before now is = is
 failed-by (Some Check) left before now is = is
 failed-by (Some (Sweep runs)) left before now is = is
 failed-by (Some Verify) left before now is = is
+failed-by (Some Advise) left before now is = is
 failed-by (Some (Load requests)) left before now is =
     absurd (not_read_fault (load_task requests) (load_text requests) due.ReadFault is refl)
 
@@ -66,6 +67,8 @@ write-fault-only (due.Accepted site) (Ok done) e = absurd (cc)
 write-fault-only (due.Swept rows) (Ok done) e = absurd (cc)
 write-fault-only (due.Verified n) (Ok done) e = absurd (cc)
 write-fault-only (due.Rejected line cause) (Ok done) e = absurd (cc)
+write-fault-only (due.Advised advised) (Ok done) e = absurd (cc)
+write-fault-only (due.Unadvised refused) (Ok done) e = absurd (cc)
 write-fault-only (due.Report report) (Ok done) e = absurd (run-written report.run.ran.ending e)
 write-fault-only decided (Err fault) e = refl
 

@@ -1,6 +1,6 @@
 -- What is due of words and bytes is one.
 use Rattle.std.proofs.Common.{◌≡◌, ◌<◌, ◌≤◌, ◌⊎◌, inl, inr, ℕ, true, false, List, length, Option, Some, None, refl}
-use Rattle.std.proofs.Common.{subst, sym, ap, ◌∙◌, arith}
+use Rattle.std.proofs.Common.{subst, sym, ap, ap₂, ◌∙◌, arith}
 use Rattle.std.specs.Prelude.{Bool, Result, Ok, Err}
 use Rattle.std.proofs.lemmas.Bool.{cases_order}
 use Rattle.gd_words.specs.Memory.{no_memory}
@@ -12,7 +12,7 @@ use Rattle.tal_tree.specs.declared.site.Site.{Site}
 use Rattle.path_semantics.specs.Accepted.{IsAccepted}
 use Rattle.command_words.specs.Asked.{asked_by}
 use Rattle.command_words.specs.declared.asked.Command.{Command}
-use Rattle.command_words.specs.declared.asked.Command.TheVariants.{Check, Load, Run, Sweep, Verify}
+use Rattle.command_words.specs.declared.asked.Command.TheVariants.{Advise, Check, Load, Run, Sweep, Verify}
 use Rattle.deck_reader.specs.Decks.{Decks}
 use Rattle.deck_reader.specs.Refusals.{IsRefusalOf}
 use Rattle.deck_reader.specs.declared.deck.Deck.{Deck}
@@ -26,6 +26,8 @@ use Rattle.shown_sectors.specs.Sectors.{sectors_after}
 use Rattle.shown_sectors.specs.declared.sectors.SectorWords.{SectorWords}
 use Rattle.single_runs.proofs.Runs.{one-run}
 use Rattle.statement_lines.specs.Lines.{lines_of}
+use Rattle.site_advice.specs.SiteAdvised.{AreAdvised}
+use Rattle.site_advice.specs.declared.pairs.PairAdvice.{PairAdvice}
 use Rattle.verdicts.specs.Refused.{AreAccepted, IsFirstRefused, program_at}
 use Rattle.verdicts.specs.declared.refused.RefusedProgram.{RefusedProgram}
 use Rattle.report_judge.specs.Verdicts.{IsVerdict as IsJudgement}
@@ -36,10 +38,11 @@ use Rattle.report_laws.proofs.OneVerdict.{one-verdict}
 use Rattle.report_laws.specs.OneVerdict.{IsSameVerdict}
 use Rattle.runner.specs.Verified.{IsDueOfInput, IsDueOfJudged, deck_in, report_in}
 use Rattle.runner.specs.Decided.{IsDue, IsDueOfAccepted, IsDueOfBytes, IsDueOfDeck, IsDueOfRun, IsDueOfSource}
-use Rattle.runner.specs.Decided.{IsDueOfSweep, IsDueOfVerify, IsDueOn, IsReportOf}
+use Rattle.runner.specs.Decided.{IsDueOfAdvice, IsDueOfSweep, IsDueOfVerify, IsDueOn, IsReportOf}
 use Rattle.runner.specs.RunEnds.{shown_in}
 use Rattle.runner.specs.Stopped.{stopped_from}
-use Rattle.runner.specs.Tasks.{can_stop, load_task}
+use Rattle.runner.specs.Tasks.{can_stop, judges, load_task}
+use Rattle.runner.specs.declared.due.AdvisedSite.{AdvisedSite}
 use Rattle.runner.specs.declared.due.Due.{Due}
 use Rattle.runner.specs.declared.due.Due.TheVariants as due
 use Rattle.runner.specs.declared.due.RefusedSite.{RefusedSite}
@@ -51,6 +54,7 @@ use Rattle.runner.specs.declared.task.Telling.{Telling}
 use Rattle.runner.specs.declared.task.Telling.TheVariants.{Lines}
 use Rattle.command_laws.specs.OneDue.{IsSameDue, IsSameRefusal}
 use Rattle.command_laws.proofs.Accepted.{only-wanting}
+use Rattle.command_laws.proofs.OneAdvice.{advised-or-not, one-advised, same-unadvised}
 use Rattle.command_laws.proofs.OneSweep.{one-sweep}
 
 -- Reports
@@ -136,6 +140,8 @@ is-free (due.Report report) = tt
 is-free (due.Swept rows) = tt
 is-free (due.Verified n) = tt
 is-free (due.Rejected line cause) = tt
+is-free (due.Advised advised) = tt
+is-free (due.Unadvised refused) = tt
 
 failing-is-free : (one : Due) → IsSameDue one due.ReadFault
 failing-is-free due.Usage = tt
@@ -148,6 +154,8 @@ failing-is-free (due.Report report) = tt
 failing-is-free (due.Swept rows) = tt
 failing-is-free (due.Verified n) = tt
 failing-is-free (due.Rejected line cause) = tt
+failing-is-free (due.Advised advised) = tt
+failing-is-free (due.Unadvised refused) = tt
 
 not-both : (test : Bool) → test ≡ true → test ≡ false → ⊥
 not-both test is isnt = absurd (cc)
@@ -157,15 +165,16 @@ data IsOfDeck (task : Task) (deck : Deck) : Due → Type 0 where
   wanting : IsOfDeck task deck (due.NoMemory no_memory)
   unable : can_stop task deck.site ≡ false → IsOfDeck task deck due.Usage
   refused : (found : RefusedSite) → can_stop task deck.site ≡ true → found.site ≡ deck.site
-      → IsFirstRefused deck.site.processes found.found
+      → IsFirstRefused deck.site.processes found.found → judges task ≡ true
       → IsOfDeck task deck (due.ProgramRefused found)
-  good : {decided : Due} → can_stop task deck.site ≡ true → AreAccepted deck.site.processes
+  good : {decided : Due} → can_stop task deck.site ≡ true
+      → (judges task ≡ true → AreAccepted deck.site.processes)
       → IsDueOfAccepted task deck decided → IsOfDeck task deck decided
 
 of-deck : (task : Task) (deck : Deck) (decided : Due) → IsDueOfDeck task deck decided → IsOfDeck task deck decided
 of-deck task deck (due.NoMemory _) is = wanting
 of-deck task deck due.Usage is = unable is
-of-deck task deck (due.ProgramRefused found) is = refused found is.0 is.1.0 is.1.1
+of-deck task deck (due.ProgramRefused found) is = refused found is.0 is.1.0 is.1.1 is.1.2
 of-deck task deck due.ReadFault is = good is.0 is.1.0 is.1.1
 of-deck task deck (due.DeckRefused fault) is = good is.0 is.1.0 is.1.1
 of-deck task deck (due.Accepted site) is = good is.0 is.1.0 is.1.1
@@ -173,6 +182,8 @@ of-deck task deck (due.Report report) is = good is.0 is.1.0 is.1.1
 of-deck task deck (due.Swept rows) is = good is.0 is.1.0 is.1.1
 of-deck task deck (due.Verified n) is = good is.0 is.1.0 is.1.1
 of-deck task deck (due.Rejected line cause) is = good is.0 is.1.0 is.1.1
+of-deck task deck (due.Advised advised) is = good is.0 is.1.0 is.1.1
+of-deck task deck (due.Unadvised refusal) is = good is.0 is.1.0 is.1.1
 
 same-run : (deck : Deck) (stop : Option ProcessorStop) (tells : Telling) (one other : Due)
     → IsDueOfRun deck stop tells one → IsDueOfRun deck stop tells other
@@ -193,10 +204,33 @@ same-sweep deck runs (due.Swept rows) (due.Swept others) is two =
 same-sweep deck runs (due.Swept rows) _ is two = absurd two
 same-sweep deck runs _ other is two = absurd is
 
+same-advised : (deck : Deck) (one other : AdvisedSite) → one.site ≡ deck.site → other.site ≡ deck.site
+    → AreAdvised deck.site.processes one.pairs → AreAdvised deck.site.processes other.pairs → one ≡ other
+same-advised deck one other site its first later =
+    ap₂ (λ (s : Site) (pairs : List PairAdvice). record { site = s; pairs = pairs }) (site ∙ sym its)
+    (one-advised deck.site.processes one.pairs other.pairs first later)
+
+same-advice : (deck : Deck) (one other : Due) → IsDueOfAdvice deck one → IsDueOfAdvice deck other
+    → IsSameDue one other
+same-advice deck (due.NoMemory _) other is two = tt
+same-advice deck one (due.NoMemory _) is two = is-free one
+same-advice deck (due.Advised one) (due.Advised other) is two =
+    ap due.Advised (same-advised deck one other is.0 two.0 is.1 two.1)
+same-advice deck (due.Advised one) (due.Unadvised other) is two =
+    absurd (advised-or-not deck.site.processes one.pairs other.found is.1 two.1)
+same-advice deck (due.Unadvised one) (due.Advised other) is two =
+    absurd (advised-or-not deck.site.processes other.pairs one.found two.1 is.1)
+same-advice deck (due.Unadvised one) (due.Unadvised other) is two =
+    same-unadvised deck.site.processes one other (is.0 ∙ sym two.0) is.1 two.1
+same-advice deck (due.Advised one) _ is two = absurd two
+same-advice deck (due.Unadvised one) _ is two = absurd two
+same-advice deck _ other is two = absurd is
+
 same-accepted : (task : Task) (deck : Deck) (one other : Due) → IsDueOfAccepted task deck one
     → IsDueOfAccepted task deck other → IsSameDue one other
 same-accepted (task.Run tells stop) deck one other is two = same-run deck stop tells one other is two
 same-accepted (task.Sweep runs) deck one other is two = same-sweep deck runs one other is two
+same-accepted task.Advise deck one other is two = same-advice deck one other is two
 same-accepted task.Check deck one other is two =
     subst (λ (d : Due). IsSameDue d other) (sym is)
     (subst (λ (d : Due). IsSameDue (due.Accepted deck.site) d) (sym two) refl)
@@ -210,18 +244,18 @@ same-of-deck : (task : Task) (deck : Deck) (one other : Due) → IsOfDeck task d
 same-of-deck task deck _ other wanting two = tt
 same-of-deck task deck one _ is wanting = is-free one
 same-of-deck task deck _ _ (unable cant) (unable too) = refl
-same-of-deck task deck _ _ (unable cant) (refused found can site first) =
+same-of-deck task deck _ _ (unable cant) (refused found can site first judged) =
     absurd (not-both (can_stop task deck.site) can cant)
 same-of-deck task deck _ _ (unable cant) (good can accepted is) = absurd (not-both (can_stop task deck.site) can cant)
-same-of-deck task deck _ _ (refused found can site first) (unable cant) =
+same-of-deck task deck _ _ (refused found can site first judged) (unable cant) =
     absurd (not-both (can_stop task deck.site) can cant)
 same-of-deck task deck _ _ (good can accepted is) (unable cant) = absurd (not-both (can_stop task deck.site) can cant)
-same-of-deck task deck _ _ (refused found can site first) (refused other too its later) =
+same-of-deck task deck _ _ (refused found can site first judged) (refused other too its later its_judged) =
     same-refusal deck.site.processes found other (site ∙ sym its) first later
-same-of-deck task deck _ _ (refused found can site first) (good too accepted is) =
-    absurd (none-refused deck.site.processes found.found accepted first)
-same-of-deck task deck _ _ (good too accepted is) (refused found can site first) =
-    absurd (none-refused deck.site.processes found.found accepted first)
+same-of-deck task deck _ _ (refused found can site first judged) (good too accepted is) =
+    absurd (none-refused deck.site.processes found.found (accepted judged) first)
+same-of-deck task deck _ _ (good too accepted is) (refused found can site first judged) =
+    absurd (none-refused deck.site.processes found.found (accepted judged) first)
 same-of-deck task deck one other (good can accepted is) (good too its two) = same-accepted task deck one other is two
 
 -- Bytes
@@ -250,6 +284,10 @@ of-bytes task bytes (due.Swept rows) (deck, is_spelt, is) = of-spelt task bytes 
 of-bytes task bytes (due.Verified n) (deck, is_spelt, is) = of-spelt task bytes deck (due.Verified n) is_spelt is
 of-bytes task bytes (due.Rejected line cause) (deck, is_spelt, is) =
     of-spelt task bytes deck (due.Rejected line cause) is_spelt is
+of-bytes task bytes (due.Advised advised) (deck, is_spelt, is) =
+    of-spelt task bytes deck (due.Advised advised) is_spelt is
+of-bytes task bytes (due.Unadvised refusal) (deck, is_spelt, is) =
+    of-spelt task bytes deck (due.Unadvised refusal) is_spelt is
 
 same-of-bytes : (task : Task) (bytes : List ℕ) (one other : Due) → IsOfBytes task bytes one
     → IsOfBytes task bytes other → IsSameDue one other
@@ -304,6 +342,12 @@ failing-first (due.Report report) = tt
 failing-first (due.Swept rows) = tt
 failing-first (due.Verified n) = tt
 failing-first (due.Rejected line cause) = tt
+failing-first (due.Advised advised) = tt
+failing-first (due.Unadvised refusal) = tt
+of-source task bytes before now (due.Advised advised) (found, told, is) =
+    of-told task bytes found (due.Advised advised) told is
+of-source task bytes before now (due.Unadvised refusal) (found, told, is) =
+    of-told task bytes found (due.Unadvised refusal) told is
 
 same-of-source : (task : Task) (bytes : List ℕ) (one other : Due) → IsOfSource task bytes one
     → IsOfSource task bytes other → IsSameDue one other
@@ -336,6 +380,8 @@ of-judged deck report (due.DeckRefused fault) is = absurd is.1
 of-judged deck report (due.Accepted site) is = absurd is.1
 of-judged deck report (due.Report run) is = absurd is.1
 of-judged deck report (due.Swept rows) is = absurd is.1
+of-judged deck report (due.Advised advised) is = absurd is.1
+of-judged deck report (due.Unadvised refused) is = absurd is.1
 
 -- what is due by a verdict
 abbrev due_by : Result ℕ VerifyRefusal → Due
@@ -406,6 +452,10 @@ of-input bytes (due.Report report) (few, deck, decks, is) =
     with_deck deck few decks (of-judged deck (report_in bytes) (due.Report report) is)
 of-input bytes (due.Swept rows) (few, deck, decks, is) =
     with_deck deck few decks (of-judged deck (report_in bytes) (due.Swept rows) is)
+of-input bytes (due.Advised advised) (few, deck, decks, is) =
+    with_deck deck few decks (of-judged deck (report_in bytes) (due.Advised advised) is)
+of-input bytes (due.Unadvised refused) (few, deck, decks, is) =
+    with_deck deck few decks (of-judged deck (report_in bytes) (due.Unadvised refused) is)
 of-input bytes (due.Verified acts) (few, deck, decks, is) =
     with_deck deck few decks (of-judged deck (report_in bytes) (due.Verified acts) is)
 of-input bytes (due.Rejected line cause) (few, deck, decks, is) =
@@ -453,6 +503,10 @@ of-verify bytes before now (due.Report report) (found, told, is) =
     from_input (of-read bytes found (due.Report report) told is)
 of-verify bytes before now (due.Swept rows) (found, told, is) =
     from_input (of-read bytes found (due.Swept rows) told is)
+of-verify bytes before now (due.Advised advised) (found, told, is) =
+    from_input (of-read bytes found (due.Advised advised) told is)
+of-verify bytes before now (due.Unadvised refused) (found, told, is) =
+    from_input (of-read bytes found (due.Unadvised refused) told is)
 of-verify bytes before now (due.Verified acts) (found, told, is) =
     from_input (of-read bytes found (due.Verified acts) told is)
 of-verify bytes before now (due.Rejected line cause) (found, told, is) =
@@ -486,6 +540,9 @@ same-asked (Some (Sweep runs)) bytes before now earlier later one other is two =
     (of-source (task.Sweep runs) bytes earlier later other two)
 same-asked (Some Verify) bytes before now earlier later one other is two =
     same-of-verify bytes one other (of-verify bytes before now one is) (of-verify bytes earlier later other two)
+same-asked (Some Advise) bytes before now earlier later one other is two =
+    same-of-source task.Advise bytes one other (of-source task.Advise bytes before now one is)
+    (of-source task.Advise bytes earlier later other two)
 same-asked (Some (Load requests)) bytes before now earlier later one other is two =
     same-of-bytes (load_task requests) (load_text requests) one other
     (of-bytes (load_task requests) (load_text requests) one is)

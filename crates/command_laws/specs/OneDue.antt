@@ -20,4 +20,5 @@ IsSameDue _ (due.NoMemory _) = Unit {0}
 IsSameDue due.ReadFault _ = Unit {0}
 IsSameDue _ due.ReadFault = Unit {0}
 IsSameDue (due.ProgramRefused one) (due.ProgramRefused other) = IsSameRefusal one other
+IsSameDue (due.Unadvised one) (due.Unadvised other) = IsSameRefusal one other
 IsSameDue one other = one ≡ other
