@@ -1,7 +1,7 @@
 -- What is due of words and bytes is one.
 use Rattle.std.proofs.Common.{◌≡◌, ◌<◌, ◌≤◌, ◌⊎◌, inl, inr, ℕ, true, false, List, length, Option, Some, None, refl}
 use Rattle.std.proofs.Common.{subst, sym, ap, ap₂, ◌∙◌, arith}
-use Rattle.std.specs.Prelude.{Bool, Result, Ok, Err}
+use Rattle.std.specs.Prelude.{◌≢◌, Bool, Result, Ok, Err}
 use Rattle.std.proofs.lemmas.Bool.{cases_order}
 use Rattle.gd_words.specs.Memory.{no_memory}
 use Rattle.tal_tree.specs.declared.fault.DeckFault.{DeckFault}
@@ -581,3 +581,37 @@ one-load words requests left told before now earlier later one other asked (inr 
     same-load requests left told before now earlier later one other
     (subst (λ (c : Option Command). IsDueOn c left before now one) asked is)
     (subst (λ (c : Option Command). IsDueOn c told earlier later other) asked two)
+
+-- Advice
+
+not-able : {A : Type 0} → true ≡ false → A
+not-able wrong = absurd (cc)
+
+advice-of-deck : (deck : Deck) (decided : Due) → IsOfDeck task.Advise deck decided → IsDueOfAdvice deck decided
+advice-of-deck deck _ wanting = tt
+advice-of-deck deck _ (unable cant) = not-able cant
+advice-of-deck deck _ (refused found can site first judged) = not-able (sym judged)
+advice-of-deck deck decided (good can accepted is) = is
+
+advice-of-bytes : (bytes : List ℕ) (deck : Deck) (decided : Due) → Decks bytes deck
+    → IsOfBytes task.Advise bytes decided → IsDueOfAdvice deck decided
+advice-of-bytes bytes deck _ spelt_too short = tt
+advice-of-bytes bytes deck _ spelt_too (broken fault is) = absurd (no_deck bytes fault deck is spelt_too)
+advice-of-bytes bytes deck decided spelt_too (spelt other its is) =
+    subst (λ (d : Deck). IsDueOfAdvice d decided) (one_deck bytes other deck its spelt_too)
+    (advice-of-deck other decided is)
+
+advice-of-source : (bytes : List ℕ) (deck : Deck) (decided : Due) → Decks bytes deck → decided ≢ due.ReadFault
+    → IsOfSource task.Advise bytes decided → IsDueOfAdvice deck decided
+advice-of-source bytes deck decided spelt_too read_whole (read is) = advice-of-bytes bytes deck decided spelt_too is
+advice-of-source bytes deck _ spelt_too read_whole failing = absurd (read_whole refl)
+
+pub deck-advised : (words : List (List ℕ)) (bytes : List ℕ) (before now : ℕ) (deck : Deck) (decided : Due)
+    → asked_by words ≡ Some Advise → Decks bytes deck → IsDue words (Some bytes) before now decided
+    → decided ≢ due.ReadFault → IsDueOfAdvice deck decided
+deck-advised words bytes before now deck decided asked spelt_too (inl none) read_whole =
+    subst (IsDueOfAdvice deck) (sym none) tt
+deck-advised words bytes before now deck decided asked spelt_too (inr is) read_whole =
+    advice-of-source bytes deck decided spelt_too read_whole
+    (of-source task.Advise bytes before now decided
+    (subst (λ (c : Option Command). IsDueOn c (Some bytes) before now decided) asked is))

@@ -1,7 +1,7 @@
 ghost use Rattle.std.specs.Prelude.{◌≡◌, ◌≢◌, ◌⊎◌, ℕ, Bool, true, List, Option, Some, None, length};
 ghost use Rattle.gd_words.specs.Memory.{no_memory};
 ghost use Rattle.command_words.specs.Asked.{asked_by};
-ghost use Rattle.command_words.specs.declared.asked.Command.TheVariants.{Check, Load, Run, Sweep, Verify};
+ghost use Rattle.command_words.specs.declared.asked.Command.TheVariants.{Advise, Check, Load, Run, Sweep, Verify};
 ghost use Rattle.deck_reader.specs.Decks.{Decks};
 ghost use Rattle.deck_reader.specs.declared.deck.Deck.{Deck};
 ghost use Rattle.gd_io.specs.Faults.{HasRisen};
@@ -9,7 +9,7 @@ ghost use Rattle.load_laws.specs.LoadDeck.{load_deck};
 ghost use Rattle.player.specs.declared.stop.ProcessorStop.{ProcessorStop};
 ghost use Rattle.report_reader.specs.Reading.{acts_in};
 ghost use Rattle.report_reader.specs.declared.reading.Reading.{Reading};
-ghost use Rattle.runner.specs.Decided.{IsDue, IsDueOfRun, IsDueOfSweep, IsReportOf};
+ghost use Rattle.runner.specs.Decided.{IsDue, IsDueOfAdvice, IsDueOfRun, IsDueOfSweep, IsReportOf};
 ghost use Rattle.runner.specs.Ends.{Ends};
 ghost use Rattle.runner.specs.Tasks.{can_stop};
 ghost use Rattle.runner.specs.Written.{text_of};
@@ -103,6 +103,15 @@ pub fn no_report_of_a_deck_is_rejected<S: Source, K: Sink>()
         → (bytes : List ℕ) (deck : Deck) (reading : Reading) → asked_by words ≡ Some Verify
         → S.left source ≡ Some bytes → S.sure source → IsReportedInput bytes deck reading
         → IsStatusOfCheck outcome.status }
+{}
+
+/// Where the words ask for advice, and the source tells bytes that spell a deck, what is due is the advice for each of
+/// its programs, whether they are accepted or not, or the first for which there is none, unless reading fails or memory
+/// runs out.
+pub fn a_deck_has_advice_or_a_cause()
+    ensures { (words : List (List ℕ)) (bytes : List ℕ) (before now : ℕ) (deck : Deck) (decided : Due)
+        → asked_by words ≡ Some Advise → Decks bytes deck
+        → IsDue words (Some bytes) before now decided → decided ≢ due.ReadFault → IsDueOfAdvice deck decided }
 {}
 
 /// Where the words ask for a load, what is due is the report of a run of the load deck, told in counts, or want of
