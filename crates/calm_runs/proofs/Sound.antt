@@ -109,9 +109,6 @@ only-if holds played next h made = subst (OnlyIf holds) made h
 
 -- after an event that isn't its tick
 module _ (s : Packeted) (q : ℕ) where
-  Kept : Packeted → Type 0
-  Kept next = Keeps next.world.stopped (watch_at s.wires.nodes q) (watch_at next.wires.nodes q)
-
   quiet-kept : (event : Event) → is_quiet event ≡ true → OnlyIf
       (λ next. Keeps next.world.stopped (watch_at s.wires.nodes q) (watch_at next.wires.nodes q)) (play s event)
   quiet-kept event quiet = by (acted s event) (quiet-keeps s event quiet)
@@ -306,9 +303,6 @@ hears-alive : (s next : Packeted) (p q : ℕ) (rest : List Packet) → IsPlay s 
     → WasHeard (known_of (watch_at next.wires.nodes q) p)
 hears-alive s next p q rest g front on_p on_q there = of g
   where
-    wires : Wires
-    wires = taken_off (Deliver false 0) s.wires
-
     heard : HeardIf p q (play s (Deliver false 0))
     heard = subst (λ o. HeardIf p q (ended (taken_off (Deliver false 0) s.wires) (deliver_acted bus.X (begun s) o)))
         (sym (ap (λ l. slice_get l 0) front))

@@ -64,9 +64,6 @@ tick-me w = by (nat_lt w.me 16 && w.checks)
 -- What a node sends, but for the line
 
 module _ (processors x : ℕ) (m : Midst) where
-  told : Midst
-  told = tells_alive processors x m
-
   checks-learns : IsStill (learns x after_tick (tells_alive processors x m)) (checks processors x (tells_alive
       processors x m))
   checks-learns = by (slice_get (tells_alive processors x m).nodes x)
@@ -299,9 +296,6 @@ marks-shown node k s = by (slice_get s.world.stopped k)
 pub ticks-so : (s : Packeted) (node : ℕ) → TicksIf node s (tick_acted node (begun s))
 ticks-so s node = by (is_running s.world.stopped node) refl
   where
-    t : Underway
-    t = sent_before node s
-
     none : is_running s.world.stopped node ≡ true → TicksSo node s (sent_before node s)
     none runs = record {
       runs = runs;

@@ -1,3 +1,4 @@
 pub mod Buses
+pub mod Examples
 pub mod Nets
 pub mod Rounds

@@ -5,6 +5,7 @@
 //! of channels, and `channel_laws`, by which four rounds of a net end a piece.
 #![tactic(auto)]
 
+pub mod guards;
 pub mod laws;
 
 pub use laws::{
