@@ -12,10 +12,12 @@ use Rattle.letters.specs.Routes.{letters_of}
 use Rattle.message_layout.specs.Messages.{NodeMessage, Carrying, Reporting, Declaring}
 use Rattle.message_layout.specs.Reading.{understood}
 use Rattle.packet_wires.specs.Play.{Packeted, Underway, after_any, begun, handed, handed_any, handed_words, marked_by}
-use Rattle.packet_wires.specs.Play.{over}
-use Rattle.packet_wires.specs.Wires.{Midst, Wires, all_posted, cut_off, learns, nothing_sent}
+use Rattle.packet_wires.specs.Play.{declared, marks, marks_and_declares, over}
+use Rattle.packet_wires.specs.Wires.{Midst, Wires, all_posted, cut_off, declares, learns, nothing_sent}
 use Rattle.event_parts.specs.Parts.{OnlyAdds, carried_out}
-use Rattle.event_parts.proofs.Adds.{adds-all-posted, adds-cut-off, adds-learns, adds-nothing, adds-then}
+use Rattle.event_parts.proofs.Adds.{adds-all-posted, adds-cut-off, adds-declares, adds-learns, adds-nothing, adds-then}
+use Rattle.event_parts.proofs.Numbers.{can-all-posted, can-cut-off}
+use Rattle.event_parts.specs.Numbers.{CanPush}
 use Rattle.event_parts.proofs.Turns.{carried-then}
 use Rattle.site_machine.specs.Told.{after_part}
 
@@ -75,14 +77,59 @@ module _ (site : Site) (w : World) (node : ℕ) where
       let one = read-part (understood site words) in
       record { world = one.world; part = one.part; adds = one.adds; same = one.same }
 
+  declared-part : (processor : ℕ) → IsPart (marks_and_declares node processor) site w
+  declared-part processor =
+      let one = mark-part processor (down_done node processor w) in record {
+        world = one.world;
+        part = λ midst. declares site.processors node processor (one.part midst);
+        adds = adds-then one.part (declares site.processors node processor) one.adds
+            (adds-declares site.processors node processor);
+        same = λ midst. ap (declared node processor) (one.same midst);
+      }
+
 -- the same as a part of its own, after another part was carried out
-pub handed-in-turn : (first : Midst → Midst) (node : ℕ) (words : Option (List ℤ)) (s : Packeted)
-    → over s.wires (handed_words node words (record (begun s) { wires = first (nothing_sent s.wires.nodes) }))
-    ≡ after_part (handed_words node words) (record s { wires = carried_out first s.wires })
-handed-in-turn first node words s =
-    let one = words-part s.site s.world node words in
+in-turn : (does : Underway → Underway) (first : Midst → Midst) (s : Packeted) → IsPart does s.site s.world
+    → over s.wires (does (record (begun s) { wires = first (nothing_sent s.wires.nodes) }))
+    ≡ after_part does (record s { wires = carried_out first s.wires })
+in-turn does first s one =
     let then : Wires = carried_out first s.wires in
     ap (over s.wires) (one.same (first (nothing_sent s.wires.nodes)))
     ∙ ap (λ (wires : Wires). record { site = s.site; world = one.world; wires = wires })
     (sym (carried-then first one.part s.wires one.adds))
     ∙ sym (ap (over then) (one.same (nothing_sent then.nodes)))
+
+pub handed-in-turn : (first : Midst → Midst) (node : ℕ) (words : Option (List ℤ)) (s : Packeted)
+    → over s.wires (handed_words node words (record (begun s) { wires = first (nothing_sent s.wires.nodes) }))
+    ≡ after_part (handed_words node words) (record s { wires = carried_out first s.wires })
+handed-in-turn first node words s = in-turn (handed_words node words) first s (words-part s.site s.world node words)
+
+pub declared-in-turn : (first : Midst → Midst) (node processor : ℕ) (s : Packeted)
+    → over s.wires (marks_and_declares node processor (record (begun s)
+    { wires = first (nothing_sent s.wires.nodes) }))
+    ≡ after_part (marks_and_declares node processor) (record s { wires = carried_out first s.wires })
+declared-in-turn first node processor s =
+    in-turn (marks_and_declares node processor) first s (declared-part s.site s.world node processor)
+
+-- what is told after a mark is a part of its own
+pub declared-after : (node processor : ℕ) (s : Packeted) (u : Underway)
+    → record (over s.wires u) {
+      wires = carried_out (declares u.site.processors node processor)
+          (over s.wires u).wires;
+    } ≡ over s.wires (declared node processor u)
+declared-after node processor s u =
+    ap (λ (wires : Wires). record { site = u.site; world = u.world; wires = wires })
+    (carried-then (λ midst. u.wires) (declares u.site.processors node processor) s.wires
+    (adds-declares u.site.processors node processor))
+
+-- what is pushed goes on to find a number after a mark
+pub can-marks : (node processor : ℕ) (s : Packeted) → CanPush s.wires.nodes
+    → CanPush (after_part (marks node processor) s).wires.nodes
+can-marks node processor s can = by (down_done node processor s.world)
+  where
+    by : (done : Option Done) → CanPush (over s.wires (marked_by node processor (begun s) done)).wires.nodes
+    by None = can
+    by (Some done) =
+        can-all-posted done.world.stopped (letters_of s.site done.world
+        (done.sendings ++ sent_again s.site s.world done.world node processor))
+        (cut_off node processor (nothing_sent s.wires.nodes))
+        (can-cut-off node processor (nothing_sent s.wires.nodes) can)

@@ -13,6 +13,7 @@ mod knowing;
 mod marking;
 mod posting;
 mod running;
+mod ticking;
 pub mod whole;
 mod wording;
 
