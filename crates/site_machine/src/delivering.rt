@@ -13,7 +13,7 @@ use machine_states::Effect;
 use packet_words::BusName;
 
 /// The bus that events name so.
-fn bus_named(y: bool) -> BusName
+pub(crate) fn bus_named(y: bool) -> BusName
     ensures { result ≡ bus_named y }
 {
     if y { BusName::Y } else { BusName::X }

@@ -9,12 +9,14 @@
 mod delivering;
 mod failing;
 mod handing;
+mod idle;
 mod knowing;
+pub mod machine;
 mod marking;
 mod posting;
 mod running;
 mod ticking;
-pub mod whole;
+mod whole;
 mod wording;
 
-pub use whole::MachineParts;
+pub use machine::Machine;

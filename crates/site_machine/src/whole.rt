@@ -1,6 +1,7 @@
-ghost use Rattle.std.specs.Prelude.{◌≡◌, IfOk};
+ghost use Rattle.std.specs.Prelude.{◌≡◌, IfOk, OnOk};
 ghost use Rattle.packet_wires.specs.Play.{packeted_at_boot};
 ghost use Rattle.process_copies.specs.Starting.{IsStartable};
+ghost use Rattle.site_machine.specs.Seen.{closed_state};
 
 use gd_words::NoMemory;
 use logs::Shared;
@@ -43,5 +44,13 @@ impl MachineParts {
             world,
             wires,
         })
+    }
+
+    /// The run is closed: what copies still hold is kept, in the order of the deck.
+    pub(crate) fn close(&mut self) -> Result<(), NoMemory>
+        ensures { OnOk result (self.new ≡ closed_state self.old) }
+    {
+        self.world.close()?;
+        Ok(())
     }
 }

@@ -1,0 +1,215 @@
+ghost use Rattle.std.specs.Prelude.{◌≡◌, false, true, length, reverse, IfOk, OnOk, OnErr};
+ghost use Rattle.std.specs.Option.{option_copied};
+ghost use Rattle.machine_states.specs.States.{Settles};
+ghost use Rattle.node_copies.specs.ShownCounts.{replies_in, writes_in};
+ghost use Rattle.packet_wires.specs.Idle.{is_idle};
+ghost use Rattle.packet_wires.specs.Play.{count_on, kind_at, packet_at, packeted_at_boot, play, sender_at};
+ghost use Rattle.packet_wires.specs.Wires.{bus_named};
+ghost use Rattle.process_copies.specs.Starting.{IsStartable};
+ghost use Rattle.world_copies.specs.Seen.{ArePlaced, pairs_in};
+ghost use Rattle.world_semantics.specs.Kept.{acts_of};
+ghost use Rattle.site_machine.specs.Needs.{IsReady};
+ghost use Rattle.site_machine.specs.Seen.{closed_state};
+
+use crate::delivering::bus_named;
+use crate::whole::MachineParts;
+use gd_words::NoMemory;
+use logs::Shared;
+use machine_states::Effect;
+use node_copies::Downs;
+use packet_words::{Packet, PacketKind};
+use process_copies::ProcessCopies;
+use schedule::Event;
+use std::alloc::Global;
+use std::marker::Model;
+use tal_tree::{Act, Shown, Site};
+use world_copies::Terminal;
+
+/// The machine over packets. Once an allocation was refused to it, it answers so for good.
+#[derive(Drop)]
+pub struct Machine {
+    broken: Option<NoMemory>,
+    whole: MachineParts,
+}
+
+impl Model for Machine {
+    ghost use Rattle.std.specs.Coded.{codes};
+    ghost use Rattle.std.specs.Prelude.{is_some};
+    ghost use Rattle.tal_tree.specs.contracts.statement.Statement as statement;
+    ghost use Rattle.site_machine.specs.Seen.{MachineStanding};
+
+    ghost Value = { MachineStanding };
+
+    ghost coded = { Prim.hlevel (codes, statement.the_row.coded) };
+
+    ghost view = { λ machine. record { is_broken = is_some machine.broken; state = machine.whole } };
+}
+
+impl Machine {
+    /// The machine at the beginning.
+    pub fn boot(alloc: Global, site: &Shared<Site>) -> Result<Machine, NoMemory>
+        requires { IsStartable site.now }
+        ensures { IfOk result (λ machine. machine ≡ record { is_broken = false; state = packeted_at_boot site.now }) }
+    {
+        let whole = MachineParts::boot(alloc, site)?;
+        Ok(Machine {
+            broken: None,
+            whole,
+        })
+    }
+
+    /// Plays one event, and tells what came of it. This is the machine's only step.
+    pub fn event(&mut self, event: Event) -> Result<Effect, NoMemory>
+        requires { IsReady self.old.state }
+        ensures done { IfOk result (λ effect. Settles (play self.old.state event) self.old.state effect
+            self.new.state) }
+        ensures whole { IfOk result (λ effect. (self.old.is_broken ≡ false) × (self.new.is_broken ≡ false)) }
+        ensures broken { OnErr result (self.new.is_broken ≡ true) }
+    {
+        if let Some(error) = self.broken {
+            return Err(error);
+        }
+        match self.whole.event(event) {
+            Ok(effect) => Ok(effect),
+            Err(error) => {
+                self.broken = Some(error);
+                Err(error)
+            }
+        }
+    }
+
+    /// How many packets are on bus X or, where `y` says so, on bus Y.
+    pub fn count(&self, y: bool) -> usize
+        ensures { result ≡ count_on self.now.state (bus_named y) }
+    {
+        self.whole.wires.count(bus_named(y))
+    }
+
+    /// The packet at a position of a bus.
+    pub fn packet_at(&self, y: bool, k: u32) -> Option<&Packet>
+        ensures { option_copied result ≡ packet_at self.now.state (bus_named y) k }
+    {
+        self.whole.wires.packet_at(bus_named(y), k as usize)
+    }
+
+    /// The node that sent the packet at a position of a bus.
+    pub fn sender_at(&self, y: bool, k: u32) -> Option<u8>
+        ensures { result ≡ sender_at self.now.state (bus_named y) k }
+    {
+        let packet = self.packet_at(y, k)?;
+        Some(packet.sender)
+    }
+
+    /// The kind of the packet at a position of a bus.
+    pub fn kind_at(&self, y: bool, k: u32) -> Option<&PacketKind>
+        ensures { option_copied result ≡ kind_at self.now.state (bus_named y) k }
+    {
+        let packet = self.packet_at(y, k)?;
+        Some(&packet.kind)
+    }
+
+    /// Whether nothing is left to do.
+    pub fn is_idle(&self) -> bool
+        ensures { result ≡ is_idle self.now.state }
+    {
+        self.whole.is_idle()
+    }
+
+    /// How many writes were shown.
+    pub fn writes(&self) -> u32
+        ensures { result ≡ writes_in self.now.state.world.shown }
+    {
+        self.whole.world.writes()
+    }
+
+    /// How many replies were shown.
+    pub fn replies(&self) -> u32
+        ensures { result ≡ replies_in self.now.state.world.shown }
+    {
+        self.whole.world.replies()
+    }
+
+    /// The run is closed: what copies still hold is kept.
+    pub fn close(&mut self) -> Result<(), NoMemory>
+        ensures closed { OnOk result (self.new ≡ record self.old { state = closed_state self.old.state }) }
+        ensures whole { OnOk result (self.old.is_broken ≡ false) }
+        ensures broken { OnErr result (self.new.is_broken ≡ true) }
+    {
+        if let Some(error) = self.broken {
+            return Err(error);
+        }
+        match self.whole.close() {
+            Ok(()) => Ok(()),
+            Err(error) => {
+                self.broken = Some(error);
+                Err(error)
+            }
+        }
+    }
+
+    /// Which processors have stopped.
+    pub fn stopped(&self) -> &[bool]
+        ensures { result.now ≡ self.now.state.world.stopped }
+    {
+        self.whole.world.stopped()
+    }
+
+    /// How many processors there are.
+    pub fn processors(&self) -> u8
+        ensures { result ≡ length self.now.state.world.stopped }
+    {
+        self.whole.world.processors()
+    }
+
+    /// Which node has marked which processor.
+    pub fn marks(&self) -> &Downs
+        ensures { result.now ≡ self.now.state.world.marks }
+    {
+        self.whole.world.marks()
+    }
+
+    /// The processes in their places, both copies of each.
+    pub fn processes(&self) -> &[ProcessCopies]
+        ensures processes { pairs_in result.now ≡ self.now.state.world.processes }
+        ensures placed { ArePlaced self.now.state.site result.now }
+    {
+        self.whole.world.processes()
+    }
+
+    pub fn terminals(&self) -> &[Terminal]
+        ensures { result.now ≡ self.now.state.world.terminals }
+    {
+        self.whole.world.terminals()
+    }
+
+    /// The acts that are kept, in order.
+    pub fn acts(&self) -> &[Act]
+        ensures { result.now ≡ acts_of self.now.state.world }
+    {
+        self.whole.world.acts()
+    }
+
+    /// What was shown, in order.
+    pub fn shown(&self) -> &[Shown]
+        ensures { result.now ≡ reverse self.now.state.world.shown }
+    {
+        self.whole.world.shown()
+    }
+}
+
+impl MachineParts {
+    fn event(&mut self, event: Event) -> Result<Effect, NoMemory>
+        requires { IsReady self.old }
+        ensures { IfOk result (λ effect. Settles (play self.old event) self.old effect self.new) }
+    {
+        match event {
+            Event::Run(number) => self.run(number),
+            Event::Enter(terminal) => self.enter(terminal),
+            Event::Deliver { y, k } => self.deliver(y, k),
+            Event::Lose { y, k } => Ok(self.lose(y, k)),
+            Event::Repeat { y, k } => Ok(self.repeat(y, k)),
+            Event::Tick(node) => self.tick(node),
+            Event::Fail(processor) => Ok(self.fail(processor)),
+        }
+    }
+}
