@@ -1,10 +1,11 @@
 -- Names that are found, and the lines of acts that are told by them.
 use Rattle.std.proofs.Common.{◌≡◌, ℕ, zero, suc, ◌+◌, ◌<◌, Bool, true, false, cond, nat_eq, ◌||◌, List, [], ◌∷◌, ◌++◌}
-use Rattle.std.proofs.Common.{length, Option, Some, refl, sym, ap, ◌∙◌, arith}
+use Rattle.std.proofs.Common.{length, Option, Some, refl, sym, ap, subst, ◌∙◌, arith}
 use Rattle.std.specs.Prelude.{codes, slice_get}
 use Rattle.std.specs.List.{list_any}
 use Rattle.std.specs.Option.{option_and_then, option_map, unwrap_or}
 use Rattle.std.specs.Str.{bytes_eq}
+use Rattle.std.proofs.lemmas.Bool.{eq-eqb}
 use Rattle.std.proofs.lemmas.Slice.Eq.{bytes_eq-Decides}
 use Rattle.deck_lines.specs.Cuts.{back_of, front_of}
 use Rattle.plain_semantics.specs.Openers.{named_from, openers_of}
@@ -12,15 +13,14 @@ use Rattle.report_reader.specs.Names.{opener_from, opener_named, process_named, 
 use Rattle.report_reader.specs.Parts.{around_sign, cut_at}
 use Rattle.report_reader.specs.Telling.{enter_told, or_else, other_told, print_told, take_of, take_told, told_by}
 use Rattle.report_reader.specs.declared.told.Told.TheVariants as told
-use Rattle.tal_tree.specs.declared.act.Act.{Act}
 use Rattle.tal_tree.specs.declared.act.Act.TheVariants.{Step, Take, Enter, Print}
 use Rattle.tal_tree.specs.declared.site.OpenerSpec.{OpenerSpec}
 use Rattle.tal_tree.specs.declared.site.ProcessSpec.{ProcessSpec}
 use Rattle.tal_tree.specs.declared.site.Site.{Site}
 use Rattle.tal_tree.specs.declared.site.TerminalSpec.{TerminalSpec}
-use Rattle.trace_print.specs.ActLine.{act_line, opener_name, who_name}
+use Rattle.trace_print.specs.ActLine.{opener_name, who_name}
 use Rattle.trace_print.specs.ShownLine.{process_name, terminal_name}
-use Rattle.told_reports.specs.NamesApart.{AreApart, IsNamedAct, TellsNamesApart}
+use Rattle.told_reports.specs.NamesApart.{AreApart, IsPlainName, TellsNamesApart}
 
 -- Names
 
@@ -126,40 +126,43 @@ opener-told site process opener apart within =
     (unwrap_or (option_map (λ one. who_name site one.who) o) [])) at.1
     ∙ found-opener site 0 opener (openers_of site process) at.0 at.1 (apart.openers process) ∙ ap Some (omega arith)
 
--- Names before a space
+-- Texts before a sign
 
-front-whole : (name rest : List ℕ) → list_any (λ c. nat_eq c 32) name ≡ false
-    → front_of (λ c. nat_eq c 32) (name ++ 32 ∷ rest) ≡ name
-front-whole [] rest none = refl
-front-whole (c ∷ name) rest none = by (nat_eq c 32) none (front-whole name rest)
+pub front-whole : (sign : ℕ) (name rest : List ℕ) → list_any (λ c. nat_eq c sign) name ≡ false
+    → front_of (λ c. nat_eq c sign) (name ++ sign ∷ rest) ≡ name
+front-whole sign [] rest none =
+    ap (λ (b : Bool). cond b [] (sign ∷ front_of (λ c. nat_eq c sign) rest)) (eq-eqb sign sign refl)
+front-whole sign (c ∷ name) rest none = by (nat_eq c sign) none (front-whole sign name rest)
   where
-    by : (b : Bool) → (b || list_any (λ c. nat_eq c 32) name) ≡ false
-        → (list_any (λ c. nat_eq c 32) name ≡ false → front_of (λ c. nat_eq c 32) (name ++ 32 ∷ rest) ≡ name)
-        → cond b [] (c ∷ front_of (λ c. nat_eq c 32) (name ++ 32 ∷ rest)) ≡ c ∷ name
+    by : (b : Bool) → (b || list_any (λ c. nat_eq c sign) name) ≡ false
+        → (list_any (λ c. nat_eq c sign) name ≡ false → front_of (λ c. nat_eq c sign) (name ++ sign ∷ rest) ≡ name)
+        → cond b [] (c ∷ front_of (λ c. nat_eq c sign) (name ++ sign ∷ rest)) ≡ c ∷ name
     by true e later = absurd (cc)
     by false e later = ap (λ (xs : List ℕ). c ∷ xs) (later e)
 
-back-whole : (name rest : List ℕ) → list_any (λ c. nat_eq c 32) name ≡ false
-    → back_of (λ c. nat_eq c 32) (name ++ 32 ∷ rest) ≡ 32 ∷ rest
-back-whole [] rest none = refl
-back-whole (c ∷ name) rest none = by (nat_eq c 32) none (back-whole name rest)
+pub back-whole : (sign : ℕ) (name rest : List ℕ) → list_any (λ c. nat_eq c sign) name ≡ false
+    → back_of (λ c. nat_eq c sign) (name ++ sign ∷ rest) ≡ sign ∷ rest
+back-whole sign [] rest none =
+    ap (λ (b : Bool). cond b (sign ∷ rest) (back_of (λ c. nat_eq c sign) rest)) (eq-eqb sign sign refl)
+back-whole sign (c ∷ name) rest none = by (nat_eq c sign) none (back-whole sign name rest)
   where
-    by : (b : Bool) → (b || list_any (λ c. nat_eq c 32) name) ≡ false
-        → (list_any (λ c. nat_eq c 32) name ≡ false → back_of (λ c. nat_eq c 32) (name ++ 32 ∷ rest) ≡ 32 ∷ rest)
-        → cond b (c ∷ name ++ 32 ∷ rest) (back_of (λ c. nat_eq c 32) (name ++ 32 ∷ rest)) ≡ 32 ∷ rest
+    by : (b : Bool) → (b || list_any (λ c. nat_eq c sign) name) ≡ false
+        → (list_any (λ c. nat_eq c sign) name ≡ false
+        → back_of (λ c. nat_eq c sign) (name ++ sign ∷ rest) ≡ sign ∷ rest)
+        → cond b (c ∷ name ++ sign ∷ rest) (back_of (λ c. nat_eq c sign) (name ++ sign ∷ rest)) ≡ sign ∷ rest
     by true e later = absurd (cc)
     by false e later = later e
 
-cut-whole : (name rest : List ℕ) → list_any (λ c. nat_eq c 32) name ≡ false
-    → cut_at 32 (name ++ 32 ∷ rest) ≡ Some (name, rest)
-cut-whole name rest none =
-    ap (λ (back : List ℕ). around_sign (front_of (λ c. nat_eq c 32) (name ++ 32 ∷ rest)) back)
-    (back-whole name rest none)
-    ∙ ap (λ (front : List ℕ). Some (front, rest)) (front-whole name rest none)
+pub cut-whole : (sign : ℕ) (name rest : List ℕ) → list_any (λ c. nat_eq c sign) name ≡ false
+    → cut_at sign (name ++ sign ∷ rest) ≡ Some (name, rest)
+cut-whole sign name rest none =
+    ap (λ (back : List ℕ). around_sign (front_of (λ c. nat_eq c sign) (name ++ sign ∷ rest)) back)
+    (back-whole sign name rest none)
+    ∙ ap (λ (front : List ℕ). Some (front, rest)) (front-whole sign name rest none)
 
 -- Lines
 
-as-step : (site : Site) (name : List ℕ) (process : ℕ) → process_named site name ≡ Some process
+pub as-step : (site : Site) (name : List ℕ) (process : ℕ) → process_named site name ≡ Some process
     → told_by site (codes "A step " ++ name) ≡ Some (told.Act (Step process))
 as-step site name process found =
     let line = codes "A step " ++ name in
@@ -167,64 +170,55 @@ as-step site name process found =
     (or_else (take_told site line) (or_else (enter_told site line) (print_told site line))))) (other_told site line))
     found
 
-as-take : (site : Site) (name rest : List ℕ) (process opener : ℕ) → list_any (λ c. nat_eq c 32) name ≡ false
+pub as-take : (site : Site) (name rest : List ℕ) (process opener : ℕ) → list_any (λ c. nat_eq c 32) name ≡ false
     → process_named site name ≡ Some process → opener_named site process rest ≡ Some opener
     → told_by site (codes "A take " ++ name ++ 32 ∷ rest) ≡ Some (told.Act (Take process opener))
 as-take site name rest process opener none found there =
     let line = codes "A take " ++ name ++ 32 ∷ rest in
     ap (λ (o : Option (List ℕ × List ℕ)). or_else (option_map told.Act (or_else (option_and_then (take_of site) o)
-    (or_else (enter_told site line) (print_told site line)))) (other_told site line)) (cut-whole name rest none)
+    (or_else (enter_told site line) (print_told site line)))) (other_told site line)) (cut-whole 32 name rest none)
     ∙ ap (λ (o : Option ℕ). or_else (option_map told.Act
     (or_else (option_and_then (λ one. option_map (Take one) (opener_named site one rest)) o)
     (or_else (enter_told site line) (print_told site line)))) (other_told site line)) found
     ∙ ap (λ (o : Option ℕ). or_else (option_map told.Act (or_else (option_map (Take process) o)
     (or_else (enter_told site line) (print_told site line)))) (other_told site line)) there
 
-as-enter : (site : Site) (name : List ℕ) (terminal : ℕ) → terminal_named site name ≡ Some terminal
+pub as-enter : (site : Site) (name : List ℕ) (terminal : ℕ) → terminal_named site name ≡ Some terminal
     → told_by site (codes "A enter " ++ name) ≡ Some (told.Act (Enter terminal))
 as-enter site name terminal found =
     let line = codes "A enter " ++ name in
     ap (λ (o : Option ℕ). or_else (option_map told.Act (or_else (option_map Enter o) (print_told site line)))
     (other_told site line)) found
 
-as-print : (site : Site) (name : List ℕ) (terminal : ℕ) → terminal_named site name ≡ Some terminal
+pub as-print : (site : Site) (name : List ℕ) (terminal : ℕ) → terminal_named site name ≡ Some terminal
     → told_by site (codes "A print " ++ name) ≡ Some (told.Act (Print terminal))
 as-print site name terminal found =
     let line = codes "A print " ++ name in
     ap (λ (o : Option ℕ). or_else (option_map told.Act (option_map Print o)) (other_told site line)) found
 
-name-spaceless : (site : Site) (process : ℕ) → TellsNamesApart site → process < length site.processes
-    → list_any (λ c. nat_eq c 32) (process_name site process) ≡ false
-name-spaceless site process apart within =
+pub process-plain : (site : Site) (process : ℕ) → TellsNamesApart site → process < length site.processes
+    → IsPlainName (process_name site process)
+process-plain site process apart within =
     let at = at-place site.processes process within in
-    ap (λ (o : Option ProcessSpec). list_any (λ c. nat_eq c 32) (unwrap_or (option_map (λ spec. spec.name) o) [])) at.1
-    ∙ apart.spaceless process at.0 at.1
+    subst (λ (o : Option ProcessSpec). IsPlainName (unwrap_or (option_map (λ spec. spec.name) o) [])) (sym at.1)
+    (apart.plain_processes process at.0 at.1)
 
-shifted : (name rest : List ℕ) → name ++ codes " " ++ rest ++ 10 ∷ [] ≡ (name ++ 32 ∷ rest) ++ 10 ∷ []
+pub terminal-plain : (site : Site) (terminal : ℕ) → TellsNamesApart site → terminal < length site.terminals
+    → IsPlainName (terminal_name site terminal)
+terminal-plain site terminal apart within =
+    let at = at-place site.terminals terminal within in
+    subst (λ (o : Option TerminalSpec). IsPlainName (unwrap_or (option_map (λ spec. spec.name) o) [])) (sym at.1)
+    (apart.plain_terminals terminal at.0 at.1)
+
+pub opener-whole : (site : Site) (process opener : ℕ) → TellsNamesApart site
+    → opener < length (openers_of site process)
+    → list_any (λ c. nat_eq c 10) (opener_name site process opener) ≡ false
+opener-whole site process opener apart within =
+    let at = at-place (openers_of site process) opener within in
+    subst (λ (o : Option OpenerSpec). list_any (λ c. nat_eq c 10)
+    (unwrap_or (option_map (λ one. who_name site one.who) o) []) ≡ false) (sym at.1)
+    (apart.whole_openers process opener at.0 at.1)
+
+pub shifted : (name rest : List ℕ) → name ++ codes " " ++ rest ++ 10 ∷ [] ≡ (name ++ 32 ∷ rest) ++ 10 ∷ []
 shifted [] rest = refl
 shifted (c ∷ name) rest = ap (λ (xs : List ℕ). c ∷ xs) (shifted name rest)
-
-pub act-told : (site : Site) (act : Act) → TellsNamesApart site → IsNamedAct site act
-    → (line : List ℕ) × (act_line site act ≡ line ++ 10 ∷ []) × (told_by site line ≡ Some (told.Act act))
-act-told site (Step process) apart named = (
-  codes "A step " ++ process_name site process,
-  refl,
-  as-step site (process_name site process) process (process-told site process apart named),
-)
-act-told site (Take process opener) apart named = (
-  codes "A take " ++ process_name site process ++ 32 ∷ opener_name site process opener,
-  ap (λ (xs : List ℕ). codes "A take " ++ xs) (shifted (process_name site process) (opener_name site process opener)),
-  as-take site (process_name site process) (opener_name site process opener) process opener
-      (name-spaceless site process apart named.0) (process-told site process apart named.0)
-      (opener-told site process opener apart named.1),
-)
-act-told site (Enter terminal) apart named = (
-  codes "A enter " ++ terminal_name site terminal,
-  refl,
-  as-enter site (terminal_name site terminal) terminal (terminal-told site terminal apart named),
-)
-act-told site (Print terminal) apart named = (
-  codes "A print " ++ terminal_name site terminal,
-  refl,
-  as-print site (terminal_name site terminal) terminal (terminal-told site terminal apart named),
-)

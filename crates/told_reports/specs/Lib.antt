@@ -1,1 +1,4 @@
+pub mod InForm
 pub mod NamesApart
+pub mod ToldLine
+pub mod Words

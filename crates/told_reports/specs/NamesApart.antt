@@ -15,14 +15,20 @@ abbrev pub AreApart : {X : Type 0} → (X → List ℕ) → List X → Type 0
 AreApart {X = X} name all = (m n : ℕ) (one other : X) → slice_get all m ≡ Some one → slice_get all n ≡ Some other
     → name one ≡ name other → m ≡ n
 
--- no two processes have one name, no two terminals, and no two openers of a process; and no name of a process has a
--- space
+-- a name has no space and no line feed
+abbrev pub IsPlainName : List ℕ → Type 0
+IsPlainName name = (list_any (λ c. c == 32) name ≡ false) × (list_any (λ c. c == 10) name ≡ false)
+
+-- no two processes have one name, no two terminals, and no two openers of a process; names have no spaces, and no line
+-- feeds
 pub record TellsNamesApart (site : Site) : Type 0 where
   pub processes : AreApart (λ (one : ProcessSpec). one.name) site.processes
   pub terminals : AreApart (λ (one : TerminalSpec). one.name) site.terminals
   pub openers : (process : ℕ) → AreApart (λ (one : OpenerSpec). who_name site one.who) (openers_of site process)
-  pub spaceless : (n : ℕ) (one : ProcessSpec) → slice_get site.processes n ≡ Some one
-      → list_any (λ c. c == 32) one.name ≡ false
+  pub plain_processes : (n : ℕ) (one : ProcessSpec) → slice_get site.processes n ≡ Some one → IsPlainName one.name
+  pub plain_terminals : (n : ℕ) (one : TerminalSpec) → slice_get site.terminals n ≡ Some one → IsPlainName one.name
+  pub whole_openers : (process n : ℕ) (one : OpenerSpec) → slice_get (openers_of site process) n ≡ Some one
+      → list_any (λ c. c == 10) (who_name site one.who) ≡ false
 
 -- the site has what the act names
 abbrev pub IsNamedAct : Site → Act → Type 0

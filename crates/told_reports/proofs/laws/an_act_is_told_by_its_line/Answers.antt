@@ -1,5 +1,5 @@
-use Rattle.told_reports.proofs.Named.{act-told}
+use Rattle.told_reports.proofs.Told.{act-is-told}
 use Rattle.told_reports.proofs.laws.an_act_is_told_by_its_line.Goals as goal
 
 pub returns : goal.returns
-returns c = act-told
+returns c = act-is-told
