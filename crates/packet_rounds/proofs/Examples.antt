@@ -1,5 +1,5 @@
 -- What the first tick of a processor sends, and what comes of four ticks.
-use Rattle.std.proofs.Common.{◌≡◌, ◌<◌, true, false, List, [], ◌∷◌, length, refl, arith}
+use Rattle.std.proofs.Common.{◌≡◌, ◌<◌, true, false, List, [], ◌∷◌, length, Some, refl, arith}
 use Rattle.std.specs.Int.{int_wrap}
 use denote.Hole.Carrier.{shown, out}
 use Rattle.tal_tree.specs.declared.statement.What.{out-What}
@@ -11,7 +11,7 @@ use Rattle.packet_wires.specs.Examples.{adder_at_boot}
 use Rattle.packet_wires.specs.Play.{IsClear, sent_by}
 use Rattle.packet_wires.specs.Sights.{end_of}
 use Rattle.packet_wires.specs.Wires.{packets_over}
-use Rattle.packet_rounds.specs.Examples.{four_ticks, three_ticks, with_buses}
+use Rattle.packet_rounds.specs.Examples.{four_ticks, has_arrived, three_ticks, with_buses}
 
 sends-x : (x y : List Packet) → length (packets_over bus.X (sent_by (with_buses x y) (Tick 0))) ≡ 1
 unfolding out-What shown-the_row-Statement-0 shown out int_wrap
@@ -38,3 +38,11 @@ three-run = refl
 pub four-stop : (end_of adder_at_boot four_ticks).world.stopped ≡ false ∷ true ∷ []
 unfolding out-What shown-the_row-Statement-0 shown out int_wrap
 four-stop = refl
+
+pub three-wait : has_arrived 3 ≡ Some false
+unfolding out-What shown-the_row-Statement-0 shown out int_wrap
+three-wait = refl
+
+pub four-end : has_arrived 4 ≡ Some true
+unfolding out-What shown-the_row-Statement-0 shown out int_wrap
+four-end = refl
