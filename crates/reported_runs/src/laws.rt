@@ -1,17 +1,24 @@
 //! The laws.
-ghost use Rattle.std.specs.Prelude.{◌≡◌, ℕ, true, List, Option, Some};
+ghost use Rattle.std.specs.Prelude.{◌≡◌, ℕ, true, List, Ok, Option, Result, Some, length};
 ghost use Rattle.command_words.specs.Asked.{asked_by};
 ghost use Rattle.command_words.specs.declared.asked.Command.TheVariants.{Run};
 ghost use Rattle.deck_reader.specs.Decks.{Decks};
 ghost use Rattle.deck_reader.specs.declared.deck.Deck.{Deck};
 ghost use Rattle.player.specs.declared.stop.ProcessorStop.{ProcessorStop};
+ghost use Rattle.plain_semantics.specs.Machine.{shown_by};
 ghost use Rattle.report_judge.specs.Reported.{IsReported};
+ghost use Rattle.report_judge.specs.Verdicts.{IsVerdict};
+ghost use Rattle.report_judge.specs.declared.judge.VerifyRefusal.{VerifyRefusal};
+ghost use Rattle.report_laws.specs.OneVerdict.{IsSameVerdict};
 ghost use Rattle.runner.specs.Decided.{IsDue, IsReportOf};
 ghost use Rattle.runner.specs.RunEnds.{acts_of_run, end_of};
 ghost use Rattle.runner.specs.Written.{text_of, text_of_run};
 ghost use Rattle.runner.specs.declared.due.Due.TheVariants as due;
 ghost use Rattle.runner.specs.declared.due.Report.{Report};
 ghost use Rattle.runner.specs.declared.task.Telling.TheVariants.{Lines};
+ghost use Rattle.shown_sectors.specs.Sectors.{sectors_after};
+ghost use Rattle.told_reports.specs.InForm.{IsInForm};
+ghost use Rattle.told_reports.specs.NamesApart.{TellsNamesApart};
 
 /// The report of a run that tells its acts is a reported run of the deck's site: with those acts, the processors that
 /// have stopped, and how it ended.
@@ -31,4 +38,16 @@ pub fn what_a_run_writes_is_reported()
         → (deck : Deck) × Decks bytes deck
         × IsReported deck.site (text_of (due.Report report)) (acts_of_run report.run) report.stopped
         (end_of report.run.ran.ending) }
+{}
+
+/// Where names tell processes, terminals and openers apart, and what the run shows is in form, its report is verified,
+/// with all its acts, unless memory runs out.
+pub fn a_report_of_a_run_in_form_is_verified()
+    ensures { (deck : Deck) (stop : Option ProcessorStop) (report : Report) (verdict : Result ℕ VerifyRefusal)
+        → IsReportOf deck stop report → report.tells ≡ Lines true → TellsNamesApart deck.site
+        → IsInForm deck.site (shown_by deck.site (acts_of_run report.run))
+        (sectors_after deck.site (shown_by deck.site (acts_of_run report.run))) report.stopped
+        (acts_of_run report.run) (end_of report.run.ran.ending)
+        → IsVerdict deck.site (text_of_run report) verdict
+        → IsSameVerdict verdict (Ok (length (acts_of_run report.run))) }
 {}
