@@ -1,8 +1,8 @@
 //! What a run writes with its acts is a report that single unfailing processes could have. No code runs here.
 //!
 //! Below stand `runner`, whose definitions say what is due of a run, `report_judge`, which says what a reported run is,
-//! and `single_stops` and `schedule_runs` with what is known of the processors that stop. Whoever asks whether a run may
-//! write what isn't one cites `what_a_run_writes_is_reported`.
+//! `single_stops` and `schedule_runs` with what is known of the processors that stop, and `told_reports`, by which a
+//! report is read back. Whoever asks whether a run may write what isn't one cites `what_a_run_writes_is_reported`.
 #![tactic(auto)]
 
 pub mod laws;
