@@ -15,8 +15,8 @@ ghost use Rattle.round_laws.specs.Stretches.{CountsBuses};
 ghost use Rattle.packet_rounds.specs.Played.{IsClearPlay, buses_of, sizes_of};
 ghost use Rattle.calm_runs.specs.Sights.{CountsOfShown};
 
-/// Where all lines of a schedule are calm and all its events so far were clear, the next one, if it is clear and isn't
-/// a stop, leaves every processor running that runs.
+/// All lines of a schedule are calm, and all its events so far were clear. Then the next one, if it is clear and no
+/// stop, leaves each processor running that runs.
 pub fn a_calm_schedule_stops_nobody_that_runs()
     ensures { (site : Site) → site.processors ≤ 16 → (counts : Packeted → Counts) → CountsBuses buses_of counts
         → CountsOfShown counts

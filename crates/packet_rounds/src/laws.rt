@@ -24,9 +24,8 @@ pub fn a_round_over_packets_delivers_all()
         → (bus : Bool) → IsGrown (buses_of start bus) (r.came bus) }
 {}
 
-/// Whatever was played before, four whole rounds in a row of one `drain` or `until` line, or more of them, end each
-/// piece that is outstanding as they begin between two nodes that still run as they end, where all their events are
-/// clear.
+/// Four whole rounds in a row of one `drain` or `until` line, or more, end each piece that was outstanding as they
+/// began. All their events are clear, and both nodes of the piece still run as they end. Whatever was played before.
 pub fn four_clear_rounds_end_a_piece()
     ensures { (site : Site) → site.processors ≤ 16 → (events : List Event) (start : Packeted)
         → IsPlayed site events start

@@ -1,8 +1,8 @@
 //! What drain rounds do over packets: each delivers all that was on both buses, and four of them that are clear end
 //! each piece that was outstanding. No code runs here.
 //!
-//! Below stand `round_laws` with the rounds of any machine, `packets_laws`, by which what is played goes on in the net
-//! of channels, and `channel_laws`, by which four rounds of a net end a piece.
+//! Below stands `round_laws` with the rounds of any machine. By `packets_laws` what is played goes on in the net of
+//! channels, and by `channel_laws` four rounds of a net end a piece.
 #![tactic(auto)]
 
 pub mod guards;

@@ -14,7 +14,7 @@ abbrev pub TurnsIn : {S P : Type 0} → Sizes → (S → Bool → List P) → S 
 TurnsIn {S} {P} sizes buses s from event to =
     Turns sizes (length (buses s false)) (length (buses s true)) from event to
 
--- a round that began in a state has come to a place and to a state, and so far has delivered this from each bus, in its
+-- a round that began in a state has come to a place and to a state. So far it has delivered this from each bus, in its
 -- order. A processor may stop between its turns
 pub data InRound {S P : Type 0} (sizes : Sizes) (buses : S → Bool → List P) (goes : S → Event → S → Type 0)
     (start : S) : (Bool → List P) → Place → S → Type 0 where
