@@ -28,8 +28,8 @@ pub fn a_whole_round_delivers_all()
         → (bus : Bool) → IsDue (start bus) (came bus) (due place bus (length (s bus))) (s bus) }
 {}
 
-/// From the beginning of a round of a `drain` or `until` line to the end of a later one, whole rounds are made. They are
-/// as many as the line has fewer left.
+/// From the beginning of a round of a `drain` or `until` line to the end of a later one, whole rounds are made. They
+/// are as many as the line has fewer left.
 pub fn a_stretch_is_made_of_whole_rounds()
     ensures { (sizes : Sizes) (counts : Buses → Counts) → CountsBuses themselves counts → (rule : Rule)
         → is_drain rule ≡ true → (left k : ℕ) (rest : List Line) (before now : ℕ) (agenda there : Agenda)
