@@ -13,9 +13,9 @@ fn reads_all_or_says_why_not(rt: HostRuntime) -> Result<(), Fail> {
     let cases = [
         (never, 4, None),
         (never, 9, None),
-        (never, 3, Some(ReadRefusal::TooLong)),
-        (&[1], 4, Some(ReadRefusal::Failed)),
-        (&[2], 9, Some(ReadRefusal::Failed)),
+        (never, 3, Some(SourceFault::TooLong)),
+        (&[1], 4, Some(SourceFault::Failed)),
+        (&[2], 9, Some(SourceFault::Failed)),
         (&[3], 9, None),
     ];
     for (failing, most, wanted) in cases {
@@ -26,7 +26,7 @@ fn reads_all_or_says_why_not(rt: HostRuntime) -> Result<(), Fail> {
                 assert!(rt; wanted == None, "most {most}");
                 assert!(rt; bytes.as_slice() == b"DECK".as_slice(), "most {most}");
             }
-            Err(ReadRefusal::NoMemory(_)) => return Err(Fail::from(AllocError)),
+            Err(SourceFault::NoMemory(_)) => return Err(Fail::from(AllocError)),
             Err(refusal) => assert!(rt; wanted == Some(refusal), "most {most}"),
         }
     }
