@@ -330,6 +330,10 @@ of-source task bytes before now (due.Swept rows) (found, told, is) = of-told tas
 of-source task bytes before now (due.Verified n) (found, told, is) = of-told task bytes found (due.Verified n) told is
 of-source task bytes before now (due.Rejected line cause) (found, told, is) =
     of-told task bytes found (due.Rejected line cause) told is
+of-source task bytes before now (due.Advised advised) (found, told, is) =
+    of-told task bytes found (due.Advised advised) told is
+of-source task bytes before now (due.Unadvised refusal) (found, told, is) =
+    of-told task bytes found (due.Unadvised refusal) told is
 
 failing-first : (other : Due) → IsSameDue due.ReadFault other
 failing-first (due.NoMemory _) = tt
@@ -344,10 +348,6 @@ failing-first (due.Verified n) = tt
 failing-first (due.Rejected line cause) = tt
 failing-first (due.Advised advised) = tt
 failing-first (due.Unadvised refusal) = tt
-of-source task bytes before now (due.Advised advised) (found, told, is) =
-    of-told task bytes found (due.Advised advised) told is
-of-source task bytes before now (due.Unadvised refusal) (found, told, is) =
-    of-told task bytes found (due.Unadvised refusal) told is
 
 same-of-source : (task : Task) (bytes : List ℕ) (one other : Due) → IsOfSource task bytes one
     → IsOfSource task bytes other → IsSameDue one other
@@ -381,7 +381,7 @@ of-judged deck report (due.Accepted site) is = absurd is.1
 of-judged deck report (due.Report run) is = absurd is.1
 of-judged deck report (due.Swept rows) is = absurd is.1
 of-judged deck report (due.Advised advised) is = absurd is.1
-of-judged deck report (due.Unadvised refused) is = absurd is.1
+of-judged deck report (due.Unadvised found) is = absurd is.1
 
 -- what is due by a verdict
 abbrev due_by : Result ℕ VerifyRefusal → Due
@@ -454,8 +454,8 @@ of-input bytes (due.Swept rows) (few, deck, decks, is) =
     with_deck deck few decks (of-judged deck (report_in bytes) (due.Swept rows) is)
 of-input bytes (due.Advised advised) (few, deck, decks, is) =
     with_deck deck few decks (of-judged deck (report_in bytes) (due.Advised advised) is)
-of-input bytes (due.Unadvised refused) (few, deck, decks, is) =
-    with_deck deck few decks (of-judged deck (report_in bytes) (due.Unadvised refused) is)
+of-input bytes (due.Unadvised found) (few, deck, decks, is) =
+    with_deck deck few decks (of-judged deck (report_in bytes) (due.Unadvised found) is)
 of-input bytes (due.Verified acts) (few, deck, decks, is) =
     with_deck deck few decks (of-judged deck (report_in bytes) (due.Verified acts) is)
 of-input bytes (due.Rejected line cause) (few, deck, decks, is) =
@@ -505,8 +505,8 @@ of-verify bytes before now (due.Swept rows) (found, told, is) =
     from_input (of-read bytes found (due.Swept rows) told is)
 of-verify bytes before now (due.Advised advised) (found, told, is) =
     from_input (of-read bytes found (due.Advised advised) told is)
-of-verify bytes before now (due.Unadvised refused) (found, told, is) =
-    from_input (of-read bytes found (due.Unadvised refused) told is)
+of-verify bytes before now (due.Unadvised refusal) (found, told, is) =
+    from_input (of-read bytes found (due.Unadvised refusal) told is)
 of-verify bytes before now (due.Verified acts) (found, told, is) =
     from_input (of-read bytes found (due.Verified acts) told is)
 of-verify bytes before now (due.Rejected line cause) (found, told, is) =

@@ -30,6 +30,8 @@ same-verified (due.ProgramRefused refused) acts same read = inl same
 same-verified (due.Accepted site) acts same read = inl same
 same-verified (due.Report report) acts same read = inl same
 same-verified (due.Swept rows) acts same read = inl same
+same-verified (due.Advised advised) acts same read = inl same
+same-verified (due.Unadvised found) acts same read = inl same
 same-verified (due.Verified other) acts same read = inl same
 same-verified (due.Rejected line cause) acts same read = inl same
 
