@@ -148,3 +148,4 @@ end-is-told site (end.Second processor) is = record {
 end-is-told site end.Checked is = absurd is
 end-is-told site end.Refused is = absurd is
 end-is-told site end.Swept is = absurd is
+end-is-told site end.Advised is = absurd is
