@@ -1,0 +1,14 @@
+//! Laws of the numbers of what is played over packets.
+ghost use Rattle.std.specs.Prelude.{◌<◌, List, length};
+ghost use Rattle.tal_tree.specs.declared.site.Site.{Site};
+ghost use Rattle.schedule.specs.declared.event.Event.{Event};
+ghost use Rattle.packet_wires.specs.Play.{Packeted};
+ghost use Rattle.packet_wires.specs.Runs.{IsPlayed};
+ghost use Rattle.site_machine.specs.Needs.{HaveNumbersLeft};
+
+/// After fewer than 4,294,967,295 events each end of each node can number one more piece and keep one more: an event
+/// numbers at most one piece at an end, and keeps at most one there.
+pub fn numbers_are_left()
+    ensures { (site : Site) (events : List Event) (s : Packeted) → IsPlayed site events s
+        → length events < 4294967295 → HaveNumbersLeft s.wires.nodes }
+{}
