@@ -2,13 +2,24 @@
 ghost use Rattle.std.specs.Prelude.{◌<◌, List, length};
 ghost use Rattle.tal_tree.specs.declared.site.Site.{Site};
 ghost use Rattle.schedule.specs.declared.event.Event.{Event};
+ghost use Rattle.takeover_laws.specs.Fit.{IsFit};
+ghost use Rattle.awaited_requests.specs.Seats.{IsLaidOut};
+ghost use Rattle.letters.specs.Posts.{Post, HasPlayed};
+ghost use Rattle.letters_layout.specs.Fitting.{IsSmall};
 ghost use Rattle.packet_wires.specs.Play.{Packeted};
 ghost use Rattle.packet_wires.specs.Runs.{IsPlayed};
-ghost use Rattle.site_machine.specs.Needs.{HaveNumbersLeft};
+ghost use Rattle.site_machine.specs.Needs.{HaveNumbersLeft, SendsWithin};
 
 /// After fewer than 4,294,967,295 events each end of each node can number one more piece and keep one more: an event
 /// numbers at most one piece at an end, and keeps at most one there.
 pub fn numbers_are_left()
     ensures { (site : Site) (events : List Event) (s : Packeted) → IsPlayed site events s
         → length events < 4294967295 → HaveNumbersLeft s.wires.nodes }
+{}
+
+/// In fewer than 4,294,967,294 events of a fit site within its limits, whatever changes the world next sends messages
+/// that keep to the layout.
+pub fn what_is_sent_is_within()
+    ensures { (site : Site) (events : List Event) (post : Post) → IsFit site → IsSmall site → IsLaidOut site
+        → length events < 4294967294 → HasPlayed site events post → SendsWithin site post.world }
 {}
