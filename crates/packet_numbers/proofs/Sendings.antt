@@ -1,7 +1,7 @@
 -- What a world of a run sends next keeps to the layout.
 use Rattle.std.proofs.Common.{◌≡◌, ◌<◌, inl, inr, ℕ, zero, suc, ◌==◌, Bool, true, false, if◌then◌else◌, List, []}
-use Rattle.std.proofs.Common.{◌∷◌, ◌++◌, length, map, Option, Some, None, slice_get, slice_set, option_map, refl, sym, ap}
-use Rattle.std.proofs.Common.{subst, ◌∙◌, arith, length-append, option_and_then}
+use Rattle.std.proofs.Common.{◌∷◌, ◌++◌, length, map, Option, Some, None, slice_get, slice_set, option_map, refl, sym}
+use Rattle.std.proofs.Common.{ap, subst, ◌∙◌, arith, length-append, option_and_then}
 use Rattle.std.proofs.lemmas.Bool.{eqb-true}
 use Rattle.std.proofs.lemmas.List.Elements.{All-cons, All-nil}
 use Rattle.gd_words.specs.Members.{IsAmong}
@@ -56,8 +56,8 @@ use Rattle.takeover_laws.proofs.Kept.{IsGood, run-keeps}
 use Rattle.awaited_requests.specs.Seats.{IsLaidOut}
 use Rattle.awaited_requests.proofs.Seats.{run-seats}
 use Rattle.letters.specs.Again.{sent_again}
-use Rattle.letters.specs.Posts.{Post, HasPlayed, PlaysEvent, played_more, plays_run, plays_enter, plays_mark, plays_fail}
-use Rattle.letters.specs.Posts.{after_change, post_after_down}
+use Rattle.letters.specs.Posts.{Post, HasPlayed, PlaysEvent, played_more, plays_run, plays_enter, plays_mark}
+use Rattle.letters.specs.Posts.{plays_fail, after_change, post_after_down}
 use Rattle.letters.proofs.Worlds.{played-run}
 use Rattle.letter_laws.specs.Known.{IsHonest}
 use Rattle.letter_laws.proofs.Again.{IsAgain, by_copy, by_terminal, by_keeping, again-is}
@@ -130,288 +130,289 @@ module _ (site : Site) (fit : IsFit site) (small : IsSmall site) (out : IsLaidOu
   sent-within events post few played (Taking taken) sent =
       (taken-fits site fit small events post.world few (played-run played) taken sent).within
 
-  module _ (events : List Event) (post : Post) (few : length events < 4294967295) (played : HasPlayed site events post)
-    where
-      few-more : (event : Event) → length (events ++ event ∷ []) < 4294967296
-      few-more event = let one = length-append events (event ∷ []) in omega (arith, one, few)
+  module _ (events : List Event) (post : Post) (few : length events < 4294967295)
+      (played : HasPlayed site events post) where
+    few-more : (event : Event) → length (events ++ event ∷ []) < 4294967296
+    few-more event = let one = length-append events (event ∷ []) in omega (arith, one, few)
 
-      -- what a change sends was sent after its event
-      new-within : (event : Event) (after : Post) (cause : Cause) (sendings : List Sending)
-          → PlaysEvent site post event after → Change site post.world cause sendings after.world
-          → (sending : Sending) → IsAmong sending sendings → IsCarriedWithin sending.message
-      new-within event after cause sendings plays change sending among =
-          let run : IsRun site (events ++ event ∷ []) after.world = played-run (played_more played plays) in
-          sent-within (events ++ event ∷ []) after (few-more event) (played_more played plays) sending.message
-          (run-sent after.world sending.message run
-          (run-sends (played-run played) after.world cause sendings change sending among))
+    -- what a change sends was sent after its event
+    new-within : (event : Event) (after : Post) (cause : Cause) (sendings : List Sending)
+        → PlaysEvent site post event after → Change site post.world cause sendings after.world
+        → (sending : Sending) → IsAmong sending sendings → IsCarriedWithin sending.message
+    new-within event after cause sendings plays change sending among =
+        let run : IsRun site (events ++ event ∷ []) after.world = played-run (played_more played plays) in
+        sent-within (events ++ event ∷ []) after (few-more event) (played_more played plays) sending.message
+        (run-sent after.world sending.message run
+        (run-sends (played-run played) after.world cause sendings change sending among))
 
-      runs-within : (number : ℕ) (done : Done) → run_done site number post.world ≡ Some done → AreWithin done.sendings
-      runs-within number done e =
-          let change = run-may site number post.world done e in
-          all-among done.sendings
-          (new-within (Run number) (after_change site done.sendings done.world post) (Running number) done.sendings
-          (plays_run change) change)
+    runs-within : (number : ℕ) (done : Done) → run_done site number post.world ≡ Some done → AreWithin done.sendings
+    runs-within number done e =
+        let change = run-may site number post.world done e in
+        all-among done.sendings
+        (new-within (Run number) (after_change site done.sendings done.world post) (Running number) done.sendings
+        (plays_run change) change)
 
-      enters-within : (terminal : ℕ) (done : Done) → enter_done site terminal post.world ≡ Some done
-          → AreWithin done.sendings
-      enters-within terminal done e =
-          let change = enter-may site terminal post.world done e in
-          all-among done.sendings
-          (new-within (Enter terminal) (after_change site done.sendings done.world post) (Entering terminal)
-          done.sendings (plays_enter change) change)
+    enters-within : (terminal : ℕ) (done : Done) → enter_done site terminal post.world ≡ Some done
+        → AreWithin done.sendings
+    enters-within terminal done e =
+        let change = enter-may site terminal post.world done e in
+        all-among done.sendings
+        (new-within (Enter terminal) (after_change site done.sendings done.world post) (Entering terminal)
+        done.sendings (plays_enter change) change)
 
-      -- what is sent again was sent
-      again-sent : (event : Event) (after : Post) → PlaysEvent site post event after → (message : Message)
-          → IsAgain site after.world message → IsSent after.world message
-      again-sent event after plays message again = by again
-        where
-          all : HasPlayed site (events ++ event ∷ []) after
-          all = played_more played plays
+    -- what is sent again was sent
+    again-sent : (event : Event) (after : Post) → PlaysEvent site post event after → (message : Message)
+        → IsAgain site after.world message → IsSent after.world message
+    again-sent event after plays message again = by again
+      where
+        all : HasPlayed site (events ++ event ∷ []) after
+        all = played_more played plays
 
-          run : IsRun site (events ++ event ∷ []) after.world
-          run = played-run all
+        run : IsRun site (events ++ event ∷ []) after.world
+        run = played-run all
 
-          good : IsGood site (length (events ++ event ∷ [])) after.world
-          good = record {
-            roles = run-roles run;
-            stopped = run-marks run;
-            invariant = run-keeps site fit (events ++ event ∷ []) after.world (few-more event) run;
-          }
+        good : IsGood site (length (events ++ event ∷ [])) after.world
+        good = record {
+          roles = run-roles run;
+          stopped = run-marks run;
+          invariant = run-keeps site fit (events ++ event ∷ []) after.world (few-more event) run;
+        }
 
-          honest : IsHonest site after
-          honest = played-honest site fit (events ++ event ∷ []) after (few-more event) all
+        honest : IsHonest site after
+        honest = played-honest site fit (events ++ event ∷ []) after (few-more event) all
 
-          by : IsAgain site after.world message → IsSent after.world message
-          by (by_copy number pair k request there role among is) =
-              subst (IsSent after.world) (sym is) (honest.awaited.copies number pair k request there role among)
-          by (by_terminal number terminal request there among is) =
-              subst (IsSent after.world) (sym is) (honest.awaited.terminals number terminal request there among)
-          by (by_keeping number pair k place opener reply there role known among is) =
-              let has = acting-done site (length (events ++ event ∷ [])) after.world good number pair k there role in
-              let fair = fair-of number after.world.replies k pair (run-fair run number pair there) in
-              subst (IsSent after.world) (sym is)
-              (kept-sent has.done after.world.replies fair.core.kept place opener known reply among)
+        by : IsAgain site after.world message → IsSent after.world message
+        by (by_copy number pair k request there role among is) =
+            subst (IsSent after.world) (sym is) (honest.awaited.copies number pair k request there role among)
+        by (by_terminal number terminal request there among is) =
+            subst (IsSent after.world) (sym is) (honest.awaited.terminals number terminal request there among)
+        by (by_keeping number pair k place opener reply there role known among is) =
+            let has = acting-done site (length (events ++ event ∷ [])) after.world good number pair k there role in
+            let fair = fair-of number after.world.replies k pair (run-fair run number pair there) in
+            subst (IsSent after.world) (sym is)
+            (kept-sent has.done after.world.replies fair.core.kept place opener known reply among)
 
-      marks-within : MarksWithin site post.world
-      marks-within node processor done e =
-          all-among (done.sendings ++ sent_again site post.world done.world node processor)
-          (λ sending among. elim (among-either sending done.sendings
-          (sent_again site post.world done.world node processor) among) [
-            | inl new ↦ new-within (Deliver false 0) after (NotingDown node processor) done.sendings plays change sending
-                new
-            | inr again ↦ sent-within (events ++ Deliver false 0 ∷ []) after (few-more (Deliver false 0))
-                (played_more played plays) sending.message
-                (again-sent (Deliver false 0) after plays sending.message
-                (again-is site post.world done.world node processor sending again))
-          ])
-        where
-          change : Change site post.world (NotingDown node processor) done.sendings done.world
-          change = mark-may site node processor post.world done e
+    marks-within : MarksWithin site post.world
+    marks-within node processor done e =
+        all-among (done.sendings ++ sent_again site post.world done.world node processor)
+        (λ sending among. elim (among-either sending done.sendings
+        (sent_again site post.world done.world node processor) among) [
+          | inl new ↦ new-within (Deliver false 0) after (NotingDown node processor) done.sendings plays change sending
+              new
+          | inr again ↦ sent-within (events ++ Deliver false 0 ∷ []) after (few-more (Deliver false 0))
+              (played_more played plays) sending.message
+              (again-sent (Deliver false 0) after plays sending.message
+              (again-is site post.world done.world node processor sending again))
+        ])
+      where
+        change : Change site post.world (NotingDown node processor) done.sendings done.world
+        change = mark-may site node processor post.world done e
 
-          after : Post
-          after = post_after_down site node processor done.sendings done.world post
+        after : Post
+        after = post_after_down site node processor done.sendings done.world post
 
-          plays : PlaysEvent site post (Deliver false 0) after
-          plays = plays_mark node processor change
+        plays : PlaysEvent site post (Deliver false 0) after
+        plays = plays_mark node processor change
 
-      -- Messages that come
+    -- Messages that come
 
-      abbrev AnyStep : Option Stepped → Type 0
-      AnyStep None = Unit {0}
-      AnyStep (Some step) = AreWithin step.sendings
+    abbrev AnyStep : Option Stepped → Type 0
+    AnyStep None = Unit {0}
+    AnyStep (Some step) = AreWithin step.sendings
 
-      abbrev AnyDone : Option Done → Type 0
-      AnyDone None = Unit {0}
-      AnyDone (Some done) = AreWithin done.sendings
+    abbrev AnyDone : Option Done → Type 0
+    AnyDone None = Unit {0}
+    AnyDone (Some done) = AreWithin done.sendings
 
-      step-done : (number : ℕ) (step : Option Stepped) → AnyStep step
-          → AnyDone (option_map (in_world number post.world) step)
-      step-done number None within = tt
-      step-done number (Some step) within = within
+    step-done : (number : ℕ) (step : Option Stepped) → AnyStep step
+        → AnyDone (option_map (in_world number post.world) step)
+    step-done number None within = tt
+    step-done number (Some step) within = within
 
-      brought-within : (number node : ℕ) (message : Message)
-          → ((k : Which) (pair : Pair) → slice_get post.world.processes number ≡ Some pair
-          → AnyStep (step_by site number pair (records_of post.world) message k))
-          → AnyDone (brought site number node message post.world)
-      brought-within number node message all = by (slice_get post.world.processes number) refl
-        where
-          by : (there : Option Pair) → slice_get post.world.processes number ≡ there
-              → AnyDone (brought_to site number node message post.world there)
-          by None there = tt
-          by (Some pair) there = here (copy_in node pair)
-            where
-              here : (k : Option Which)
-                  → AnyDone (option_map (in_world number post.world)
-                  (option_and_then (step_by site number pair (records_of post.world) message) k))
-              here None = tt
-              here (Some k) =
-                  step-done number (step_by site number pair (records_of post.world) message k) (all k pair there)
+    brought-within : (number node : ℕ) (message : Message)
+        → ((k : Which) (pair : Pair) → slice_get post.world.processes number ≡ Some pair
+        → AnyStep (step_by site number pair (records_of post.world) message k))
+        → AnyDone (brought site number node message post.world)
+    brought-within number node message all = by (slice_get post.world.processes number) refl
+      where
+        by : (there : Option Pair) → slice_get post.world.processes number ≡ there
+            → AnyDone (brought_to site number node message post.world there)
+        by None there = tt
+        by (Some pair) there = here (copy_in node pair)
+          where
+            here : (k : Option Which)
+                → AnyDone (option_map (in_world number post.world)
+                (option_and_then (step_by site number pair (records_of post.world) message) k))
+            here None = tt
+            here (Some k) =
+                step-done number (step_by site number pair (records_of post.world) message k) (all k pair there)
 
-      -- a request that comes is answered by a kept reply, which was sent
-      request-within : (request : Request) (k : Which) (pair : Pair)
-          → slice_get post.world.processes request.process ≡ Some pair → (role : Role)
-          → AnyStep (request_step k pair (records_of post.world) request role)
-      request-within request k pair there Watching = none-within
-      request-within request k pair there Gone = tt
-      request-within request k pair there Acting =
-          let fair = fair-of request.process post.world.replies k pair
-          (run-fair (played-run played) request.process pair there) in
-          let kept = repeated (copy_of k pair).core.receive request in
-          all-among (repeated_at (copy_of k pair) request) (λ sending among.
-          let from = among-map Replying kept sending.message
-          (message-of (copy_of k pair).processor (map Replying kept) sending among) in
-          subst IsCarriedWithin (sym from.same)
-          (sent-within events post (omega (arith, few)) played (Replying from.item)
-          (repeated-sent post.world.replies (copy_of k pair).core.receive request from.item fair.core.kept from.among)))
+    -- a request that comes is answered by a kept reply, which was sent
+    request-within : (request : Request) (k : Which) (pair : Pair)
+        → slice_get post.world.processes request.process ≡ Some pair → (role : Role)
+        → AnyStep (request_step k pair (records_of post.world) request role)
+    request-within request k pair there Watching = none-within
+    request-within request k pair there Gone = tt
+    request-within request k pair there Acting =
+        let fair = fair-of request.process post.world.replies k pair
+        (run-fair (played-run played) request.process pair there) in
+        let kept = repeated (copy_of k pair).core.receive request in
+        all-among (repeated_at (copy_of k pair) request) (λ sending among.
+        let from = among-map Replying kept sending.message
+        (message-of (copy_of k pair).processor (map Replying kept) sending among) in
+        subst IsCarriedWithin (sym from.same)
+        (sent-within events post (omega (arith, few)) played (Replying from.item)
+        (repeated-sent post.world.replies (copy_of k pair).core.receive request from.item fair.core.kept from.among)))
 
-      reply-within : (reply : Reply) (number : ℕ) (k : Which) (pair : Pair) (role : Role)
-          → AnyStep (reply_step site number k pair (records_of post.world) reply role)
-      reply-within reply number k pair Watching = tt
-      reply-within reply number k pair Gone = tt
-      reply-within reply number k pair Acting =
-          by (awaits site number (copy_of k pair).core reply (process.point (copy_of k pair).core.state))
-        where
-          by : (test : Bool) → AnyStep (reply_step_where number k pair (records_of post.world) reply test)
-          by true = none-within
-          by false = tt
+    reply-within : (reply : Reply) (number : ℕ) (k : Which) (pair : Pair) (role : Role)
+        → AnyStep (reply_step site number k pair (records_of post.world) reply role)
+    reply-within reply number k pair Watching = tt
+    reply-within reply number k pair Gone = tt
+    reply-within reply number k pair Acting =
+        by (awaits site number (copy_of k pair).core reply (process.point (copy_of k pair).core.state))
+      where
+        by : (test : Bool) → AnyStep (reply_step_where number k pair (records_of post.world) reply test)
+        by true = none-within
+        by false = tt
 
-      printed-within : (reply : Reply) (number : ℕ) (here : Bool) → AnyDone (printed_at site number reply post.world here)
-      printed-within reply number false = tt
-      printed-within reply number true = by (slice_get post.world.terminals number)
-        where
-          prints : (terminal : Terminal) (test : Bool)
-              → AnyDone (printed_where number reply terminal post.world test)
-          prints terminal true = none-within
-          prints terminal false = tt
+    printed-within : (reply : Reply) (number : ℕ) (here : Bool)
+        → AnyDone (printed_at site number reply post.world here)
+    printed-within reply number false = tt
+    printed-within reply number true = by (slice_get post.world.terminals number)
+      where
+        prints : (terminal : Terminal) (test : Bool)
+            → AnyDone (printed_where number reply terminal post.world test)
+        prints terminal true = none-within
+        prints terminal false = tt
 
-          by : (found : Option Terminal) → AnyDone (printed_done site number reply post.world found)
-          by None = tt
-          by (Some terminal) = prints terminal (awaits_at site number terminal reply)
+        by : (found : Option Terminal) → AnyDone (printed_done site number reply post.world found)
+        by None = tt
+        by (Some terminal) = prints terminal (awaits_at site number terminal reply)
 
-      replied-within : (node : ℕ) (reply : Reply) (found : Option Who)
-          → AnyDone (replied_done site node reply post.world found)
-      replied-within node reply None = tt
-      replied-within node reply (Some (who.File number file)) =
-          brought-within number node (Replying reply)
-          (λ k pair there. reply-within reply number k pair (copy_of k pair).role)
-      replied-within node reply (Some (who.Terminal number)) = printed-within reply number (node == terminal_node)
+    replied-within : (node : ℕ) (reply : Reply) (found : Option Who)
+        → AnyDone (replied_done site node reply post.world found)
+    replied-within node reply None = tt
+    replied-within node reply (Some (who.File number file)) =
+        brought-within number node (Replying reply)
+        (λ k pair there. reply-within reply number k pair (copy_of k pair).role)
+    replied-within node reply (Some (who.Terminal number)) = printed-within reply number (node == terminal_node)
 
-      -- a checkpoint that comes is answered by its own numbers
-      checkpoint-within : (message : ImageMessage) → IsWithinLayout message → (number : ℕ) (k : Which) (pair : Pair)
-          → (role : Role) → AnyStep (checkpoint_step site number k pair (records_of post.world) message role)
-      checkpoint-within message within number k pair role =
-          by (core_as (depths_of site number) (copy_of k pair).era (copy_of k pair).number (copy_of k pair).core message
-          role)
-        where
-          by : (core : Option Core)
-              → AnyStep (option_map (applied_step number k pair (records_of post.world) message) core)
-          by None = tt
-          by (Some core) =
-              All-cons (λ (one : Sending). IsCarriedWithin one.message)
-              (record { node = (copy_of k pair).processor; message = Taking (taken_of message) }) []
-              (record { process = within.process; era = within.era; number = within.number }) none-within
+    -- a checkpoint that comes is answered by its own numbers
+    checkpoint-within : (message : ImageMessage) → IsWithinLayout message → (number : ℕ) (k : Which) (pair : Pair)
+        → (role : Role) → AnyStep (checkpoint_step site number k pair (records_of post.world) message role)
+    checkpoint-within message within number k pair role =
+        by (core_as (depths_of site number) (copy_of k pair).era (copy_of k pair).number (copy_of k pair).core message
+        role)
+      where
+        by : (core : Option Core)
+            → AnyStep (option_map (applied_step number k pair (records_of post.world) message) core)
+        by None = tt
+        by (Some core) =
+            All-cons (λ (one : Sending). IsCarriedWithin one.message)
+            (record { node = (copy_of k pair).processor; message = Taking (taken_of message) }) []
+            (record { process = within.process; era = within.era; number = within.number }) none-within
 
-      taken-within : (taken : TakenMessage) (k : Which) (pair : Pair) (role : Role)
-          → AnyStep (taken_step k pair (records_of post.world) taken role)
-      taken-within taken k pair Watching = tt
-      taken-within taken k pair Gone = tt
-      taken-within taken k pair Acting =
-          by (is_of_last (copy_of k pair).sent (copy_of k pair).era (copy_of k pair).number taken)
-        where
-          by : (test : Bool) → AnyStep (taken_step_where k pair (records_of post.world) test)
-          by true = none-within
-          by false = tt
+    taken-within : (taken : TakenMessage) (k : Which) (pair : Pair) (role : Role)
+        → AnyStep (taken_step k pair (records_of post.world) taken role)
+    taken-within taken k pair Watching = tt
+    taken-within taken k pair Gone = tt
+    taken-within taken k pair Acting =
+        by (is_of_last (copy_of k pair).sent (copy_of k pair).era (copy_of k pair).number taken)
+      where
+        by : (test : Bool) → AnyStep (taken_step_where k pair (records_of post.world) test)
+        by true = none-within
+        by false = tt
 
-      handed-any : (node : ℕ) (message : Message) → Fits site (Carrying message)
-          → AnyDone (handed_done site node message post.world)
-      handed-any node (Asking request) fits =
-          brought-within request.process node (Asking request)
-          (λ k pair there. request-within request k pair there (copy_of k pair).role)
-      handed-any node (Replying reply) fits =
-          replied-within node reply (option_map (λ opener. opener.who)
-          (slice_get (openers_of site reply.process) reply.opener))
-      handed-any node (Checkpointing message) fits =
-          brought-within message.process node (Checkpointing message)
-          (λ k pair there. checkpoint-within message fits.within message.process k pair (copy_of k pair).role)
-      handed-any node (Taking taken) fits =
-          brought-within taken.process node (Taking taken)
-          (λ k pair there. taken-within taken k pair (copy_of k pair).role)
+    handed-any : (node : ℕ) (message : Message) → Fits site (Carrying message)
+        → AnyDone (handed_done site node message post.world)
+    handed-any node (Asking request) fits =
+        brought-within request.process node (Asking request)
+        (λ k pair there. request-within request k pair there (copy_of k pair).role)
+    handed-any node (Replying reply) fits =
+        replied-within node reply (option_map (λ opener. opener.who)
+        (slice_get (openers_of site reply.process) reply.opener))
+    handed-any node (Checkpointing message) fits =
+        brought-within message.process node (Checkpointing message)
+        (λ k pair there. checkpoint-within message fits.within message.process k pair (copy_of k pair).role)
+    handed-any node (Taking taken) fits =
+        brought-within taken.process node (Taking taken)
+        (λ k pair there. taken-within taken k pair (copy_of k pair).role)
 
-      handed-within : (node : ℕ) (message : Message) (done : Done) → Fits site (Carrying message)
-          → handed_done site node message post.world ≡ Some done → AreWithin done.sendings
-      handed-within node message done fits e = subst AnyDone e (handed-any node message fits)
+    handed-within : (node : ℕ) (message : Message) (done : Done) → Fits site (Carrying message)
+        → handed_done site node message post.world ≡ Some done → AreWithin done.sendings
+    handed-within node message done fits e = subst AnyDone e (handed-any node message fits)
 
-      -- Stops that come to nothing
+    -- Stops that come to nothing
 
-      world-still : (processor : ℕ) → (slice_get post.world.stopped processor ≡ Some false → ⊥)
-          → stopped_world processor post.world ≡ post.world
-      world-still processor ran =
-          let gone = set-still post.world.stopped processor ran in
-          let pairs = map-still (stopped_pair processor) post.world.processes (λ number pair there.
-          let first = copy-still processor pair.first (has-gone number pair there First) in
-          let second = copy-still processor pair.second (has-gone number pair there Second) in
-          ap (λ one. record pair { first = one; second = stopped_copy processor pair.second }) first
-          ∙ ap (λ two. record pair { second = two }) second) in
-          ap (λ stopped. record post.world {
-            stopped = stopped;
-            processes = map (stopped_pair processor) post.world.processes;
-          }) gone
-          ∙ ap (λ processes. record post.world { processes = processes }) pairs
-        where
-          run : IsRun site events post.world
-          run = played-run played
+    world-still : (processor : ℕ) → (slice_get post.world.stopped processor ≡ Some false → ⊥)
+        → stopped_world processor post.world ≡ post.world
+    world-still processor ran =
+        let gone = set-still post.world.stopped processor ran in
+        let pairs = map-still (stopped_pair processor) post.world.processes (λ number pair there.
+        let first = copy-still processor pair.first (has-gone number pair there First) in
+        let second = copy-still processor pair.second (has-gone number pair there Second) in
+        ap (λ one. record pair { first = one; second = stopped_copy processor pair.second }) first
+        ∙ ap (λ two. record pair { second = two }) second) in
+        ap (λ stopped. record post.world {
+          stopped = stopped;
+          processes = map (stopped_pair processor) post.world.processes;
+        }) gone
+        ∙ ap (λ processes. record post.world { processes = processes }) pairs
+      where
+        run : IsRun site events post.world
+        run = played-run played
 
-          low : (number : ℕ) (pair : Pair) → slice_get post.world.processes number ≡ Some pair → (k : Which)
-              → (copy_of k pair).processor < length post.world.stopped
-          low number pair there First = ((run-seats site events post.world out run).pairs number pair there).first
-          low number pair there Second = ((run-seats site events post.world out run).pairs number pair there).second
+        low : (number : ℕ) (pair : Pair) → slice_get post.world.processes number ≡ Some pair → (k : Which)
+            → (copy_of k pair).processor < length post.world.stopped
+        low number pair there First = ((run-seats site events post.world out run).pairs number pair there).first
+        low number pair there Second = ((run-seats site events post.world out run).pairs number pair there).second
 
-          has-gone : (number : ℕ) (pair : Pair) → slice_get post.world.processes number ≡ Some pair → (k : Which)
-              → (copy_of k pair).processor ≡ processor → (copy_of k pair).role ≡ Gone
-          has-gone number pair there k same = by (slice_get post.world.stopped processor) refl
-            where
-              by : (found : Option Bool) → slice_get post.world.stopped processor ≡ found
-                  → (copy_of k pair).role ≡ Gone
-              by None is = absurd (not-past post.world.stopped processor
-                  (subst (λ p. p < length post.world.stopped) same (low number pair there k)) is)
-              by (Some false) is = absurd (ran is)
-              by (Some true) is =
-                  (gone-is post.world.stopped pair (run-roles run number pair there) k).1
-                  (subst (λ p. slice_get post.world.stopped p ≡ Some true) (sym same) is)
+        has-gone : (number : ℕ) (pair : Pair) → slice_get post.world.processes number ≡ Some pair → (k : Which)
+            → (copy_of k pair).processor ≡ processor → (copy_of k pair).role ≡ Gone
+        has-gone number pair there k same = by (slice_get post.world.stopped processor) refl
+          where
+            by : (found : Option Bool) → slice_get post.world.stopped processor ≡ found
+                → (copy_of k pair).role ≡ Gone
+            by None is = absurd (not-past post.world.stopped processor
+                (subst (λ p. p < length post.world.stopped) same (low number pair there k)) is)
+            by (Some false) is = absurd (ran is)
+            by (Some true) is =
+                (gone-is post.world.stopped pair (run-roles run number pair there) k).1
+                (subst (λ p. slice_get post.world.stopped p ≡ Some true) (sym same) is)
 
   -- All of it
 
-  module _ (events : List Event) (post : Post) (few : length events < 4294967294) (played : HasPlayed site events post)
-    where
-      less : length events < 4294967295
-      less = omega (arith, few)
+  module _ (events : List Event) (post : Post) (few : length events < 4294967294)
+      (played : HasPlayed site events post) where
+    less : length events < 4294967295
+    less = omega (arith, few)
 
-      pulled-within : (processor : ℕ) → MarksWithin site (stopped_world processor post.world)
-      pulled-within processor = by (slice_get post.world.stopped processor) refl
-        where
-          still : (slice_get post.world.stopped processor ≡ Some false → ⊥)
-              → MarksWithin site (stopped_world processor post.world)
-          still ran =
-              subst (MarksWithin site) (sym (world-still events post less played processor ran))
-              (marks-within events post less played)
+    pulled-within : (processor : ℕ) → MarksWithin site (stopped_world processor post.world)
+    pulled-within processor = by (slice_get post.world.stopped processor) refl
+      where
+        still : (slice_get post.world.stopped processor ≡ Some false → ⊥)
+            → MarksWithin site (stopped_world processor post.world)
+        still ran =
+            subst (MarksWithin site) (sym (world-still events post less played processor ran))
+            (marks-within events post less played)
 
-          by : (found : Option Bool) → slice_get post.world.stopped processor ≡ found
-              → MarksWithin site (stopped_world processor post.world)
-          by None is = still (λ ran. let same = sym is ∙ ran in cc)
-          by (Some true) is = still (λ ran. let same = sym is ∙ ran in cc)
-          by (Some false) is =
-              let change = stop-may site processor post.world
-              (record { world = stopped_world processor post.world; sendings = [] }) (rw is refl) in
-              let one = length-append events (Fail processor ∷ []) in
-              marks-within (events ++ Fail processor ∷ [])
-              (record post { world = stopped_world processor post.world }) (omega (arith, one, few))
-              (played_more played (plays_fail change))
+        by : (found : Option Bool) → slice_get post.world.stopped processor ≡ found
+            → MarksWithin site (stopped_world processor post.world)
+        by None is = still (λ ran. let same = sym is ∙ ran in cc)
+        by (Some true) is = still (λ ran. let same = sym is ∙ ran in cc)
+        by (Some false) is =
+            let change = stop-may site processor post.world
+            (record { world = stopped_world processor post.world; sendings = [] }) (rw is refl) in
+            let one = length-append events (Fail processor ∷ []) in
+            marks-within (events ++ Fail processor ∷ [])
+            (record post { world = stopped_world processor post.world }) (omega (arith, one, few))
+            (played_more played (plays_fail change))
 
-      pub sends-within : SendsWithin site post.world
-      sends-within = record {
-        runs = runs-within events post less played;
-        enters = enters-within events post less played;
-        handed = handed-within events post less played;
-        marked = marks-within events post less played;
-        pulled = pulled-within;
-      }
+    pub sends-within : SendsWithin site post.world
+    sends-within = record {
+      runs = runs-within events post less played;
+      enters = enters-within events post less played;
+      handed = handed-within events post less played;
+      marked = marks-within events post less played;
+      pulled = pulled-within;
+    }

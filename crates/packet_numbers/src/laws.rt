@@ -2,13 +2,15 @@
 ghost use Rattle.std.specs.Prelude.{◌<◌, List, length};
 ghost use Rattle.tal_tree.specs.declared.site.Site.{Site};
 ghost use Rattle.schedule.specs.declared.event.Event.{Event};
+ghost use Rattle.number_ranges.specs.HasRoom.{WorldHasRoom};
+ghost use Rattle.computed_changes.specs.Laws.{HasCopiesApart};
 ghost use Rattle.takeover_laws.specs.Fit.{IsFit};
 ghost use Rattle.awaited_requests.specs.Seats.{IsLaidOut};
 ghost use Rattle.letters.specs.Posts.{Post, HasPlayed};
 ghost use Rattle.letters_layout.specs.Fitting.{IsSmall};
 ghost use Rattle.packet_wires.specs.Play.{Packeted};
 ghost use Rattle.packet_wires.specs.Runs.{IsPlayed};
-ghost use Rattle.site_machine.specs.Needs.{HaveNumbersLeft, SendsWithin};
+ghost use Rattle.site_machine.specs.Needs.{HaveNumbersLeft, IsReady, SendsWithin};
 
 /// After fewer than 4,294,967,295 events each end of each node can number one more piece and keep one more: an event
 /// numbers at most one piece at an end, and keeps at most one there.
@@ -22,4 +24,18 @@ pub fn numbers_are_left()
 pub fn what_is_sent_is_within()
     ensures { (site : Site) (events : List Event) (post : Post) → IsFit site → IsSmall site → IsLaidOut site
         → length events < 4294967294 → HasPlayed site events post → SendsWithin site post.world }
+{}
+
+/// After fewer than 4,294,967,294 events each number in the world of a post has a successor, on a fit site whose
+/// processes have their copies in two processors.
+pub fn the_world_has_room()
+    ensures { (site : Site) (events : List Event) (post : Post) → IsFit site → HasCopiesApart site
+        → length events < 4294967294 → HasPlayed site events post → WorldHasRoom post.world }
+{}
+
+/// Whatever fewer than 4,294,967,294 events play over packets on a fit site within its limits, the state is ready for
+/// the next event: the world has room, each end has numbers left, and what is sent next keeps to the layout.
+pub fn what_is_played_is_ready()
+    ensures { (site : Site) (events : List Event) (s : Packeted) → IsFit site → IsSmall site → IsLaidOut site
+        → length events < 4294967294 → IsPlayed site events s → IsReady s }
 {}
