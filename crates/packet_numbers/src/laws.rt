@@ -2,6 +2,8 @@
 ghost use Rattle.std.specs.Prelude.{◌<◌, List, length};
 ghost use Rattle.tal_tree.specs.declared.site.Site.{Site};
 ghost use Rattle.schedule.specs.declared.event.Event.{Event};
+ghost use Rattle.plain_semantics.specs.SiteLimits.{KeepsSiteLimits};
+ghost use Rattle.accepted_sites.specs.Premises.{IsAcceptedSite};
 ghost use Rattle.number_ranges.specs.HasRoom.{WorldHasRoom};
 ghost use Rattle.computed_changes.specs.Laws.{HasCopiesApart};
 ghost use Rattle.takeover_laws.specs.Fit.{IsFit};
@@ -38,4 +40,12 @@ pub fn the_world_has_room()
 pub fn what_is_played_is_ready()
     ensures { (site : Site) (events : List Event) (s : Packeted) → IsFit site → IsSmall site → IsLaidOut site
         → length events < 4294967294 → IsPlayed site events s → IsReady s }
+{}
+
+/// Let each pair of a site run a program that was read and is accepted, and let the site keep the limits and have its
+/// processes laid out over its processors. Then whatever fewer than 4,294,967,294 events play, the state is ready for
+/// the next event.
+pub fn accepted_sites_are_ready()
+    ensures { (site : Site) (events : List Event) (s : Packeted) → IsAcceptedSite site → KeepsSiteLimits site
+        → IsLaidOut site → length events < 4294967294 → IsPlayed site events s → IsReady s }
 {}
