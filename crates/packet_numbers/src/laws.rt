@@ -1,5 +1,5 @@
 //! Laws of the numbers of what is played over packets.
-ghost use Rattle.std.specs.Prelude.{◌<◌, List, length};
+ghost use Rattle.std.specs.Prelude.{◌≡◌, ◌≤◌, ◌<◌, ℕ, List, length, slice_get, Some};
 ghost use Rattle.tal_tree.specs.declared.site.Site.{Site};
 ghost use Rattle.schedule.specs.declared.event.Event.{Event};
 ghost use Rattle.plain_semantics.specs.SiteLimits.{KeepsSiteLimits};
@@ -10,14 +10,20 @@ ghost use Rattle.takeover_laws.specs.Fit.{IsFit};
 ghost use Rattle.awaited_requests.specs.Seats.{IsLaidOut};
 ghost use Rattle.letters.specs.Posts.{Post, HasPlayed};
 ghost use Rattle.letters_layout.specs.Fitting.{IsSmall};
+ghost use Rattle.link_control.specs.Ends.{End};
+ghost use Rattle.packet_wires.specs.Nodes.{Node};
 ghost use Rattle.packet_wires.specs.Play.{Packeted};
 ghost use Rattle.packet_wires.specs.Runs.{IsPlayed};
 ghost use Rattle.site_machine.specs.Needs.{HaveNumbersLeft, IsReady, SendsWithin};
 
-/// After fewer than 4,294,967,295 events each end of each node can number one more piece and keep one more: an event
-/// numbers at most one piece at an end, and keeps at most one there.
+/// At each end of each node at most as many pieces were numbered as events were played, and at most as many kept: an
+/// event numbers at most one piece at an end, and keeps at most one there. So each end can number one more piece and
+/// keep one more after fewer than 4,294,967,295 events.
 pub fn numbers_are_left()
-    ensures { (site : Site) (events : List Event) (s : Packeted) → IsPlayed site events s
+    ensures few { (site : Site) (events : List Event) (s : Packeted) (x y : ℕ) (node : Node) (e : End)
+        → IsPlayed site events s → slice_get s.wires.nodes x ≡ Some node → slice_get node.ends y ≡ Some e
+        → (e.sending.numbered ≤ length events) × (e.receiving.kept ≤ length events) }
+    ensures left { (site : Site) (events : List Event) (s : Packeted) → IsPlayed site events s
         → length events < 4294967295 → HaveNumbersLeft s.wires.nodes }
 {}
 

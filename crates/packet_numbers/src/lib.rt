@@ -1,8 +1,8 @@
 //! That the machine over packets is ready for each event, while fewer events were played than there are numbers of 32
 //! bits. No code runs here.
 //!
-//! Below stand `packet_wires` with what is played, and `site_machine` with what an event requires. The layer above gets
-//! that from `what_is_played_is_ready`.
+//! Below stand `packet_wires` with what is played, and `site_machine` with what an event requires (`IsReady`). The
+//! layer above gets that from `accepted_sites_are_ready`.
 #![tactic(auto)]
 
 pub mod laws;
