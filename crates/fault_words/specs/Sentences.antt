@@ -1,0 +1,63 @@
+-- The fault of a deck as a sentence. Our own wording.
+use Rattle.std.specs.Prelude.{ℕ, ◌==◌, List, codes, if◌then◌else◌}
+use Rattle.tal_tree.specs.declared.fault.DeckFault.{DeckFault}
+use Rattle.tal_tree.specs.declared.fault.DeckFault.TheVariants as deck
+use Rattle.tal_tree.specs.declared.fault.TalFault.{TalFault}
+use Rattle.tal_tree.specs.declared.fault.TalFault.TheVariants as tal
+
+-- that a program passes the limit of this number
+abbrev pub program_limit : ℕ → List ℕ
+program_limit which =
+    if which == 1 then codes "the program has more than 64 global names"
+    else if which == 2 then codes "the globals have more than 512 words"
+    else if which == 3 then codes "an array has at most 256 words"
+    else if which == 4 then codes "the program has more than 8 files"
+    else if which == 5 then codes "the program has more than 64 procedures"
+    else if which == 6 then codes "the procedure has more than 12 locals and parameters"
+    else if which == 7 then codes "the program has more than 2,000 numbered statements"
+    else if which == 8 then codes "this stands more than 32 levels deep"
+    else if which == 9 then codes "an OPEN keeps 1 to 4 replies, and 1 for $RECEIVE"
+    else codes "a limit is passed"
+
+-- that a deck does
+abbrev pub deck_limit : ℕ → List ℕ
+deck_limit which =
+    if which == 1 then codes "the deck has more than 16 discs and pairs"
+    else if which == 2 then codes "the deck has more than 16 terminals"
+    else if which == 3 then codes "the terminal has more than 1,000 requests"
+    else if which == 4 then codes "a request has at most 16 words"
+    else if which == 5 then codes "a disc has 1 to 64 sectors"
+    else if which == 6 then codes "the lines ask for more than 1,000,000 single events"
+    else if which == 7 then codes "the lines ask for more than 100,000 rounds"
+    else if which == 8 then codes "a deck has 2 to 16 processors"
+    else codes "a limit is passed"
+
+-- a fault of a program
+abbrev pub program_sentence : TalFault → List ℕ
+program_sentence (tal.BadCharacter place) = codes "this byte begins no token"
+program_sentence (tal.NumberTooLarge place) = codes "the number is too large"
+program_sentence (tal.OpenString place) = codes "the string has no end on its line"
+program_sentence (tal.NameTooLong place) = codes "the name has more than 31 signs"
+program_sentence (tal.Expected place) = codes "no program has this token here"
+program_sentence (tal.Unknown place) = codes "the name isn't declared"
+program_sentence (tal.Twice place) = codes "this stands a second time"
+program_sentence (tal.WrongKind place) = codes "something of another kind has to stand here"
+program_sentence (tal.NotBefore place) = codes "the procedure isn't declared before this one"
+program_sentence (tal.Prologue place) = codes "the main procedure has to begin with CHECKMONITOR and the OPENs"
+program_sentence (tal.Limit which place) = program_limit which
+program_sentence (tal.NoMain place) = codes "no procedure is MAIN"
+program_sentence (tal.NoMemory _) = codes "out of memory"
+
+-- a fault of a deck; that of a program is told as it is
+abbrev pub sentence_of : DeckFault → List ℕ
+sentence_of (deck.Line line) = codes "this line is of no form that may stand here"
+sentence_of (deck.Program line fault) = program_sentence fault
+sentence_of (deck.NameTwice line) = codes "the name was declared before"
+sentence_of (deck.UnknownName line) = codes "this line, or an OPEN of its program, names nothing that is there"
+sentence_of (deck.SameProcessor line) = codes "primary and backup are one processor"
+sentence_of (deck.NoProcessor line) = codes "there is no such processor"
+sentence_of (deck.Limit line which) = deck_limit which
+sentence_of (deck.NoEnd line) = codes "the deck ends before END, or in a program"
+sentence_of (deck.OpensItself line) = codes "the program opens its own pair"
+sentence_of deck.TooLong = codes "the deck has more than 1,048,576 bytes"
+sentence_of (deck.NoMemory _) = codes "out of memory"
