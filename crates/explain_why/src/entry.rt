@@ -1,0 +1,65 @@
+ghost use Rattle.std.specs.Prelude.{◌≡◌};
+ghost use Rattle.gd_io.specs.Puts.{Puts};
+ghost use Rattle.explain_why.specs.Ends.{WhyEnds};
+ghost use Rattle.explain_why.specs.Written.{CanBeWritten, status_after, status_number, status_of, text_of};
+ghost use Rattle.explain_why.specs.declared.status.Status.{Status};
+
+use crate::decide::due_of_source;
+use crate::due::Due;
+use crate::status::Status;
+use fault_text::write_why;
+use gd_io::{Sink, Source, WriteFault, put_all};
+use std::alloc::Global;
+
+/// Tells why a deck can't be read as `why` does, and answers the number of its status, with which the program ends.
+pub fn why_number<S: Source, K: Sink>(alloc: Global, source: &mut S, sink: &mut K) -> u8
+    ensures { (status : Status)
+        × WhyEnds S.left S.faults S.sure K.held K.faults K.sure source.old source.new sink.old sink.new status
+        × (result ≡ status_number status) }
+{
+    why(alloc, source, sink).number()
+}
+
+/// Reads a deck from the source to its end. Where it can't be read, it writes to the sink the fault as a sentence, the
+/// deck's line with its number, a caret under the column, what often lies behind it, and the line that `guardian`
+/// writes; else that it can be read.
+pub fn why<S: Source, K: Sink>(alloc: Global, source: &mut S, sink: &mut K) -> Status
+    ensures { WhyEnds S.left S.faults S.sure K.held K.faults K.sure source.old source.new sink.old sink.new result }
+{
+    let due = due_of_source(alloc, source);
+    let written = write_due(sink, &due);
+    status_after(&due, written)
+}
+
+fn write_due<K: Sink>(sink: &mut K, due: &Due) -> Result<(), WriteFault>
+    requires { CanBeWritten due.now }
+    ensures { Puts K.held K.faults K.sure sink.old sink.new (text_of due.now) result }
+{
+    match due {
+        Due::Read => put_all(sink, b"the deck can be read\n"),
+        Due::Refused(refused) => write_why(sink, refused.told.as_slice(), &refused.fault),
+        Due::ReadFault => Ok(()),
+        Due::NoMemory(_) => Ok(()),
+    }
+}
+
+/// The status, by whether the text that is due went out whole.
+fn status_after(due: &Due, written: Result<(), WriteFault>) -> Status
+    ensures { result ≡ status_after due.now written }
+{
+    match written {
+        Ok(()) => status_of(due),
+        Err(WriteFault) => Status::WriteFault,
+    }
+}
+
+fn status_of(due: &Due) -> Status
+    ensures { result ≡ status_of due.now }
+{
+    match due {
+        Due::Read => Status::Done,
+        Due::Refused(refused) => Status::Refused(refused.fault),
+        Due::ReadFault => Status::ReadFault,
+        Due::NoMemory(memory) => Status::NoMemory(*memory),
+    }
+}

@@ -1,0 +1,13 @@
+//! Tells why a deck can't be read: a source in, a text to a sink, and the number out with which the program ends.
+//!
+//! Below stand `deck_reader`, `fault_text` with what is told, `trace_print` and `gd_io`. `why` decides first: it reads
+//! and takes all memory that is needed; only then it writes.
+#![tactic(auto)]
+
+mod decide;
+pub mod due;
+pub mod entry;
+pub mod status;
+
+pub use entry::{why, why_number};
+pub use status::Status;

@@ -1,0 +1,31 @@
+ghost use Rattle.std.specs.Prelude.{◌≡◌};
+ghost use Rattle.explain_why.specs.Written.{status_number};
+
+use gd_words::NoMemory;
+use tal_tree::DeckFault;
+
+/// How a call ended.
+#[derive(Clone, Copy, PartialEq, Eq, Drop)]
+pub enum Status {
+    /// The deck can be read.
+    Done,
+    Refused(DeckFault),
+    ReadFault,
+    WriteFault,
+    NoMemory(NoMemory),
+}
+
+impl Status {
+    /// The number with which the program ends.
+    pub fn number(&self) -> u8
+        ensures { result ≡ status_number self.now }
+    {
+        match self {
+            Status::Done => 0,
+            Status::Refused(_) => 2,
+            Status::ReadFault => 6,
+            Status::WriteFault => 7,
+            Status::NoMemory(_) => 8,
+        }
+    }
+}
