@@ -1,0 +1,50 @@
+use Rattle.std.proofs.Common.{◌<◌, ◌+◌, ℕ, IfOk, Option, Result, Ok, Err, arith, refl, subst, sym}
+use Rattle.schedule_loop.specs.Ends.{IsTriedBy}
+use Rattle.schedule_loop.proofs.Playing.{begins, few_played, goes_on, runs_out, runs_to_stop}
+use Rattle.schedule_loop.proofs.running.run.Goals as goal
+
+last : (n : ℕ) → n < 4294967294 → n < 4294967295
+last n few = omega (arith, few)
+
+both : {A E : Type 0} (answer : Result A E) (P Q R : A → Type 0) → ((a : A) → P a → Q a → R a) → IfOk answer P
+    → IfOk answer Q → IfOk answer R
+both (Ok a) P Q R follows p q = follows a p q
+both (Err e) P Q R follows p q = tt
+
+pub loop-event-init : goal.loop-event-init
+loop-event-init g c = (begins _ _ c.new-schedule.result c.new-schedule.ensures, omega arith, c.requires.whole)
+
+pub loop-event-preserved : goal.loop-event-preserved
+loop-event-preserved g c =
+    let on = goes_on g.M.ScheduleMachine.rules _ c.loop-event.schedule c.next.new.self
+    (g.M.ScheduleMachine.state c.loop-event.machine) (g.M.ScheduleMachine.state c.tried.new.machine)
+    c.loop-event.played c.in-Some.event c.loop-event.invariant.0 (sym c.in-Some.ensures.event)
+    c.in-Some.ensures.agenda
+    (subst (λ (one : Option ℕ). IsTriedBy g.M.ScheduleMachine.rules
+    (g.M.ScheduleMachine.state c.loop-event.machine) c.in-Some.event
+    (g.M.ScheduleMachine.state c.tried.new.machine) one) c.in-None.is c.in_ok-tried.ensures.tried) in (
+      on,
+      few_played g.M.ScheduleMachine.rules g.M.ScheduleMachine.is_ready _ c.next.new.self
+          (g.M.ScheduleMachine.state c.tried.new.machine) (c.loop-event.played + 1) c.requires.can on,
+      c.in_ok-tried.ensures.whole,
+    )
+
+pub returns-in-Some-2 : goal.returns-in-Some-2
+returns-in-Some-2 g c =
+    runs_to_stop g.M.ScheduleMachine.rules _ c.loop-event.schedule c.next.new.self
+    (g.M.ScheduleMachine.state c.loop-event.machine) (g.M.ScheduleMachine.state c.tried.new.machine)
+    c.loop-event.played c.in-Some-2.processor c.from.result c.in-Some.event _ _ c.loop-event.invariant.0
+    (sym c.in-Some.ensures.event) c.in-Some.ensures.agenda
+    (subst (λ (one : Option ℕ). IsTriedBy g.M.ScheduleMachine.rules
+    (g.M.ScheduleMachine.state c.loop-event.machine) c.in-Some.event
+    (g.M.ScheduleMachine.state c.tried.new.machine) one) c.in-Some-2.is c.in_ok-tried.ensures.tried)
+    c.in_ok-tried.ensures.whole (last c.loop-event.played c.loop-event.invariant.1) c.from.ensures refl
+
+pub returns : goal.returns
+returns g c =
+    both c.ended.result _ _ _
+    (λ ran end whole. runs_out g.M.ScheduleMachine.rules _ c.loop-event.schedule
+    (g.M.ScheduleMachine.state c.loop-event.machine) (g.M.ScheduleMachine.state ran.machine) c.loop-event.played
+    ran.asked ran.ending (g.M.ScheduleMachine.is_broken ran.machine) c.loop-event.invariant.0
+    (sym c.in_default.ensures.event) (last c.loop-event.played c.loop-event.invariant.1) whole end)
+    c.ended.ensures.end c.ended.ensures.whole

@@ -1,0 +1,22 @@
+-- What the parts of this crate's code show.
+use Rattle.std.specs.Prelude.{◌≡◌, Bool, true, false, List, [], ◌∷◌, Option}
+use Rattle.std.specs.Option.{option_map}
+use Rattle.schedule.specs.declared.event.Event.{Event}
+use Rattle.schedule.specs.declared.line.Line.{Line}
+use Rattle.player.specs.Lines.{begun}
+use Rattle.player.specs.declared.standing.Sizes.{Sizes}
+use Rattle.agendas.specs.Agendas.{Agenda, Plan}
+
+-- where a schedule stands that is played on a site of these sizes
+pub record Scheduled : Type 0 where
+  pub sizes : Sizes
+  pub agenda : Agenda
+
+abbrev pub event_in : Option Plan → Option Event
+event_in plan = option_map (λ one. one.event) plan
+
+-- of these lines the first one was begun, if there is one
+abbrev pub IsBegun : List Line → Scheduled → Bool → Scheduled → Type 0
+IsBegun [] before began after = (began ≡ false) × (after ≡ before)
+IsBegun (line ∷ rest) before began after =
+    (began ≡ true) × (after ≡ record before { agenda = record before.agenda { standing = begun line; lines = rest } })

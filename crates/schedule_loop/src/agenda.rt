@@ -1,0 +1,190 @@
+ghost use Rattle.std.specs.Prelude.{◌≡◌, None, Some};
+ghost use Rattle.std.specs.Option.{IfSome, option_map};
+ghost use Rattle.player.specs.Lines.{event_of, next_event, stands_after};
+ghost use Rattle.agendas.specs.Agendas.{agenda_of, coming, stopped_by};
+ghost use Rattle.schedule_loop.specs.Plans.{next_seen, planned_seen, upcoming_seen};
+ghost use Rattle.schedule_loop.specs.Rules.{sight_of};
+ghost use Rattle.schedule_loop.specs.Seen.{IsBegun, event_in};
+
+use crate::machine::ScheduleMachine;
+use player::{Player, ProcessorStop, Sizes};
+use schedule::{Counts, Event, Line};
+use std::marker::Model;
+
+/// Where a schedule stands that is played: its line, those after it, the stop that is still to come, and the event that
+/// was to come when the stop came before it.
+#[derive(Drop)]
+pub struct Schedule<'a> {
+    player: Player,
+    lines: &'a [Line],
+    stop: Option<ProcessorStop>,
+    held_back: Option<Event>,
+}
+
+impl<'a> Model for Schedule<'a> {
+    ghost use Rattle.std.specs.Coded.{codes};
+    ghost use Rattle.schedule_loop.specs.Seen.{Scheduled};
+
+    ghost Value = { Scheduled };
+
+    ghost coded = { Prim.hlevel codes };
+
+    ghost view = { λ all. record {
+      sizes = all.player.sizes;
+      agenda = record {
+        standing = all.player.standing;
+        lines = all.lines.now;
+        stop = all.stop;
+        held_back =
+            all.held_back;
+      };
+    } };
+}
+
+impl<'a> Schedule<'a> {
+    /// A schedule at its beginning, for a site of these sizes.
+    pub fn new(sizes: Sizes, lines: &'a [Line], stop: Option<ProcessorStop>) -> Schedule<'a>
+        ensures { result ≡ record { sizes = sizes; agenda = agenda_of lines.now stop } }
+    {
+        Schedule {
+            player: Player::new(sizes.processors, sizes.processes, sizes.terminals),
+            lines,
+            stop,
+            held_back: None,
+        }
+    }
+
+    /// The next event, that so many precede; none where the schedule is over.
+    pub fn next<M: ScheduleMachine>(&mut self, before: u32, machine: &M) -> Option<Event>
+        ensures event { result ≡ event_in (upcoming_seen self.old.sizes before (sight_of M.rules (M.state machine.now))
+            self.old.agenda) }
+        ensures agenda { IfSome (upcoming_seen self.old.sizes before (sight_of M.rules (M.state machine.now))
+            self.old.agenda)
+            (λ plan. self.new ≡ record self.old { agenda = plan.agenda }) }
+    {
+        match self.held_back {
+            Some(event) => {
+                self.held_back = None;
+                Some(event)
+            }
+            None => self.next_or_stop(before, machine),
+        }
+    }
+
+    /// The next event of the lines, or the stop that comes before it.
+    fn next_or_stop<M: ScheduleMachine>(&mut self, before: u32, machine: &M) -> Option<Event>
+        requires { self.old.agenda.held_back ≡ None }
+        ensures event { result ≡ event_in (option_map (stopped_by (coming self.old.agenda.stop before))
+            (planned_seen self.old.sizes (sight_of M.rules (M.state machine.now)) self.old.agenda.stop
+            self.old.agenda.lines
+            (next_seen self.old.sizes (sight_of M.rules (M.state machine.now)) self.old.agenda.standing))) }
+        ensures agenda { IfSome (option_map (stopped_by (coming self.old.agenda.stop before))
+            (planned_seen self.old.sizes (sight_of M.rules (M.state machine.now)) self.old.agenda.stop
+            self.old.agenda.lines
+            (next_seen self.old.sizes (sight_of M.rules (M.state machine.now)) self.old.agenda.standing)))
+            (λ plan. self.new ≡ record self.old { agenda = plan.agenda }) }
+    {
+        let stop = self.coming(before);
+        let event = self.planned(machine)?;
+        match stop {
+            None => Some(event),
+            Some(processor) => {
+                self.hold_back(event);
+                Some(Event::Fail(processor))
+            }
+        }
+    }
+
+    /// The processor whose stop comes just before the event that so many precede.
+    fn coming(&self, before: u32) -> Option<u8>
+        ensures { result ≡ coming self.now.agenda.stop before }
+    {
+        match self.stop {
+            None => None,
+            Some(stop) => {
+                if stop.after == before {
+                    Some(stop.processor)
+                } else {
+                    None
+                }
+            }
+        }
+    }
+
+    /// Notes that the stop was given, and holds back the event that comes after it.
+    fn hold_back(&mut self, event: Event)
+        ensures { self.new ≡ record self.old {
+          agenda =
+              record self.old.agenda { stop = None; held_back = Some event };
+        } }
+    {
+        self.stop = None;
+        self.held_back = Some(event);
+    }
+
+    /// The next event of the lines.
+    fn planned<M: ScheduleMachine>(&mut self, machine: &M) -> Option<Event>
+        requires { self.old.agenda.held_back ≡ None }
+        ensures event { result ≡ event_in (planned_seen self.old.sizes (sight_of M.rules (M.state machine.now))
+            self.old.agenda.stop
+            self.old.agenda.lines (next_seen self.old.sizes (sight_of M.rules (M.state machine.now))
+            self.old.agenda.standing)) }
+        ensures agenda { IfSome (planned_seen self.old.sizes (sight_of M.rules (M.state machine.now))
+            self.old.agenda.stop
+            self.old.agenda.lines (next_seen self.old.sizes (sight_of M.rules (M.state machine.now))
+            self.old.agenda.standing))
+            (λ plan. self.new ≡ record self.old { agenda = plan.agenda }) }
+    {
+        loop {
+            if let Some(event) = self.next_of_line(machine) {
+                return Some(event);
+            }
+            if !self.begin_line() {
+                return None;
+            }
+        }
+    }
+
+    /// Begins the next line, and answers whether there was one.
+    fn begin_line(&mut self) -> bool
+        ensures { IsBegun self.old.agenda.lines self.old result self.new }
+    {
+        match self.lines.split_first() {
+            None => false,
+            Some((line, rest)) => {
+                self.player.start(*line);
+                self.lines = rest;
+                true
+            }
+        }
+    }
+
+    /// The next event of the line at which the schedule stands.
+    fn next_of_line<M: ScheduleMachine>(&mut self, machine: &M) -> Option<Event>
+        ensures event { result ≡ event_of (next_seen self.old.sizes (sight_of M.rules (M.state machine.now))
+            self.old.agenda.standing) }
+        ensures agenda { self.new ≡ record self.old {
+          agenda = record self.old.agenda {
+            standing =
+                stands_after (next_seen self.old.sizes (sight_of M.rules (M.state machine.now))
+                self.old.agenda.standing);
+          };
+        } }
+    {
+        let counts = self.counted(machine);
+        self.player.next(&counts)
+    }
+
+    /// What is counted before the next event of the line. Whether the machine is idle is asked only where that event
+    /// depends on it.
+    fn counted<M: ScheduleMachine>(&self, machine: &M) -> Counts
+        ensures { next_event self.now.sizes self.now.agenda.standing result ≡ next_seen self.now.sizes
+            (sight_of M.rules (M.state machine.now)) self.now.agenda.standing }
+    {
+        if self.player.asks_idle() {
+            machine.counts(&self.player, machine.is_idle())
+        } else {
+            machine.counts(&self.player, false)
+        }
+    }
+}

@@ -1,0 +1,46 @@
+ghost use Rattle.std.specs.Prelude.{◌≡◌, false, true, Bool, IfOk, OnOk};
+ghost use Rattle.machine_states.specs.States.{Settles, State};
+ghost use Rattle.schedule_loop.specs.Rules.{Rules};
+
+use gd_words::NoMemory;
+use machine_states::Effect;
+use player::Player;
+use schedule::{Counts, Event};
+
+/// A machine on which a schedule can be played: it plays one event, tells what the next event is chosen by, and is
+/// closed at the end of its run. Once an allocation was refused to it, it may be broken.
+pub trait ScheduleMachine: Drop {
+    /// What is on its wires.
+    ghost Wires: { Type 0 };
+
+    /// What it makes of an event, what is counted, when it is idle, and how it is closed.
+    ghost rules: { Rules Wires };
+
+    /// What an event needs.
+    ghost is_ready: { State Wires → Type 0 };
+
+    ghost state: { Self → State Wires };
+
+    ghost is_broken: { Self → Bool };
+
+    /// Plays one event, and tells what came of it.
+    fn event(&mut self, event: Event) -> Result<Effect, NoMemory>
+        requires { is_ready (state self.old) }
+        ensures done { IfOk result (λ effect. Settles (rules.play (state self.old) event) (state self.old) effect
+            (state self.new)) }
+        ensures whole { IfOk result (λ effect. is_broken self.new ≡ false) };
+
+    /// What is counted before the next event of the line at which a player stands, with this told of whether the
+    /// machine is idle.
+    fn counts(&self, player: &Player, idle: bool) -> Counts
+        ensures { result ≡ record (rules.counts (state self.now) player.now) { idle = idle } };
+
+    /// Whether nothing is left to do.
+    fn is_idle(&self) -> bool
+        ensures { result ≡ rules.is_idle (state self.now) };
+
+    /// The run is closed.
+    fn close(&mut self) -> Result<(), NoMemory>
+        ensures closed { OnOk result (state self.new ≡ rules.closed (state self.old)) }
+        ensures whole { OnOk result (is_broken self.new ≡ false) };
+}
