@@ -1,7 +1,6 @@
 pub mod Buses
 pub mod Lengths
 pub mod Lines
-pub mod Planning
 pub mod Played
 pub mod Playing
 pub mod Turns

@@ -1,14 +1,15 @@
 -- How a run of a schedule ends, and what is left of it.
-use Rattle.std.specs.Prelude.{◌≡◌, ◌<◌, ℕ, ◌+◌, Bool, true, false, List, length, Option, Some, None}
+use Rattle.std.specs.Prelude.{◌≡◌, ◌<◌, ℕ, ◌+◌, true, false, List, length, Option}
 use Rattle.tal_tree.specs.declared.site.Site.{Site}
 use Rattle.schedule.specs.declared.event.Event.{Event}
 use Rattle.schedule.specs.declared.line.Line.{Line}
 use Rattle.player.specs.declared.stop.ProcessorStop.{ProcessorStop}
 use Rattle.message_wires.specs.Idle.{is_idle}
-use Rattle.machine_states.specs.States.{WouldStop}
-use Rattle.message_wires.specs.Play.{MachineState, play}
-use Rattle.pair_machine.specs.Seen.{MachineStanding, closed_state}
-use Rattle.schedule_runs.specs.Runs.{IsPlay, RunsOut, RunsToStop}
+use Rattle.message_wires.specs.Play.{MachineState}
+use Rattle.pair_machine.specs.Seen.{closed_state}
+use Rattle.schedule_loop.specs.declared.ran.Ending as loop
+use Rattle.schedule_loop.specs.declared.ran.Ending.TheVariants as ends
+use Rattle.schedule_runs.specs.Runs.{RunsOut, RunsToStop}
 use Rattle.schedule_runs.specs.declared.ran.Ending.{Ending}
 use Rattle.schedule_runs.specs.declared.ran.Ending.TheVariants.{Idle, Cut, Second}
 use Rattle.schedule_runs.specs.declared.ran.Ran.{Ran}
@@ -33,13 +34,8 @@ pub record IsRunOf (site : Site) (lines : List Line) (stop : Option ProcessorSto
   pub whole : ran.machine.is_broken ≡ false
   pub ends : EndsAs site lines stop events state ran.machine.state ran.asked ran.ending
 
--- the end of a run whose events led the machine to where it stands, by whether it is idle there: it is closed then
-abbrev pub IsEndOf : MachineStanding → ℕ → Ran → Bool → Type 0
-IsEndOf before played ran true =
-    (ran.ending ≡ Idle) × (ran.machine ≡ record before { state = closed_state before.state }) × (ran.asked ≡ played)
-IsEndOf before played ran false = (ran.ending ≡ Cut) × (ran.machine ≡ before) × (ran.asked ≡ played)
-
--- an event was played, or it would stop this second processor, and nothing changes
-abbrev pub IsTried : MachineState → Event → MachineState → Option ℕ → Type 0
-IsTried s event next None = IsPlay s event next
-IsTried s event next (Some processor) = (play s event ≡ WouldStop processor) × (next ≡ s)
+-- the end of a run, as the loop names it
+abbrev pub ending_of : loop.Ending → Ending
+ending_of ends.Idle = Idle
+ending_of ends.Cut = Cut
+ending_of (ends.Second processor) = Second processor

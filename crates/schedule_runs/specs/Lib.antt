@@ -1,4 +1,4 @@
 pub mod Ends
 pub mod Lengths
+pub mod Rules
 pub mod Runs
-pub mod Seen

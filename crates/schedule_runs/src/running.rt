@@ -1,20 +1,15 @@
-ghost use Rattle.std.specs.Prelude.{◌≡◌, false, IfOk};
-ghost use Rattle.message_wires.specs.Idle.{is_idle};
-ghost use Rattle.number_ranges.specs.HasRoom.{HasRoom, HasRoomForLetters};
-ghost use Rattle.pair_machine.specs.Room.{OpenersAreThere};
+ghost use Rattle.std.specs.Prelude.{◌≡◌, IfOk};
 ghost use Rattle.process_copies.specs.Starting.{IsStartable};
-ghost use Rattle.schedule_runs.specs.Ends.{IsEndOf, IsRunOf, IsTried};
+ghost use Rattle.schedule_runs.specs.Ends.{IsRunOf, ending_of};
 ghost use Rattle.schedule_runs.specs.Lengths.{AsksForFewEvents};
 ghost use Rattle.schedule_runs.specs.Runs.{sizes_of};
 
-use crate::agenda::Schedule;
+use crate::pairs::PlayedPairs;
 use crate::ran::{Ending, Ran};
 use gd_words::NoMemory;
 use logs::Shared;
-use machine_states::Effect;
-use pair_machine::PairMachine;
 use player::{ProcessorStop, Sizes};
-use schedule::{Event, Line};
+use schedule::Line;
 use std::alloc::Global;
 use tal_tree::Site;
 
@@ -29,23 +24,13 @@ pub fn run(
     requires few { AsksForFewEvents site.now lines.now stop }
     ensures { IfOk result (λ ran. IsRunOf site.now lines.now stop ran) }
 {
-    let mut machine = PairMachine::boot(alloc, site)?;
-    let mut schedule = Schedule::new(sizes_of(site.get()), lines, stop);
-    let mut played: u32 = 0;
-    while let Some(event) = schedule.next(played, &machine) {
-        let next = played + 1;
-        match tried(&mut machine, event)? {
-            None => played = next,
-            Some(processor) => {
-                return Ok(Ran {
-                    machine,
-                    asked: u64::from(next),
-                    ending: Ending::Second(processor),
-                });
-            }
-        }
-    }
-    ended(machine, played)
+    let pairs = PlayedPairs::boot(alloc, site)?;
+    let ran = schedule_loop::run(pairs, sizes_of(site.get()), lines, stop)?;
+    Ok(Ran {
+        machine: ran.machine.machine,
+        asked: ran.asked,
+        ending: ending_of(ran.ending),
+    })
 }
 
 /// How many processors, processes and terminals a site has.
@@ -60,38 +45,12 @@ fn sizes_of(site: &Site) -> Sizes
     }
 }
 
-/// Plays an event. Answers the second processor that it would stop, and then nothing changes.
-fn tried(machine: &mut PairMachine, event: Event) -> Result<Option<u8>, NoMemory>
-    requires room { HasRoom machine.old.state }
-    requires letters { HasRoomForLetters machine.old.state }
-    requires openers { OpenersAreThere machine.old.state }
-    ensures tried { IfOk result (λ second. IsTried machine.old.state event machine.new.state second) }
-    ensures whole { IfOk result (λ second. machine.new.is_broken ≡ false) }
+fn ending_of(ending: schedule_loop::Ending) -> Ending
+    ensures { result ≡ ending_of ending }
 {
-    match machine.event(event)? {
-        Effect::Done => Ok(None),
-        Effect::Skipped => Ok(None),
-        Effect::WouldStopSecond(processor) => Ok(Some(processor)),
+    match ending {
+        schedule_loop::Ending::Idle => Ending::Idle,
+        schedule_loop::Ending::Cut => Ending::Cut,
+        schedule_loop::Ending::Second(processor) => Ending::Second(processor),
     }
-}
-
-/// The end of a run that is over.
-fn ended(machine: PairMachine, played: u32) -> Result<Ran, NoMemory>
-    ensures { IfOk result (λ ran. IsEndOf machine played ran (is_idle machine.state)) }
-{
-    let mut machine = machine;
-    let asked = u64::from(played);
-    if !machine.is_idle() {
-        return Ok(Ran {
-            machine,
-            asked,
-            ending: Ending::Cut,
-        });
-    }
-    machine.close()?;
-    Ok(Ran {
-        machine,
-        asked,
-        ending: Ending::Idle,
-    })
 }
