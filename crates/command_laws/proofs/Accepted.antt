@@ -11,7 +11,7 @@ use Rattle.deck_reader.proofs.OneAnswer.{no_deck, one_deck}
 use Rattle.discipline.proofs.Verdicts.{accepted-ok}
 use Rattle.verdicts.specs.Refused.{AreAccepted, IsFirstRefused}
 use Rattle.verdicts.specs.declared.refused.RefusedProgram.{RefusedProgram}
-use Rattle.runner.specs.Decided.{IsDueOfAccepted, IsDueOfBytes, IsDueOfDeck, IsDueOfSource}
+use Rattle.runner.specs.Decided.{IsDueOfTask, IsDueOfBytes, IsDueOfDeck, IsDueOfSource}
 use Rattle.runner.specs.Tasks.{can_stop}
 use Rattle.runner.specs.declared.due.Due.{Due}
 use Rattle.runner.specs.declared.due.Due.TheVariants as due
@@ -34,7 +34,7 @@ none-refused specs refused accepted first =
 
 -- what is due is what is due of accepted programs, or want of memory
 abbrev pub IsGood : Task → Deck → Due → Type 0
-IsGood task deck decided = (decided ≡ due.NoMemory no_memory) ⊎ IsDueOfAccepted task deck decided
+IsGood task deck decided = (decided ≡ due.NoMemory no_memory) ⊎ IsDueOfTask task deck decided
 
 module _ (task : Task) (deck : Deck) (able : can_stop task deck.site ≡ true)
     (accepted : AreAccepted deck.site.processes) where

@@ -37,7 +37,7 @@ use Rattle.report_judge.specs.declared.judge.Why.{Why}
 use Rattle.report_laws.proofs.OneVerdict.{one-verdict}
 use Rattle.report_laws.specs.OneVerdict.{IsSameVerdict}
 use Rattle.runner.specs.Verified.{IsDueOfInput, IsDueOfJudged, deck_in, report_in}
-use Rattle.runner.specs.Decided.{IsDue, IsDueOfAccepted, IsDueOfBytes, IsDueOfDeck, IsDueOfRun, IsDueOfSource}
+use Rattle.runner.specs.Decided.{IsDue, IsDueOfTask, IsDueOfBytes, IsDueOfDeck, IsDueOfRun, IsDueOfSource}
 use Rattle.runner.specs.Decided.{IsDueOfAdvice, IsDueOfSweep, IsDueOfVerify, IsDueOn, IsReportOf}
 use Rattle.runner.specs.RunEnds.{shown_in}
 use Rattle.runner.specs.Stopped.{stopped_from}
@@ -169,7 +169,7 @@ data IsOfDeck (task : Task) (deck : Deck) : Due → Type 0 where
       → IsOfDeck task deck (due.ProgramRefused found)
   good : {decided : Due} → can_stop task deck.site ≡ true
       → (judges task ≡ true → AreAccepted deck.site.processes)
-      → IsDueOfAccepted task deck decided → IsOfDeck task deck decided
+      → IsDueOfTask task deck decided → IsOfDeck task deck decided
 
 of-deck : (task : Task) (deck : Deck) (decided : Due) → IsDueOfDeck task deck decided → IsOfDeck task deck decided
 of-deck task deck (due.NoMemory _) is = wanting
@@ -226,8 +226,8 @@ same-advice deck (due.Advised one) _ is two = absurd two
 same-advice deck (due.Unadvised one) _ is two = absurd two
 same-advice deck _ other is two = absurd is
 
-same-accepted : (task : Task) (deck : Deck) (one other : Due) → IsDueOfAccepted task deck one
-    → IsDueOfAccepted task deck other → IsSameDue one other
+same-accepted : (task : Task) (deck : Deck) (one other : Due) → IsDueOfTask task deck one
+    → IsDueOfTask task deck other → IsSameDue one other
 same-accepted (task.Run tells stop) deck one other is two = same-run deck stop tells one other is two
 same-accepted (task.Sweep runs) deck one other is two = same-sweep deck runs one other is two
 same-accepted task.Advise deck one other is two = same-advice deck one other is two

@@ -16,7 +16,7 @@ use Rattle.tal_tree.specs.declared.fault.TalFault.{TalFault}
 use Rattle.tal_tree.specs.declared.fault.TalFault.TheVariants as tal
 use Rattle.trace_print.specs.FaultLine.{IsOfDeck}
 use Rattle.trace_print.specs.TalNumbers.{IsOfText}
-use Rattle.runner.specs.Decided.{IsTold, IsDueOfAccepted, IsDueOfBytes, IsDueOfDeck, IsDueOfPrograms, IsDueOfSource}
+use Rattle.runner.specs.Decided.{IsTold, IsDueOfTask, IsDueOfBytes, IsDueOfDeck, IsDueOfPrograms, IsDueOfSource}
 use Rattle.runner.specs.Decided.{due_of_fault}
 use Rattle.runner.specs.RunEnds.{status_of_run}
 use Rattle.runner.specs.Tasks.{can_stop, judges}
@@ -88,7 +88,7 @@ read_fault_is_due decided result outcome is e = read_fault_only decided result (
 -- what is due of a deck whose programs are all accepted, where they have to be
 pub accepted_is_due : (task : Task) (deck : Deck) (decided : Due)
     → (judges task ≡ true → AreAccepted deck.site.processes)
-    → IsDueOfAccepted task deck decided
+    → IsDueOfTask task deck decided
     → IsDueOfPrograms task deck decided
 accepted_is_due (task.Run acts stop) deck (due.ProgramRefused refused) accepted is = absurd is
 accepted_is_due task.Check deck (due.ProgramRefused refused) accepted is = absurd (cc)
@@ -107,19 +107,19 @@ accepted_is_due task deck (due.Advised advised) accepted is = (accepted, is)
 accepted_is_due task deck (due.Unadvised refused) accepted is = (accepted, is)
 
 -- the usage, a read fault or a fault of the deck is due of no accepted programs
-no_usage : (task : Task) (deck : Deck) → IsDueOfAccepted task deck due.Usage → ⊥
+no_usage : (task : Task) (deck : Deck) → IsDueOfTask task deck due.Usage → ⊥
 no_usage (task.Run acts stop) deck is = is
 no_usage task.Check deck is = cc
 no_usage (task.Sweep runs) deck is = is
 no_usage task.Advise deck is = is
 
-no_read_fault : (task : Task) (deck : Deck) → IsDueOfAccepted task deck due.ReadFault → ⊥
+no_read_fault : (task : Task) (deck : Deck) → IsDueOfTask task deck due.ReadFault → ⊥
 no_read_fault (task.Run acts stop) deck is = is
 no_read_fault task.Check deck is = cc
 no_read_fault (task.Sweep runs) deck is = is
 no_read_fault task.Advise deck is = is
 
-no_deck_fault : (task : Task) (deck : Deck) (f : DeckFault) → IsDueOfAccepted task deck (due.DeckRefused f) → ⊥
+no_deck_fault : (task : Task) (deck : Deck) (f : DeckFault) → IsDueOfTask task deck (due.DeckRefused f) → ⊥
 no_deck_fault (task.Run acts stop) deck f is = is
 no_deck_fault task.Check deck f is = cc
 no_deck_fault (task.Sweep runs) deck f is = is

@@ -70,11 +70,11 @@ IsDueOfAdvice deck (due.NoMemory _) = Unit {0}
 IsDueOfAdvice deck _ = ⊥
 
 -- what is due of a deck whose programs are all accepted, where they have to be, by what is to be done with it
-abbrev pub IsDueOfAccepted : Task → Deck → Due → Type 0
-IsDueOfAccepted (task.Run tells stop) deck decided = IsDueOfRun deck stop tells decided
-IsDueOfAccepted task.Check deck decided = decided ≡ due.Accepted deck.site
-IsDueOfAccepted (task.Sweep runs) deck decided = IsDueOfSweep deck runs decided
-IsDueOfAccepted task.Advise deck decided = IsDueOfAdvice deck decided
+abbrev pub IsDueOfTask : Task → Deck → Due → Type 0
+IsDueOfTask (task.Run tells stop) deck decided = IsDueOfRun deck stop tells decided
+IsDueOfTask task.Check deck decided = decided ≡ due.Accepted deck.site
+IsDueOfTask (task.Sweep runs) deck decided = IsDueOfSweep deck runs decided
+IsDueOfTask task.Advise deck decided = IsDueOfAdvice deck decided
 
 -- what is due of the programs of a deck: the first that is refused, or else what is due by what is to be done, and then
 -- all are accepted; where they needn't be, just that
@@ -83,7 +83,7 @@ IsDueOfPrograms task deck (due.ProgramRefused refused) =
     (refused.site ≡ deck.site) × IsFirstRefused deck.site.processes refused.found × (judges task ≡ true)
 IsDueOfPrograms task deck (due.NoMemory _) = Unit {0}
 IsDueOfPrograms task deck decided =
-    (judges task ≡ true → AreAccepted deck.site.processes) × IsDueOfAccepted task deck decided
+    (judges task ≡ true → AreAccepted deck.site.processes) × IsDueOfTask task deck decided
 
 -- what is due of a deck: the usage where a processor is to stop that it hasn't, else what is due of its programs
 abbrev pub IsDueOfDeck : Task → Deck → Due → Type 0

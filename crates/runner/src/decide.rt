@@ -7,7 +7,7 @@ ghost use Rattle.verdicts.specs.Refused.{AreAccepted};
 ghost use Rattle.runner.specs.Tasks.{judges, load_task};
 ghost use Rattle.runner.specs.Written.{CanBeWritten};
 ghost use Rattle.runner.specs.Decided.{IsDue, IsDueOfCommand, IsDueOfSource, IsDueOfBytes, IsDueOfDeck};
-ghost use Rattle.runner.specs.Decided.{IsDueOfPrograms, IsDueOfAccepted, IsDueOfRun, IsDueOfSweep};
+ghost use Rattle.runner.specs.Decided.{IsDueOfPrograms, IsDueOfTask, IsDueOfRun, IsDueOfSweep};
 ghost use Rattle.runner.specs.Decided.{IsDueOfAdvice};
 ghost use Rattle.runner.specs.Decided.{IsReportOf, IsSpelt, IsOfWholeDeck, due_of_fault, reads_deck};
 
@@ -138,12 +138,12 @@ fn due_of_programs(alloc: Global, task: Task, deck: Deck) -> Due
     ensures written { CanBeWritten result }
 {
     if !task.judges() {
-        return due_of_accepted(alloc, task, deck);
+        return due_of_task(alloc, task, deck);
     }
     an_accepted_deck_meets_the_premises();
     match first_refused(alloc, deck.site.processes.as_slice()) {
         Err(memory) => Due::NoMemory(memory),
-        Ok(None) => due_of_accepted(alloc, task, deck),
+        Ok(None) => due_of_task(alloc, task, deck),
         Ok(Some(found)) => {
             let Deck { site, lines: _ } = deck;
             Due::ProgramRefused(RefusedSite { site, found })
@@ -152,10 +152,10 @@ fn due_of_programs(alloc: Global, task: Task, deck: Deck) -> Due
 }
 
 /// Does with a deck what is to be done, once its programs are judged, where they have to be.
-fn due_of_accepted(alloc: Global, task: Task, deck: Deck) -> Due
+fn due_of_task(alloc: Global, task: Task, deck: Deck) -> Due
     requires spelt { IsSpelt deck }
     requires accepted { judges task ≡ true → AreAccepted deck.site.processes }
-    ensures due { IsDueOfAccepted task deck result }
+    ensures due { IsDueOfTask task deck result }
     ensures written { CanBeWritten result }
 {
     match task {

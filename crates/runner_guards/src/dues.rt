@@ -16,7 +16,7 @@ ghost use Rattle.site_advice.specs.SiteAdvised.{AreAdvised, IsFirstUnadvised};
 ghost use Rattle.verdicts.specs.Refused.{AreAccepted, IsFirstRefused};
 ghost use Rattle.load_deck.specs.LoadText.{load_text};
 ghost use Rattle.run_table.specs.declared.table.ProcessorRow.{ProcessorRow};
-ghost use Rattle.runner.specs.Decided.{IsDueOfAccepted, IsDueOfBytes, IsDueOfCommand, IsDueOfDeck, IsDueOfPrograms};
+ghost use Rattle.runner.specs.Decided.{IsDueOfTask, IsDueOfBytes, IsDueOfCommand, IsDueOfDeck, IsDueOfPrograms};
 ghost use Rattle.runner.specs.Decided.{IsDueOfAdvice, IsDueOfRun, IsDueOfSource, IsDueOfVerify, IsDueOn};
 ghost use Rattle.runner.specs.Decided.{IsOfWholeDeck, IsReportOf};
 ghost use Rattle.runner.specs.Tasks.{can_stop, judges, load_task};
@@ -63,7 +63,7 @@ pub fn a_refusal_is_of_what_was_read()
 pub fn a_report_is_of_an_accepted_deck()
     ensures verdict { (deck : Deck) (site : Site) → IsDueOfPrograms Check deck (due.Accepted site)
         → AreAccepted deck.site.processes }
-    ensures site { (deck : Deck) (site : Site) → IsDueOfAccepted Check deck (due.Accepted site)
+    ensures site { (deck : Deck) (site : Site) → IsDueOfTask Check deck (due.Accepted site)
         → due.Accepted site ≡ due.Accepted deck.site }
     ensures report { (deck : Deck) (task : Task) (report : Report) → judges task ≡ true
         → IsDueOfPrograms task deck (due.Report report) → AreAccepted deck.site.processes }
@@ -84,8 +84,8 @@ pub fn advice_is_for_the_programs_of_the_deck()
         → IsFirstUnadvised deck.site.processes refused.found }
     ensures its_site { (deck : Deck) (refused : RefusedSite) → IsDueOfAdvice deck (due.Unadvised refused)
         → refused.site ≡ deck.site }
-    ensures accepted { (deck : Deck) (site : Site) → IsDueOfAccepted Advise deck (due.Accepted site) → ⊥ }
-    ensures report { (deck : Deck) (report : Report) → IsDueOfAccepted Advise deck (due.Report report) → ⊥ }
+    ensures accepted { (deck : Deck) (site : Site) → IsDueOfTask Advise deck (due.Accepted site) → ⊥ }
+    ensures report { (deck : Deck) (report : Report) → IsDueOfTask Advise deck (due.Report report) → ⊥ }
     ensures run { (deck : Deck) (advised : AdvisedSite)
         → IsDueOfRun deck None (Lines true) (due.Advised advised) → ⊥ }
 {}

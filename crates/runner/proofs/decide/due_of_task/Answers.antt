@@ -1,6 +1,6 @@
 use Rattle.std.proofs.Common.{ap}
 use Rattle.runner.specs.Tasks.{judges}
-use Rattle.runner.proofs.decide.due_of_accepted.Goals as goal
+use Rattle.runner.proofs.decide.due_of_task.Goals as goal
 
 pub due_of_run-requires-clause-accepted : goal.due_of_run-requires-clause-accepted
 due_of_run-requires-clause-accepted c = c.requires.accepted (ap judges c.in-Run.is)
