@@ -14,7 +14,8 @@ use Rattle.tal_declarations.specs.Files.{opened_named, row_files, simple_global,
 use Rattle.tal_names.specs.Systems.{system_of}
 use Rattle.tal_names.specs.Names.{Declarations, is_declared, meaning_in, same}
 use Rattle.tal_names.specs.Places.{arguments_of, name_of_argument}
-use Rattle.tal_rules.specs.Texts.{files_by, files_from, headed_text, next_procedure, no_files, procedure_files, scope_of}
+use Rattle.tal_rules.specs.Texts.{files_by, files_from, headed_text, next_procedure, no_files, procedure_files}
+use Rattle.tal_rules.specs.Texts.{scope_of}
 use Rattle.tal_faultless.proofs.Common.Names.{same_self}
 use Rattle.deck_names.proofs.Places.{AreOnce, once-more, once-none}
 
@@ -35,7 +36,8 @@ not-there name (x ∷ all) zero d none there is =
 not-there name (x ∷ all) (suc k) d none there is =
     by (λ e. not-there name all k d e there is) (same name (name_in x)) none
   where
-    by : (is_declared name all ≡ false → ⊥) → (b : Bool) → is_some (if b then Some x.1 else meaning_in name all) ≡ false → ⊥
+    by : (is_declared name all ≡ false → ⊥) → (b : Bool)
+        → is_some (if b then Some x.1 else meaning_in name all) ≡ false → ⊥
     by rest true e = true≢false e
     by rest false e = rest e
 

@@ -21,7 +21,8 @@ use Rattle.deck_lines.specs.declared.saying.Placing.{Placing}
 use Rattle.deck_lines.specs.declared.saying.Saying.{Saying}
 use Rattle.deck_lines.specs.declared.saying.Saying.TheVariants as said
 use Rattle.deck_reader.proofs.FreshLemmas.{new_names}
-use Rattle.deck_reader.specs.LineFaults.{asks, heading_of, is_new, outline_with, process_with, terminal_of, with_sectors}
+use Rattle.deck_reader.specs.LineFaults.{asks, heading_of, is_new, outline_with, process_with, terminal_of}
+use Rattle.deck_reader.specs.LineFaults.{with_sectors}
 use Rattle.deck_reader.specs.Outlined.{asked, at_end, broken, disc_told, ended, in_blocks, in_program, in_requests}
 use Rattle.deck_reader.specs.Outlined.{in_schedule, led_on, next_stage, opening, outline_of, program_ended, site_told}
 use Rattle.deck_reader.specs.Outlined.{terminal_told, told_after, with_process, with_terminal}
