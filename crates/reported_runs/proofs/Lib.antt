@@ -1,3 +1,4 @@
+pub mod InForm
 pub mod Reports
 pub mod Stops
 pub mod Verified

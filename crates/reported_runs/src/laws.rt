@@ -51,3 +51,12 @@ pub fn a_report_of_a_run_in_form_is_verified()
         → IsVerdict deck.site (text_of_run report) verdict
         → IsSameVerdict verdict (Ok (length (acts_of_run report.run))) }
 {}
+
+/// Each report of a run of a deck that tells its acts is verified, with all its acts, unless memory runs out.
+pub fn every_report_of_a_run_is_verified()
+    ensures { (bytes : List ℕ) (deck : Deck) (stop : Option ProcessorStop) (report : Report)
+        (verdict : Result ℕ VerifyRefusal) → Decks bytes deck
+        → IsReportOf deck stop report → report.tells ≡ Lines true
+        → IsVerdict deck.site (text_of_run report) verdict
+        → IsSameVerdict verdict (Ok (length (acts_of_run report.run))) }
+{}
