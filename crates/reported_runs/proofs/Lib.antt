@@ -1,3 +1,4 @@
+pub mod EndedDecks
 pub mod InForm
 pub mod Reports
 pub mod Stops

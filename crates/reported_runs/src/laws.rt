@@ -1,5 +1,5 @@
 //! The laws.
-ghost use Rattle.std.specs.Prelude.{◌≡◌, ℕ, true, List, Ok, Option, Result, Some, length};
+ghost use Rattle.std.specs.Prelude.{◌≡◌, ◌++◌, ℕ, true, List, Ok, Option, Result, Some, length};
 ghost use Rattle.command_words.specs.Asked.{asked_by};
 ghost use Rattle.command_words.specs.declared.asked.Command.TheVariants.{Run};
 ghost use Rattle.deck_reader.specs.Decks.{Decks};
@@ -12,6 +12,8 @@ ghost use Rattle.report_judge.specs.declared.judge.VerifyRefusal.{VerifyRefusal}
 ghost use Rattle.report_laws.specs.OneVerdict.{IsSameVerdict};
 ghost use Rattle.runner.specs.Decided.{IsDue, IsReportOf};
 ghost use Rattle.runner.specs.RunEnds.{acts_of_run, end_of};
+ghost use Rattle.reported_runs.specs.EndedDecks.{IsEnded};
+ghost use Rattle.runner.specs.Verified.{deck_in, report_in};
 ghost use Rattle.runner.specs.Written.{text_of, text_of_run};
 ghost use Rattle.runner.specs.declared.due.Due.TheVariants as due;
 ghost use Rattle.runner.specs.declared.due.Report.{Report};
@@ -59,4 +61,11 @@ pub fn every_report_of_a_run_is_verified()
         → IsReportOf deck stop report → report.tells ≡ Lines true
         → IsVerdict deck.site (text_of_run report) verdict
         → IsSameVerdict verdict (Ok (length (acts_of_run report.run))) }
+{}
+
+/// Where a deck ends with the line feed of its END, it is the deck that is found before whatever follows it, such as
+/// the report of its run, and what follows is the report that is judged.
+pub fn a_report_follows_its_deck()
+    ensures deck { (bytes text : List ℕ) → IsEnded bytes → deck_in (bytes ++ text) ≡ bytes }
+    ensures report { (bytes text : List ℕ) → IsEnded bytes → report_in (bytes ++ text) ≡ text }
 {}

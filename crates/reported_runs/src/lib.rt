@@ -8,6 +8,7 @@
 pub mod laws;
 
 pub use laws::{
-    a_report_of_a_run_in_form_is_verified, a_report_of_a_run_is_reported,
-    every_report_of_a_run_is_verified, what_a_run_writes_is_reported,
+    a_report_follows_its_deck, a_report_of_a_run_in_form_is_verified,
+    a_report_of_a_run_is_reported, every_report_of_a_run_is_verified,
+    what_a_run_writes_is_reported,
 };
