@@ -46,7 +46,7 @@ end-on site few Cut is = tt
 end-on site few (Second processor) is = (is, omega (arith, few, is))
 end-on site few _ is = absurd is
 
-reported-form : (bytes : List ℕ) (deck : Deck) (text : List ℕ) (acts : List Act) (stopped : List ℕ) (how : End)
+pub reported-form : (bytes : List ℕ) (deck : Deck) (text : List ℕ) (acts : List Act) (stopped : List ℕ) (how : End)
     → Decks bytes deck → IsReported deck.site text acts stopped how
     → IsInForm deck.site (shown_by deck.site acts) (sectors_after deck.site (shown_by deck.site acts)) stopped acts how
 reported-form bytes deck text acts stopped how decks is =

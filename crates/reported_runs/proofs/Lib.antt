@@ -1,5 +1,6 @@
 pub mod EndedDecks
 pub mod InForm
+pub mod Judged
 pub mod Reports
 pub mod Stops
 pub mod Verified

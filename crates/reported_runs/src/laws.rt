@@ -1,7 +1,7 @@
 //! The laws.
-ghost use Rattle.std.specs.Prelude.{◌≡◌, ◌++◌, ℕ, true, List, Ok, Option, Result, Some, length};
+ghost use Rattle.std.specs.Prelude.{◌≡◌, ◌≤◌, ◌++◌, ℕ, true, List, Ok, Option, Result, Some, length};
 ghost use Rattle.command_words.specs.Asked.{asked_by};
-ghost use Rattle.command_words.specs.declared.asked.Command.TheVariants.{Run};
+ghost use Rattle.command_words.specs.declared.asked.Command.TheVariants.{Run, Verify};
 ghost use Rattle.deck_reader.specs.Decks.{Decks};
 ghost use Rattle.deck_reader.specs.declared.deck.Deck.{Deck};
 ghost use Rattle.player.specs.declared.stop.ProcessorStop.{ProcessorStop};
@@ -68,4 +68,16 @@ pub fn every_report_of_a_run_is_verified()
 pub fn a_report_follows_its_deck()
     ensures deck { (bytes text : List ℕ) → IsEnded bytes → deck_in (bytes ++ text) ≡ bytes }
     ensures report { (bytes text : List ℕ) → IsEnded bytes → report_in (bytes ++ text) ≡ text }
+{}
+
+/// Where a deck that ends with the line feed of its END is run with its acts, the deck and then what the run writes,
+/// at most 67,108,864 bytes together, are due to be verified, with all acts of the run.
+pub fn a_run_and_its_report_are_verified()
+    ensures { (words others : List (List ℕ)) (bytes : List ℕ) (before now later last : ℕ)
+        (stop : Option ProcessorStop) (report : Report)
+        → asked_by words ≡ Some (Run true stop) → IsDue words (Some bytes) before now (due.Report report)
+        → asked_by others ≡ Some Verify → IsEnded bytes
+        → length (bytes ++ text_of (due.Report report)) ≤ 67108864
+        → IsDue others (Some (bytes ++ text_of (due.Report report))) later last
+        (due.Verified (length (acts_of_run report.run))) }
 {}
