@@ -193,12 +193,12 @@ all_more P xs x all one = All-append P xs (x ∷ []) all (All-cons P x [] one (A
 
 disc_wordy : (outline : Outline) (number : ℕ) (o : Result (Named ProcessLines) LineFault) → HaveWordy outline
     → StepWordy (disc_told outline number o)
-disc_wordy outline number (Err why) short = tt
-disc_wordy outline number (Ok process) short = short
+disc_wordy outline number (Err why) wordy = tt
+disc_wordy outline number (Ok process) wordy = wordy
 
 terminal_begins : (outline : Outline) (number : ℕ) (name target : List ℕ) → HaveWordy outline
     → StepWordy (terminal_told outline number name (terminal_of outline number name target))
-terminal_begins outline number name target short = by (not (is_new outline name)) (nat_le 16 (length outline.terminals))
+terminal_begins outline number name target wordy = by (not (is_new outline name)) (nat_le 16 (length outline.terminals))
   where
     by : (a b : Bool)
         → StepWordy (terminal_told outline number name
@@ -206,49 +206,49 @@ terminal_begins outline number name target short = by (not (is_new outline name)
         (Ok (record { line = number; target = target; requests = [] })))))
     by true b = tt
     by false true = tt
-    by false false = (short, All-nil IsWordy)
+    by false false = (wordy, All-nil IsWordy)
 
 blocks_wordy : (outline : Outline) (number : ℕ) (saying : Saying) → HaveWordy outline
     → StepWordy (in_blocks outline number saying)
-blocks_wordy outline number said.Nothing short = short
-blocks_wordy outline number (said.Disc placing sectors) short =
-    disc_wordy outline number (disc_of outline placing sectors) short
-blocks_wordy outline number (said.Pair placing) short = short
-blocks_wordy outline number (said.Terminal name target) short = terminal_begins outline number name target short
-blocks_wordy outline number said.Schedule short = short
-blocks_wordy outline number _ short = tt
+blocks_wordy outline number said.Nothing wordy = wordy
+blocks_wordy outline number (said.Disc placing sectors) wordy =
+    disc_wordy outline number (disc_of outline placing sectors) wordy
+blocks_wordy outline number (said.Pair placing) wordy = wordy
+blocks_wordy outline number (said.Terminal name target) wordy = terminal_begins outline number name target wordy
+blocks_wordy outline number said.Schedule wordy = wordy
+blocks_wordy outline number _ wordy = tt
 
 requests_wordy : (outline : Outline) (name : List ℕ) (terminal : TerminalLines) (number : ℕ) (saying : Saying)
     → SayingWordy saying → HaveWordy outline → HasWordy (name, terminal)
     → StepWordy (in_requests outline name terminal number saying)
-requests_wordy outline name terminal number said.Nothing one short own = (short, own)
-requests_wordy outline name terminal number (said.Send words) one short own =
+requests_wordy outline name terminal number said.Nothing one wordy own = (wordy, own)
+requests_wordy outline name terminal number (said.Send words) one wordy own =
     by (nat_le 1000 (length terminal.requests))
   where
     by : (b : Bool)
         → StepWordy (cond b (step.Broken (broken outline number (fault.Limit 3)))
         (step.Next (at.Requests outline name (record terminal { requests = terminal.requests ++ words ∷ [] }))))
     by true = tt
-    by false = (short, all_more IsWordy terminal.requests words own one)
-requests_wordy outline name terminal number said.LongSend one short own = by (nat_le 1000 (length terminal.requests))
+    by false = (wordy, all_more IsWordy terminal.requests words own one)
+requests_wordy outline name terminal number said.LongSend one wordy own = by (nat_le 1000 (length terminal.requests))
   where
     by : (b : Bool) → StepWordy (cond b (step.Broken (broken outline number (fault.Limit 3)))
         (step.Broken (broken outline number (fault.Limit 4))))
     by true = tt
     by false = tt
-requests_wordy outline name terminal number (said.Disc placing sectors) one short own =
+requests_wordy outline name terminal number (said.Disc placing sectors) one wordy own =
     blocks_wordy (with_terminal outline name terminal) number (said.Disc placing sectors)
-    (all_more HasWordy outline.terminals (name, terminal) short own)
-requests_wordy outline name terminal number (said.Pair placing) one short own =
+    (all_more HasWordy outline.terminals (name, terminal) wordy own)
+requests_wordy outline name terminal number (said.Pair placing) one wordy own =
     blocks_wordy (with_terminal outline name terminal) number (said.Pair placing)
-    (all_more HasWordy outline.terminals (name, terminal) short own)
-requests_wordy outline name terminal number (said.Terminal other target) one short own =
+    (all_more HasWordy outline.terminals (name, terminal) wordy own)
+requests_wordy outline name terminal number (said.Terminal other target) one wordy own =
     blocks_wordy (with_terminal outline name terminal) number (said.Terminal other target)
-    (all_more HasWordy outline.terminals (name, terminal) short own)
-requests_wordy outline name terminal number said.Schedule one short own =
+    (all_more HasWordy outline.terminals (name, terminal) wordy own)
+requests_wordy outline name terminal number said.Schedule one wordy own =
     blocks_wordy (with_terminal outline name terminal) number said.Schedule
-    (all_more HasWordy outline.terminals (name, terminal) short own)
-requests_wordy outline name terminal number _ one short own = tt
+    (all_more HasWordy outline.terminals (name, terminal) wordy own)
+requests_wordy outline name terminal number _ one wordy own = tt
 
 opening_wordy : (number : ℕ) (saying : Saying) → StepWordy (opening number saying)
 opening_wordy number said.Nothing = tt
@@ -263,64 +263,64 @@ opening_wordy number _ = tt
 
 event_wordy : (outline : Outline) (number : ℕ) (saying : EventSaying) (o : Result Sums LineFault) → HaveWordy outline
     → StepWordy (asked outline number saying o)
-event_wordy outline number saying (Err why) short = tt
-event_wordy outline number saying (Ok sums) short = short
+event_wordy outline number saying (Err why) wordy = tt
+event_wordy outline number saying (Ok sums) wordy = wordy
 
 schedule_wordy : (outline : Outline) (number : ℕ) (saying : Saying) → HaveWordy outline
     → StepWordy (in_schedule outline number saying)
-schedule_wordy outline number said.Nothing short = short
-schedule_wordy outline number said.End short = short
-schedule_wordy outline number (said.Event saying) short =
-    event_wordy outline number saying (asks outline.processors outline.events.sums saying) short
-schedule_wordy outline number _ short = tt
+schedule_wordy outline number said.Nothing wordy = wordy
+schedule_wordy outline number said.End wordy = wordy
+schedule_wordy outline number (said.Event saying) wordy =
+    event_wordy outline number saying (asks outline.processors outline.events.sums saying) wordy
+schedule_wordy outline number _ wordy = tt
 
 ended_wordy : (outline : Outline) (number : ℕ) (saying : Saying) → HaveWordy outline
     → StepWordy (ended outline number saying)
-ended_wordy outline number said.Nothing short = short
-ended_wordy outline number _ short = tt
+ended_wordy outline number said.Nothing wordy = wordy
+ended_wordy outline number _ wordy = tt
 
 program_wordy : (outline : Outline) (heading : Result Heading LineFault) (program : ProgramLines) (line : List ℕ)
     → HaveWordy outline
     → StepWordy (in_program outline heading program line)
-program_wordy outline heading program line short = by (bytes_eq line (codes "."))
+program_wordy outline heading program line wordy = by (bytes_eq line (codes "."))
   where
     at_point : (o : Result Heading LineFault) → StepWordy (program_ended outline o program)
     at_point (Err why) = tt
-    at_point (Ok told) = short
+    at_point (Ok told) = wordy
 
     by : (b : Bool) → StepWordy (cond b (program_ended outline heading program)
         (step.Next (at.Program outline heading (record program { text = program.text ++ line ++ 10 ∷ [] }))))
     by true = at_point heading
-    by false = short
+    by false = wordy
 
 next_wordy : (stage : Stage) (number : ℕ) (line : List ℕ) → StageWordy stage → StepWordy (next_stage stage number line)
-next_wordy at.Opening number line short = opening_wordy number (saying_of line)
-next_wordy (at.Blocks outline) number line short = blocks_wordy outline number (saying_of line) short
-next_wordy (at.Program outline heading program) number line short = program_wordy outline heading program line short
-next_wordy (at.Requests outline name terminal) number line short =
-    requests_wordy outline name terminal number (saying_of line) (saying_wordy line) short.0 short.1
-next_wordy (at.Schedule outline) number line short = schedule_wordy outline number (saying_of line) short
-next_wordy (at.Ended outline) number line short = ended_wordy outline number (saying_of line) short
+next_wordy at.Opening number line wordy = opening_wordy number (saying_of line)
+next_wordy (at.Blocks outline) number line wordy = blocks_wordy outline number (saying_of line) wordy
+next_wordy (at.Program outline heading program) number line wordy = program_wordy outline heading program line wordy
+next_wordy (at.Requests outline name terminal) number line wordy =
+    requests_wordy outline name terminal number (saying_of line) (saying_wordy line) wordy.0 wordy.1
+next_wordy (at.Schedule outline) number line wordy = schedule_wordy outline number (saying_of line) wordy
+next_wordy (at.Ended outline) number line wordy = ended_wordy outline number (saying_of line) wordy
 
 abbrev ToldWordy : Told → Type 0
 ToldWordy (told.Whole outline) = HaveWordy outline
 ToldWordy (told.Broken breach) = Unit {0}
 
 end_wordy : (stage : Stage) (count : ℕ) → StageWordy stage → ToldWordy (at_end stage count)
-end_wordy at.Opening count short = tt
-end_wordy (at.Blocks outline) count short = tt
-end_wordy (at.Program outline (Err why) program) count short = tt
-end_wordy (at.Program outline (Ok heading) program) count short = tt
-end_wordy (at.Requests outline name terminal) count short = tt
-end_wordy (at.Schedule outline) count short = tt
-end_wordy (at.Ended outline) count short = short
+end_wordy at.Opening count wordy = tt
+end_wordy (at.Blocks outline) count wordy = tt
+end_wordy (at.Program outline (Err why) program) count wordy = tt
+end_wordy (at.Program outline (Ok heading) program) count wordy = tt
+end_wordy (at.Requests outline name terminal) count wordy = tt
+end_wordy (at.Schedule outline) count wordy = tt
+end_wordy (at.Ended outline) count wordy = wordy
 
 lines_wordy : (stage : Stage) (count : ℕ) (lines : List (List ℕ)) → StageWordy stage
     → ToldWordy (told_after stage count lines)
-lines_wordy stage count [] short = end_wordy stage count short
-lines_wordy stage count (line ∷ lines) short =
+lines_wordy stage count [] wordy = end_wordy stage count wordy
+lines_wordy stage count (line ∷ lines) wordy =
     by (λ next. lines_wordy next (count + 1) lines) (next_stage stage (count + 1) line)
-    (next_wordy stage (count + 1) line short)
+    (next_wordy stage (count + 1) line wordy)
   where
     by : ((next : Stage) → StageWordy next → ToldWordy (told_after next (count + 1) lines)) → (one : LineOutcome)
         → StepWordy one
