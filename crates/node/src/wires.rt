@@ -1,5 +1,5 @@
-ghost use Rattle.std.specs.Prelude.{◌≡◌, ◌<◌, ◌==◌, ◌++◌, ◌∷◌, [], ℕ, Some, if◌then◌else◌, length, slice_get, IfOk};
-ghost use Rattle.std.specs.Prelude.{OnOk};
+ghost use Rattle.std.specs.Prelude.{◌≡◌, ◌<◌, ◌≤◌, ◌==◌, ◌++◌, ◌∷◌, [], ℕ, Some, if◌then◌else◌, length, slice_get};
+ghost use Rattle.std.specs.Prelude.{IfOk, OnOk};
 ghost use Rattle.std.specs.Bool.{OnTrue};
 ghost use Rattle.std.specs.Option.{option_and_then, option_copied};
 ghost use Rattle.packet_words.specs.declared.packet.Packet.{Packet};
@@ -64,7 +64,8 @@ impl PacketWires {
 
     /// How many packets are on a bus.
     pub fn count(&self, bus: BusName) -> usize
-        ensures { result ≡ length (on_bus bus self.now) }
+        ensures value { result ≡ length (on_bus bus self.now) }
+        ensures few { result ≤ 4096 }
     {
         match bus {
             BusName::X => self.x.len(),

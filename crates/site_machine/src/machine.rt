@@ -1,4 +1,4 @@
-ghost use Rattle.std.specs.Prelude.{◌≡◌, false, true, length, reverse, IfOk, OnOk, OnErr};
+ghost use Rattle.std.specs.Prelude.{◌≡◌, ◌≤◌, false, true, length, reverse, IfOk, OnOk, OnErr};
 ghost use Rattle.std.specs.Option.{option_copied};
 ghost use Rattle.machine_states.specs.States.{Settles};
 ghost use Rattle.node_copies.specs.ShownCounts.{replies_in, writes_in};
@@ -80,7 +80,8 @@ impl Machine {
 
     /// How many packets are on bus X or, where `y` says so, on bus Y.
     pub fn count(&self, y: bool) -> usize
-        ensures { result ≡ count_on self.now.state (bus_named y) }
+        ensures value { result ≡ count_on self.now.state (bus_named y) }
+        ensures few { result ≤ 4096 }
     {
         self.whole.wires.count(bus_named(y))
     }
