@@ -12,7 +12,7 @@ struct Row {
     number: u8,
 }
 
-const ROWS: [Row; 20] = [
+const ROWS: [Row; 21] = [
     Row {
         deck: b"x\n",
         told: b"error: this line is of no form that may stand here\nline 1:\n    x\nguardian: DECK 1 1\n",
@@ -112,6 +112,11 @@ const ROWS: [Row; 20] = [
         deck: b"processors 2\npair $P 0 1\nPROC m MAIN; BEGIN CALL CHECKMONITOR; END;\n.\nschedule\nEND\n",
         told: b"the deck can be read\n",
         number: 0,
+    },
+    Row {
+        deck: b"processors 2\npair $P 0 1\nINT x; PROC m MAIN; BEGIN CALL CHECKMONITOR; x := y END;\n.\nschedule\nEND\n",
+        told: b"error: the name isn't declared\nline 3, column 51:\n    INT x; PROC m MAIN; BEGIN CALL CHECKMONITOR; x := y END;\n                                                      ^\nguardian: DECK 2 2 6 1 51\n",
+        number: 2,
     },
 ];
 

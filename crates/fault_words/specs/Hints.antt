@@ -121,14 +121,18 @@ keyword_hint before after =
     if are_keyword (name_at after) && asks_for_name (last_after [] (words_of before)) then Some hint.KeywordAsName
     else None
 
--- the line begins with INT, and no bound of an array is meant: 91 is an opening bracket
+-- nothing but a list of names can stand there: 40 and 91 open parameters and bounds, and 59 ends the list
+abbrev pub is_list : List ℕ → Bool
+is_list before = not (has_sign 40 before || has_sign 91 before || has_sign 59 before)
+
+-- the line begins with INT
 abbrev pub begins_with_int : List (List ℕ) → Bool
 begins_with_int [] = false
 begins_with_int (word ∷ rest) = are_int (ident_of word)
 
 abbrev pub local_hint : List ℕ → List ℕ → Option Hint
 local_hint line before =
-    if begins_with_int (words_of line) && not (has_sign 91 before) then Some hint.LocalBeforeBegin else None
+    if begins_with_int (words_of line) && is_list before then Some hint.LocalBeforeBegin else None
 
 abbrev pub sign_hint : List ℕ → Option Hint
 sign_hint after = if is_sign 13 (slice_get after 0) then Some hint.CarriageReturn else None

@@ -5,8 +5,8 @@ ghost use Rattle.gd_words.specs.Spelling.{ident_of, is_ident_sign};
 ghost use Rattle.fault_words.specs.Hints.{are_declaring, are_int, are_keyword, asks_for_name, begins_with_dollar};
 ghost use Rattle.fault_words.specs.Hints.{begins_with_int, comes_before_name, declares, form_hint, has_sign, hint_of};
 ghost use Rattle.fault_words.specs.Hints.{hint_text, is_keyword, is_keyword_from_or, is_keyword_up_to_else};
-ghost use Rattle.fault_words.specs.Hints.{is_keyword_up_to_not, is_sign, keyword_hint, lacks_dollar, last_after};
-ghost use Rattle.fault_words.specs.Hints.{local_hint, name_at, name_length, next_lacks_dollar, program_hint, sign_hint};
+ghost use Rattle.fault_words.specs.Hints.{is_keyword_up_to_not, is_list, is_sign, keyword_hint, lacks_dollar};
+ghost use Rattle.fault_words.specs.Hints.{last_after, local_hint, name_at, name_length, next_lacks_dollar, program_hint, sign_hint};
 
 use deck_lines::next_word;
 use gd_words::Ident;
@@ -283,11 +283,18 @@ fn declares(word: &[u8]) -> bool
 fn local_hint(line: &[u8], before: &[u8]) -> Option<Hint>
     ensures { result ≡ local_hint line.now before.now }
 {
-    if begins_with_int(line) && !has_sign(before, b'[') {
+    if begins_with_int(line) && is_list(before) {
         Some(Hint::LocalBeforeBegin)
     } else {
         None
     }
+}
+
+/// Whether the text may be the beginning of a list of names.
+fn is_list(text: &[u8]) -> bool
+    ensures { result ≡ is_list text.now }
+{
+    !(has_sign(text, b'(') || has_sign(text, b'[') || has_sign(text, b';'))
 }
 
 fn begins_with_int(line: &[u8]) -> bool
