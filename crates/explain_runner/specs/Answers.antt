@@ -1,0 +1,41 @@
+-- How a call of `explain` ends.
+use Rattle.std.specs.Prelude.{◌≡◌, ◌⊎◌, ℕ, List, ◌∷◌, [], ◌++◌, codes, Option, Some, None, Result, Ok, Err, ⊤}
+use Rattle.explain_why.specs.Ends.{WhyEnds}
+use Rattle.explain_why.specs.Written.{status_number}
+use Rattle.explain_why.specs.declared.status.Status.{Status}
+use Rattle.explain_words.specs.Asked.{asked_by}
+use Rattle.explain_words.specs.declared.asked.Question.{Question}
+use Rattle.explain_words.specs.declared.asked.Question.TheVariants.{Why}
+use Rattle.gd_io.specs.Puts.{Puts}
+use Rattle.gd_io.specs.declared.writing.WriteFault.{WriteFault}
+
+abbrev pub usage_line : List ℕ
+usage_line = codes "usage: explain why" ++ 10 ∷ []
+
+-- the number after the usage, by whether it went out whole
+abbrev pub usage_number : Result ⊤ WriteFault → ℕ
+usage_number (Ok done) = 1
+usage_number (Err fault) = 7
+
+-- the usage is written
+abbrev pub IsUsage : {K : Type 0} → (K → Option (List ℕ)) → (K → ℕ) → (K → ℕ → Type 0) → K → K → ℕ → Type 0
+IsUsage held faults sure sink sink_now number =
+    (result : Result ⊤ WriteFault) × Puts held faults sure sink sink_now usage_line result
+    × (number ≡ usage_number result)
+
+module _ {S K : Type 0} (left : S → Option (List ℕ)) (failed_reads : S → ℕ) (sure_to_read : S → Type 0)
+    (held : K → Option (List ℕ)) (failed_writes : K → ℕ) (sure_to_write : K → ℕ → Type 0) where
+  -- what is asked for is answered, and words that ask for nothing by the usage, which leaves the source
+  abbrev pub IsAnswer : Option Question → S → S → K → K → ℕ → Type 0
+  IsAnswer None source source_now sink sink_now number =
+      (source_now ≡ source) × IsUsage held failed_writes sure_to_write sink sink_now number
+  IsAnswer (Some Why) source source_now sink sink_now number =
+      (status : Status)
+      × WhyEnds left failed_reads sure_to_read held failed_writes sure_to_write source source_now sink sink_now status
+      × (number ≡ status_number status)
+
+  -- or memory for the words ran out, and nothing is read or written
+  abbrev pub Answers : List (List ℕ) → S → S → K → K → ℕ → Type 0
+  Answers words source source_now sink sink_now number =
+      ((number ≡ 8) × (source_now ≡ source) × (sink_now ≡ sink))
+      ⊎ IsAnswer (asked_by words) source source_now sink sink_now number
