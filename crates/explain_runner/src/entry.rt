@@ -1,43 +1,51 @@
-ghost use Rattle.std.specs.Prelude.{map, string_bytes};
-ghost use Rattle.explain_runner.specs.Answers.{Answers, IsUsage};
+ghost use Rattle.std.specs.Prelude.{◌≡◌, map, string_bytes};
+ghost use Rattle.explain_runner.specs.Answers.{Answers, IsUsage, ending_number};
+ghost use Rattle.explain_runner.specs.declared.ending.Ending.{Ending};
 
-use explain_why::why_number;
+use crate::ending::Ending;
+use explain_why::why;
 use explain_words::{Question, asked_by};
 use gd_io::{Sink, Source, WriteFault, put_all};
 use std::alloc::Global;
 
-/// The number with which the program ends where the usage is written.
-const USAGE: u8 = 1;
-
-/// The number with which it ends where a write failed.
-const WRITE_FAULT: u8 = 7;
-
-/// The number with which it ends where memory is wanting.
-const NO_MEMORY: u8 = 8;
-
-/// Does what the words ask for, the program's name first. `why` tells why the deck of the source can't be read. Other
-/// words give the usage.
+/// Does what the words ask for as `explain` does, and answers the number with which the program ends.
 pub fn exit_number<S: Source, K: Sink>(
     alloc: Global,
     words: &[String],
     source: &mut S,
     sink: &mut K,
 ) -> u8
+    ensures { (how : Ending)
+        × Answers S.left S.faults S.sure K.held K.faults K.sure (map string_bytes words.entry.now) source.old
+        source.new sink.old sink.new how
+        × (result ≡ ending_number how) }
+{
+    explain(alloc, words, source, sink).number()
+}
+
+/// Does what the words ask for, the program's name first. `why` tells why the deck of the source can't be read. Other
+/// words give the usage.
+pub fn explain<S: Source, K: Sink>(
+    alloc: Global,
+    words: &[String],
+    source: &mut S,
+    sink: &mut K,
+) -> Ending
     ensures { Answers S.left S.faults S.sure K.held K.faults K.sure (map string_bytes words.entry.now) source.old
         source.new sink.old sink.new result }
 {
     match asked_by(alloc, words) {
-        Err(_) => NO_MEMORY,
-        Ok(None) => usage_number(sink),
-        Ok(Some(Question::Why)) => why_number(alloc, source, sink),
+        Err(memory) => Ending::NoMemory(memory),
+        Ok(None) => write_usage(sink),
+        Ok(Some(Question::Why)) => Ending::Told(why(alloc, source, sink)),
     }
 }
 
-fn usage_number<K: Sink>(sink: &mut K) -> u8
+fn write_usage<K: Sink>(sink: &mut K) -> Ending
     ensures { IsUsage K.held K.faults K.sure sink.old sink.new result }
 {
     match put_all(sink, b"usage: explain why\n") {
-        Ok(()) => USAGE,
-        Err(WriteFault) => WRITE_FAULT,
+        Ok(()) => Ending::Usage,
+        Err(WriteFault) => Ending::UsageUnwritten,
     }
 }

@@ -4,6 +4,8 @@
 //! Below stand `explain_words`, which tells what the words ask for, `explain_why` and `gd_io`.
 #![tactic(auto)]
 
+pub mod ending;
 mod entry;
 
-pub use entry::exit_number;
+pub use ending::Ending;
+pub use entry::{exit_number, explain};

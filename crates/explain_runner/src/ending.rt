@@ -1,0 +1,32 @@
+ghost use Rattle.std.specs.Prelude.{◌≡◌};
+ghost use Rattle.explain_runner.specs.Answers.{ending_number};
+
+use explain_why::Status;
+use gd_words::NoMemory;
+
+/// How a call of `explain` ended.
+#[derive(Drop)]
+pub enum Ending {
+    /// The words ask for nothing, and the usage was written.
+    Usage,
+    /// The usage wasn't written whole.
+    UsageUnwritten,
+    /// Memory for the words ran out.
+    NoMemory(NoMemory),
+    /// It was told why a deck can't be read, or tried.
+    Told(Status),
+}
+
+impl Ending {
+    /// The number with which the program ends.
+    pub fn number(&self) -> u8
+        ensures { result ≡ ending_number self.now }
+    {
+        match self {
+            Ending::Usage => 1,
+            Ending::UsageUnwritten => 7,
+            Ending::NoMemory(_) => 8,
+            Ending::Told(status) => status.number(),
+        }
+    }
+}
