@@ -9,9 +9,9 @@ use tal_tree::{Act, Shown};
 
 impl Records {
     /// A terminal enters a request.
-    pub fn enter(&mut self, terminal: u8, request: Request) -> Result<(), NoMemory>
+    pub fn enter(&mut self, terminal: u8, request: &Request) -> Result<(), NoMemory>
         ensures { OnOk result (self.new ≡ record self.old
-            { requests = request ∷ self.old.requests; kept = act.Enter terminal ∷ self.old.kept }) }
+            { requests = request.now ∷ self.old.requests; kept = act.Enter terminal ∷ self.old.kept }) }
     {
         self.requests.add(request)?;
         self.kept.keep(Act::Enter(terminal))?;

@@ -3,17 +3,18 @@ ghost use Rattle.node_copies.specs.ShownCounts.{replies_in, writes_in};
 
 use crate::shown::ShownLog;
 use gd_words::{NoMemory, Reply, Request};
+use ghost_logs::GhostLog;
 use kept_acts::KeptActs;
-use logs::Log;
 use std::alloc::Global;
 use std::marker::Model;
 use tal_tree::{Act, Shown};
 
-/// What happened in a run: the requests and replies ever sent, what was shown, and the acts that are kept.
+/// What happened in a run: the requests and replies ever sent, which contracts alone see, what was shown, and the acts
+/// that are kept.
 #[derive(Drop)]
 pub struct Records {
-    pub(crate) requests: Log<Request>,
-    pub(crate) replies: Log<Reply>,
+    pub(crate) requests: GhostLog<Request>,
+    pub(crate) replies: GhostLog<Reply>,
     pub(crate) shown: ShownLog,
     pub(crate) kept: KeptActs,
 }
@@ -37,8 +38,8 @@ impl Records {
     {
         let kept = KeptActs::new(alloc)?;
         Ok(Records {
-            requests: Log::new(alloc),
-            replies: Log::new(alloc),
+            requests: GhostLog::new(alloc),
+            replies: GhostLog::new(alloc),
             shown: ShownLog::new(alloc),
             kept,
         })

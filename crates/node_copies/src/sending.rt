@@ -14,7 +14,7 @@ use crate::step::StepOutcome;
 use disc_device::Disc;
 use gd_words::{DeviceCall, NoMemory, Reply, Request, Sector};
 use process_control::{Answering, Asking};
-use sendings::{Message, Sending, copy_reply, copy_request};
+use sendings::{Message, Sending};
 use tal_tree::Shown;
 
 impl Records {
@@ -32,7 +32,7 @@ impl Records {
         match request {
             None => Ok(StepOutcome::Quiet),
             Some(request) => {
-                self.requests.add(copy_request(&request))?;
+                self.requests.add(&request)?;
                 Ok(StepOutcome::Sends(Sending::new(node, Message::Asking(request))))
             }
         }
@@ -43,7 +43,7 @@ impl Records {
         ensures told { IfOk result (λ step. step_sendings step ≡ Some (sent_at node (Replying reply ∷ []))) }
         ensures records { OnOk result (self.new ≡ record self.old { replies = reply ∷ self.old.replies }) }
     {
-        self.replies.add(copy_reply(&reply))?;
+        self.replies.add(&reply)?;
         Ok(StepOutcome::Sends(Sending::new(node, Message::Replying(reply))))
     }
 

@@ -8,7 +8,7 @@ ghost use Rattle.computed_changes.specs.Handed.{copy_in};
 use checkpoint_image::{ImageMessage, TakenMessage};
 use disc_device::{Disc, Stored};
 use gd_words::List;
-use logs::{Log, Shared};
+use ghost_logs::GhostLog;
 use node_copies::{Address, NodeCopy};
 use process_semantics::Point;
 use std::marker::Model;
@@ -16,8 +16,9 @@ use std::snapshot::Snapshot;
 use tal_tree::{OpenerSpec, Site};
 use world_semantics::{Role, Which};
 
-/// A process in its place in a site: its two copies in their processors, the checkpoints that they ever sent and which
-/// of them were taken, how many kept acts the last one covers, and its device, if it is a disc.
+/// A process in its place in a site: its two copies in their processors, how many kept acts the last checkpoint covers,
+/// and its device, if it is a disc. The checkpoints that its copies ever sent, and which of them were taken, are seen by
+/// contracts alone.
 #[derive(Drop)]
 pub struct ProcessCopies {
     pub(crate) site: Snapshot<Site>,
@@ -27,8 +28,8 @@ pub struct ProcessCopies {
     pub(crate) first: NodeCopy,
     pub(crate) second: NodeCopy,
     pub(crate) base: u64,
-    pub(crate) checkpoints: Log<Shared<ImageMessage>>,
-    pub(crate) takens: Log<TakenMessage>,
+    pub(crate) checkpoints: GhostLog<ImageMessage>,
+    pub(crate) takens: GhostLog<TakenMessage>,
     pub(crate) device: Option<Disc>,
 }
 

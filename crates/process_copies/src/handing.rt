@@ -283,7 +283,7 @@ impl ProcessCopies {
         let node = self.processor(which);
         let base = self.cover_other(which, records)?;
         let taken = taken_of(message);
-        self.takens.add(taken)?;
+        self.takens.add(&taken)?;
         self.base = base;
         Ok(StepOutcome::Sends(Sending::new(node, Message::Taking(taken))))
     }

@@ -274,9 +274,8 @@ impl ProcessCopies {
             Which::First => self.first.send(alloc, number)?,
             Which::Second => self.second.send(alloc, number)?,
         };
+        self.checkpoints.add(&message)?;
         let message = Shared::new(alloc, message)?;
-        let kept = message.share()?;
-        self.checkpoints.add(kept)?;
         Ok(StepOutcome::Sends(Sending::new(node, Message::Checkpointing(message))))
     }
 }

@@ -11,7 +11,7 @@ ghost use Rattle.process_copies.specs.Starting.{HasAddress, HasSectors, IsStarta
 use crate::copies::ProcessCopies;
 use disc_device::Disc;
 use gd_words::{List, NoMemory};
-use logs::Log;
+use ghost_logs::GhostLog;
 use node_copies::{Address, NodeCopy};
 use plain_semantics::{Opener, files_of, opener_of, openers};
 use std::alloc::Global;
@@ -66,8 +66,8 @@ fn start_in(
         first,
         second,
         base: 0,
-        checkpoints: Log::new(alloc),
-        takens: Log::new(alloc),
+        checkpoints: GhostLog::new(alloc),
+        takens: GhostLog::new(alloc),
         device,
     })
 }

@@ -112,13 +112,12 @@ impl WorldCopies {
     {
         let after = before.after_entering();
         let number = after.entered();
-        let request = request_to(opener, number, words.copy());
-        self.records.enter(terminal, request)?;
+        let request = request_to(opener, number, words);
+        self.records.enter(terminal, &request)?;
         let place = usize::from(terminal);
         if place < self.terminals.len() {
             self.terminals[place] = after;
         }
-        let request = request_to(opener, number, words);
         Ok(Sending::new(TERMINAL_NODE, Message::Asking(request)))
     }
 }
