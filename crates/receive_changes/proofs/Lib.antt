@@ -1,0 +1,3 @@
+pub mod LaterTables
+pub mod Lists
+pub mod Steps
