@@ -3,15 +3,12 @@ use Rattle.std.proofs.Common.{◌≡◌, ◌<◌, ◌≤◌, ◌⊎◌, inl, inr
 use Rattle.std.proofs.Common.{sym, ap, ap₂, ◌∙◌, arith}
 use Rattle.std.proofs.Math.Nat.{eq-or-lt_of_le}
 use Rattle.std.proofs.lemmas.List.{length-append}
-use Rattle.tal_tree.specs.declared.site.Site.{Site}
 use Rattle.schedule.specs.declared.event.Event.{Event}
-use Rattle.schedule.specs.declared.line.Line.{Line}
-use Rattle.player.specs.declared.stop.ProcessorStop.{ProcessorStop}
-use Rattle.machine_states.specs.States.{Played, Makes, Skips}
-use Rattle.message_wires.specs.Play.{MachineState, play}
-use Rattle.message_wires.specs.Wires.{Wires}
-use Rattle.schedule_runs.specs.Runs.{Agenda, IsPlay, Plan, PlaysSchedule, counts_of, plays_none, plays_on, sizes_of}
-use Rattle.schedule_runs.specs.Runs.{upcoming}
+use Rattle.agendas.specs.Agendas.{Agenda, Plan}
+use Rattle.machine_states.specs.States.{Makes, Played, Skips, State}
+use Rattle.schedule_loop.specs.Ends.{Course, Plays, planned_in}
+use Rattle.schedule_loop.specs.Plans.{seen_none, seen_on}
+use Rattle.schedule_loop.specs.Rules.{IsPlayBy, Rules}
 
 -- One event more
 
@@ -20,58 +17,62 @@ one-found : {A B C X : Type 0} → (f : A → B → C → Option X) (a b : A) (c
     → f a c n ≡ Some x → f b d m ≡ Some y → x ≡ y
 one-found f a b c d n m x y first second third one two = cc
 
-makes-same : (made same : Played Wires) (x y : MachineState) → made ≡ same → made ≡ Makes x → same ≡ Makes y → x ≡ y
+makes-same : {Wires : Type 0} → (made same : Played Wires) (x y : State Wires) → made ≡ same → made ≡ Makes x
+    → same ≡ Makes y → x ≡ y
 makes-same made same x y is one two = cc
 
-makes-not-skips : (made same : Played Wires) (x : MachineState) → made ≡ same → made ≡ Makes x → same ≡ Skips → ⊥
+makes-not-skips : {Wires : Type 0} → (made same : Played Wires) (x : State Wires) → made ≡ same → made ≡ Makes x
+    → same ≡ Skips → ⊥
 makes-not-skips made same x is one two = absurd (cc)
-
--- an event makes one state of a state
-one-next : (s t : MachineState) (event that : Event) (next after : MachineState) → s ≡ t → event ≡ that
-    → IsPlay s event next → IsPlay t that after → next ≡ after
-one-next s t event that next after same is (inl one) (inl two) =
-    makes-same (play s event) (play t that) next after (ap₂ play same is) one two
-one-next s t event that next after same is (inl one) (inr two) =
-    absurd (makes-not-skips (play s event) (play t that) next (ap₂ play same is) one two.0)
-one-next s t event that next after same is (inr one) (inl two) =
-    absurd (makes-not-skips (play t that) (play s event) after (sym (ap₂ play same is)) two one.0)
-one-next s t event that next after same is (inr one) (inr two) = one.1 ∙ same ∙ sym two.1
 
 longer : (events : List Event) (event : Event) → length (events ++ event ∷ []) ≡ length events + 1
 longer events event = length-append events (event ∷ [])
 
+module _ {Wires : Type 0} (rules : Rules Wires) where
+  -- an event makes one state of a state
+  one-next : (s t : State Wires) (event that : Event) (next after : State Wires) → s ≡ t → event ≡ that
+      → IsPlayBy rules s event next → IsPlayBy rules t that after → next ≡ after
+  one-next s t event that next after same is (inl one) (inl two) =
+      makes-same (rules.play s event) (rules.play t that) next after (ap₂ rules.play same is) one two
+  one-next s t event that next after same is (inl one) (inr two) =
+      absurd (makes-not-skips (rules.play s event) (rules.play t that) next (ap₂ rules.play same is) one two.0)
+  one-next s t event that next after same is (inr one) (inl two) =
+      absurd (makes-not-skips (rules.play t that) (rules.play s event) after (sym (ap₂ rules.play same is)) two one.0)
+  one-next s t event that next after same is (inr one) (inr two) = one.1 ∙ same ∙ sym two.1
+
 -- Two that are as long
 
 -- two have played the same events, the schedule stands the same then, and the state is the same
-pub record AreSame (events others : List Event) (agenda other : Agenda) (s t : MachineState) : Type 0 where
+pub record AreSame {Wires : Type 0} (events others : List Event) (agenda other : Agenda)
+    (s t : State Wires) : Type 0 where
   pub same_events : events ≡ others
   pub same_agenda : agenda ≡ other
   pub same_state : s ≡ t
 
-module _ (site : Site) (lines : List Line) (stop : Option ProcessorStop) where
-  pub one-plan : (events others : List Event) (agenda other : Agenda) (s t : MachineState) (plan that : Plan)
-      → AreSame events others agenda other s t
-      → upcoming (sizes_of site) (length events) (counts_of s) agenda ≡ Some plan
-      → upcoming (sizes_of site) (length others) (counts_of t) other ≡ Some that
-      → plan ≡ that
-  one-plan events others agenda other s t plan that same comes come =
-      one-found (λ (all : List Event) (state : MachineState) (place : Agenda). upcoming (sizes_of site) (length all)
-      (counts_of state) place)
-      events others s t agenda other plan that same.same_events same.same_state same.same_agenda comes come
+module _ {Wires : Type 0} (rules : Rules Wires) (course : Course Wires) where
+  -- the plan for the event after these
+  abbrev pub plan_after : List Event → State Wires → Agenda → Option Plan
+  plan_after events s agenda = planned_in rules course.sizes (length events) s agenda
 
-  pub same-as-long : (events others : List Event) (agenda other : Agenda) (s t : MachineState)
-      → PlaysSchedule site lines stop events agenda s
-      → PlaysSchedule site lines stop others other t → length events ≡ length others
+  pub one-plan : (events others : List Event) (agenda other : Agenda) (s t : State Wires) (plan that : Plan)
+      → AreSame events others agenda other s t → plan_after events s agenda ≡ Some plan
+      → plan_after others t other ≡ Some that → plan ≡ that
+  one-plan events others agenda other s t plan that same comes come =
+      one-found plan_after events others s t agenda other plan that same.same_events same.same_state same.same_agenda
+      comes come
+
+  pub same-as-long : (events others : List Event) (agenda other : Agenda) (s t : State Wires)
+      → Plays rules course events agenda s → Plays rules course others other t → length events ≡ length others
       → AreSame events others agenda other s t
-  same-as-long _ _ _ _ _ _ plays_none plays_none long =
+  same-as-long _ _ _ _ _ _ seen_none seen_none long =
       record { same_events = refl; same_agenda = refl; same_state = refl }
-  same-as-long _ _ _ _ _ _ plays_none (plays_on {events = others} that after come plays) long =
+  same-as-long _ _ _ _ _ _ seen_none (seen_on {events = others} that after come plays) long =
       let more = longer others that.event in absurd (omega (arith, long, more))
-  same-as-long _ _ _ _ _ _ (plays_on {events = events} plan before comes playing) plays_none long =
+  same-as-long _ _ _ _ _ _ (seen_on {events = events} plan before comes playing) seen_none long =
       let more = longer events plan.event in absurd (omega (arith, long, more))
-  same-as-long _ _ _ _ _ _ (plays_on {events = events} {agenda = agenda} {s = s} {next = next} plan before comes
+  same-as-long _ _ _ _ _ _ (seen_on {events = events} {agenda = agenda} {s = s} {next = next} plan before comes
       playing)
-      (plays_on {events = others} {agenda = other} {s = t} {next = after} that earlier come plays) long =
+      (seen_on {events = others} {agenda = other} {s = t} {next = after} that earlier come plays) long =
       let more = longer events plan.event in
       let longs = longer others that.event in
       let same = same-as-long events others agenda other s t before earlier (omega (arith, long, more, longs)) in
@@ -79,8 +80,8 @@ module _ (site : Site) (lines : List Line) (stop : Option ProcessorStop) where
       record {
         same_events = ap₂ (λ (all : List Event) (one : Plan). all ++ one.event ∷ []) same.same_events is;
         same_agenda = ap (λ (one : Plan). one.agenda) is;
-        same_state = one-next s t plan.event that.event next after same.same_state (ap (λ (one : Plan). one.event) is)
-            playing plays;
+        same_state = one-next rules s t plan.event that.event next after same.same_state
+            (ap (λ (one : Plan). one.event) is) playing plays;
       }
 
   -- A schedule that goes on past so many events
@@ -88,18 +89,18 @@ module _ (site : Site) (lines : List Line) (stop : Option ProcessorStop) where
   pub record GoesOn (count : ℕ) : Type 0 where
     pub events : List Event
     pub agenda : Agenda
-    pub s : MachineState
-    pub next : MachineState
+    pub s : State Wires
+    pub next : State Wires
     pub plan : Plan
     pub long : length events ≡ count
-    pub plays : PlaysSchedule site lines stop events agenda s
-    pub comes : upcoming (sizes_of site) (length events) (counts_of s) agenda ≡ Some plan
-    pub playing : IsPlay s plan.event next
+    pub plays : Plays rules course events agenda s
+    pub comes : plan_after events s agenda ≡ Some plan
+    pub playing : IsPlayBy rules s plan.event next
 
-  pub goes-on : (count : ℕ) (events : List Event) (agenda : Agenda) (s : MachineState)
-      → PlaysSchedule site lines stop events agenda s → count < length events → GoesOn count
-  goes-on count _ _ _ plays_none less = absurd (omega (arith, less))
-  goes-on count _ _ _ (plays_on {events = events} {agenda = agenda} {s = s} {next = next} plan before comes playing)
+  pub goes-on : (count : ℕ) (events : List Event) (agenda : Agenda) (s : State Wires)
+      → Plays rules course events agenda s → count < length events → GoesOn count
+  goes-on count _ _ _ seen_none less = absurd (omega (arith, less))
+  goes-on count _ _ _ (seen_on {events = events} {agenda = agenda} {s = s} {next = next} plan before comes playing)
       less =
       by (λ fewer. goes-on count events agenda s before fewer) (eq-or-lt_of_le (few (longer events plan.event)))
     where

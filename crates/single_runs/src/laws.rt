@@ -2,8 +2,8 @@ ghost use Rattle.std.specs.Prelude.{◌≡◌, List, Option};
 ghost use Rattle.tal_tree.specs.declared.site.Site.{Site};
 ghost use Rattle.schedule.specs.declared.line.Line.{Line};
 ghost use Rattle.player.specs.declared.stop.ProcessorStop.{ProcessorStop};
-ghost use Rattle.schedule_runs.specs.Ends.{IsRunOf};
-ghost use Rattle.schedule_runs.specs.declared.ran.Ran.{Ran};
+ghost use Rattle.packet_runs.specs.Ends.{IsRunOf};
+ghost use Rattle.packet_runs.specs.declared.ran.Ran.{Ran};
 
 /// Two runs of a schedule with a stop on a site are the same: they played the same events, which led to the same state,
 /// ended in the same way after as many events, and left the same machine.
