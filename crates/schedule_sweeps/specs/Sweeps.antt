@@ -1,5 +1,7 @@
 -- What a sweep of a schedule counts. Our own rule.
 use Rattle.std.specs.Prelude.{◌≡◌, ℕ, ◌+◌, List, [], ◌∷◌, length, Some}
+use Rattle.packet_runs.specs.Ends.{IsRunOf}
+use Rattle.packet_runs.specs.declared.ran.Ran.{Ran}
 use Rattle.player.specs.declared.stop.ProcessorStop.{ProcessorStop}
 use Rattle.run_table.specs.Counts.{row_of}
 use Rattle.run_table.specs.declared.rows.Row.{Row}
@@ -7,10 +9,8 @@ use Rattle.run_table.specs.declared.rows.RunKind.{RunKind}
 use Rattle.run_table.specs.declared.rows.RunKind.TheVariants as kind
 use Rattle.run_table.specs.declared.table.ProcessorRow.{ProcessorRow}
 use Rattle.schedule.specs.declared.line.Line.{Line}
-use Rattle.schedule_runs.specs.Ends.{IsRunOf}
-use Rattle.schedule_runs.specs.declared.ran.Ending.{Ending}
-use Rattle.schedule_runs.specs.declared.ran.Ending.TheVariants.{Idle, Cut, Second}
-use Rattle.schedule_runs.specs.declared.ran.Ran.{Ran}
+use Rattle.schedule_loop.specs.declared.ran.Ending.{Ending}
+use Rattle.schedule_loop.specs.declared.ran.Ending.TheVariants.{Idle, Cut, Second}
 use Rattle.tal_tree.specs.declared.site.Site.{Site}
 
 -- the kind of a run that ended so

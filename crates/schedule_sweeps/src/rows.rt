@@ -1,15 +1,18 @@
 ghost use Rattle.std.specs.Prelude.{◌≡◌, ◌≤◌, IfOk, Some};
+ghost use Rattle.packet_runs.specs.Runs.{course_on, packet_rules};
 ghost use Rattle.player.specs.declared.stop.ProcessorStop.{ProcessorStop};
 ghost use Rattle.process_copies.specs.Starting.{IsStartable};
-ghost use Rattle.schedule_runs.specs.Lengths.{AsksForFewEvents};
+ghost use Rattle.schedule_loop.specs.Ends.{CanBePlayed};
 ghost use Rattle.schedule_sweeps.specs.Sweeps.{IsKindOf, IsRowOf, IsSweepOf, kind_of};
+ghost use Rattle.site_machine.specs.Needs.{IsReady};
 
 use gd_words::NoMemory;
 use logs::Shared;
+use packet_runs::run;
 use player::ProcessorStop;
 use run_table::{ProcessorRow, Row, RunKind, Table};
 use schedule::Line;
-use schedule_runs::{Ending, run};
+use schedule_loop::Ending;
 use std::alloc::Global;
 use tal_tree::Site;
 
@@ -23,7 +26,8 @@ pub fn sweep(
 ) -> Result<Table, NoMemory>
     requires startable { IsStartable site.now }
     requires few { site.now.processors ≤ 16 }
-    requires asks { (stop : ProcessorStop) → AsksForFewEvents site.now lines.now (Some stop) }
+    requires can { (stop : ProcessorStop)
+        → CanBePlayed packet_rules IsReady (course_on site.now lines.now (Some stop)) }
     ensures { IfOk result (IsSweepOf site.now lines.now runs) }
 {
     let mut table = Table::new();
@@ -43,7 +47,8 @@ fn row_of(
     runs: u32,
 ) -> Result<Row, NoMemory>
     requires startable { IsStartable site.now }
-    requires asks { (stop : ProcessorStop) → AsksForFewEvents site.now lines.now (Some stop) }
+    requires can { (stop : ProcessorStop)
+        → CanBePlayed packet_rules IsReady (course_on site.now lines.now (Some stop)) }
     ensures { IfOk result (IsRowOf site.now lines.now processor runs) }
 {
     let mut row = Row::new();
@@ -62,7 +67,7 @@ fn kind_of_run(
     stop: ProcessorStop,
 ) -> Result<RunKind, NoMemory>
     requires startable { IsStartable site.now }
-    requires asks { AsksForFewEvents site.now lines.now (Some stop) }
+    requires can { CanBePlayed packet_rules IsReady (course_on site.now lines.now (Some stop)) }
     ensures { IfOk result (IsKindOf site.now lines.now stop) }
 {
     let ran = run(alloc, site, lines, Some(stop))?;

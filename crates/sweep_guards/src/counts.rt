@@ -1,7 +1,7 @@
 ghost use Rattle.std.specs.Prelude.{◌≡◌, ℕ, [], ◌∷◌};
 ghost use Rattle.run_table.specs.Counts.{row_of};
 ghost use Rattle.run_table.specs.declared.rows.RunKind.TheVariants as kind;
-ghost use Rattle.schedule_runs.specs.declared.ran.Ending.TheVariants.{Idle, Cut, Second};
+ghost use Rattle.schedule_loop.specs.declared.ran.Ending.TheVariants.{Idle, Cut, Second};
 ghost use Rattle.schedule_sweeps.specs.Sweeps.{kind_of};
 
 /// A row counts all runs, and those of each kind.
