@@ -10,16 +10,17 @@ use Rattle.player.specs.declared.stop.ProcessorStop.{ProcessorStop}
 use Rattle.plain_semantics.specs.Machine.{IsNoneLeft, IsPossible, made_all, plain_start, shown_by}
 use Rattle.world_semantics.specs.Kept.{acts_of, closed}
 use Rattle.world_semantics.specs.World.{World}
-use Rattle.message_wires.specs.Idle.{is_idle}
-use Rattle.message_wires.specs.Play.{MachineState}
-use Rattle.message_wires.specs.Runs.{IsPlayed}
-use Rattle.pair_machine.specs.Seen.{closed_state}
+use Rattle.agendas.specs.Agendas.{Agenda}
+use Rattle.packet_wires.specs.Idle.{is_idle}
+use Rattle.packet_wires.specs.Play.{Packeted}
+use Rattle.packet_wires.specs.Runs.{IsPlayed}
 use Rattle.world_copies.specs.Closed.{closed_world}
-use Rattle.schedule_runs.specs.Ends.{EndsAs, IsRunOf}
-use Rattle.schedule_runs.specs.Runs.{Agenda, PlaysSchedule}
-use Rattle.schedule_runs.specs.declared.ran.Ending.{Ending}
-use Rattle.schedule_runs.specs.declared.ran.Ending.TheVariants.{Idle, Cut, Second}
-use Rattle.schedule_runs.specs.declared.ran.Ran.{Ran}
+use Rattle.schedule_loop.specs.Ends.{EndsBy, Plays}
+use Rattle.schedule_loop.specs.declared.ran.Ending.{Ending}
+use Rattle.schedule_loop.specs.declared.ran.Ending.TheVariants.{Idle, Cut, Second}
+use Rattle.packet_runs.specs.Ends.{IsRunOf}
+use Rattle.packet_runs.specs.Runs.{course_on, packet_rules}
+use Rattle.packet_runs.specs.declared.ran.Ran.{Ran}
 use Rattle.accepted_decks.specs.Left.{KeepsPossibleActs}
 
 -- what a world keeps and has shown, by how the run to it ended
@@ -33,23 +34,23 @@ none-possible site acts none = subst IsSome (sym none.1) refl
 
 -- what is known of states that events were played to, on this site
 pub record Known (site : Site) : Type 0 where
-  pub possible : (events : List Event) (s : MachineState) → length events < 4294967295 → IsPlayed site events s
+  pub possible : (events : List Event) (s : Packeted) → length events < 4294967295 → IsPlayed site events s
       → IsPossible site (acts_of s.world)
-  pub shown : (events : List Event) (s : MachineState) → length events < 4294967295 → IsPlayed site events s
+  pub shown : (events : List Event) (s : Packeted) → length events < 4294967295 → IsPlayed site events s
       → shown_by site (acts_of s.world) ≡ reverse s.world.shown
-  pub none : (events : List Event) (s : MachineState) → length events < 4294967295 → IsPlayed site events s
+  pub none : (events : List Event) (s : Packeted) → length events < 4294967295 → IsPlayed site events s
       → is_idle s ≡ true → IsNoneLeft site (closed s.world)
-  pub closed_shown : (events : List Event) (s : MachineState) → length events < 4294967295 → IsPlayed site events s
+  pub closed_shown : (events : List Event) (s : Packeted) → length events < 4294967295 → IsPlayed site events s
       → is_idle s ≡ true
       → shown_by site (closed s.world) ≡ reverse s.world.shown
   pub closed_acts : (w : World) → acts_of (closed_world w) ≡ closed w
   pub schedule : (lines : List Line) (stop : Option ProcessorStop) (events : List Event) (agenda : Agenda)
-      (s : MachineState) → PlaysSchedule site lines stop events agenda s
+      (s : Packeted) → Plays packet_rules (course_on site lines stop) events agenda s
       → IsPlayed site events s
 
 module _ (site : Site) (known : Known site) (lines : List Line) (stop : Option ProcessorStop) (events : List Event)
     (few : length events < 4294967295) where
-  keeps-on : (s : MachineState) (ending : Ending) → IsPlayed site events s → (ending ≡ Idle → ⊥)
+  keeps-on : (s : Packeted) (ending : Ending) → IsPlayed site events s → (ending ≡ Idle → ⊥)
       → Keeps site s.world ending
   keeps-on s ending played goes_on = record {
     possible = known.possible events s few played;
@@ -57,7 +58,7 @@ module _ (site : Site) (known : Known site) (lines : List Line) (stop : Option P
     none = λ idle. absurd (goes_on idle);
   }
 
-  keeps-closed : (s : MachineState) → IsPlayed site events s → is_idle s ≡ true → Keeps site (closed_world s.world) Idle
+  keeps-closed : (s : Packeted) → IsPlayed site events s → is_idle s ≡ true → Keeps site (closed_world s.world) Idle
   keeps-closed s played idle =
       let none : IsNoneLeft site (acts_of (closed_world s.world)) =
       subst (IsNoneLeft site) (sym (known.closed_acts s.world)) (known.none events s few played idle) in
@@ -67,16 +68,16 @@ module _ (site : Site) (known : Known site) (lines : List Line) (stop : Option P
         none = λ same. none;
       }
 
-  pub keeps-ended : (s left : MachineState) (asked : ℕ) (ending : Ending)
-      → EndsAs site lines stop events s left asked ending → Keeps site left.world ending
+  pub keeps-ended : (s left : Packeted) (asked : ℕ) (ending : Ending)
+      → EndsBy packet_rules (course_on site lines stop) events s left asked ending → Keeps site left.world ending
   keeps-ended s left asked Idle ends =
-      subst (λ (one : MachineState). Keeps site one.world Idle) (sym ends.2)
+      subst (λ (one : Packeted). Keeps site one.world Idle) (sym ends.2)
       (keeps-closed s (known.schedule lines stop events ends.0.agenda s ends.0.played) ends.1)
   keeps-ended s left asked Cut ends =
-      subst (λ (one : MachineState). Keeps site one.world Cut) (sym ends.2)
+      subst (λ (one : Packeted). Keeps site one.world Cut) (sym ends.2)
       (keeps-on s Cut (known.schedule lines stop events ends.0.agenda s ends.0.played) (λ e. cc))
   keeps-ended s left asked (Second processor) ends =
-      subst (λ (one : MachineState). Keeps site one.world (Second processor)) (sym ends.1)
+      subst (λ (one : Packeted). Keeps site one.world (Second processor)) (sym ends.1)
       (keeps-on s (Second processor) (known.schedule lines stop events ends.0.agenda s ends.0.played) (λ e. cc))
 
 pub run-keeps : (site : Site) (lines : List Line) (stop : Option ProcessorStop) (ran : Ran) → Known site

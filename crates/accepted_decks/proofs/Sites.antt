@@ -86,7 +86,7 @@ pub record IsTold (site : Site) : Type 0 where
       → spec.what ≡ kind.Pair program
       → Read program
 
-limits-of : (site : Site) → IsTold site → KeepsSiteLimits site
+pub limits-of : (site : Site) → IsTold site → KeepsSiteLimits site
 limits-of site is = record {
   processes = is.within.processes;
   terminals = is.within.terminals;

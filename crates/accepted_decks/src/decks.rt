@@ -8,27 +8,33 @@ ghost use Rattle.awaited_requests.specs.Seats.{IsLaidOut};
 ghost use Rattle.accepted_sites.specs.Premises.{IsAcceptedSite};
 ghost use Rattle.player.specs.declared.stop.ProcessorStop.{ProcessorStop};
 ghost use Rattle.process_copies.specs.Starting.{IsStartable};
-ghost use Rattle.schedule_runs.specs.Lengths.{AsksForFewEvents};
+ghost use Rattle.packet_runs.specs.Runs.{course_on, packet_rules};
+ghost use Rattle.plain_semantics.specs.SiteLimits.{KeepsSiteLimits};
+ghost use Rattle.schedule_loop.specs.Ends.{CanBePlayed};
+ghost use Rattle.site_machine.specs.Needs.{IsReady};
 
 use deck_reader::{
     a_deck_keeps_the_limits, a_deck_reads_its_programs, requests_of_a_deck_are_short,
 };
-use schedule_lengths::a_schedule_asks_for_few_events;
+use packet_lengths::{a_schedule_asks_for_few_events, an_accepted_site_can_be_played};
 
-/// The programs of a deck that bytes spell can be judged, the machine of copies starts on its site, and its processes
-/// are laid out over its processors. Its schedule asks for few events. Where all its programs are accepted, its site is
-/// an accepted one.
+/// The programs of a deck that bytes spell can be judged, the machine of copies starts on its site, which keeps the
+/// limits, and its processes are laid out over its processors. Where all its programs are accepted, its site is an
+/// accepted one, and its schedule can be played with any stop.
 pub fn an_accepted_deck_meets_the_premises()
     ensures judgeable { (bytes : List ℕ) (deck : Deck) → Decks bytes deck → AreJudgeable deck.site.processes }
     ensures startable { (bytes : List ℕ) (deck : Deck) → Decks bytes deck → IsStartable deck.site }
     ensures laid_out { (bytes : List ℕ) (deck : Deck) → Decks bytes deck → IsLaidOut deck.site }
-    ensures few { (bytes : List ℕ) (deck : Deck) (stop : Option ProcessorStop) → Decks bytes deck
-        → AsksForFewEvents deck.site deck.lines stop }
+    ensures limits { (bytes : List ℕ) (deck : Deck) → Decks bytes deck → KeepsSiteLimits deck.site }
     ensures accepted { (bytes : List ℕ) (deck : Deck) → Decks bytes deck → AreAccepted deck.site.processes
         → IsAcceptedSite deck.site }
+    ensures can { (bytes : List ℕ) (deck : Deck) (stop : Option ProcessorStop) → Decks bytes deck
+        → AreAccepted deck.site.processes
+        → CanBePlayed packet_rules IsReady (course_on deck.site deck.lines stop) }
 {
     a_deck_keeps_the_limits();
     a_deck_reads_its_programs();
     requests_of_a_deck_are_short();
     a_schedule_asks_for_few_events();
+    an_accepted_site_can_be_played();
 }

@@ -5,18 +5,20 @@ ghost use Rattle.schedule.specs.declared.line.Line.{Line};
 ghost use Rattle.player.specs.declared.stop.ProcessorStop.{ProcessorStop};
 ghost use Rattle.awaited_requests.specs.Seats.{IsLaidOut};
 ghost use Rattle.accepted_sites.specs.Premises.{IsAcceptedSite};
-ghost use Rattle.schedule_runs.specs.Ends.{IsRunOf};
-ghost use Rattle.schedule_runs.specs.declared.ran.Ran.{Ran};
+ghost use Rattle.plain_semantics.specs.SiteLimits.{KeepsSiteLimits};
+ghost use Rattle.packet_runs.specs.Ends.{IsRunOf};
+ghost use Rattle.packet_runs.specs.declared.ran.Ran.{Ran};
 ghost use Rattle.accepted_decks.specs.Left.{KeepsPossibleActs};
 
-use played_laws::{an_idle_end_that_is_played_leaves_none, what_is_played_is_possible};
-use schedule_runs::events_of_a_schedule_are_played;
+use packet_runs::events_of_a_schedule_are_played;
+use packets_played::{an_idle_end_that_is_played_leaves_none, what_is_played_is_possible};
 use world_copies::laws::a_closed_world_has_the_closed_run;
 
-/// Whatever its schedule, a run of an accepted site keeps possible acts, and none is left at an idle end.
+/// Whatever its schedule, a run of an accepted site within the limits keeps possible acts, and none is left at an idle
+/// end.
 pub fn a_run_of_an_accepted_site_keeps_possible_acts()
     ensures { (site : Site) (lines : List Line) (stop : Option ProcessorStop) (ran : Ran) → IsAcceptedSite site
-        → IsLaidOut site → IsRunOf site lines stop ran
+        → KeepsSiteLimits site → IsLaidOut site → IsRunOf site lines stop ran
         → KeepsPossibleActs site ran }
 {
     what_is_played_is_possible();
