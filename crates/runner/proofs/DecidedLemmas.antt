@@ -8,8 +8,8 @@ use Rattle.deck_reader.specs.declared.deck.Deck.{Deck}
 use Rattle.verdicts.specs.Refused.{AreAccepted}
 use Rattle.gd_io.specs.Reads.{Leaves}
 use Rattle.gd_io.specs.declared.writing.WriteFault.{WriteFault}
-use Rattle.schedule_runs.specs.declared.ran.Ending.{Ending}
-use Rattle.schedule_runs.specs.declared.ran.Ending.TheVariants.{Idle, Cut, Second}
+use Rattle.schedule_loop.specs.declared.ran.Ending.{Ending}
+use Rattle.schedule_loop.specs.declared.ran.Ending.TheVariants.{Idle, Cut, Second}
 use Rattle.tal_tree.specs.declared.fault.DeckFault.{DeckFault}
 use Rattle.tal_tree.specs.declared.fault.DeckFault.TheVariants as fault
 use Rattle.tal_tree.specs.declared.fault.TalFault.{TalFault}

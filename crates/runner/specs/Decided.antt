@@ -13,8 +13,8 @@ use Rattle.deck_reader.specs.declared.deck.Deck.{Deck}
 use Rattle.load_deck.specs.LoadText.{load_text}
 use Rattle.player.specs.declared.stop.ProcessorStop.{ProcessorStop}
 use Rattle.plain_semantics.specs.Machine.{IsPossible, IsNoneLeft, shown_by}
-use Rattle.schedule_runs.specs.Ends.{IsRunOf}
-use Rattle.schedule_runs.specs.declared.ran.Ending.TheVariants.{Idle}
+use Rattle.packet_runs.specs.Ends.{IsRunOf}
+use Rattle.schedule_loop.specs.declared.ran.Ending.TheVariants.{Idle}
 use Rattle.schedule_sweeps.specs.Sweeps.{IsSweepOf}
 use Rattle.shown_sectors.specs.Sectors.{sectors_after}
 use Rattle.site_advice.specs.SiteAdvised.{AreAdvised, IsFirstUnadvised}
@@ -35,8 +35,8 @@ use Rattle.runner.specs.declared.task.Telling.TheVariants as telling
 abbrev pub IsSpelt : Deck → Type 0
 IsSpelt deck = (bytes : List ℕ) × Decks bytes deck
 
--- the run of a deck, after Bartlett's paper: it is a run of the schedule, with the stop of the words, on the machine of
--- copies; the acts that it keeps are possible on the machine of single unfailing processes; what it shows, in order, is
+-- the run of a deck, after Bartlett's paper: it is a run of the schedule, with the stop of the words, on the machine
+-- over packets; the acts that it keeps are possible on the machine of single unfailing processes; what it shows, in order, is
 -- what they show there; where it ended idle no act is possible after them; the sectors are those that what is shown
 -- leaves written; and the processors that have stopped are those of its world at the end
 pub record IsReportOf (deck : Deck) (stop : Option ProcessorStop) (report : Report) : Type 0 where

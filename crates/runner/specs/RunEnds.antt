@@ -7,8 +7,8 @@ use Rattle.trace_print.specs.declared.closing.End.{End}
 use Rattle.trace_print.specs.declared.closing.End.TheVariants as end
 use Rattle.trace_print.specs.declared.load.LoadCounts.{LoadCounts}
 use Rattle.world_semantics.specs.Kept.{acts_of}
-use Rattle.schedule_runs.specs.declared.ran.Ending.{Ending}
-use Rattle.schedule_runs.specs.declared.ran.Ending.TheVariants.{Idle, Cut, Second}
+use Rattle.schedule_loop.specs.declared.ran.Ending.{Ending}
+use Rattle.schedule_loop.specs.declared.ran.Ending.TheVariants.{Idle, Cut, Second}
 use Rattle.runner.specs.declared.outcome.RunEnd.{RunEnd}
 use Rattle.runner.specs.declared.outcome.Status.{Status}
 use Rattle.runner.specs.declared.outcome.Status.TheVariants as status

@@ -26,8 +26,8 @@ use gd_io::{Source, SourceFault, read_all};
 use gd_words::NoMemory;
 use load_deck::load_text;
 use logs::Shared;
+use packet_runs::run;
 use player::ProcessorStop;
-use schedule_runs::run;
 use shown_sectors::sectors_after;
 use site_advice::{SiteAdvice, advise_all};
 use std::alloc::Global;
@@ -189,7 +189,8 @@ fn due_of_advice(alloc: Global, deck: Deck) -> Due
 }
 
 fn due_of_sweep(alloc: Global, deck: Deck, runs: u32) -> Due
-    requires { IsSpelt deck }
+    requires spelt { IsSpelt deck }
+    requires accepted { AreAccepted deck.site.processes }
     ensures due { IsDueOfSweep deck runs result }
     ensures written { CanBeWritten result }
 {

@@ -13,7 +13,7 @@ use crate::outcome::{Outcome, RunEnd, Status};
 use crate::task::Telling;
 use gd_io::{Sink, Source, WriteFault};
 use report_judge::Why;
-use schedule_runs::Ending;
+use schedule_loop::Ending;
 use std::alloc::Global;
 use tal_tree::Act;
 use trace_print::{

@@ -3,9 +3,10 @@ ghost use Rattle.runner.specs.RunEnds.{acts_of_run, load_counts, shown_in, statu
 ghost use Rattle.std.specs.Prelude.{◌≡◌};
 
 use gd_words::NoMemory;
+use packet_runs::Ran;
 use path_semantics::RefusalFault;
 use report_judge::Why;
-use schedule_runs::{Ending, Ran};
+use schedule_loop::Ending;
 use tal_tree::{Act, DeckFault, Shown};
 use trace_print::LoadCounts;
 

@@ -2,11 +2,11 @@ ghost use Rattle.std.specs.Prelude.{◌≡◌, IfOk};
 ghost use Rattle.runner.specs.Stopped.{stopped_from};
 
 use gd_words::{List, NoMemory};
-use pair_machine::PairMachine;
+use site_machine::Machine;
 use std::alloc::Global;
 
 /// The numbers of the processors that have stopped, rising.
-pub(crate) fn stopped_processors(alloc: Global, machine: &PairMachine) -> Result<List<u8>, NoMemory>
+pub(crate) fn stopped_processors(alloc: Global, machine: &Machine) -> Result<List<u8>, NoMemory>
     ensures { IfOk result (λ processors. processors ≡ stopped_from 0 machine.now.state.world.stopped) }
 {
     let stopped = machine.stopped();

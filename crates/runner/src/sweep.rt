@@ -1,6 +1,7 @@
 ghost use Rattle.std.specs.Prelude.{IfOk};
 ghost use Rattle.runner.specs.Decided.{IsSpelt};
 ghost use Rattle.schedule_sweeps.specs.Sweeps.{IsSweepOf};
+ghost use Rattle.verdicts.specs.Refused.{AreAccepted};
 
 use accepted_decks::an_accepted_deck_meets_the_premises;
 use deck_reader::Deck;
@@ -12,7 +13,8 @@ use std::alloc::Global;
 
 /// The rows of a sweep of a deck.
 pub(crate) fn swept(alloc: Global, deck: Deck, runs: u32) -> Result<Table, NoMemory>
-    requires { IsSpelt deck }
+    requires spelt { IsSpelt deck }
+    requires accepted { AreAccepted deck.site.processes }
     ensures { IfOk result (IsSweepOf deck.site deck.lines runs) }
 {
     an_accepted_deck_meets_the_premises();

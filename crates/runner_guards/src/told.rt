@@ -6,7 +6,7 @@ ghost use Rattle.tal_tree.specs.declared.act.Shown.TheVariants.{Reply, Write};
 ghost use Rattle.trace_print.specs.ReportText.{load_report_text, report_text};
 ghost use Rattle.trace_print.specs.declared.closing.End.TheVariants as end;
 ghost use Rattle.command_words.specs.declared.asked.Command.TheVariants as command;
-ghost use Rattle.schedule_runs.specs.declared.ran.Ending.TheVariants.{Idle, Cut, Second};
+ghost use Rattle.schedule_loop.specs.declared.ran.Ending.TheVariants.{Idle, Cut, Second};
 ghost use Rattle.runner.specs.Decided.{reads_deck};
 ghost use Rattle.runner.specs.RunEnds.{acts_of_run, end_of, load_counts, shown_in, status_of_run};
 ghost use Rattle.runner.specs.Written.{text_of_run, told_acts};

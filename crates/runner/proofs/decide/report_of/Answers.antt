@@ -1,7 +1,9 @@
 use Rattle.std.proofs.Common.{◌∙◌, ap, subst, sym}
-use Rattle.schedule_runs.specs.Ends.{IsRunOf}
-use Rattle.schedule_runs.specs.Lengths.{AsksForFewEvents}
+use Rattle.packet_runs.specs.Ends.{IsRunOf}
+use Rattle.packet_runs.specs.Runs.{course_on, packet_rules}
+use Rattle.schedule_loop.specs.Ends.{CanBePlayed}
 use Rattle.shown_sectors.specs.Sectors.{sectors_after}
+use Rattle.site_machine.specs.Needs.{IsReady}
 use Rattle.runner.proofs.Reported.{reported}
 use Rattle.runner.proofs.decide.report_of.Goals as goal
 
@@ -9,6 +11,7 @@ pub returns-clause-run : goal.returns-clause-run
 returns-clause-run c =
     let meets = c.an_accepted_deck_meets_the_premises.ensures in
     let accepted = meets.accepted c.requires.spelt.0 c.args.deck c.requires.spelt.1 c.requires.accepted in
+    let limits = meets.limits c.requires.spelt.0 c.args.deck c.requires.spelt.1 in
     let laid_out = meets.laid_out c.requires.spelt.0 c.args.deck c.requires.spelt.1 in
     let run : IsRunOf c.args.deck.site c.args.deck.lines c.args.stop c.in_ok-run.field-0 =
     subst (λ site. IsRunOf site c.args.deck.lines c.args.stop c.in_ok-run.field-0) c.in_ok-site.ensures
@@ -16,13 +19,16 @@ returns-clause-run c =
     c.in_ok-run.ensures) in
     reported c.args.deck c.args.stop _ c.in_ok-site.ensures run
     (c.a_run_of_an_accepted_site_keeps_possible_acts.ensures c.args.deck.site c.args.deck.lines c.args.stop
-    c.in_ok-run.field-0 accepted laid_out run)
+    c.in_ok-run.field-0 accepted limits laid_out run)
     (c.in_ok-sectors.ensures ∙ ap (λ site. sectors_after site c.shown.result.now) (c.get.ensures ∙ c.in_ok-site.ensures)
     ∙ ap (sectors_after c.args.deck.site) c.shown.ensures)
     c.in_ok-stopped.ensures
 
-pub run-requires-clause-few : goal.run-requires-clause-few
-run-requires-clause-few c =
-    subst (λ lines. AsksForFewEvents c.in_ok-site.site lines c.args.stop) (sym c.as_slice.ensures)
-    (subst (λ site. AsksForFewEvents site c.args.deck.lines c.args.stop) (sym c.in_ok-site.ensures)
-    (c.an_accepted_deck_meets_the_premises.ensures.few c.requires.spelt.0 c.args.deck c.args.stop c.requires.spelt.1))
+pub run-requires-clause-can : goal.run-requires-clause-can
+run-requires-clause-can c =
+    subst (λ lines. CanBePlayed packet_rules IsReady (course_on c.in_ok-site.site lines c.args.stop))
+    (sym c.as_slice.ensures)
+    (subst (λ site. CanBePlayed packet_rules IsReady (course_on site c.args.deck.lines c.args.stop))
+    (sym c.in_ok-site.ensures)
+    (c.an_accepted_deck_meets_the_premises.ensures.can c.requires.spelt.0 c.args.deck c.args.stop c.requires.spelt.1
+    c.requires.accepted))
