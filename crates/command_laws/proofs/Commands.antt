@@ -1,6 +1,5 @@
 -- What is due by words, and how a command of them ends.
 use Rattle.std.proofs.Common.{◌≡◌, ◌≢◌, ◌⊎◌, inl, inr, ℕ, true, List, Option, Some, None, refl, subst, sym, ap, ◌∙◌}
-use Rattle.std.proofs.Common.{arith}
 use Rattle.std.specs.Prelude.{⊤, Bool, IfSome, Result, Ok, Err}
 use Rattle.gd_words.specs.Memory.{no_memory}
 use Rattle.command_words.specs.Asked.{IsInRange, asked_by}
@@ -11,27 +10,25 @@ use Rattle.deck_reader.specs.Decks.{Decks}
 use Rattle.deck_reader.specs.declared.deck.Deck.{Deck}
 use Rattle.gd_io.specs.declared.writing.WriteFault.{WriteFault}
 use Rattle.load_deck.specs.LoadText.{load_text}
-use Rattle.load_laws.specs.LoadDeck.{load_deck, load_schedule}
+use Rattle.load_laws.specs.LoadDeck.{load_deck}
 use Rattle.load_laws.proofs.Accepted.{load-accepted}
 use Rattle.load_laws.proofs.Decked.{load-decks}
 use Rattle.player.specs.declared.stop.ProcessorStop.{ProcessorStop}
-use Rattle.schedule_runs.specs.declared.ran.Ending.{Ending}
-use Rattle.schedule_runs.specs.declared.ran.Ending.TheVariants as ending
-use Rattle.single_stops.proofs.Runs.{never-second}
+use Rattle.schedule_loop.specs.declared.ran.Ending.{Ending}
+use Rattle.schedule_loop.specs.declared.ran.Ending.TheVariants as ending
 use Rattle.verdicts.specs.Refused.{AreAccepted}
-use Rattle.runner.specs.Decided.{IsDue, IsDueOfRun, IsDueOfSweep, IsDueOn, IsReportOf}
+use Rattle.runner.specs.Decided.{IsDue, IsDueOfRun, IsDueOfSweep, IsDueOn}
 use Rattle.runner.specs.RunEnds.{status_of_run}
 use Rattle.runner.specs.Tasks.{can_stop, load_task}
 use Rattle.runner.specs.Written.{outcome_of, status_of}
 use Rattle.runner.specs.declared.due.Due.{Due}
 use Rattle.runner.specs.declared.due.Due.TheVariants as due
-use Rattle.runner.specs.declared.due.Report.{Report}
 use Rattle.runner.specs.declared.outcome.Outcome.{Outcome}
 use Rattle.runner.specs.declared.outcome.Status.TheVariants as status
 use Rattle.runner.specs.declared.task.Task.TheVariants as task
 use Rattle.runner.specs.declared.task.Telling.{Telling}
 use Rattle.runner.specs.declared.task.Telling.TheVariants.{Counts, Lines}
-use Rattle.command_laws.specs.RunStatus.{IsStatusOfCheck, IsStatusOfLoad, IsStatusOfRun}
+use Rattle.command_laws.specs.RunStatus.{IsStatusOfCheck, IsStatusOfRun}
 use Rattle.command_laws.proofs.Accepted.{IsGood, of-bytes, of-source}
 
 good-run : (deck : Deck) (stop : Option ProcessorStop) (tells : Telling) (decided : Due)
@@ -132,30 +129,13 @@ deck-ends words bytes before now acts stop deck decided (Ok done) outcome asked 
     (deck-run words bytes before now acts stop deck decided asked spelt able accepted is
     (none-failed decided done outcome same sure)) same
 
--- the schedule of a load asks for one stop
-load-ended : (count : ℕ) (report : Report) → IsReportOf (load_deck count) None report → (how : Ending)
-    → report.run.ran.ending ≡ how
-    → IsStatusOfLoad (status_of_run how)
-load-ended count report is ending.Idle how = tt
-load-ended count report is ending.Cut how = tt
-load-ended count report is (ending.Second processor) how =
-    never-second (load_deck count).site load_schedule None report.run.ran processor (omega arith) is.run how
-
-load-status : (count : ℕ) (decided : Due) → IsDueOfRun (load_deck count) None (Counts count) decided
-    → IsStatusOfLoad (status_of decided)
-load-status count (due.Report report) is = load-ended count report is.0 report.run.ran.ending refl
-load-status count (due.NoMemory _) is = tt
-load-status count _ is = absurd is
-
 pub load-ends : (words : List (List ℕ)) (left : Option (List ℕ)) (before now count : ℕ) (decided : Due)
     (result : Result ⊤ WriteFault) (outcome : Outcome)
     → asked_by words ≡ Some (Load count) → IsDue words left before now decided → outcome ≡ outcome_of decided result
-    → IsStatusOfLoad outcome.status
-load-ends words left before now count decided (Err fault) outcome asked is same =
-    subst (λ (o : Outcome). IsStatusOfLoad o.status) (sym same) tt
-load-ends words left before now count decided (Ok done) outcome asked is same =
-    subst (λ (o : Outcome). IsStatusOfLoad o.status) (sym same)
-    (load-status count decided (load-run words left before now count decided asked is))
+    → IsStatusOfRun outcome.status
+load-ends words left before now count decided result outcome asked is same =
+    run-ends (load_deck count) None (Counts count) decided result outcome
+    (load-run words left before now count decided asked is) same
 
 checked-status : (decided : Due) (deck : Deck)
     → (decided ≡ due.Accepted deck.site) ⊎ (decided ≡ due.NoMemory no_memory) → IsStatusOfCheck (status_of decided)

@@ -8,8 +8,8 @@ use Rattle.command_words.specs.declared.asked.Command.TheVariants.{Advise, Check
 use Rattle.gd_io.specs.Faults.{HasRisen}
 use Rattle.gd_io.specs.declared.writing.WriteFault.{WriteFault}
 use Rattle.load_deck.specs.LoadText.{load_text}
-use Rattle.schedule_runs.specs.declared.ran.Ending.{Ending}
-use Rattle.schedule_runs.specs.declared.ran.Ending.TheVariants.{Idle, Cut, Second}
+use Rattle.schedule_loop.specs.declared.ran.Ending.{Ending}
+use Rattle.schedule_loop.specs.declared.ran.Ending.TheVariants.{Idle, Cut, Second}
 use Rattle.runner.specs.Decided.{IsDue, IsDueOn}
 use Rattle.runner.specs.RunEnds.{status_of_run}
 use Rattle.runner.specs.Tasks.{load_task}

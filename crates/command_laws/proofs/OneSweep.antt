@@ -6,7 +6,7 @@ use Rattle.run_table.specs.declared.rows.Row.{Row}
 use Rattle.run_table.specs.declared.rows.RunKind.{RunKind}
 use Rattle.run_table.specs.declared.table.ProcessorRow.{ProcessorRow}
 use Rattle.schedule.specs.declared.line.Line.{Line}
-use Rattle.schedule_runs.specs.declared.ran.Ran.{Ran}
+use Rattle.packet_runs.specs.declared.ran.Ran.{Ran}
 use Rattle.single_runs.proofs.Runs.{one-run}
 use Rattle.tal_tree.specs.declared.site.Site.{Site}
 use Rattle.schedule_sweeps.specs.Sweeps.{AreKindsOf, AreRowsFrom, IsKindOf, IsRowOf, IsSweepOf, kind_of}

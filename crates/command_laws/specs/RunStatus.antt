@@ -9,12 +9,8 @@ IsStatusOfCheck status.WriteFault = Unit {0}
 IsStatusOfCheck (status.NoMemory _) = Unit {0}
 IsStatusOfCheck _ = ⊥
 
--- a load, whose deck asks for one stop: so, where its run came to an idle end, or its run was cut
-abbrev pub IsStatusOfLoad : Status → Type 0
-IsStatusOfLoad status.Cut = Unit {0}
-IsStatusOfLoad end = IsStatusOfCheck end
-
--- a run: so too, or a second processor would have stopped
+-- a run: so, where it came to an idle end, or it was cut, or a second processor would have stopped
 abbrev pub IsStatusOfRun : Status → Type 0
+IsStatusOfRun status.Cut = Unit {0}
 IsStatusOfRun (status.SecondStop processor) = Unit {0}
-IsStatusOfRun end = IsStatusOfLoad end
+IsStatusOfRun end = IsStatusOfCheck end

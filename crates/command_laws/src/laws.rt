@@ -22,7 +22,7 @@ ghost use Rattle.runner.specs.declared.task.Task.TheVariants as task;
 ghost use Rattle.runner.specs.declared.task.Telling.TheVariants.{Counts, Lines};
 ghost use Rattle.command_laws.specs.OneDue.{IsSameDue};
 ghost use Rattle.command_laws.specs.ReportedInput.{IsReportedInput};
-ghost use Rattle.command_laws.specs.RunStatus.{IsStatusOfCheck, IsStatusOfLoad, IsStatusOfRun};
+ghost use Rattle.command_laws.specs.RunStatus.{IsStatusOfCheck, IsStatusOfRun};
 ghost use Rattle.verdicts.specs.Refused.{AreAccepted};
 
 use gd_io::{Sink, Source};
@@ -123,12 +123,12 @@ pub fn a_load_is_run()
 {}
 
 /// So a command of such words ends with a run, unless memory runs out or a write fails: no words, deck, program or
-/// source is refused, and no second processor would stop.
+/// source is refused.
 pub fn a_load_is_never_refused<S: Source, K: Sink>()
     ensures { (words : List (List ℕ)) (source source_now : S) (sink sink_now : K) (outcome : Outcome) (count : ℕ)
         → Ends S.left S.faults S.sure K.held K.faults K.sure words source source_now sink sink_now outcome
         → asked_by words ≡ Some (Load count)
-        → IsStatusOfLoad outcome.status }
+        → IsStatusOfRun outcome.status }
 {}
 
 /// A command ends with a read fault only where the source counted one, and with a write fault only where the sink did;

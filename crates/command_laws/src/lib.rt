@@ -6,7 +6,7 @@
 //! Below stand `runner`, whose definitions say what is due and how a command ends, `deck_reader`, `verdicts` and
 //! `discipline` with the laws that decks and verdicts are one, `advice_laws` with the law that answers are,
 //! `report_laws`, by which the verdict on a report is one, `load_laws`, which says what deck the load text is, and
-//! `single_stops`, by which its run has no second stop. No code runs here.
+//! `single_runs`, by which a schedule has one run. No code runs here.
 #![tactic(auto)]
 
 pub mod laws;
