@@ -12,8 +12,8 @@ use Rattle.command_words.specs.declared.asked.Command.TheVariants.{Run}
 use Rattle.deck_reader.specs.Decks.{Decks}
 use Rattle.deck_reader.specs.declared.deck.Deck.{Deck}
 use Rattle.player.specs.declared.stop.ProcessorStop.{ProcessorStop}
-use Rattle.schedule_runs.specs.declared.ran.Ending.{Ending}
-use Rattle.schedule_runs.specs.declared.ran.Ending.TheVariants as ending
+use Rattle.schedule_loop.specs.declared.ran.Ending.{Ending}
+use Rattle.schedule_loop.specs.declared.ran.Ending.TheVariants as ending
 use Rattle.trace_print.specs.ReportText.{report_text}
 use Rattle.trace_print.specs.declared.closing.End.TheVariants.{Idle}
 use Rattle.report_judge.specs.Reported.{AreRising, IsReported}

@@ -1,6 +1,6 @@
 -- The processors of the world stay those of the site, and only one of them would stop.
-use Rattle.std.proofs.Common.{◌≡◌, ◌<◌, ℕ, Bool, true, false, if◌then◌else◌, List, [], length}
-use Rattle.std.proofs.Common.{slice_get, Option, Some, None, inl, refl, sym, ap, subst, ◌∙◌, arith, length-set}
+use Rattle.std.proofs.Common.{◌≡◌, ◌<◌, ℕ, Bool, true, false, if◌then◌else◌, List, length, slice_get, Option, Some}
+use Rattle.std.proofs.Common.{None, refl, ap, subst, ◌∙◌, length-set}
 use Rattle.std.proofs.lemmas.List.{length-replicate}
 use Rattle.std.proofs.lemmas.Option.{slice_get_within}
 use Rattle.tal_tree.specs.declared.site.Site.{Site}
@@ -8,110 +8,167 @@ use Rattle.schedule.specs.declared.event.Event.{Event}
 use Rattle.schedule.specs.declared.event.Event.TheVariants.{Run, Enter, Deliver, Lose, Repeat, Tick, Fail}
 use Rattle.schedule.specs.declared.line.Line.{Line}
 use Rattle.player.specs.declared.stop.ProcessorStop.{ProcessorStop}
-use Rattle.world_semantics.specs.Running.{Done}
+use Rattle.packet_words.specs.declared.bus_name.BusName.{BusName}
+use Rattle.packet_words.specs.declared.packet.Packet.{Packet}
+use Rattle.world_semantics.specs.Running.{Done, run_done}
+use Rattle.world_semantics.specs.World.{is_running}
+use Rattle.agendas.specs.Agendas.{Agenda}
+use Rattle.computed_changes.specs.Entered.{enter_done}
 use Rattle.computed_changes.specs.Stopped.{stop_where, stopped_world}
-use Rattle.machine_states.specs.States.{Makes, WouldStop}
-use Rattle.message_wires.specs.Play.{MachineState, after_done, fail_played, has_stopped, play}
-use Rattle.message_wires.specs.Runs.{IsPlayed, played_none, played_more, skipped}
-use Rattle.schedule_runs.proofs.Played.{played}
-use Rattle.schedule_runs.specs.Ends.{EndsAs, IsRunOf}
-use Rattle.schedule_runs.specs.declared.ran.Ending.{Ending}
-use Rattle.schedule_runs.specs.declared.ran.Ending.TheVariants.{Idle, Cut, Second}
-use Rattle.schedule_runs.specs.declared.ran.Ran.{Ran}
-use Rattle.single_stops.proofs.Calm.{calm-kept, would-stop}
+use Rattle.machine_states.specs.States.{Makes, Played, Skips, State, WouldStop}
+use Rattle.message_wires.specs.Play.{has_stopped}
+use Rattle.packet_wires.specs.Play.{Packeted, Underway, acted, begun, deliver_acted, ended, fail_acted, line_of}
+use Rattle.packet_wires.specs.Play.{lose_acted, made_by, marks_and_declares, packet_at, play, pulled, pulls, pulls_its}
+use Rattle.packet_wires.specs.Play.{received, repeat_acted, taken_off, tick_acted}
+use Rattle.packet_wires.specs.Runs.{IsPlayed, played_none, played_more, skipped}
+use Rattle.packet_wires.specs.Wires.{Midst, Wires, bus_named, ticked}
+use Rattle.packets_laws.proofs.Going as going
+use Rattle.packets_laws.proofs.Going.{Goes, play-goes}
+use Rattle.packet_runs.proofs.Played.{played}
+use Rattle.packet_runs.specs.Ends.{IsRunOf}
+use Rattle.packet_runs.specs.Runs.{course_on, packet_rules}
+use Rattle.packet_runs.specs.declared.ran.Ran.{Ran}
+use Rattle.schedule_loop.specs.Ends.{EndsBy, Plays}
+use Rattle.schedule_loop.specs.declared.ran.Ending.{Ending}
+use Rattle.schedule_loop.specs.declared.ran.Ending.TheVariants.{Idle, Cut, Second}
 use Rattle.report_judge.specs.Reported.{IsEndOfRun}
 use Rattle.runner.specs.RunEnds.{end_of}
 
--- Events
+-- As many processors
 
--- a stop leaves as many processors as there are
-stop-size : (processor : ℕ) (s next : MachineState) (there : Option Bool)
-    → fail_played processor s (stop_where processor s.world there) ≡ Makes next
+event-size : (s : Packeted) (event : Event) (next : Packeted) → play s event ≡ Makes next
     → length next.world.stopped ≡ length s.world.stopped
-stop-size processor s next None made = absurd (cc)
-stop-size processor s next (Some true) made = absurd (cc)
-stop-size processor s next (Some false) made = by (has_stopped s.world.stopped) made
+event-size s event next made = by (play s event) (play-goes s event) made
   where
-    done : Done
-    done = record { world = stopped_world processor s.world; sendings = [] }
-
-    by : (second : Bool) → (if second then WouldStop processor else Makes (after_done s done)) ≡ Makes next
+    to-next : (it : Packeted) → it ≡ next → length it.world.stopped ≡ length s.world.stopped
         → length next.world.stopped ≡ length s.world.stopped
-    by true e = absurd (cc)
-    by false e =
-        let same : after_done s done ≡ next = cc in
-        ap (λ (m : MachineState). length m.world.stopped) (sym same) ∙ length-set s.world.stopped processor true
+    to-next it same size = subst (λ (m : Packeted). length m.world.stopped ≡ length s.world.stopped) same size
 
-event-size : (s : MachineState) (event : Event) (next : MachineState) → play s event ≡ Makes next
-    → length next.world.stopped ≡ length s.world.stopped
-event-size s (Fail processor) next made = stop-size processor s next (slice_get s.world.stopped processor) made
-event-size s (Run number) next made = ap length (calm-kept s (Run number) next refl (inl made))
-event-size s (Enter terminal) next made = ap length (calm-kept s (Enter terminal) next refl (inl made))
-event-size s (Deliver y k) next made = ap length (calm-kept s (Deliver y k) next refl (inl made))
-event-size s (Lose y k) next made = ap length (calm-kept s (Lose y k) next refl (inl made))
-event-size s (Repeat y k) next made = ap length (calm-kept s (Repeat y k) next refl (inl made))
-event-size s (Tick node) next made = ap length (calm-kept s (Tick node) next refl (inl made))
+    by : (all : Played Wires) → Goes s all → all ≡ Makes next → length next.world.stopped ≡ length s.world.stopped
+    by _ going.skips is = absurd (cc)
+    by _ (going.would_stop processor) is = absurd (cc)
+    by _ (going.stops_none {next = it} site stopped) is = to-next it (cc) (ap length stopped)
+    by _ (going.stops_one {next = it} processor site first stopped) is =
+        to-next it (cc) (ap length stopped ∙ length-set s.world.stopped processor true)
 
-played-size : {site : Site} {events : List Event} {s : MachineState} → IsPlayed site events s
+played-size : {site : Site} {events : List Event} {s : Packeted} → IsPlayed site events s
     → length s.world.stopped ≡ site.processors
 played-size {site = site} played_none = length-replicate site.processors false
 played-size (played_more {s = s} {next = next} event before makes) = event-size s event next makes ∙ played-size before
 played-size (skipped event before skips) = played-size before
 
+-- Which one would stop
+
 -- only a processor of the world would stop
-stop-there : (processor one : ℕ) (s : MachineState) (there : Option Bool)
-    → slice_get s.world.stopped processor ≡ there
-    → fail_played processor s (stop_where processor s.world there) ≡ WouldStop one → one < length s.world.stopped
-stop-there processor one s None is would = absurd (cc)
-stop-there processor one s (Some true) is would = absurd (cc)
-stop-there processor one s (Some false) is would = by (has_stopped s.world.stopped) would
+abbrev StopsThere : {W V : Type 0} → State W → Played V → Type 0
+StopsThere s (Makes next) = Unit {0}
+StopsThere s Skips = Unit {0}
+StopsThere s (WouldStop processor) = processor < length s.world.stopped
+
+made-there : (s : Underway) (done : Option Done) → StopsThere s (made_by s done)
+made-there s None = tt
+made-there s (Some done) = tt
+
+deliver-there : (name : BusName) (s : Underway) (packet : Option Packet) → StopsThere s (deliver_acted name s packet)
+deliver-there name s None = tt
+deliver-there name s (Some packet) = tt
+
+lose-there : (s : Underway) (packet : Option Packet) → StopsThere s (lose_acted s packet)
+lose-there s None = tt
+lose-there s (Some packet) = tt
+
+repeat-there : (name : BusName) (s : Underway) (packet : Option Packet) → StopsThere s (repeat_acted name s packet)
+repeat-there name s None = tt
+repeat-there name s (Some packet) = tt
+
+-- one that runs, and would stop where another one has stopped
+one-there : (s : Underway) (processor : ℕ) (next : Underway) → slice_get s.world.stopped processor ≡ Some false
+    → (test : Bool) → StopsThere s (if test then WouldStop processor else Makes next)
+one-there s processor next at true = slice_get_within s.world.stopped processor false at
+one-there s processor next at false = tt
+
+fail-there : (processor : ℕ) (s : Underway) (there : Option Bool) → slice_get s.world.stopped processor ≡ there
+    → StopsThere s (fail_acted processor s (stop_where processor s.world there))
+fail-there processor s None at = tt
+fail-there processor s (Some true) at = tt
+fail-there processor s (Some false) at =
+    one-there s processor (record s { world = stopped_world processor s.world }) at (has_stopped s.world.stopped)
+
+tick-there : (node : ℕ) (s : Underway) → StopsThere s (tick_acted node s)
+tick-there node s = by (is_running s.world.stopped node)
   where
-    done : Done
-    done = record { world = stopped_world processor s.world; sendings = [] }
+    at : (midst : Midst) (processor : ℕ) (there : Option Bool) → slice_get s.world.stopped processor ≡ there
+        → StopsThere s (pulled node processor (record s { wires = midst }) there)
+    at midst processor None is = tt
+    at midst processor (Some true) is = tt
+    at midst processor (Some false) is =
+        one-there s processor
+        (marks_and_declares node processor (record s { world = stopped_world processor s.world; wires = midst })) is
+        (has_stopped s.world.stopped)
 
-    by : (second : Bool) → (if second then WouldStop processor else Makes (after_done s done)) ≡ WouldStop one
-        → one < length s.world.stopped
-    by true e =
-        let same : processor ≡ one = cc in
-        subst (λ (n : ℕ). n < length s.world.stopped) same (slice_get_within s.world.stopped processor false is)
-    by false e = absurd (cc)
+    line : (midst : Midst) (line : Option ℕ) → StopsThere s (pulls node (record s { wires = midst }) line)
+    line midst None = tt
+    line midst (Some processor) = at midst processor (slice_get s.world.stopped processor) refl
 
-zero-one : ◌≡◌ {A = ℕ} 0 1 → ⊥
-zero-one e = omega (arith, e)
+    by : (test : Bool) → StopsThere s (if test then pulls_its node
+        (record s { wires = ticked s.site.processors node s.wires }) else Skips)
+    by true = line (ticked s.site.processors node s.wires)
+        (line_of node (record s { wires = ticked s.site.processors node s.wires }))
+    by false = tt
 
-event-there : (s : MachineState) (event : Event) (one : ℕ) → play s event ≡ WouldStop one
-    → one < length s.world.stopped
-event-there s (Fail processor) one would =
-    stop-there processor one s (slice_get s.world.stopped processor) refl would
-event-there s (Run number) one would = absurd (zero-one (would-stop s (Run number) one would).0)
-event-there s (Enter terminal) one would = absurd (zero-one (would-stop s (Enter terminal) one would).0)
-event-there s (Deliver y k) one would = absurd (zero-one (would-stop s (Deliver y k) one would).0)
-event-there s (Lose y k) one would = absurd (zero-one (would-stop s (Lose y k) one would).0)
-event-there s (Repeat y k) one would = absurd (zero-one (would-stop s (Repeat y k) one would).0)
-event-there s (Tick node) one would = absurd (zero-one (would-stop s (Tick node) one would).0)
+acted-there : (s : Packeted) (event : Event) → StopsThere (begun s) (acted s event)
+acted-there s (Run number) = made-there (begun s) (run_done s.site number s.world)
+acted-there s (Enter number) = made-there (begun s) (enter_done s.site number s.world)
+acted-there s (Deliver y k) = deliver-there (bus_named y) (begun s) (packet_at s (bus_named y) k)
+acted-there s (Lose y k) = lose-there (begun s) (packet_at s (bus_named y) k)
+acted-there s (Repeat y k) = repeat-there (bus_named y) (begun s) (packet_at s (bus_named y) k)
+acted-there s (Tick node) = tick-there node (begun s)
+acted-there s (Fail processor) =
+    fail-there processor (begun s) (slice_get s.world.stopped processor) refl
+
+play-there : (s : Packeted) (event : Event) → StopsThere s (play s event)
+play-there s event = by (acted s event) (acted-there s event)
+  where
+    by : (all : Played Midst) → StopsThere (begun s) all → StopsThere s (ended (taken_off event s.wires) all)
+    by Skips there = tt
+    by (Makes next) there = tt
+    by (WouldStop processor) there = there
+
+event-there : (s : Packeted) (event : Event) (one : ℕ) → play s event ≡ WouldStop one → one < length s.world.stopped
+event-there s event one would = subst (StopsThere s) would (play-there s event)
 
 -- Runs
 
 -- what is known of the processors where a run ended
-pub record AreOfSite (site : Site) (left : MachineState) (ending : Ending) : Type 0 where
+pub record AreOfSite (site : Site) (left : Packeted) (ending : Ending) : Type 0 where
   pub size : length left.world.stopped ≡ site.processors
   pub end : IsEndOfRun site (end_of ending)
 
+size-at : (site : Site) (lines : List Line) (stop : Option ProcessorStop) (events : List Event) (agenda : Agenda)
+    (s : Packeted) → Plays packet_rules (course_on site lines stop) events agenda s
+    → length s.world.stopped ≡ site.processors
+size-at site lines stop events agenda s plays =
+    played-size {site = site} {events = events} {s = s}
+    (played {site = site} {lines = lines} {stop = stop} {events = events} {agenda = agenda} {s = s} plays)
+
 ends-of-site : (site : Site) (lines : List Line) (stop : Option ProcessorStop) (events : List Event)
-    (s left : MachineState) (asked : ℕ) (ending : Ending)
-    → EndsAs site lines stop events s left asked ending → AreOfSite site left ending
+    (s left : Packeted) (asked : ℕ) (ending : Ending)
+    → EndsBy packet_rules (course_on site lines stop) events s left asked ending → AreOfSite site left ending
 ends-of-site site lines stop events s left asked Idle ends = record {
-  size = ap (λ (m : MachineState). length m.world.stopped) ends.2 ∙ played-size (played ends.0.played);
+  size = ap (λ (m : Packeted). length m.world.stopped) ends.2
+      ∙ size-at site lines stop events ends.0.agenda s ends.0.played;
   end = tt;
 }
 ends-of-site site lines stop events s left asked Cut ends = record {
-  size = ap (λ (m : MachineState). length m.world.stopped) ends.2 ∙ played-size (played ends.0.played);
+  size = ap (λ (m : Packeted). length m.world.stopped) ends.2
+      ∙ size-at site lines stop events ends.0.agenda s ends.0.played;
   end = tt;
 }
 ends-of-site site lines stop events s left asked (Second processor) ends =
-    let size : length s.world.stopped ≡ site.processors = played-size (played ends.0.played) in
+    let size : length s.world.stopped ≡ site.processors =
+    size-at site lines stop events ends.0.agenda s ends.0.played in
     record {
-      size = ap (λ (m : MachineState). length m.world.stopped) ends.1 ∙ size;
+      size = ap (λ (m : Packeted). length m.world.stopped) ends.1 ∙ size;
       end = subst (λ (n : ℕ). processor < n) size (event-there s ends.0.plan.event processor ends.0.would);
     }
 
