@@ -1,7 +1,7 @@
 //! What a machine of copies tells of itself: `View`, plain data, and `view`, which takes it from the machine over whole
 //! messages.
 //!
-//! Below stand `pair_machine`, `process_copies` and `node_copies`, which lend their parts, `checkpoint_image` and
+//! Below stand `site_machine`, `process_copies` and `node_copies`, which lend their parts, `checkpoint_image` and
 //! `process_images` with the image of everything, and `world_semantics` with the world of copies. The layer above uses
 //! that the view of a machine is exactly `view_of` of its world (`specs/Views.antt`), and the laws of `laws.rt` on what
 //! that says.

@@ -4,7 +4,7 @@ ghost use Rattle.machine_views.specs.Views.{mark_of, marks_by, marks_in, stopped
 use crate::views::{DownView, TerminalView};
 use gd_words::{List, NoMemory};
 use node_copies::Downs;
-use pair_machine::PairMachine;
+use site_machine::Machine;
 use std::alloc::Global;
 use world_copies::Terminal;
 
@@ -14,7 +14,7 @@ const PROCESSORS: u8 = 16;
 const NODES: u8 = 17;
 
 /// The processors that have stopped.
-pub(crate) fn stopped(alloc: Global, machine: &PairMachine) -> Result<List<u8>, NoMemory>
+pub(crate) fn stopped(alloc: Global, machine: &Machine) -> Result<List<u8>, NoMemory>
     ensures { IfOk result (λ processors. processors ≡ stopped_in machine.now.state.world.stopped) }
 {
     let stopped = machine.stopped();

@@ -6,11 +6,11 @@ use crate::nodes::{down, stopped, terminals};
 use crate::sectors::sectors;
 use crate::views::View;
 use gd_words::NoMemory;
-use pair_machine::PairMachine;
+use site_machine::Machine;
 use std::alloc::Global;
 
 /// What the machine tells of itself. Of one that once wanted memory it tells the state in which that left it.
-pub fn view(alloc: Global, machine: &PairMachine) -> Result<View, NoMemory>
+pub fn view(alloc: Global, machine: &Machine) -> Result<View, NoMemory>
     ensures { IfOk result (λ view. view ≡ view_of machine.now.state.world) }
 {
     let processes = machine.processes();
