@@ -1,0 +1,4 @@
+pub mod Buses
+pub mod Decks
+pub mod Lengths
+pub mod Playable
