@@ -113,7 +113,8 @@ module _ {S : Type 0} (sizes : Sizes) (room : Room) (sight : S → Sight) (goes 
     played-left _ _ _ seen_none = omega arith
     played-left _ _ _ (seen_on {events = events} {agenda = agenda} {s = s} plan before comes goes_on) =
         let most = played-left events agenda s before in
-        let takes = subst (PlanTakes sizes room (sight s) (few events agenda s before) (left_of sizes room agenda)) comes
+        let takes = subst (PlanTakes sizes room (sight s) (few events agenda s before) (left_of sizes room agenda))
+        comes
         (upcoming-takes sizes room (sight s) (few events agenda s before) (length events) agenda) in
         let count : length (events ++ plan.event ∷ []) ≡ length events + 1 =
         length-append events (plan.event ∷ []) in
