@@ -1,0 +1,7 @@
+mod Calm
+mod Delivered
+mod Pieces
+mod Playing
+pub mod Runs
+mod Seeing
+mod Stretches
