@@ -1,0 +1,54 @@
+-- What the links of a node are for in a world of copies: the requests that wait at its copies, those that its acting
+-- copies have in hand, and those whose replies its acting copies and terminals await.
+use Rattle.std.specs.Prelude.{ℕ, ◌+◌, ◌==◌, if◌then◌else◌, List, [], ◌∷◌, ◌++◌, slice_get, Option, Some, None}
+use Rattle.tal_tree.specs.declared.site.Site.{Site}
+use Rattle.checkpoint_image.specs.declared.receive.OpenerBlock.{OpenerBlock}
+use Rattle.checkpoint_image.specs.declared.receive.ReceiveBlock.{ReceiveBlock}
+use Rattle.world_semantics.specs.declared.role.Role.{Role}
+use Rattle.world_semantics.specs.declared.role.Role.TheVariants.{Gone}
+use Rattle.world_semantics.specs.World.{Copy, Pair, Terminal, World, terminal_node}
+use Rattle.letters.specs.Again.{awaited_by, awaited_from, if_acts_on}
+use Rattle.standing_links.specs.Needs.{Name, Needs}
+
+-- Copies
+
+-- what is for a copy on a node that isn't gone
+abbrev pub if_there : {A : Type 0} → ℕ → Role → ℕ → List A → List A
+if_there node Gone at items = []
+if_there node _ at items = if at == node then items else []
+
+-- the request of the opener at a place with the number that was last taken from it
+abbrev pub last_taken : ℕ → ℕ → Option OpenerBlock → List Name
+last_taken number place None = []
+last_taken number place (Some block) = record { process = number; opener = place; number = block.taken } ∷ []
+
+-- the request that is in hand by a receive table of the process of this number
+abbrev pub in_hand_by : ℕ → ReceiveBlock → Option ℕ → List Name
+in_hand_by number table None = []
+in_hand_by number table (Some place) = last_taken number place (slice_get table.openers place)
+
+-- of both copies of each process, in the order of the deck
+abbrev pub of_copies : {A : Type 0} → (ℕ → Copy → List A) → ℕ → List Pair → List A
+of_copies f number [] = []
+of_copies f number (pair ∷ pairs) = f number pair.first ++ f number pair.second ++ of_copies f (number + 1) pairs
+
+-- Terminals
+
+-- of each terminal, in the order of the deck
+abbrev pub of_terminals : {A : Type 0} → (ℕ → Terminal → List A) → ℕ → List Terminal → List A
+of_terminals f number [] = []
+of_terminals f number (terminal ∷ terminals) = f number terminal ++ of_terminals f (number + 1) terminals
+
+-- Nodes
+
+abbrev pub needs_at : Site → World → ℕ → Needs
+needs_at site w node = record {
+  waiting = of_copies (λ number copy. if_there node copy.role copy.processor copy.waiting) 0 w.processes;
+  in_hand =
+      of_copies (λ number copy. if_acts_on node copy.role copy.processor
+      (in_hand_by number copy.core.receive copy.core.receive.in_hand)) 0 w.processes;
+  awaited =
+      of_copies (λ number copy. if_acts_on node copy.role copy.processor (awaited_by site number copy.core)) 0
+      w.processes
+      ++ (if node == terminal_node then of_terminals (awaited_from site) 0 w.terminals else []);
+}
