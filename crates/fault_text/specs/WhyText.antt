@@ -1,6 +1,6 @@
 -- What is told of a deck that can't be read. Our own wording.
-use Rattle.std.specs.Prelude.{ℕ, ◌-◌, not, ◌==◌, ◌||◌, ◌&&◌, nat_le, List, [], ◌∷◌, ◌++◌, codes, map, flat_map, take}
-use Rattle.std.specs.Prelude.{Option, Some, None, if◌then◌else◌}
+use Rattle.std.specs.Prelude.{ℕ, ◌-◌, List, [], ◌∷◌, ◌++◌, codes, map, flat_map, take}
+use Rattle.std.specs.Prelude.{Option, Some, None}
 use Rattle.std.specs.Fmt.{decimal}
 use Rattle.fault_words.specs.Hints.{hint_of, hint_text}
 use Rattle.fault_words.specs.Places.{line_under, place_of}
@@ -9,20 +9,12 @@ use Rattle.fault_words.specs.declared.hint.Hint.{Hint}
 use Rattle.fault_words.specs.declared.place.FaultPlace.{FaultPlace}
 use Rattle.fault_words.specs.declared.place.FaultPlace.TheVariants.{Nowhere, Line, Byte}
 use Rattle.tal_tree.specs.declared.fault.DeckFault.{DeckFault}
+use Rattle.text_pieces.specs.Signs.{lead_sign, shown_sign}
 use Rattle.trace_print.specs.FaultLine.{fault_line}
-
--- a sign as it is shown: a tab stays, and any other control sign is `?`, so that no line moves a terminal's cursor
-abbrev pub shown_sign : ℕ → ℕ
-shown_sign c = if (nat_le c 31 && not (c == 9)) || (c == 127) then 63 else c
 
 -- a line of the deck, four columns further in
 abbrev pub shown_line : List ℕ → List ℕ
 shown_line line = codes "    " ++ map shown_sign line ++ 10 ∷ []
-
--- what stands under a sign before the caret: a tab under a tab, a space under another, and nothing under the later
--- bytes of a sign of UTF-8
-abbrev pub lead_sign : ℕ → List ℕ
-lead_sign c = if c == 9 then 9 ∷ [] else if nat_le 128 c && nat_le c 191 then [] else 32 ∷ []
 
 -- a caret under the byte in this column, from 1
 abbrev pub caret_line : List ℕ → ℕ → List ℕ

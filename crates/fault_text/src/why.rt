@@ -6,12 +6,12 @@ ghost use Rattle.fault_words.specs.Sentences.{sentence_of};
 ghost use Rattle.fault_text.specs.WhyText.{caret_line, caret_under, hint_line, hint_under, place_line, pointed_line};
 ghost use Rattle.fault_text.specs.WhyText.{shown_line, told_text, told_under};
 
-use crate::pieces::{put, put_lead, put_number, put_shown};
 use fault_words::{FaultPlace, Hint, cut_at, hint_of, line_under, place_of, sentence_of};
 use gd_io::{Sink, WriteFault, put_all};
 use gd_words::{List, NoMemory};
 use std::alloc::Global;
 use tal_tree::DeckFault;
+use text_pieces::{put, put_lead, put_number, put_shown};
 use trace_print::write_fault;
 
 /// What is told of a deck's fault, up to the line that `guardian` writes.

@@ -1,6 +1,6 @@
 ghost use Rattle.std.specs.Prelude.{◌≡◌, ◌++◌, OnOk, map, flat_map};
 ghost use Rattle.std.specs.Fmt.{decimal};
-ghost use Rattle.fault_text.specs.WhyText.{lead_sign, shown_sign};
+ghost use Rattle.text_pieces.specs.Signs.{lead_sign, shown_sign};
 
 use gd_words::{List, NoMemory};
 use itoa::Buffer;
