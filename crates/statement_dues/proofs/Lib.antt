@@ -1,0 +1,2 @@
+mod DeedLayers
+mod NamedLayers
