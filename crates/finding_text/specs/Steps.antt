@@ -1,0 +1,66 @@
+-- The text of a path that breaks: its statements as lines of the deck. Our own.
+use Rattle.std.specs.Prelude.{ℕ, ◌+◌, ◌-◌, ◌==◌, Bool, nat_le, nat_lt, if◌then◌else◌, List, [], ◌∷◌, ◌++◌, codes, length}
+use Rattle.std.specs.Prelude.{take, drop}
+use Rattle.std.specs.Fmt.{decimal}
+use Rattle.path_semantics.specs.declared.reason.Reason.{Reason}
+use Rattle.path_semantics.specs.declared.reason.Reason.TheVariants.{Data, SyncBlock, Input, Depth}
+use Rattle.statement_lines.specs.Lines.{line_among}
+use Rattle.tal_tree.specs.declared.program.Program.{Program}
+use Rattle.pair_findings.specs.Marks.{is_marked}
+use Rattle.pair_findings.specs.declared.finding.PairFinding.{PairFinding}
+use Rattle.finding_text.specs.DeckPlace.{source_text}
+use Rattle.finding_text.specs.Names.{file_name, item_name}
+use Rattle.finding_text.specs.declared.steps.Way.{Way}
+
+-- a number of up to seven digits ends in the same column
+abbrev pub padding : ℕ → List ℕ
+padding number =
+    if nat_lt number 10 then codes "      " else if nat_lt number 100 then codes "     "
+    else if nat_lt number 1000 then codes "    " else if nat_lt number 10000 then codes "   "
+    else if nat_lt number 100000 then codes "  " else codes " "
+
+abbrev pub place_text : ℕ → List ℕ
+place_text line = padding line ++ decimal line ++ codes "  "
+
+-- what a statement made due
+abbrev pub due_mark : Program → Reason → List ℕ
+due_mark program (Data item) = codes "   <- sets " ++ item_name program item
+due_mark program (SyncBlock file) = codes "   <- asks " ++ file_name program file
+due_mark program Input = codes "   <- reads a request"
+due_mark program (Depth file) = codes "   <- asks " ++ file_name program file
+
+-- how the last statement breaks
+abbrev pub last_mark : Program → Reason → List ℕ
+last_mark program (Data item) = codes "   <- doesn't name " ++ item_name program item
+last_mark program (SyncBlock file) = codes "   <- doesn't name " ++ file_name program file
+last_mark program Input = codes "   <- comes with no CHECKPOINT before it"
+last_mark program (Depth file) = codes "   <- is one too many for " ++ file_name program file
+
+abbrev pub mark_text : Program → PairFinding → Way → ℕ → ℕ → List ℕ
+mark_text program finding way place number =
+    if place + 1 == way.count then last_mark program way.reason
+    else if is_marked finding.deeds finding.since place number then due_mark program way.reason
+    else []
+
+-- the statement of this number at a place of the path
+abbrev pub step_text : List ℕ → Program → PairFinding → Way → ℕ → ℕ → List ℕ
+step_text bytes program finding way place number =
+    place_text (way.start + line_among finding.lines number)
+    ++ source_text bytes (way.start + line_among finding.lines number)
+    ++ mark_text program finding way place number ++ 10 ∷ []
+
+-- statements, of which the first stands at this place
+abbrev pub steps_text : List ℕ → Program → PairFinding → Way → ℕ → List ℕ → List ℕ
+steps_text bytes program finding way place [] = []
+steps_text bytes program finding way place (number ∷ rest) =
+    step_text bytes program finding way place number ++ steps_text bytes program finding way (place + 1) rest
+
+abbrev pub gap_text : ℕ → List ℕ
+gap_text count = codes "     ..  " ++ decimal count ++ codes " statements are left out" ++ 10 ∷ []
+
+-- a path of more than 60 statements is cut: 30 of each end are shown
+abbrev pub path_text : List ℕ → Program → PairFinding → Way → List ℕ → List ℕ
+path_text bytes program finding way path =
+    if nat_le (length path) 60 then steps_text bytes program finding way 0 path
+    else steps_text bytes program finding way 0 (take 30 path) ++ gap_text (length path - 60)
+    ++ steps_text bytes program finding way (length path - 30) (drop (length path - 30) path)
