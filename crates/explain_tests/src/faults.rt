@@ -110,7 +110,7 @@ const ROWS: [Row; 21] = [
     },
     Row {
         deck: b"processors 2\npair $P 0 1\nPROC m MAIN; BEGIN CALL CHECKMONITOR; END;\n.\nschedule\nEND\n",
-        told: b"the deck can be read\n",
+        told: b"the deck can be read\nthe program of $P is accepted\n",
         number: 0,
     },
     Row {

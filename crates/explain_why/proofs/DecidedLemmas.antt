@@ -1,10 +1,12 @@
 -- What is decided, and what the status tells of it.
 use Rattle.std.proofs.Common.{◌≡◌, ℕ, ◌<◌, List, [], length, Option, Some, None, Result, Ok, Err, sym, subst, ap, ◌∙◌}
-use Rattle.std.proofs.Common.{refl}
+use Rattle.std.proofs.Common.{refl, Bool, true, false}
 use Rattle.std.specs.Prelude.{◌≢◌, ⊤}
+use Rattle.deck_reader.specs.Decks.{Decks}
 use Rattle.deck_reader.specs.Refusals.{IsRefusalOf}
-use Rattle.explain_why.specs.Decided.{AreLeft, IsDueOfBytes, IsDueOfFault, IsDueOfSource}
-use Rattle.explain_why.specs.Written.{CanBeWritten, status_after}
+use Rattle.deck_reader.specs.declared.deck.Deck.{Deck}
+use Rattle.explain_why.specs.Decided.{AreLeft, IsDueOfBytes, IsDueOfDeck, IsDueOfFault, IsDueOfSource}
+use Rattle.explain_why.specs.Written.{CanBeWritten, judged_status, status_after}
 use Rattle.explain_why.specs.declared.due.Due.{Due}
 use Rattle.explain_why.specs.declared.due.Due.TheVariants as due
 use Rattle.explain_why.specs.declared.status.Status.{Status}
@@ -20,10 +22,14 @@ use Rattle.tal_tree.specs.declared.fault.TalFault.TheVariants as tal
 use Rattle.trace_print.specs.FaultLine.{IsOfDeck}
 use Rattle.trace_print.specs.TalNumbers.{IsOfText}
 
+judged_is_none : {P : Type 0} (refused : Bool) → judged_status refused ≡ status.ReadFault → P
+judged_is_none true e = absurd (cc)
+judged_is_none false e = absurd (cc)
+
 -- a read fault is the status of no other decision
 read_fault_only : (decided : Due) (result : Result ⊤ WriteFault) → status_after decided result ≡ status.ReadFault
     → decided ≡ due.ReadFault
-read_fault_only due.Read (Ok done) e = absurd (cc)
+read_fault_only (due.Judged judged) (Ok done) e = judged_is_none judged.refused e
 read_fault_only (due.Refused refused) (Ok done) e = absurd (cc)
 read_fault_only due.ReadFault (Ok done) e = refl
 read_fault_only (due.NoMemory _) (Ok done) e = absurd (cc)
@@ -42,7 +48,7 @@ are_left (Some xs) now bytes rest h = h.0
 pub fault_is_due : (bytes : List ℕ) (why : DeckFault) (decided : Due)
     → (why ≢ fault.NoMemory no_memory → IsRefusalOf bytes why) → IsDueOfFault bytes why decided
     → IsDueOfBytes bytes decided
-fault_is_due bytes why due.Read refused is = absurd is
+fault_is_due bytes why (due.Judged judged) refused is = absurd is
 fault_is_due bytes why due.ReadFault refused is = absurd is
 fault_is_due bytes why (due.NoMemory _) refused is = tt
 fault_is_due bytes why (due.Refused found) refused is = (
@@ -65,7 +71,7 @@ has_line _ there memory = tt
 pub fault_is_written : (bytes : List ℕ) (why : DeckFault) (decided : Due)
     → ((number : ℕ) → why ≢ fault.Program number (tal.NoMemory no_memory)) → IsDueOfFault bytes why decided
     → CanBeWritten decided
-fault_is_written bytes why due.Read memory is = tt
+fault_is_written bytes why (due.Judged judged) memory is = absurd is
 fault_is_written bytes why due.ReadFault memory is = tt
 fault_is_written bytes why (due.NoMemory _) memory is = tt
 fault_is_written bytes why (due.Refused found) memory is = subst IsOfDeck (sym is.0) (has_line why is.2 memory)
@@ -73,7 +79,7 @@ fault_is_written bytes why (due.Refused found) memory is = subst IsOfDeck (sym i
 -- too many bytes are refused, whatever they are
 pub too_long_is_due : (bytes : List ℕ) (decided : Due) → 1048576 < length bytes
     → IsDueOfFault [] fault.TooLong decided → IsDueOfBytes bytes decided
-too_long_is_due bytes due.Read long is = absurd is
+too_long_is_due bytes (due.Judged judged) long is = absurd is
 too_long_is_due bytes due.ReadFault long is = absurd is
 too_long_is_due bytes (due.NoMemory _) long is = tt
 too_long_is_due bytes (due.Refused found) long is = (
@@ -84,7 +90,23 @@ too_long_is_due bytes (due.Refused found) long is = (
 -- what is due of the bytes of a source
 pub bytes_are_due : (left : Option (List ℕ)) (before now : ℕ) (bytes : List ℕ) (decided : Due) → AreLeft left bytes
     → IsDueOfBytes bytes decided → IsDueOfSource left before now decided
-bytes_are_due left before now bytes due.Read told is = (bytes, told, is)
+bytes_are_due left before now bytes (due.Judged judged) told is = (bytes, told, is)
 bytes_are_due left before now bytes (due.Refused refused) told is = (bytes, told, is)
 bytes_are_due left before now bytes due.ReadFault told is = absurd is
 bytes_are_due left before now bytes (due.NoMemory _) told is = tt
+
+-- what is told of a deck that bytes spell is due of them
+pub deck_is_due : (bytes : List ℕ) (deck : Deck) (decided : Due) → Decks bytes deck → IsDueOfDeck bytes deck decided
+    → IsDueOfBytes bytes decided
+deck_is_due bytes deck (due.Judged judged) spells is = (deck, spells, is)
+deck_is_due bytes deck (due.NoMemory _) spells is = tt
+deck_is_due bytes deck (due.Refused refused) spells is = absurd is
+deck_is_due bytes deck due.ReadFault spells is = absurd is
+
+-- and can be written
+pub deck_is_written : (bytes : List ℕ) (deck : Deck) (decided : Due) → IsDueOfDeck bytes deck decided
+    → CanBeWritten decided
+deck_is_written bytes deck (due.Judged judged) is = tt
+deck_is_written bytes deck (due.NoMemory _) is = tt
+deck_is_written bytes deck (due.Refused refused) is = absurd is
+deck_is_written bytes deck due.ReadFault is = tt

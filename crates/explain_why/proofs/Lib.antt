@@ -1,1 +1,2 @@
 pub mod DecidedLemmas
+mod Judgeable

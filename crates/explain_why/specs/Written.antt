@@ -1,5 +1,5 @@
 -- What is written of a deck, and the status.
-use Rattle.std.specs.Prelude.{ℕ, List, [], ◌∷◌, ◌++◌, codes, Result, Ok, Err, ⊤}
+use Rattle.std.specs.Prelude.{ℕ, Bool, if◌then◌else◌, List, [], ◌++◌, Result, Ok, Err, ⊤}
 use Rattle.explain_why.specs.declared.due.Due.{Due}
 use Rattle.explain_why.specs.declared.due.Due.TheVariants as due
 use Rattle.explain_why.specs.declared.status.Status.{Status}
@@ -9,7 +9,7 @@ use Rattle.trace_print.specs.FaultLine.{IsOfDeck, fault_line}
 
 -- the text that is due; nothing where reading failed or memory ran out
 abbrev pub text_of : Due → List ℕ
-text_of due.Read = codes "the deck can be read" ++ 10 ∷ []
+text_of (due.Judged judged) = judged.told
 text_of (due.Refused refused) = refused.told ++ fault_line refused.fault
 text_of due.ReadFault = []
 text_of (due.NoMemory _) = []
@@ -19,8 +19,11 @@ abbrev pub CanBeWritten : Due → Type 0
 CanBeWritten (due.Refused refused) = IsOfDeck refused.fault
 CanBeWritten _ = Unit {0}
 
+abbrev pub judged_status : Bool → Status
+judged_status refused = if refused then status.ProgramRefused else status.Done
+
 abbrev pub status_of : Due → Status
-status_of due.Read = status.Done
+status_of (due.Judged judged) = judged_status judged.refused
 status_of (due.Refused refused) = status.Refused refused.fault
 status_of due.ReadFault = status.ReadFault
 status_of (due.NoMemory memory) = status.NoMemory memory
@@ -34,6 +37,7 @@ status_after decided (Err fault) = status.WriteFault
 abbrev pub status_number : Status → ℕ
 status_number status.Done = 0
 status_number (status.Refused fault) = 2
+status_number status.ProgramRefused = 3
 status_number status.ReadFault = 6
 status_number status.WriteFault = 7
 status_number (status.NoMemory _) = 8

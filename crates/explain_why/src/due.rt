@@ -4,8 +4,8 @@ use tal_tree::DeckFault;
 /// What is due once all is decided and nothing is written yet.
 #[derive(Drop)]
 pub enum Due {
-    /// The bytes are a deck.
-    Read,
+    /// The bytes are a deck, and its programs are judged.
+    Judged(JudgedDeck),
     Refused(RefusedDeck),
     ReadFault,
     NoMemory(NoMemory),
@@ -15,5 +15,12 @@ pub enum Due {
 #[derive(Drop)]
 pub struct RefusedDeck {
     pub fault: DeckFault,
+    pub told: List<u8>,
+}
+
+/// What is told of a deck that can be read, and whether a program of it is refused.
+#[derive(Drop)]
+pub struct JudgedDeck {
+    pub refused: bool,
     pub told: List<u8>,
 }

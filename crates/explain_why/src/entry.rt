@@ -1,7 +1,8 @@
 ghost use Rattle.std.specs.Prelude.{◌≡◌};
 ghost use Rattle.gd_io.specs.Puts.{Puts};
 ghost use Rattle.explain_why.specs.Ends.{WhyEnds};
-ghost use Rattle.explain_why.specs.Written.{CanBeWritten, status_after, status_number, status_of, text_of};
+ghost use Rattle.explain_why.specs.Written.{CanBeWritten, judged_status, status_after, status_number, status_of};
+ghost use Rattle.explain_why.specs.Written.{text_of};
 ghost use Rattle.explain_why.specs.declared.status.Status.{Status};
 
 use crate::decide::due_of_source;
@@ -22,7 +23,8 @@ pub fn why_number<S: Source, K: Sink>(alloc: Global, source: &mut S, sink: &mut 
 
 /// Reads a deck from the source to its end. Where it can't be read, it writes to the sink the fault as a sentence, the
 /// deck's line with its number, a caret under the column, what often lies behind it, and the line that `guardian`
-/// writes; else that it can be read.
+/// writes. Else it writes of each pair why its program is refused, the way there and what it lacks, or what its
+/// CHECKPOINTs send.
 pub fn why<S: Source, K: Sink>(alloc: Global, source: &mut S, sink: &mut K) -> Status
     ensures { WhyEnds S.left S.faults S.sure K.held K.faults K.sure source.old source.new sink.old sink.new result }
 {
@@ -36,7 +38,7 @@ fn write_due<K: Sink>(sink: &mut K, due: &Due) -> Result<(), WriteFault>
     ensures { Puts K.held K.faults K.sure sink.old sink.new (text_of due.now) result }
 {
     match due {
-        Due::Read => put_all(sink, b"the deck can be read\n"),
+        Due::Judged(judged) => put_all(sink, judged.told.as_slice()),
         Due::Refused(refused) => write_why(sink, refused.told.as_slice(), &refused.fault),
         Due::ReadFault => Ok(()),
         Due::NoMemory(_) => Ok(()),
@@ -57,9 +59,19 @@ fn status_of(due: &Due) -> Status
     ensures { result ≡ status_of due.now }
 {
     match due {
-        Due::Read => Status::Done,
+        Due::Judged(judged) => judged_status(judged.refused),
         Due::Refused(refused) => Status::Refused(refused.fault),
         Due::ReadFault => Status::ReadFault,
         Due::NoMemory(memory) => Status::NoMemory(*memory),
+    }
+}
+
+fn judged_status(refused: bool) -> Status
+    ensures { result ≡ judged_status refused }
+{
+    if refused {
+        Status::ProgramRefused
+    } else {
+        Status::Done
     }
 }

@@ -7,8 +7,10 @@ use tal_tree::DeckFault;
 /// How a call ended.
 #[derive(Clone, Copy, PartialEq, Eq, Drop)]
 pub enum Status {
-    /// The deck can be read.
+    /// The deck can be read, and its programs are accepted.
     Done,
+    /// The deck can be read, and a program of it is refused.
+    ProgramRefused,
     Refused(DeckFault),
     ReadFault,
     WriteFault,
@@ -23,6 +25,7 @@ impl Status {
         match self {
             Status::Done => 0,
             Status::Refused(_) => 2,
+            Status::ProgramRefused => 3,
             Status::ReadFault => 6,
             Status::WriteFault => 7,
             Status::NoMemory(_) => 8,
