@@ -1,20 +1,24 @@
-//! The program `explain`: the words of the command line, standard input, standard output and the top call of
-//! `explain_runner`.
+//! The program `explain`: the words of the command line, the file that they name or standard input, standard output, and
+//! the top call of `explain_runner`.
 //!
-//! Below stand `explain_runner`, whose `exit_number` does all the work, and `gd_io` with the ends. Nothing is written
-//! to standard error.
+//! Below stand `explain_runner`, whose `exit_number` does all the work, `explain_words` with the file's name, and
+//! `gd_io` with the ends. Nothing is written to standard error.
 #![tactic(auto)]
 
 use explain_runner::exit_number;
+use explain_words::file_asked;
 use gd_io::{StdSink, StdSource};
 use gd_words::NoMemory;
 use std::alloc::{AllocError, AllocGlobal};
 use std::process::ExitCode;
 use std::rt::Env;
-use std::{env, io};
+use std::{env, fs, io};
 
 /// The number with which the program ends where the memory for its words is wanting.
 const NO_MEMORY: u8 = 8;
+
+/// The number with which it ends where the file that the words name can't be opened.
+const READ_FAULT: u8 = 6;
 
 /// The words that the program is called with, its name first. Where one isn't UTF-8 there are none, which ask for
 /// nothing.
@@ -32,8 +36,23 @@ fn main(rt: HostRuntime) -> ExitCode {
     let Ok(words) = called_words(&rt) else {
         return ExitCode::from(NO_MEMORY);
     };
-    let mut source = StdSource::new(rt.stdin());
+    let Ok(file) = file_asked(rt.alloc(), words.as_slice()) else {
+        return ExitCode::from(NO_MEMORY);
+    };
     let mut sink = StdSink::new(rt.stdout());
-    let number = exit_number(rt.alloc(), words.as_slice(), &mut source, &mut sink);
-    ExitCode::from(number)
+    match file {
+        None => {
+            let mut source = StdSource::new(rt.stdin());
+            let number = exit_number(rt.alloc(), words.as_slice(), &mut source, &mut sink);
+            ExitCode::from(number)
+        }
+        Some(path) => match fs::open(&rt, path) {
+            Err(_) => ExitCode::from(READ_FAULT),
+            Ok(opened) => {
+                let mut source = StdSource::new(opened);
+                let number = exit_number(rt.alloc(), words.as_slice(), &mut source, &mut sink);
+                ExitCode::from(number)
+            }
+        },
+    }
 }

@@ -11,9 +11,13 @@ pub enum Ending {
     Usage,
     /// The usage wasn't written whole.
     UsageUnwritten,
-    /// Memory for the words ran out.
+    /// What was asked of the program itself was written.
+    Shown,
+    /// That wasn't written whole.
+    ShownUnwritten,
+    /// Memory for the words or for such an answer ran out.
     NoMemory(NoMemory),
-    /// It was told why a deck can't be read, or tried.
+    /// It was told of a deck, or tried.
     Told(Status),
 }
 
@@ -25,6 +29,8 @@ impl Ending {
         match self {
             Ending::Usage => 1,
             Ending::UsageUnwritten => 7,
+            Ending::Shown => 0,
+            Ending::ShownUnwritten => 7,
             Ending::NoMemory(_) => 8,
             Ending::Told(status) => status.number(),
         }

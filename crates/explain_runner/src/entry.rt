@@ -1,11 +1,12 @@
 ghost use Rattle.std.specs.Prelude.{◌≡◌, map, string_bytes};
-ghost use Rattle.explain_runner.specs.Answers.{Answers, IsUsage, ending_number};
+ghost use Rattle.explain_runner.specs.Answers.{Answers, IsShown, IsUsage, IsWritten, ending_number};
 ghost use Rattle.explain_runner.specs.declared.ending.Ending.{Ending};
 
 use crate::ending::Ending;
 use explain_why::why;
-use explain_words::{Question, asked_by};
+use explain_words::{Question, asked_by, help_text, version_text};
 use gd_io::{Sink, Source, WriteFault, put_all};
+use gd_words::NoMemory;
 use std::alloc::Global;
 
 /// Does what the words ask for as `explain` does, and answers the number with which the program ends.
@@ -23,8 +24,8 @@ pub fn exit_number<S: Source, K: Sink>(
     explain(alloc, words, source, sink).number()
 }
 
-/// Does what the words ask for, the program's name first. `why` tells why the deck of the source can't be read. Other
-/// words give the usage.
+/// Does what the words ask for, the program's name first. `why` tells why the deck of the source can't be read, or why
+/// its programs are refused. `--help` and `--version` write what they ask for, and other words give the usage.
 pub fn explain<S: Source, K: Sink>(
     alloc: Global,
     words: &[String],
@@ -38,14 +39,35 @@ pub fn explain<S: Source, K: Sink>(
         Err(memory) => Ending::NoMemory(memory),
         Ok(None) => write_usage(sink),
         Ok(Some(Question::Why)) => Ending::Told(why(alloc, source, sink)),
+        Ok(Some(Question::Help)) => show(help_text(alloc), sink),
+        Ok(Some(Question::Version)) => show(version_text(alloc), sink),
     }
 }
 
 fn write_usage<K: Sink>(sink: &mut K) -> Ending
     ensures { IsUsage K.held K.faults K.sure sink.old sink.new result }
 {
-    match put_all(sink, b"usage: explain why\n") {
+    match put_all(sink, b"usage: explain why [FILE]\n") {
         Ok(()) => Ending::Usage,
         Err(WriteFault) => Ending::UsageUnwritten,
+    }
+}
+
+/// Writes a text, if there was memory for it.
+fn show<K: Sink>(text: Result<String, NoMemory>, sink: &mut K) -> Ending
+    ensures { IsShown K.held K.faults K.sure sink.old sink.new result }
+{
+    match text {
+        Err(memory) => Ending::NoMemory(memory),
+        Ok(text) => show_text(text.as_bytes(), sink),
+    }
+}
+
+fn show_text<K: Sink>(text: &[u8], sink: &mut K) -> Ending
+    ensures { IsWritten K.held K.faults K.sure text.now sink.old sink.new result }
+{
+    match put_all(sink, text) {
+        Ok(()) => Ending::Shown,
+        Err(WriteFault) => Ending::ShownUnwritten,
     }
 }

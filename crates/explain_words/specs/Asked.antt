@@ -1,10 +1,12 @@
 -- What the words of a command line of `explain` ask for. Our own rule.
-use Rattle.std.specs.Prelude.{List, ◌∷◌, Option, Some, None, option_and_then, codes, if◌then◌else◌}
+use Rattle.std.specs.Prelude.{◌≡◌, List, [], ◌∷◌, Option, Some, None, option_and_then, codes, if◌then◌else◌}
 use Rattle.std.specs.Str.{bytes_eq}
-use Rattle.clap.specs.Words.{Row, Text, first_of}
-use Rattle.explain_words.specs.Line.{parse_of}
+use Rattle.clap.specs.Words.{IsAmong, Kinds, Row, Text, fault_of, first_of, matches_of}
+use Rattle.clap.specs.declared.error.kind.ErrorKind.{ErrorKind}
+use Rattle.clap.specs.declared.error.kind.ErrorKind.TheVariants as kind
+use Rattle.explain_words.specs.Line.{the_line}
 use Rattle.explain_words.specs.declared.asked.Question.{Question}
-use Rattle.explain_words.specs.declared.asked.Question.TheVariants.{Why}
+use Rattle.explain_words.specs.declared.asked.Question.TheVariants.{Why, Help, Version}
 
 abbrev pub question_as : Text → Option Question
 question_as mode = if bytes_eq mode (codes "why") then Some Why else None
@@ -13,10 +15,33 @@ question_as mode = if bytes_eq mode (codes "why") then Some Why else None
 abbrev pub question_in : List Row → Option Question
 question_in rows = option_and_then question_as (first_of (codes "mode") rows)
 
+-- what words ask for that clap refuses for this
+abbrev pub kind_question : ErrorKind → Option Question
+kind_question kind.DisplayHelp = Some Help
+kind_question kind.DisplayVersion = Some Version
+kind_question _ = None
+
+-- by what clap refuses the words for, and else by their parts
+abbrev pub AsksBy : Kinds → List Row → Option Question → Type 0
+AsksBy [] rows question = question ≡ question_in rows
+AsksBy (first ∷ kinds) rows question =
+    (one : ErrorKind) × IsAmong one (first ∷ kinds) × (question ≡ kind_question one)
+
 -- what the words ask for, the program's name first
-abbrev pub asked_by : List Text → Option Question
-asked_by words = option_and_then question_in (parse_of words)
+abbrev pub IsAsked : List Text → Option Question → Type 0
+IsAsked words question = AsksBy (fault_of the_line words) (matches_of the_line words) question
+
+abbrev pub file_by : Kinds → List Row → Option Text
+file_by [] rows = first_of (codes "file") rows
+file_by (first ∷ kinds) rows = None
+
+-- the file that they name
+abbrev pub IsFileAsked : List Text → Option Text → Type 0
+IsFileAsked words file = file ≡ file_by (fault_of the_line words) (matches_of the_line words)
 
 -- what the words after the program's name ask for
-abbrev pub asked : List Text → Option Question
-asked words = asked_by (codes "explain" ∷ words)
+abbrev pub IsAskedAfter : List Text → Option Question → Type 0
+IsAskedAfter words question = IsAsked (codes "explain" ∷ words) question
+
+abbrev pub IsFileAfter : List Text → Option Text → Type 0
+IsFileAfter words file = IsFileAsked (codes "explain" ∷ words) file

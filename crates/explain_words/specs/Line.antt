@@ -1,20 +1,32 @@
 -- The words that a command line of `explain` may have, as one simple command of clap. Our own rule.
-use Rattle.std.specs.Prelude.{true, List, [], ◌∷◌, Option, Some, None, codes}
-use Rattle.clap.specs.Words.{App, Kinds, Row, Rule, Text, fault_of, matches_of, new_app, new_rule, with_rule}
+use Rattle.std.specs.Prelude.{◌≡◌, true, List, [], Some, codes}
+use Rattle.clap.specs.Words.{App, IsAmong, Rule, Text, fault_of, found_of, matches_of, new_app, new_rule, rows_of}
+use Rattle.clap.specs.Words.{with_rule}
 use Rattle.clap.specs.declared.builder.action.ArgAction.TheVariants.{Set}
+use Rattle.clap.specs.declared.error.kind.ErrorKind.{ErrorKind}
+use Rattle.explain_words.specs.declared.line.Parse.{Parse}
+use Rattle.explain_words.specs.declared.line.Parse.TheVariants.{Words, Refused}
 
--- MODE, the one word, which must be there
+-- MODE, the first word, which must be there
 abbrev pub mode_rule : Rule
 mode_rule = record (new_rule (codes "mode")) { required = true; action = Some Set }
 
+-- FILE, the second, which may be missing
+abbrev pub file_rule : Rule
+file_rule = record (new_rule (codes "file")) { action = Some Set }
+
+-- a program that has a version, which `--version` asks for
+abbrev pub versioned : App → App
+versioned app = record app { top = record app.top { has_version = true } }
+
 abbrev pub the_line : App
-the_line = with_rule (new_app (codes "explain")) mode_rule
+the_line = with_rule (with_rule (versioned (new_app (codes "explain"))) mode_rule) file_rule
 
--- what clap found, where it refuses nothing
-abbrev pub found_where : Kinds → List Row → Option (List Row)
-found_where [] found = Some found
-found_where (kind ∷ kinds) found = None
+-- what clap makes of the words, the program's name first: it takes them, or refuses them for one of these kinds
+abbrev pub IsParse : List Text → Parse → Type 0
+IsParse words (Words matches) = (fault_of the_line words ≡ []) × (rows_of (found_of matches) ≡ matches_of the_line words)
+IsParse words (Refused kind) = IsAmong kind (fault_of the_line words)
 
--- what clap makes of the words, the program's name first; nothing where it refuses them
-abbrev pub parse_of : List Text → Option (List Row)
-parse_of words = found_where (fault_of the_line words) (matches_of the_line words)
+abbrev pub IsRefusedFor : ErrorKind → Parse → Type 0
+IsRefusedFor kind (Words matches) = ⊥
+IsRefusedFor kind (Refused other) = other ≡ kind

@@ -1,27 +1,44 @@
-ghost use Rattle.std.specs.Prelude.{◌≡◌, IfOk, map, string_bytes};
+ghost use Rattle.std.specs.Prelude.{◌≡◌, IfOk, map, option_map, string_bytes};
 ghost use Rattle.clap.specs.Words.{found_of, rows_of};
-ghost use Rattle.explain_words.specs.Asked.{asked_by, question_as, question_in};
+ghost use Rattle.explain_words.specs.Asked.{IsAsked, IsFileAsked, kind_question, question_as, question_in};
 
-use crate::line::{parsed, text_of};
+use crate::line::{Parse, parsed, text_of};
 use clap::ArgMatches;
+use clap::error::ErrorKind;
 use gd_words::NoMemory;
 use std::alloc::Global;
 
-/// What is to be told of a deck.
+/// What is to be told.
 #[derive(Clone, Copy, PartialEq, Eq)]
 pub enum Question {
-    /// Why it can't be read.
+    /// Of a deck, why it can't be read, or why its programs are refused.
     Why,
+    /// What the program does and which words it takes.
+    Help,
+    /// The program's version.
+    Version,
 }
 
 /// What the words ask for, the program's name first; none where they ask for nothing.
 pub fn asked_by(alloc: Global, words: &[String]) -> Result<Option<Question>, NoMemory>
-    ensures { IfOk result (λ question. question ≡ asked_by (map string_bytes words.entry.now)) }
+    ensures { IfOk result (λ question. IsAsked (map string_bytes words.entry.now) question) }
 {
     let parse = parsed(alloc, words)?;
     match parse {
-        Some(matches) => Ok(question_in(&matches)),
-        None => Ok(None),
+        Parse::Words(matches) => Ok(question_in(&matches)),
+        Parse::Refused(kind) => Ok(kind_question(kind)),
+    }
+}
+
+/// The name of the file that the words ask of, the program's name first; none where they name no file.
+pub fn file_asked<'a>(alloc: Global, words: &'a [String]) -> Result<Option<&'a str>, NoMemory>
+    ensures { IfOk result (λ file. IsFileAsked (map string_bytes words.entry.now)
+        (option_map (λ name. name.now) file)) }
+{
+    let parse = parsed(alloc, words)?;
+    match parse {
+        Parse::Words(matches) => Ok(text_of(&matches, "file")),
+        Parse::Refused(_) => Ok(None),
     }
 }
 
@@ -37,6 +54,17 @@ fn question_as(mode: &str) -> Option<Question>
 {
     match mode {
         "why" => Some(Question::Why),
+        _ => None,
+    }
+}
+
+/// What words ask for that clap doesn't take for this.
+fn kind_question(kind: ErrorKind) -> Option<Question>
+    ensures { result ≡ kind_question kind }
+{
+    match kind {
+        ErrorKind::DisplayHelp => Some(Question::Help),
+        ErrorKind::DisplayVersion => Some(Question::Version),
         _ => None,
     }
 }

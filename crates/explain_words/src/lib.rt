@@ -1,12 +1,13 @@
 //! What the words of a command line of `explain` ask for.
 //!
 //! Below stand `clap`, which tells the words of one simple command apart, and `gd_words` with `NoMemory`. The layer
-//! above uses the clause of `asked_by`: the answer is its definition at the words, and it is missing only where memory
-//! ran out. `guards` says what the definition is at telling words.
+//! above uses the clauses of `asked_by` and `file_asked`: what the words ask for and of which file, by what clap makes of
+//! them. `guards` says what that is at telling words.
 #![tactic(auto)]
 
 pub mod asked;
 pub mod guards;
-mod line;
+pub mod line;
 
-pub use asked::{Question, asked_by};
+pub use asked::{Question, asked_by, file_asked};
+pub use line::{help_text, version_text};

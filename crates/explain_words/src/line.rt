@@ -1,11 +1,19 @@
-ghost use Rattle.std.specs.Prelude.{◌≡◌, IfOk, map, option_map, string_bytes};
+ghost use Rattle.std.specs.Prelude.{◌≡◌, ◌≢◌, IfOk, map, option_map, string_bytes};
 ghost use Rattle.clap.specs.Words.{FailsBy, HasMatchesOf, app_of, fault_of, first_of, found_of, rows_of};
-ghost use Rattle.explain_words.specs.Line.{parse_of, the_line};
+ghost use Rattle.explain_words.specs.Line.{IsParse, IsRefusedFor, the_line};
 
 use clap::error::ErrorKind;
 use clap::{Arg, ArgAction, ArgMatches, Command, Error};
 use gd_words::NoMemory;
 use std::alloc::{AllocError, Global};
+
+/// What clap makes of words.
+#[derive(Drop)]
+pub enum Parse<'a> {
+    Words(ArgMatches<'a>),
+    /// It refuses them, or they ask for help or the version.
+    Refused(ErrorKind),
+}
 
 /// The words that a command line may have, as one simple command.
 fn the_line<'a>(alloc: Global) -> Result<Command<'a>, AllocError>
@@ -13,8 +21,15 @@ fn the_line<'a>(alloc: Global) -> Result<Command<'a>, AllocError>
 {
     let mode = Arg::new(alloc, "mode")
         .required(true)
-        .action(ArgAction::Set);
-    Command::new(alloc, "explain").arg(mode)
+        .action(ArgAction::Set)
+        .help("why: tells why a deck can't be read, or why its programs are refused");
+    let file = Arg::new(alloc, "file").action(ArgAction::Set).help(
+        "The file with the deck; without it the deck is read from standard input",
+    );
+    let line = Command::new(alloc, "explain")
+        .about("Tells of a deck in words")
+        .version("1");
+    line.arg(mode)?.arg(file)
 }
 
 fn matches_of<'a>(alloc: Global, words: &'a [String]) -> Result<ArgMatches<'a>, Error>
@@ -25,19 +40,36 @@ fn matches_of<'a>(alloc: Global, words: &'a [String]) -> Result<ArgMatches<'a>, 
     line.try_get_matches_from(words)
 }
 
-/// What clap makes of the words, the program's name first; none where it refuses them.
-#[tactic(auto, using(crate::proofs::Refused::refused))]
-pub fn parsed<'a>(alloc: Global, words: &'a [String]) -> Result<Option<ArgMatches<'a>>, NoMemory>
-    ensures { IfOk result (λ parse. option_map (λ matches. rows_of (found_of matches)) parse
-        ≡ parse_of (map string_bytes words.entry.now)) }
+/// What clap makes of the words, the program's name first.
+pub fn parsed<'a>(alloc: Global, words: &'a [String]) -> Result<Parse<'a>, NoMemory>
+    ensures { IfOk result (λ parse. IsParse (map string_bytes words.entry.now) parse) }
 {
     match matches_of(alloc, words) {
-        Ok(matches) => Ok(Some(matches)),
-        Err(error) => match error.kind() {
-            ErrorKind::OutOfMemory => Err(NoMemory::from(AllocError)),
-            _ => Ok(None),
-        },
+        Ok(matches) => Ok(Parse::Words(matches)),
+        Err(error) => refused(error.kind()),
     }
+}
+
+fn refused<'a>(kind: ErrorKind) -> Result<Parse<'a>, NoMemory>
+    ensures kind { IfOk result (λ parse. IsRefusedFor kind parse) }
+    ensures told { IfOk result (λ parse. kind ≢ ErrorKind.OutOfMemory) }
+{
+    match kind {
+        ErrorKind::OutOfMemory => Err(NoMemory::from(AllocError)),
+        kind => Ok(Parse::Refused(kind)),
+    }
+}
+
+/// The text of `--help`.
+pub fn help_text(alloc: Global) -> Result<String, NoMemory> {
+    let mut line = the_line(alloc)?;
+    Ok(line.render_help()?)
+}
+
+/// The text of `--version`.
+pub fn version_text(alloc: Global) -> Result<String, NoMemory> {
+    let line = the_line(alloc)?;
+    Ok(line.render_version()?)
 }
 
 /// The first text that the words give to an argument.

@@ -14,10 +14,6 @@ pub returns-clause-after : goal.returns-clause-after
 unfolding clap_on_literals
 returns-clause-after c = refl
 
-pub returns-clause-twice : goal.returns-clause-twice
+pub returns-clause-file : goal.returns-clause-file
 unfolding clap_on_literals
-returns-clause-twice c = refl
-
-pub returns-clause-flag : goal.returns-clause-flag
-unfolding clap_on_literals
-returns-clause-flag c = refl
+returns-clause-file c = refl
