@@ -1,6 +1,6 @@
 use Rattle.clap.proofs.OnLiterals.{clap_on_literals}
 use Rattle.clap.specs.declared.error.kind.ErrorKind.TheVariants as kind
-use Rattle.explain_words.proofs.Kinds.{one-kind}
+use Rattle.explain_words.proofs.RefusedKinds.{one-kind}
 use Rattle.explain_words.proofs.guards.help_and_version_are_asked_for.Goals as goal
 
 pub returns-clause-help : goal.returns-clause-help

@@ -1,6 +1,6 @@
 use Rattle.clap.proofs.OnLiterals.{clap_on_literals}
 use Rattle.clap.specs.declared.error.kind.ErrorKind.TheVariants as kind
-use Rattle.explain_words.proofs.Kinds.{one-kind}
+use Rattle.explain_words.proofs.RefusedKinds.{one-kind}
 use Rattle.explain_words.proofs.guards.modes_are_wanted.Goals as goal
 
 pub returns-clause-none : goal.returns-clause-none

@@ -1,4 +1,4 @@
-use Rattle.explain_words.proofs.Kinds.{refused-parse}
+use Rattle.explain_words.proofs.RefusedKinds.{refused-parse}
 use Rattle.explain_words.proofs.line.parsed.Goals as goal
 
 pub returns-in-Err : goal.returns-in-Err
