@@ -25,19 +25,26 @@ one_sent program one = lead_of one ++ listed_name program one
 abbrev pub sent_text : Program → List Listed → List ℕ
 sent_text program all = flat_map (one_sent program) all ++ 10 ∷ []
 
+abbrev pub unneeded_text : Program → List Listed → List ℕ
+unneeded_text program needless = codes "         needn't name " ++ names_text program needless ++ 10 ∷ []
+
 abbrev pub needless_text : Program → List Listed → List ℕ
 needless_text program [] = []
-needless_text program (one ∷ more) = codes "         needn't name " ++ names_text program (one ∷ more) ++ 10 ∷ []
+needless_text program (one ∷ more) = unneeded_text program (one ∷ more)
 
 abbrev pub place_line : List ℕ → ℕ → List ℕ
 place_line bytes line = place_text line ++ source_text bytes line ++ 10 ∷ []
 
+-- what a CHECKPOINT sends that names all these, and which of them it needn't
+abbrev pub sends_text : Program → List Listed → List Listed → List ℕ
+sends_text program all needless =
+    codes "         sends the stack, the requests that were taken" ++ sent_text program all
+    ++ needless_text program needless
+
 -- what a CHECKPOINT sends, and what by the advice it needn't name
 abbrev pub carried_text : List ℕ → ℕ → Program → NamedCheckpoint → List Advised → List ℕ
 carried_text bytes start program named advised =
-    place_line bytes (start + named.line)
-    ++ codes "         sends the stack, the requests that were taken" ++ sent_text program (all_listed named)
-    ++ needless_text program (needless named advised)
+    place_line bytes (start + named.line) ++ sends_text program (all_listed named) (needless named advised)
 
 abbrev pub carries_text : List ℕ → ℕ → Program → List NamedCheckpoint → List Advised → List ℕ
 carries_text bytes start program checkpoints advised =

@@ -1,6 +1,6 @@
 -- What a refused program lacks, as text. Our own wording.
-use Rattle.std.specs.Prelude.{ℕ, ◌+◌, ◌-◌, nat_le, if◌then◌else◌, List, [], ◌∷◌, ◌++◌, codes, flat_map, length, slice_get}
-use Rattle.std.specs.Prelude.{Option, Some, None}
+use Rattle.std.specs.Prelude.{ℕ, ◌+◌, ◌-◌, nat_le, if◌then◌else◌, List, [], ◌∷◌, ◌++◌, codes, flat_map, length}
+use Rattle.std.specs.Prelude.{slice_get, Option, Some, None}
 use Rattle.std.specs.Fmt.{decimal}
 use Rattle.advice.specs.declared.answer.Advice.{Advice}
 use Rattle.advice.specs.declared.answer.Advised.{Advised}
@@ -27,10 +27,11 @@ names_text program (listed ∷ others) = listed_name program listed ++ others_te
 
 abbrev pub lacking_line : Program → ℕ → List Listed → List ℕ
 lacking_line program line lacking =
-    codes "lacking: line " ++ decimal line ++ codes " has to name " ++ names_text program lacking ++ codes ":" ++ 10 ∷ []
+    codes "lacking: line " ++ decimal line ++ codes " has to name " ++ names_text program lacking
+    ++ (codes ":" ++ 10 ∷ [])
 
 abbrev pub call_line : Program → List Listed → List ℕ
-call_line program all = codes "         CALL CHECKPOINT(" ++ names_text program all ++ codes ");" ++ 10 ∷ []
+call_line program all = codes "         CALL CHECKPOINT(" ++ names_text program all ++ (codes ");" ++ 10 ∷ [])
 
 -- a CHECKPOINT on a line as it has to read, where it lacks anything
 abbrev pub listed_text : Program → ℕ → List Listed → List Listed → List ℕ
@@ -52,7 +53,7 @@ depth_of (Some file) = file.depth
 abbrev pub kept_text : Program → ℕ → ℕ → List ℕ
 kept_text program file depth =
     codes "lacking: the OPEN of " ++ file_name program file ++ codes " has to keep " ++ decimal depth
-    ++ codes " replies" ++ 10 ∷ []
+    ++ (codes " replies" ++ 10 ∷ [])
 
 -- a file whose OPEN keeps fewer replies than this
 abbrev pub depth_text : Program → ℕ → ℕ → List ℕ
@@ -76,13 +77,19 @@ line_under lines (Some number) = line_among lines number
 abbrev pub last_line : List ℕ → List ℕ → ℕ
 last_line lines path = line_under lines (slice_get path (length path - 1))
 
-abbrev pub unmended_text : Program → Reason → List ℕ
-unmended_text program (Depth file) =
+abbrev pub deepest_text : Program → ℕ → List ℕ
+deepest_text program file =
     codes ", since an OPEN keeps 4 replies at most, and " ++ file_name program file
-    ++ codes " is asked a fifth time there" ++ 10 ∷ []
-unmended_text program (Data item) = codes ", behind the READUPDATE" ++ 10 ∷ []
-unmended_text program (SyncBlock file) = codes ", behind the READUPDATE" ++ 10 ∷ []
-unmended_text program Input = codes ", behind the READUPDATE" ++ 10 ∷ []
+    ++ (codes " is asked a fifth time there" ++ 10 ∷ [])
+
+abbrev pub behind_text : List ℕ
+behind_text = codes ", behind the READUPDATE" ++ 10 ∷ []
+
+abbrev pub unmended_text : Program → Reason → List ℕ
+unmended_text program (Depth file) = deepest_text program file
+unmended_text program (Data item) = behind_text
+unmended_text program (SyncBlock file) = behind_text
+unmended_text program Input = behind_text
 
 abbrev pub unmendable_text : Program → Reason → ℕ → List ℕ
 unmendable_text program reason line =

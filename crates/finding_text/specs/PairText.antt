@@ -14,18 +14,22 @@ use Rattle.finding_text.specs.DeckPlace.{pair_line}
 use Rattle.finding_text.specs.Lacking.{remedy_text}
 use Rattle.finding_text.specs.Sentences.{cause_text, hint_of, refusal_text}
 use Rattle.finding_text.specs.Steps.{path_text}
+use Rattle.finding_text.specs.declared.steps.Way.{Way}
 
 abbrev pub praise_text : List ℕ → List ℕ
-praise_text name = codes "the program of " ++ name ++ codes " is accepted" ++ 10 ∷ []
+praise_text name = codes "the program of " ++ name ++ (codes " is accepted" ++ 10 ∷ [])
 
 abbrev pub head_text : List ℕ → Program → RefusalFault → List ℕ
 head_text name program refusal = codes "error: " ++ refusal_text name program refusal ++ 10 ∷ []
 
+abbrev pub way_text : List ℕ → Program → PairFinding → Way → List ℕ → List ℕ
+way_text bytes program found way path =
+    codes "a shortest way there, by lines of the deck:" ++ 10 ∷ [] ++ path_text bytes program found way path
+
 -- the path that breaks, if the cause has one
 abbrev pub broken_text : List ℕ → ℕ → Program → PairFinding → RefusalFault → List ℕ
 broken_text bytes start program found (Broken reason path) =
-    codes "a shortest way there, by lines of the deck:" ++ 10 ∷ []
-    ++ path_text bytes program found (record { start = start; reason = reason; count = length path }) path
+    way_text bytes program found (record { start = start; reason = reason; count = length path }) path
 broken_text bytes start program found TooDeep = []
 broken_text bytes start program found (TooLarge size) = []
 broken_text bytes start program found (NoMemory memory) = []
@@ -33,10 +37,14 @@ broken_text bytes start program found (NoMemory memory) = []
 abbrev pub hint_line : RefusalFault → List ℕ
 hint_line refusal = codes "hint: " ++ hint_of refusal ++ 10 ∷ []
 
+abbrev pub refused_line : List ℕ → Program → RefusalFault → List ℕ
+refused_line name program refusal =
+    codes "guardian: REFUSED " ++ name ++ codes " " ++ cause_text program refusal ++ 10 ∷ []
+
 -- what is lost, and the line that `guardian` writes
 abbrev pub cause_line : List ℕ → Program → RefusalFault → List ℕ
 cause_line name program refusal =
-    hint_line refusal ++ codes "guardian: REFUSED " ++ name ++ codes " " ++ cause_text program refusal ++ 10 ∷ []
+    hint_line refusal ++ refused_line name program refusal
 
 abbrev pub refused_text : List ℕ → ℕ → List ℕ → Program → PairFinding → RefusalFault → List ℕ
 refused_text bytes start name program found refusal =

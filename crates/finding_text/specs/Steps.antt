@@ -1,6 +1,6 @@
 -- The text of a path that breaks: its statements as lines of the deck. Our own.
-use Rattle.std.specs.Prelude.{ℕ, ◌+◌, ◌-◌, ◌==◌, Bool, nat_le, nat_lt, if◌then◌else◌, List, [], ◌∷◌, ◌++◌, codes, length}
-use Rattle.std.specs.Prelude.{take, drop}
+use Rattle.std.specs.Prelude.{ℕ, ◌+◌, ◌-◌, ◌==◌, Bool, nat_le, nat_lt, if◌then◌else◌, List, [], ◌∷◌, ◌++◌, codes}
+use Rattle.std.specs.Prelude.{length, take, drop}
 use Rattle.std.specs.Fmt.{decimal}
 use Rattle.path_semantics.specs.declared.reason.Reason.{Reason}
 use Rattle.path_semantics.specs.declared.reason.Reason.TheVariants.{Data, SyncBlock, Input, Depth}
@@ -29,12 +29,21 @@ due_mark program (SyncBlock file) = codes "   <- asks " ++ file_name program fil
 due_mark program Input = codes "   <- reads a request"
 due_mark program (Depth file) = codes "   <- asks " ++ file_name program file
 
+abbrev pub unnamed_mark : List ℕ → List ℕ
+unnamed_mark name = codes "   <- doesn't name " ++ name
+
+abbrev pub uncovered_mark : List ℕ
+uncovered_mark = codes "   <- comes with no CHECKPOINT before it"
+
+abbrev pub one_too_many_mark : List ℕ → List ℕ
+one_too_many_mark name = codes "   <- is one too many for " ++ name
+
 -- how the last statement breaks
 abbrev pub last_mark : Program → Reason → List ℕ
-last_mark program (Data item) = codes "   <- doesn't name " ++ item_name program item
-last_mark program (SyncBlock file) = codes "   <- doesn't name " ++ file_name program file
-last_mark program Input = codes "   <- comes with no CHECKPOINT before it"
-last_mark program (Depth file) = codes "   <- is one too many for " ++ file_name program file
+last_mark program (Data item) = unnamed_mark (item_name program item)
+last_mark program (SyncBlock file) = unnamed_mark (file_name program file)
+last_mark program Input = uncovered_mark
+last_mark program (Depth file) = one_too_many_mark (file_name program file)
 
 abbrev pub mark_text : Program → PairFinding → Way → ℕ → ℕ → List ℕ
 mark_text program finding way place number =

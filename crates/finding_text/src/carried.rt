@@ -1,6 +1,6 @@
 ghost use Rattle.std.specs.Prelude.{◌≡◌, ◌≤◌, ◌+◌, ◌++◌, length, OnOk};
-ghost use Rattle.finding_text.specs.Carried.{accepted_text, carried_text, carries_text, needless_text, sent_text};
-ghost use Rattle.finding_text.specs.Carried.{advised_of, lead_of, one_sent, place_line};
+ghost use Rattle.finding_text.specs.Carried.{accepted_text, carried_text, carries_text, needless_text, sends_text};
+ghost use Rattle.finding_text.specs.Carried.{advised_of, lead_of, one_sent, place_line, sent_text, unneeded_text};
 
 use crate::deck_place::put_source;
 use crate::lacking::put_names;
@@ -78,12 +78,24 @@ fn put_carried(
     let all = all_listed(alloc, named)?;
     let needless = needless(alloc, named, advised)?;
     put_place_line(text, bytes, line)?;
+    put_sends(text, program, all.as_slice(), needless.as_slice())
+}
+
+/// Puts what a CHECKPOINT sends that names all these behind the text, and which of them it needn't.
+fn put_sends(
+    text: &mut List<u8>,
+    program: &Program,
+    all: &[Listed],
+    needless: &[Listed],
+) -> Result<(), NoMemory>
+    ensures { OnOk result (text.new ≡ text.old ++ sends_text program.now all.now needless.now) }
+{
     put(
         text,
         b"         sends the stack, the requests that were taken",
     )?;
-    put_sent(text, program, all.as_slice())?;
-    put_needless(text, program, needless.as_slice())
+    put_sent(text, program, all)?;
+    put_needless(text, program, needless)
 }
 
 fn put_place_line(text: &mut List<u8>, bytes: &[u8], line: u64) -> Result<(), NoMemory>
@@ -127,6 +139,12 @@ fn put_needless(text: &mut List<u8>, program: &Program, needless: &[Listed]) -> 
     if needless.is_empty() {
         return Ok(());
     }
+    put_unneeded(text, program, needless)
+}
+
+fn put_unneeded(text: &mut List<u8>, program: &Program, needless: &[Listed]) -> Result<(), NoMemory>
+    ensures { OnOk result (text.new ≡ text.old ++ unneeded_text program.now needless.now) }
+{
     put(text, b"         needn't name ")?;
     put_names(text, program, needless)?;
     put(text, b"\n")

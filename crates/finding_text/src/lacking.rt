@@ -2,7 +2,8 @@ ghost use Rattle.std.specs.Prelude.{◌≡◌, ◌≤◌, ◌+◌, ◌++◌, len
 ghost use Rattle.std.specs.Option.{option_copied};
 ghost use Rattle.finding_text.specs.Lacking.{depth_of, depth_text, depths_text, kept_text, lack_text, lacks_text};
 ghost use Rattle.finding_text.specs.Lacking.{lists_text, names_text, others_text, remedy_text, unmendable_text};
-ghost use Rattle.finding_text.specs.Lacking.{call_line, lacking_line, last_line, listed_text, unmended_text};
+ghost use Rattle.finding_text.specs.Lacking.{behind_text, call_line, deepest_text, lacking_line, last_line};
+ghost use Rattle.finding_text.specs.Lacking.{listed_text, unmended_text};
 
 use crate::lists::{Listed, all_listed, lacking};
 use crate::names::{put_file, put_listed};
@@ -234,11 +235,23 @@ fn put_unmended(text: &mut List<u8>, program: &Program, reason: Reason) -> Resul
     ensures { OnOk result (text.new ≡ text.old ++ unmended_text program.now reason) }
 {
     match reason {
-        Reason::Depth(file) => {
-            put(text, b", since an OPEN keeps 4 replies at most, and ")?;
-            put_file(text, program, usize::from(file))?;
-            put(text, b" is asked a fifth time there\n")
-        }
-        _ => put(text, b", behind the READUPDATE\n"),
+        Reason::Depth(file) => put_deepest(text, program, file),
+        Reason::Data(_) => put_behind(text),
+        Reason::SyncBlock(_) => put_behind(text),
+        Reason::Input => put_behind(text),
     }
+}
+
+fn put_deepest(text: &mut List<u8>, program: &Program, file: u8) -> Result<(), NoMemory>
+    ensures { OnOk result (text.new ≡ text.old ++ deepest_text program.now file) }
+{
+    put(text, b", since an OPEN keeps 4 replies at most, and ")?;
+    put_file(text, program, usize::from(file))?;
+    put(text, b" is asked a fifth time there\n")
+}
+
+fn put_behind(text: &mut List<u8>) -> Result<(), NoMemory>
+    ensures { OnOk result (text.new ≡ text.old ++ behind_text) }
+{
+    put(text, b", behind the READUPDATE\n")
 }

@@ -3,7 +3,8 @@
 //! accepted one what each CHECKPOINT sends, and which names it doesn't need.
 //!
 //! Below stand `pair_findings` with what is found, `fault_words` with the lines of a deck, and `text_pieces`, by whose
-//! pieces texts are put together. The layer above uses `put_pairs`, whose text is `pair_texts` of `specs/PairText.antt`.
+//! pieces texts are put together. The layer above uses `put_pairs`, whose text is `pair_texts` of
+//! `specs/PairText.antt`.
 #![tactic(auto)]
 
 mod carried;

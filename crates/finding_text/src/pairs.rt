@@ -1,6 +1,6 @@
 ghost use Rattle.std.specs.Prelude.{◌≡◌, ◌≤◌, ◌++◌, length, OnOk};
 ghost use Rattle.finding_text.specs.PairText.{broken_text, pair_text, pair_texts, program_text};
-ghost use Rattle.finding_text.specs.PairText.{cause_line, head_text, hint_line, praise_text};
+ghost use Rattle.finding_text.specs.PairText.{cause_line, head_text, hint_line, praise_text, refused_line, way_text};
 
 use crate::carried::put_accepted;
 use crate::deck_place::pair_line;
@@ -124,11 +124,26 @@ fn put_broken(
                 reason: *reason,
                 count: path.len(),
             };
-            put(text, b"a shortest way there, by lines of the deck:\n")?;
-            put_path(text, bytes, program, found, way, path.as_slice())
+            put_way(text, bytes, program, found, way, path.as_slice())
         }
         _ => Ok(()),
     }
+}
+
+fn put_way(
+    text: &mut List<u8>,
+    bytes: &[u8],
+    program: &Program,
+    found: &PairFinding,
+    way: Way,
+    path: &[u16],
+) -> Result<(), NoMemory>
+    requires start { way.start ≤ 1048576 }
+    requires count { way.count ≡ length path.now }
+    ensures { OnOk result (text.new ≡ text.old ++ way_text bytes.now program.now found.now way path.now) }
+{
+    put(text, b"a shortest way there, by lines of the deck:\n")?;
+    put_path(text, bytes, program, found, way, path)
 }
 
 /// Puts what is lost and the line that `guardian` writes behind the text.
@@ -141,6 +156,17 @@ fn put_cause_line(
     ensures { OnOk result (text.new ≡ text.old ++ cause_line name.now program.now refusal.now) }
 {
     put_hint(text, refusal)?;
+    put_refused_line(text, name, program, refusal)
+}
+
+fn put_refused_line(
+    text: &mut List<u8>,
+    name: &[u8],
+    program: &Program,
+    refusal: &RefusalFault,
+) -> Result<(), NoMemory>
+    ensures { OnOk result (text.new ≡ text.old ++ refused_line name.now program.now refusal.now) }
+{
     put(text, b"guardian: REFUSED ")?;
     put(text, name)?;
     put(text, b" ")?;

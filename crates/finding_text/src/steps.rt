@@ -1,7 +1,9 @@
 ghost use Rattle.std.specs.Prelude.{◌≡◌, ◌≤◌, ◌+◌, ◌++◌, length, OnOk};
 ghost use Rattle.statement_lines.specs.Lines.{line_among};
 ghost use Rattle.finding_text.specs.Steps.{due_mark, gap_text, last_mark, mark_text, padding, path_text};
-ghost use Rattle.finding_text.specs.Steps.{place_text, step_text, steps_text};
+ghost use Rattle.finding_text.specs.Steps.{one_too_many_mark, place_text, step_text, steps_text};
+ghost use Rattle.finding_text.specs.Steps.{uncovered_mark, unnamed_mark};
+ghost use Rattle.finding_text.specs.Names.{file_name, item_name};
 
 use crate::deck_place::put_source;
 use crate::names::{put_file, put_item};
@@ -197,18 +199,36 @@ fn put_last_mark(text: &mut List<u8>, program: &Program, reason: Reason) -> Resu
     ensures { OnOk result (text.new ≡ text.old ++ last_mark program.now reason) }
 {
     match reason {
-        Reason::Data(item) => {
-            put(text, b"   <- doesn't name ")?;
-            put_item(text, program, item)
-        }
-        Reason::SyncBlock(file) => {
-            put(text, b"   <- doesn't name ")?;
-            put_file(text, program, usize::from(file))
-        }
-        Reason::Input => put(text, b"   <- comes with no CHECKPOINT before it"),
-        Reason::Depth(file) => {
-            put(text, b"   <- is one too many for ")?;
-            put_file(text, program, usize::from(file))
-        }
+        Reason::Data(item) => put_unnamed_item(text, program, item),
+        Reason::SyncBlock(file) => put_unnamed_file(text, program, file),
+        Reason::Input => put_uncovered(text),
+        Reason::Depth(file) => put_one_too_many(text, program, file),
     }
+}
+
+fn put_unnamed_item(text: &mut List<u8>, program: &Program, item: u16) -> Result<(), NoMemory>
+    ensures { OnOk result (text.new ≡ text.old ++ unnamed_mark (item_name program.now item)) }
+{
+    put(text, b"   <- doesn't name ")?;
+    put_item(text, program, item)
+}
+
+fn put_unnamed_file(text: &mut List<u8>, program: &Program, file: u8) -> Result<(), NoMemory>
+    ensures { OnOk result (text.new ≡ text.old ++ unnamed_mark (file_name program.now file)) }
+{
+    put(text, b"   <- doesn't name ")?;
+    put_file(text, program, usize::from(file))
+}
+
+fn put_uncovered(text: &mut List<u8>) -> Result<(), NoMemory>
+    ensures { OnOk result (text.new ≡ text.old ++ uncovered_mark) }
+{
+    put(text, b"   <- comes with no CHECKPOINT before it")
+}
+
+fn put_one_too_many(text: &mut List<u8>, program: &Program, file: u8) -> Result<(), NoMemory>
+    ensures { OnOk result (text.new ≡ text.old ++ one_too_many_mark (file_name program.now file)) }
+{
+    put(text, b"   <- is one too many for ")?;
+    put_file(text, program, usize::from(file))
 }

@@ -1,4 +1,4 @@
-use Rattle.std.proofs.Common.{◌≡◌, ◌+◌, ◌≤◌, length, ◌×◌}
+use Rattle.std.proofs.Common.{◌≡◌, ◌+◌, ◌≤◌, length}
 use Rattle.deck_lines.specs.Lines.{lines_of}
 use Rattle.finding_text.specs.DeckPlace.{pair_line, pair_among}
 use Rattle.finding_text.proofs.deck_place.pair_line.Given as goal

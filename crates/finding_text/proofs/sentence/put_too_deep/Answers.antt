@@ -1,0 +1,8 @@
+use Rattle.std.specs.Prelude.{codes}
+use Rattle.text_pieces.proofs.Joins.{put_three}
+use Rattle.finding_text.proofs.sentence.put_too_deep.Goals as goal
+
+pub returns : goal.returns
+returns c =
+    put_three c.args.text.now (codes "the calls of ") c.args.name.now (codes " go more than 16 procedures deep")
+    c.put-3.new.text c.put-3.result c.in_ok-put.ensures c.in_ok-put-2.ensures c.put-3.ensures
