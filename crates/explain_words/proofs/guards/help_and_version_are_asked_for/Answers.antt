@@ -5,12 +5,12 @@ use Rattle.explain_words.proofs.guards.help_and_version_are_asked_for.Goals as g
 
 pub returns-clause-help : goal.returns-clause-help
 unfolding clap_on_literals
-returns-clause-help c = λ question asked. one-kind kind.DisplayHelp _ question asked
+returns-clause-help c = λ question asked. one-kind kind.DisplayHelp question asked
 
 pub returns-clause-with_mode : goal.returns-clause-with_mode
 unfolding clap_on_literals
-returns-clause-with_mode c = λ question asked. one-kind kind.DisplayHelp _ question asked
+returns-clause-with_mode c = λ question asked. one-kind kind.DisplayHelp question asked
 
 pub returns-clause-version : goal.returns-clause-version
 unfolding clap_on_literals
-returns-clause-version c = λ question asked. one-kind kind.DisplayVersion _ question asked
+returns-clause-version c = λ question asked. one-kind kind.DisplayVersion question asked
