@@ -1,0 +1,92 @@
+-- What is left at the end of a run, by the view of its machine.
+use Rattle.std.specs.Prelude.{ℕ, ◌+◌, ◌==◌, Bool, false, if◌then◌else◌, nat_lt, List, [], ◌∷◌, map, slice_get}
+use Rattle.std.specs.Prelude.{Option, Some, None}
+use Rattle.machine_views.specs.declared.views.Awaited.{Awaited}
+use Rattle.machine_views.specs.declared.views.CopyView.{CopyView}
+use Rattle.machine_views.specs.declared.views.TerminalView.{TerminalView}
+use Rattle.machine_views.specs.declared.views.View.{View}
+use Rattle.plain_semantics.specs.Openers.{files_of, server_of_file}
+use Rattle.process_semantics.specs.declared.point.Point.{Point}
+use Rattle.process_semantics.specs.declared.point.Point.TheVariants as point
+use Rattle.tal_tree.specs.declared.site.ProcessSpec.{ProcessSpec}
+use Rattle.tal_tree.specs.declared.site.Site.{Site}
+use Rattle.world_semantics.specs.declared.role.Role.{Role}
+use Rattle.world_semantics.specs.declared.role.Role.TheVariants as role
+use Rattle.left_findings.specs.declared.finding.Left.{Left}
+use Rattle.left_findings.specs.declared.finding.ProcessLeft.{ProcessLeft}
+use Rattle.left_findings.specs.declared.finding.Stand.{Stand}
+use Rattle.left_findings.specs.declared.finding.Stand.TheVariants as stand
+use Rattle.left_findings.specs.declared.finding.TerminalLeft.{TerminalLeft}
+use Rattle.left_findings.specs.declared.finding.TerminalLeft.TheVariants as terminal
+
+-- a copy at a reply that it awaits
+abbrev pub stand_awaiting : Option Awaited → Stand
+stand_awaiting None = stand.CanStep
+stand_awaiting (Some awaited) = stand.AtAwait awaited
+
+-- a copy at a checkpoint of this number: it waits once that was sent
+abbrev pub stand_checked : Bool → ℕ → Stand
+stand_checked sent number = if sent then stand.AtAcknowledgement number else stand.CanStep
+
+abbrev pub stand_at_point : CopyView → Point → Stand
+stand_at_point copy point.Take = stand.AtTake
+stand_at_point copy point.Await = stand_awaiting copy.awaited
+stand_at_point copy point.AtCheckpoint = stand_checked copy.sent copy.number
+stand_at_point copy point.Ended = stand.Ended
+stand_at_point copy point.Inner = stand.CanStep
+stand_at_point copy point.Ask = stand.CanStep
+stand_at_point copy point.Answer = stand.CanStep
+stand_at_point copy point.Device = stand.CanStep
+
+-- where a copy stands that acts
+abbrev pub stand_at : CopyView → Stand
+stand_at copy = stand_at_point copy copy.point
+
+abbrev pub is_acting_as : ℕ → ℕ → Role → Bool
+is_acting_as process number role.Acting = number == process
+is_acting_as process number role.Watching = false
+is_acting_as process number role.Gone = false
+
+-- whether a copy acts for this process
+abbrev pub is_acting_of : ℕ → CopyView → Bool
+is_acting_of process copy = is_acting_as process copy.process copy.role
+
+-- where a process stands is where its copy stands that acts
+abbrev pub stand_among : ℕ → List CopyView → Stand
+stand_among process [] = stand.Gone
+stand_among process (copy ∷ copies) =
+    if is_acting_of process copy then stand_at copy else stand_among process copies
+
+-- the process whose reply a process awaits that stands so
+abbrev pub server_of_stand : Site → ProcessSpec → Stand → Option ℕ
+server_of_stand site spec (stand.AtAwait awaited) =
+    server_of_file site (slice_get (files_of spec.what) awaited.file)
+server_of_stand site spec stand.Gone = None
+server_of_stand site spec stand.Ended = None
+server_of_stand site spec stand.AtTake = None
+server_of_stand site spec (stand.AtAcknowledgement number) = None
+server_of_stand site spec stand.CanStep = None
+
+-- the process of this number
+abbrev pub left_process : Site → List CopyView → ℕ → ProcessSpec → ProcessLeft
+left_process site copies process spec = record {
+  stand = stand_among process copies;
+  server = server_of_stand site spec (stand_among process copies);
+}
+
+-- each of these processes, of which the first has this number
+abbrev pub processes_left : Site → List CopyView → ℕ → List ProcessSpec → List ProcessLeft
+processes_left site copies process [] = []
+processes_left site copies process (spec ∷ specs) =
+    left_process site copies process spec ∷ processes_left site copies (process + 1) specs
+
+-- a terminal enters its next request once it has the reply to the one before
+abbrev pub terminal_left : TerminalView → TerminalLeft
+terminal_left view =
+    if nat_lt view.printed view.entered then terminal.Unanswered (view.printed + 1) else terminal.Answered view.printed
+
+abbrev pub left_of : Site → View → Left
+left_of site view = record {
+  processes = processes_left site view.copies 0 site.processes;
+  terminals = map terminal_left view.terminals;
+}

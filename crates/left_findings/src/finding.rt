@@ -1,0 +1,42 @@
+use gd_words::List;
+use machine_views::Awaited;
+
+/// What is left of the processes and the terminals of a site, both in the deck's order.
+#[derive(Drop)]
+pub struct Left {
+    pub processes: List<ProcessLeft>,
+    pub terminals: List<TerminalLeft>,
+}
+
+/// Where a process stands, and the number of the process whose reply it awaits, if it awaits one.
+#[derive(Clone, Copy, PartialEq, Eq, Drop)]
+pub struct ProcessLeft {
+    pub stand: Stand,
+    pub server: Option<usize>,
+}
+
+/// Where a process stands.
+#[derive(Clone, Copy, PartialEq, Eq, Drop)]
+pub enum Stand {
+    /// No copy of it acts: both have gone with their processors.
+    Gone,
+    /// It has ended.
+    Ended,
+    /// It waits for a request.
+    AtTake,
+    /// It waits for the reply to a request that it asked.
+    AtAwait(Awaited),
+    /// It waits until its other copy acknowledges the checkpoint of this number.
+    AtAcknowledgement(u32),
+    /// It waits for nothing: the run was cut.
+    CanStep,
+}
+
+/// What is left of the requests of a terminal.
+#[derive(Clone, Copy, PartialEq, Eq, Drop)]
+pub enum TerminalLeft {
+    /// The request of this number, from 1, was entered and has no reply.
+    Unanswered(u32),
+    /// All that were entered have their replies: so many.
+    Answered(u32),
+}

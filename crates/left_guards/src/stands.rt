@@ -1,0 +1,46 @@
+ghost use Rattle.std.specs.Prelude.{◌≡◌, [], true, false, Some, None};
+ghost use Rattle.machine_views.specs.declared.views.Awaited.{Awaited};
+ghost use Rattle.machine_views.specs.declared.views.CopyView.{CopyView};
+ghost use Rattle.process_semantics.specs.declared.point.Point.TheVariants as point;
+ghost use Rattle.tal_tree.specs.declared.site.ProcessSpec.{ProcessSpec};
+ghost use Rattle.tal_tree.specs.declared.site.Site.{Site};
+ghost use Rattle.world_semantics.specs.declared.role.Role.TheVariants as role;
+ghost use Rattle.left_findings.specs.Left.{is_acting_as, server_of_stand, stand_among, stand_at_point, stand_awaiting};
+ghost use Rattle.left_findings.specs.Left.{stand_checked, terminal_left};
+ghost use Rattle.left_findings.specs.declared.finding.Stand.TheVariants as stand;
+ghost use Rattle.left_findings.specs.declared.finding.TerminalLeft.TheVariants as terminal;
+
+/// A copy that acts stands where its next step is: it waits for a request, for a reply or, once its checkpoint was sent,
+/// for an acknowledgement; or it has ended; or it waits for nothing.
+pub fn a_copy_stands_at_its_next_step()
+    ensures take { (copy : CopyView) → stand_at_point copy point.Take ≡ stand.AtTake }
+    ensures ended { (copy : CopyView) → stand_at_point copy point.Ended ≡ stand.Ended }
+    ensures ask { (copy : CopyView) → stand_at_point copy point.Ask ≡ stand.CanStep }
+    ensures awaits { (awaited : Awaited) → stand_awaiting (Some awaited) ≡ stand.AtAwait awaited }
+    ensures sent { stand_checked true 4 ≡ stand.AtAcknowledgement 4 }
+    ensures unsent { stand_checked false 4 ≡ stand.CanStep }
+{}
+
+/// A process stands where its own copy stands that acts, and is gone without one.
+pub fn a_process_stands_by_its_acting_copy()
+    ensures acting { is_acting_as 2 2 role.Acting ≡ true }
+    ensures another { is_acting_as 2 3 role.Acting ≡ false }
+    ensures watching { is_acting_as 2 2 role.Watching ≡ false }
+    ensures gone { is_acting_as 2 2 role.Gone ≡ false }
+    ensures none { stand_among 2 [] ≡ stand.Gone }
+{}
+
+/// Only a process that awaits a reply waits for another.
+pub fn only_a_reply_is_awaited_of_another()
+    ensures take { (site : Site) (spec : ProcessSpec) → server_of_stand site spec stand.AtTake ≡ None }
+    ensures acknowledgement { (site : Site) (spec : ProcessSpec)
+        → server_of_stand site spec (stand.AtAcknowledgement 1) ≡ None }
+{}
+
+/// Of a terminal one request at most has no reply, the one behind those that were printed.
+pub fn one_request_has_no_reply()
+    ensures unanswered { terminal_left (record { entered = 3; printed = 2 }) ≡ terminal.Unanswered 3 }
+    ensures first { terminal_left (record { entered = 1; printed = 0 }) ≡ terminal.Unanswered 1 }
+    ensures answered { terminal_left (record { entered = 3; printed = 3 }) ≡ terminal.Answered 3 }
+    ensures nothing { terminal_left (record { entered = 0; printed = 0 }) ≡ terminal.Answered 0 }
+{}

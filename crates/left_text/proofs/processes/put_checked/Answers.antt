@@ -1,0 +1,12 @@
+use Rattle.std.proofs.Common.{[], ◌∷◌}
+use Rattle.std.specs.Prelude.{codes}
+use Rattle.std.specs.Fmt.{decimal}
+use Rattle.text_pieces.proofs.Joins.{put_three}
+use Rattle.left_text.proofs.processes.put_checked.Goals as goal
+
+pub returns : goal.returns
+returns c =
+    let number = rw c.from.ensures at c.in_ok-put_number.ensures in
+    put_three c.args.text.now (codes " waits until its backup acknowledges checkpoint ") (decimal c.args.number)
+    (10 ∷ [])
+    c.put-2.new.text c.put-2.result c.in_ok-put.ensures number c.put-2.ensures
