@@ -5,10 +5,13 @@ use denote.Hole.Carrier.{shown, out}
 use Rattle.tal_tree.specs.declared.statement.What.{out-What}
 use Rattle.tal_tree.specs.declared.statement.What.TheBlock.{shown-the_row-Statement-0}
 use Rattle.schedule.specs.declared.event.Event.TheVariants as event
-use Rattle.world_semantics.specs.Examples.{run}
+use Rattle.world_semantics.specs.Examples.{delivery, run}
+use Rattle.message_wires.specs.Examples.{up_to_checkpoint}
+use Rattle.message_wires.specs.Tiers.{before_stop, tiers}
 use Rattle.standing_links.specs.Needs.{nothing}
-use Rattle.node_needs.specs.Examples.{awaited_alone, in_hand_alone, needs_after, until_answered, until_it_came}
-use Rattle.node_needs.specs.Examples.{until_taken_over, waiting_alone}
+use Rattle.node_needs.specs.NodeNeeds.{needs_at}
+use Rattle.node_needs.specs.Examples.{awaited_alone, both_serve, in_hand_alone, needs_after, until_answered}
+use Rattle.node_needs.specs.Examples.{until_it_came, until_taken_over, waiting_alone}
 
 pub nowhere : needs_after [] 0 ≡ nothing
 unfolding out-What shown-the_row-Statement-0 shown out int_wrap
@@ -53,3 +56,19 @@ lost = refl
 pub awaited_on : needs_after until_taken_over 16 ≡ awaited_alone
 unfolding out-What shown-the_row-Statement-0 shown out int_wrap
 awaited_on = refl
+
+pub watched : needs_after (up_to_checkpoint ++ delivery ∷ []) 1 ≡ nothing
+unfolding out-What shown-the_row-Statement-0 shown out int_wrap
+watched = refl
+
+pub gone : needs_after (until_it_came ++ event.Fail 0 ∷ []) 0 ≡ nothing
+unfolding out-What shown-the_row-Statement-0 shown out int_wrap
+gone = refl
+
+pub acting : needs_at tiers (before_stop 12).world 0 ≡ both_serve
+unfolding out-What shown-the_row-Statement-0 shown out int_wrap
+acting = refl
+
+pub watching : needs_at tiers (before_stop 12).world 1 ≡ nothing
+unfolding out-What shown-the_row-Statement-0 shown out int_wrap
+watching = refl

@@ -1,4 +1,4 @@
--- Needs of nodes in a worked run: the adder, which is taken over.
+-- Needs of nodes in worked runs: the adder, which is taken over, and two tiers.
 use Rattle.std.specs.Prelude.{ℕ, pos, List, [], ◌∷◌, ◌++◌}
 use Rattle.gd_words.specs.declared.message.Request.{Request}
 use Rattle.schedule.specs.declared.event.Event.{Event}
@@ -25,6 +25,15 @@ waiting_alone = record nothing { waiting = asked ∷ [] }
 
 abbrev pub in_hand_alone : Needs
 in_hand_alone = record nothing { in_hand = name_of asked ∷ [] }
+
+-- two tiers in one processor: the adder and the front that asks it each have a request in hand, and the front awaits
+-- the adder's reply
+abbrev pub both_serve : Needs
+both_serve = record {
+  waiting = [];
+  in_hand = name_of asked ∷ record (name_of asked) { process = 1 } ∷ [];
+  awaited = asked ∷ [];
+}
 
 -- until the request has come to the first copy
 abbrev pub until_it_came : List Event

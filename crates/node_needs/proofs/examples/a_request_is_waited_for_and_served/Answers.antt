@@ -9,6 +9,7 @@ returns c = record {
   came = needed.came;
   elsewhere = needed.elsewhere;
   taken = needed.taken;
+  watched = needed.watched;
   answered = needed.answered;
   awaited = needed.awaited;
 }

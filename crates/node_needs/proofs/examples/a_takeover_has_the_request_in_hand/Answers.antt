@@ -5,5 +5,6 @@ pub returns : goal.returns
 returns c = record {
   before = needed.before;
   lost = needed.lost;
+  gone = needed.gone;
   awaited = needed.awaited_on;
 }

@@ -1,0 +1,201 @@
+-- A step of a process leaves its copies in their processors.
+use Rattle.std.proofs.Common.{◌≡◌, ℕ, Bool, true, false, List, Option, Some, None, option_and_then, option_map, refl}
+use Rattle.gd_words.specs.declared.message.Request.{Request}
+use Rattle.gd_words.specs.declared.message.Reply.{Reply}
+use Rattle.tal_tree.specs.declared.site.Site.{Site}
+use Rattle.process_semantics.specs.declared.point.Point.{Point}
+use Rattle.process_semantics.specs.declared.point.Point.TheVariants as point
+use Rattle.process_semantics.specs.Process as process
+use Rattle.checkpoint_image.specs.declared.message.ImageMessage.{ImageMessage}
+use Rattle.checkpoint_image.specs.declared.message.TakenMessage.{TakenMessage}
+use Rattle.world_semantics.specs.declared.role.Role.{Role}
+use Rattle.world_semantics.specs.declared.role.Role.TheVariants.{Acting, Watching, Gone}
+use Rattle.world_semantics.specs.declared.which.Which.{Which}
+use Rattle.world_semantics.specs.declared.which.Which.TheVariants.{First, Second}
+use Rattle.world_semantics.specs.Core.{Core}
+use Rattle.world_semantics.specs.World.{Down, Pair, copy_of, may_pass, with_copy}
+use Rattle.world_semantics.specs.Messages.{Message, Asking, Replying, Checkpointing, Taking}
+use Rattle.world_semantics.specs.Records.{Records}
+use Rattle.world_semantics.specs.Rules.{after_takeover, pair_after_down, pair_at_down, taker}
+use Rattle.world_semantics.specs.Running.{Own, Stepped, first_step, mark_step, own_of, own_step, passing_step}
+use Rattle.world_semantics.specs.Running.{sending_step, step_as, step_at, step_of, step_of_copy}
+use Rattle.computed_changes.specs.Checkpoints.{applied_step, core_as, is_of_last, taken_step}
+use Rattle.computed_changes.specs.Checkpoints.{taken_step_where}
+use Rattle.computed_changes.specs.Fitting.{depths_of}
+use Rattle.computed_changes.specs.Handed.{copy_in, step_by, step_on}
+use Rattle.computed_changes.specs.Replies.{awaits, got_step, reply_step, reply_step_where}
+use Rattle.computed_changes.specs.Requests.{after_early_request, after_request, request_step}
+
+-- both copies stay where they are
+abbrev pub AreHome : Pair → Pair → Type 0
+AreHome before after = (j : Which) → (copy_of j after).processor ≡ (copy_of j before).processor
+
+abbrev pub StepsHome : Pair → Option Stepped → Type 0
+StepsHome pair None = Unit {0}
+StepsHome pair (Some step) = AreHome pair step.pair
+
+-- Runs
+
+module _ (site : Site) (number : ℕ) (pair : Pair) (marks : List Down) (records : Records) where
+  own-home : (k : Which) (own : Own) (j : Which)
+      → (copy_of j (own_step number k pair records own).pair).processor ≡ (copy_of j pair).processor
+  own-home First own First = refl
+  own-home First own Second = refl
+  own-home Second own First = refl
+  own-home Second own Second = refl
+
+  own-any : (k : Which) (own : Option Own) → StepsHome pair (option_map (own_step number k pair records) own)
+  own-any k None = tt
+  own-any k (Some own) = own-home k own
+
+  passed-home : (k j : Which)
+      → (copy_of j (passing_step number k pair records).pair).processor ≡ (copy_of j pair).processor
+  passed-home First First = refl
+  passed-home First Second = refl
+  passed-home Second First = refl
+  passed-home Second Second = refl
+
+  sent-home : (k j : Which)
+      → (copy_of j (sending_step number k pair records).pair).processor ≡ (copy_of j pair).processor
+  sent-home First First = refl
+  sent-home First Second = refl
+  sent-home Second First = refl
+  sent-home Second Second = refl
+
+  mark-home : (k : Which) (free sent : Bool) → StepsHome pair (mark_step number k pair records free sent)
+  mark-home k true sent = passed-home k
+  mark-home k false true = tt
+  mark-home k false false = sent-home k
+
+  at-home : (k : Which) (stands : Point) → StepsHome pair (step_at site number k pair marks records stands)
+  at-home k point.AtCheckpoint = mark-home k (may_pass marks k pair) (copy_of k pair).sent
+  at-home k point.Inner = own-any k (own_of site number k pair records point.Inner)
+  at-home k point.Take = own-any k (own_of site number k pair records point.Take)
+  at-home k point.Ask = own-any k (own_of site number k pair records point.Ask)
+  at-home k point.Await = own-any k (own_of site number k pair records point.Await)
+  at-home k point.Answer = own-any k (own_of site number k pair records point.Answer)
+  at-home k point.Device = own-any k (own_of site number k pair records point.Device)
+  at-home k point.Ended = own-any k (own_of site number k pair records point.Ended)
+
+  as-home : (k : Which) (role : Role) → StepsHome pair (step_as site number k pair marks records role)
+  as-home k Acting = at-home k (process.point (copy_of k pair).core.state)
+  as-home k Watching = tt
+  as-home k Gone = tt
+
+  first-home : (one other : Option Stepped) → StepsHome pair one → StepsHome pair other
+      → StepsHome pair (first_step one other)
+  first-home None other at too = too
+  first-home (Some step) other at too = at
+
+  pub run-home : StepsHome pair (step_of site number pair marks records)
+  run-home =
+      first-home (step_of_copy site number pair marks records First)
+      (step_of_copy site number pair marks records Second) (as-home First pair.first.role)
+      (as-home Second pair.second.role)
+
+-- Messages
+
+module _ (site : Site) (number : ℕ) (pair : Pair) (records : Records) where
+  asked-home : (k : Which) (request : Request) (j : Which)
+      → (copy_of j (with_copy k (after_request (copy_of k pair) request) pair)).processor ≡ (copy_of j pair).processor
+  asked-home First request First = refl
+  asked-home First request Second = refl
+  asked-home Second request First = refl
+  asked-home Second request Second = refl
+
+  early-home : (k : Which) (request : Request) (j : Which)
+      → (copy_of j (with_copy k (after_early_request (copy_of k pair) request) pair)).processor
+      ≡ (copy_of j pair).processor
+  early-home First request First = refl
+  early-home First request Second = refl
+  early-home Second request First = refl
+  early-home Second request Second = refl
+
+  request-home : (k : Which) (request : Request) (role : Role)
+      → StepsHome pair (request_step k pair records request role)
+  request-home k request Acting = asked-home k request
+  request-home k request Watching = early-home k request
+  request-home k request Gone = tt
+
+  answered-home : (k : Which) (reply : Reply) (j : Which)
+      → (copy_of j (got_step number k pair records reply).pair).processor ≡ (copy_of j pair).processor
+  answered-home First reply First = refl
+  answered-home First reply Second = refl
+  answered-home Second reply First = refl
+  answered-home Second reply Second = refl
+
+  got-home : (k : Which) (reply : Reply) (test : Bool)
+      → StepsHome pair (reply_step_where number k pair records reply test)
+  got-home k reply true = answered-home k reply
+  got-home k reply false = tt
+
+  reply-home : (k : Which) (reply : Reply) (role : Role)
+      → StepsHome pair (reply_step site number k pair records reply role)
+  reply-home k reply Acting =
+      got-home k reply (awaits site number (copy_of k pair).core reply (process.point (copy_of k pair).core.state))
+  reply-home k reply Watching = tt
+  reply-home k reply Gone = tt
+
+  applied-home : (k : Which) (message : ImageMessage) (core : Core) (j : Which)
+      → (copy_of j (applied_step number k pair records message core).pair).processor ≡ (copy_of j pair).processor
+  applied-home First message core First = refl
+  applied-home First message core Second = refl
+  applied-home Second message core First = refl
+  applied-home Second message core Second = refl
+
+  applied-any : (k : Which) (message : ImageMessage) (core : Option Core)
+      → StepsHome pair (option_map (applied_step number k pair records message) core)
+  applied-any k message None = tt
+  applied-any k message (Some core) = applied-home k message core
+
+  acked-home : (k j : Which)
+      → (copy_of j (with_copy k (record (copy_of k pair) { acknowledged = true }) pair)).processor
+      ≡ (copy_of j pair).processor
+  acked-home First First = refl
+  acked-home First Second = refl
+  acked-home Second First = refl
+  acked-home Second Second = refl
+
+  told-home : (k : Which) (last : Bool) → StepsHome pair (taken_step_where k pair records last)
+  told-home k true = acked-home k
+  told-home k false = tt
+
+  taken-home : (k : Which) (taken : TakenMessage) (role : Role)
+      → StepsHome pair (taken_step k pair records taken role)
+  taken-home k taken Acting =
+      told-home k (is_of_last (copy_of k pair).sent (copy_of k pair).era (copy_of k pair).number taken)
+  taken-home k taken Watching = tt
+  taken-home k taken Gone = tt
+
+  by-home : (message : Message) (k : Which) → StepsHome pair (step_by site number pair records message k)
+  by-home (Asking request) k = request-home k request (copy_of k pair).role
+  by-home (Replying reply) k = reply-home k reply (copy_of k pair).role
+  by-home (Checkpointing message) k =
+      applied-any k message
+      (core_as (depths_of site number) (copy_of k pair).era (copy_of k pair).number (copy_of k pair).core message
+      (copy_of k pair).role)
+  by-home (Taking taken) k = taken-home k taken (copy_of k pair).role
+
+  pub on-home : (node : ℕ) (message : Message) → StepsHome pair (step_on site number node pair records message)
+  on-home node message = by (copy_in node pair)
+    where
+      by : (found : Option Which)
+          → StepsHome pair (option_and_then (step_by site number pair records message) found)
+      by None = tt
+      by (Some k) = by-home message k
+
+-- Marks and stops
+
+taken_over-home : (k : Which) (pair : Pair) (j : Which)
+    → (copy_of j (after_takeover k pair)).processor ≡ (copy_of j pair).processor
+taken_over-home First pair First = refl
+taken_over-home First pair Second = refl
+taken_over-home Second pair First = refl
+taken_over-home Second pair Second = refl
+
+pub marked-home : (node processor : ℕ) (pair : Pair) → AreHome pair (pair_at_down node processor pair)
+marked-home node processor pair = by (taker node processor pair)
+  where
+    by : (found : Option Which) → AreHome pair (pair_after_down found pair)
+    by None = λ j. refl
+    by (Some k) = taken_over-home k pair
