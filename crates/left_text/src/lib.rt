@@ -4,7 +4,7 @@
 //! above uses `put_left`, whose text is `left_text` of `specs/LeftText.antt`.
 #![tactic(auto)]
 
-mod processes;
+mod process_ends;
 mod terminals;
 pub mod whole;
 

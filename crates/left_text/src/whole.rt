@@ -1,7 +1,7 @@
 ghost use Rattle.std.specs.Prelude.{◌≡◌, ◌++◌, OnOk};
 ghost use Rattle.left_text.specs.LeftText.{left_text};
 
-use crate::processes::put_processes;
+use crate::process_ends::put_processes;
 use crate::terminals::put_terminals;
 use gd_words::{List, NoMemory};
 use left_findings::Left;

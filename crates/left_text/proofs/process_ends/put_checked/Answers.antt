@@ -2,7 +2,7 @@ use Rattle.std.proofs.Common.{[], ◌∷◌}
 use Rattle.std.specs.Prelude.{codes}
 use Rattle.std.specs.Fmt.{decimal}
 use Rattle.text_pieces.proofs.Joins.{put_three}
-use Rattle.left_text.proofs.processes.put_checked.Goals as goal
+use Rattle.left_text.proofs.process_ends.put_checked.Goals as goal
 
 pub returns : goal.returns
 returns c =

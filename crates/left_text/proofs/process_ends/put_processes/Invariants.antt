@@ -1,6 +1,6 @@
 use Rattle.std.proofs.Common.{◌≡◌, ◌++◌, length}
 use Rattle.left_text.specs.LeftText.{process_lines}
-use Rattle.left_text.proofs.processes.put_processes.Given as goal
+use Rattle.left_text.proofs.process_ends.put_processes.Given as goal
 
 abbrev pub invariant-loop-spec : goal.invariant-loop-spec
 invariant-loop-spec l =

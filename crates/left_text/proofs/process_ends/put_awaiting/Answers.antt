@@ -2,7 +2,7 @@ use Rattle.std.proofs.Common.{[], ◌∷◌}
 use Rattle.std.specs.Prelude.{codes}
 use Rattle.std.specs.Fmt.{decimal}
 use Rattle.text_pieces.proofs.Joins.{put_five}
-use Rattle.left_text.proofs.processes.put_awaiting.Goals as goal
+use Rattle.left_text.proofs.process_ends.put_awaiting.Goals as goal
 
 pub returns : goal.returns
 returns c =
