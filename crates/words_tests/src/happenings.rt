@@ -1,3 +1,4 @@
+use ghost_logs::GhostLog;
 use logs::{Log, Shared};
 use std::test::Fail;
 
@@ -22,5 +23,14 @@ fn owners_share_a_value(rt: HostRuntime) -> Result<(), Fail> {
     log.add(shared.share()?)?;
     log.add(shared)?;
     assert!(rt; log.as_slice().iter().all(|owner| *owner.get() == 7));
+    Ok(())
+}
+
+#[test]
+fn what_contracts_alone_see_is_added(rt: HostRuntime) -> Result<(), Fail> {
+    let mut log = GhostLog::new(rt.alloc());
+    for k in 0..1000_u32 {
+        log.add(&k)?;
+    }
     Ok(())
 }
