@@ -37,7 +37,7 @@ refused-parse words one (Err memory) which is told = tt
 asks-by : (kinds : Kinds) (rows : List Row) (one : ErrorKind) (question : Option Question) → IsAmong one kinds
     → question ≡ kind_question one → AsksBy kinds rows question
 asks-by [] rows one question among is = absurd among
-asks-by (first ∷ kinds) rows one question among is = (one, (among, is))
+asks-by (first ∷ kinds) rows one question among is = (one, among, is)
 
 -- what words ask for that are refused for a kind
 pub asked-for-kind : (words : List Text) (made : Parse) (one : ErrorKind) (question : Option Question)
