@@ -1,0 +1,33 @@
+use Rattle.std.proofs.Common.{◌≡◌, ◌∙◌, ap, subst, sym}
+use Rattle.std.proofs.lemmas.Result.{IfOk-weaker}
+use Rattle.left_runs.specs.LeftRuns.{IsLeftText, run_text}
+use Rattle.packet_runs.specs.Ends.{IsRunOf}
+use Rattle.packet_runs.specs.Runs.{course_on, packet_rules}
+use Rattle.schedule_loop.specs.Ends.{CanBePlayed}
+use Rattle.site_machine.specs.Needs.{IsReady}
+use Rattle.left_runs.proofs.run.left_after.Goals as goal
+
+pub returns : goal.returns
+returns c =
+    let run : IsRunOf c.args.deck.site c.args.deck.lines c.args.stop c.in_ok-ran.ran =
+    subst (λ site. IsRunOf site c.args.deck.lines c.args.stop c.in_ok-ran.ran) c.in_ok-site.ensures
+    (subst (λ lines. IsRunOf c.in_ok-site.site lines c.args.stop c.in_ok-ran.ran) c.as_slice.ensures
+    c.in_ok-ran.ensures) in
+    IfOk-weaker c.text_of_run.result _ _
+    (λ text is. (
+      c.in_ok-ran.ran,
+      (
+        run,
+        is ∙ ap (λ site. run_text site c.in_ok-ran.ran) (c.get.ensures ∙ c.in_ok-site.ensures),
+      ),
+    ))
+    c.text_of_run.ensures
+
+pub run-requires-clause-can : goal.run-requires-clause-can
+run-requires-clause-can c =
+    subst (λ lines. CanBePlayed packet_rules IsReady (course_on c.in_ok-site.site lines c.args.stop))
+    (sym c.as_slice.ensures)
+    (subst (λ site. CanBePlayed packet_rules IsReady (course_on site c.args.deck.lines c.args.stop))
+    (sym c.in_ok-site.ensures)
+    (c.an_accepted_deck_meets_the_premises.ensures.can c.requires.spelt.0 c.args.deck c.args.stop c.requires.spelt.1
+    c.requires.accepted))
