@@ -16,10 +16,8 @@ returns c =
     IfOk-weaker c.text_of_run.result _ _
     (λ text is. (
       c.in_ok-ran.ran,
-      (
-        run,
-        is ∙ ap (λ site. run_text site c.in_ok-ran.ran) (c.get.ensures ∙ c.in_ok-site.ensures),
-      ),
+      run,
+      is ∙ ap (λ site. run_text site c.in_ok-ran.ran) (c.get.ensures ∙ c.in_ok-site.ensures),
     ))
     c.text_of_run.ensures
 
