@@ -42,7 +42,7 @@ sends_text program all needless =
     ++ needless_text program needless
 
 -- what a CHECKPOINT sends, and what by the advice it needn't name
-abbrev pub carried_text : List ℕ → ℕ → Program → NamedCheckpoint → List Advised → List ℕ
+unfoldable pub carried_text : List ℕ → ℕ → Program → NamedCheckpoint → List Advised → List ℕ
 carried_text bytes start program named advised =
     place_line bytes (start + named.line) ++ sends_text program (all_listed named) (needless named advised)
 

@@ -33,15 +33,18 @@ lacking_line program line lacking =
 abbrev pub call_line : Program → List Listed → List ℕ
 call_line program all = codes "         CALL CHECKPOINT(" ++ names_text program all ++ (codes ");" ++ 10 ∷ [])
 
--- a CHECKPOINT on a line as it has to read, where it lacks anything
+-- what a CHECKPOINT on a line lacks, and all that it has to name
+abbrev pub whole_text : Program → ℕ → List Listed → List Listed → List ℕ
+whole_text program line all lacking = lacking_line program line lacking ++ call_line program all
+
+-- nothing, where it lacks nothing
 abbrev pub listed_text : Program → ℕ → List Listed → List Listed → List ℕ
 listed_text program line all [] = []
-listed_text program line all (one ∷ more) =
-    lacking_line program line (one ∷ more) ++ call_line program (all ++ one ∷ more)
+listed_text program line all (one ∷ more) = whole_text program line all (one ∷ more)
 
 abbrev pub lack_text : ℕ → Program → NamedCheckpoint → List Advised → List ℕ
 lack_text start program named advised =
-    listed_text program (start + named.line) (all_listed named) (lacking named advised)
+    listed_text program (start + named.line) (all_listed named ++ lacking named advised) (lacking named advised)
 
 abbrev pub lacks_text : ℕ → Program → List NamedCheckpoint → List Advised → List ℕ
 lacks_text start program checkpoints advised = flat_map (λ named. lack_text start program named advised) checkpoints

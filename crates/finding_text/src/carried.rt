@@ -62,6 +62,7 @@ fn put_carries(
     Ok(())
 }
 
+#[tactic(auto, unfolding(crate::specs::Carried::carried_text))]
 fn put_carried(
     alloc: Global,
     text: &mut List<u8>,

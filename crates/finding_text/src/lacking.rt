@@ -3,7 +3,7 @@ ghost use Rattle.std.specs.Option.{option_copied};
 ghost use Rattle.finding_text.specs.Lacking.{depth_of, depth_text, depths_text, kept_text, lack_text, lacks_text};
 ghost use Rattle.finding_text.specs.Lacking.{lists_text, names_text, others_text, remedy_text, unmendable_text};
 ghost use Rattle.finding_text.specs.Lacking.{behind_text, call_line, deepest_text, lacking_line, last_line};
-ghost use Rattle.finding_text.specs.Lacking.{listed_text, unmended_text};
+ghost use Rattle.finding_text.specs.Lacking.{listed_text, unmended_text, whole_text};
 
 use crate::lists::{Listed, all_listed, lacking};
 use crate::names::{put_file, put_listed};
@@ -90,27 +90,40 @@ fn put_lack(
     ensures { OnOk result (text.new ≡ text.old ++ lack_text start program.now named.now advised.now) }
 {
     let lacking = lacking(alloc, named, advised)?;
-    let all = all_listed(alloc, named)?;
+    let mut all = all_listed(alloc, named)?;
+    all.extend_from_slice(lacking.as_slice())?;
     let line = start + u64::from(named.line);
-    put_whole(text, program, line, all, lacking.as_slice())
+    put_listed_names(text, program, line, all.as_slice(), lacking.as_slice())
 }
 
 /// Puts a CHECKPOINT as it has to read behind the text, where it lacks anything.
-fn put_whole(
+fn put_listed_names(
     text: &mut List<u8>,
     program: &Program,
     line: u64,
-    mut all: List<Listed>,
+    all: &[Listed],
     lacking: &[Listed],
 ) -> Result<(), NoMemory>
-    ensures { OnOk result (text.new ≡ text.old ++ listed_text program.now line all lacking.now) }
+    ensures { OnOk result (text.new ≡ text.old ++ listed_text program.now line all.now lacking.now) }
 {
     if lacking.is_empty() {
         return Ok(());
     }
-    all.extend_from_slice(lacking)?;
+    put_whole(text, program, line, all, lacking)
+}
+
+/// Puts what a CHECKPOINT lacks, and all that it has to name, behind the text.
+fn put_whole(
+    text: &mut List<u8>,
+    program: &Program,
+    line: u64,
+    all: &[Listed],
+    lacking: &[Listed],
+) -> Result<(), NoMemory>
+    ensures { OnOk result (text.new ≡ text.old ++ whole_text program.now line all.now lacking.now) }
+{
     put_lacking(text, program, line, lacking)?;
-    put_call(text, program, all.as_slice())
+    put_call(text, program, all)
 }
 
 fn put_lacking(

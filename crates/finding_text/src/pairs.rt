@@ -1,6 +1,7 @@
 ghost use Rattle.std.specs.Prelude.{◌≡◌, ◌≤◌, ◌++◌, length, OnOk};
 ghost use Rattle.finding_text.specs.PairText.{broken_text, pair_text, pair_texts, program_text};
-ghost use Rattle.finding_text.specs.PairText.{cause_line, head_text, hint_line, praise_text, refused_line, way_text};
+ghost use Rattle.finding_text.specs.PairText.{cause_line, head_text, hint_line, praise_text, refused_line};
+ghost use Rattle.finding_text.specs.PairText.{refused_text, way_text};
 
 use crate::carried::put_accepted;
 use crate::deck_place::pair_line;
@@ -74,13 +75,38 @@ fn put_program(
             put_praise(text, name.text())?;
             put_accepted(alloc, text, bytes, start, program, found)
         }
-        Some(refusal) => {
-            put_head(text, name.text(), program, refusal)?;
-            put_broken(text, bytes, start, program, found, refusal)?;
-            put_remedy(alloc, text, start, program, found)?;
-            put_cause_line(text, name.text(), program, refusal)
-        }
+        Some(refusal) => put_refused(
+            alloc,
+            text,
+            bytes,
+            start,
+            name.text(),
+            program,
+            found,
+            refusal,
+        ),
     }
+}
+
+/// Puts what is found of a refused program, which begins behind a line of the deck, behind the text.
+fn put_refused(
+    alloc: Global,
+    text: &mut List<u8>,
+    bytes: &[u8],
+    start: u64,
+    name: &[u8],
+    program: &Program,
+    found: &PairFinding,
+    refusal: &RefusalFault,
+) -> Result<(), NoMemory>
+    requires { start ≤ 1048576 }
+    ensures { OnOk result (text.new ≡ text.old
+        ++ refused_text bytes.now start name.now program.now found.now refusal.now) }
+{
+    put_head(text, name, program, refusal)?;
+    put_broken(text, bytes, start, program, found, refusal)?;
+    put_remedy(alloc, text, start, program, found)?;
+    put_cause_line(text, name, program, refusal)
 }
 
 fn put_praise(text: &mut List<u8>, name: &[u8]) -> Result<(), NoMemory>
