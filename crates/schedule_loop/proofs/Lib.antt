@@ -1,3 +1,4 @@
+pub mod Looking
 pub mod Plain
 pub mod Planning
 pub mod Playing

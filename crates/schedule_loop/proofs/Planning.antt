@@ -13,8 +13,10 @@ use Rattle.player.specs.declared.standing.Move.{Move}
 use Rattle.player.specs.declared.stop.ProcessorStop.{ProcessorStop}
 use Rattle.player.specs.Lines.{begun, event_of, next_event, stands_after}
 use Rattle.agendas.specs.Agendas.{Plan, stopped_by}
+use Rattle.schedule_loop.specs.Looks.{asks_packet}
 use Rattle.schedule_loop.specs.Plans.{Sight, next_seen, planned_seen}
 use Rattle.schedule_loop.specs.Seen.{IsBegun, Scheduled, event_in}
+use Rattle.schedule_loop.proofs.Looking.{same-unlooked}
 
 -- where it is told whether a machine is idle
 pub asked : (sizes : Sizes) (standing : LinePlace) (player : Player) (counts : Player → Counts) (told : Counts)
@@ -27,21 +29,27 @@ asked sizes standing player counts told idle here is =
     ∙ ap (λ (one : Player). next_event sizes standing (record (counts one) { idle = idle })) here
 
 -- and where the next event doesn't depend on that, it is the same if that is told wrongly
-pub unasked : (sizes : Sizes) (standing : LinePlace) (player : Player) (counts : Player → Counts) (told : Counts)
-    (idle : Bool) → player ≡ record { sizes = sizes; standing = standing }
+pub unasked : (sizes : Sizes) (standing : LinePlace) (player : Player) (counts : Counts) (idle : Bool)
+    → player ≡ record { sizes = sizes; standing = standing }
     → ((any : Counts) (is : Bool) → next_event player.sizes player.standing (record any { idle = is })
     ≡ next_event player.sizes player.standing any)
-    → told ≡ record (counts player) { idle = false }
-    → next_event sizes standing told
-    ≡ next_event sizes standing (record (counts (record { sizes = sizes; standing = standing })) { idle = idle })
-unasked sizes standing player counts told idle here same is =
+    → next_event sizes standing (record counts { idle = false })
+    ≡ next_event sizes standing (record counts { idle = idle })
+unasked sizes standing player counts idle here same =
     let any : (one : Counts) (is : Bool) → next_event sizes standing (record one { idle = is })
     ≡ next_event sizes standing one =
     subst (λ (at : Player). (one : Counts) (is : Bool) → next_event at.sizes at.standing (record one { idle = is })
     ≡ next_event at.sizes at.standing one) here same in
-    asked sizes standing player counts told false here is
-    ∙ any (counts (record { sizes = sizes; standing = standing })) false
-    ∙ sym (any (counts (record { sizes = sizes; standing = standing })) idle)
+    any counts false ∙ sym (any counts idle)
+
+-- where it doesn't depend on the packet that it concerns, it is the same if no packet is looked at
+pub unlooked : (sizes : Sizes) (standing : LinePlace) (player : Player) (counts told : Counts)
+    → player ≡ record { sizes = sizes; standing = standing } → asks_packet player.standing ≡ false
+    → told ≡ record counts { alive = false; sender = 0 }
+    → next_event sizes standing told ≡ next_event sizes standing counts
+unlooked sizes standing player counts told here none is =
+    ap (next_event sizes standing) is
+    ∙ same-unlooked sizes standing (sym (ap (λ (at : Player). asks_packet at.standing) here) ∙ none) counts
 
 -- where the line gives an event, that is the plan
 pub gives-event : (sizes : Sizes) (sight : Sight) (stop : Option ProcessorStop) (lines : List Line)

@@ -1,4 +1,5 @@
 pub mod Ends
+pub mod Looks
 pub mod Plans
 pub mod Rules
 pub mod Seen

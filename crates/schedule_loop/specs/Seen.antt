@@ -4,6 +4,7 @@ use Rattle.std.specs.Option.{option_map}
 use Rattle.schedule.specs.declared.event.Event.{Event}
 use Rattle.schedule.specs.declared.line.Line.{Line}
 use Rattle.player.specs.Lines.{begun}
+use Rattle.player.specs.declared.player.Player.{Player}
 use Rattle.player.specs.declared.standing.Sizes.{Sizes}
 use Rattle.agendas.specs.Agendas.{Agenda, Plan}
 
@@ -11,6 +12,10 @@ use Rattle.agendas.specs.Agendas.{Agenda, Plan}
 pub record Scheduled : Type 0 where
   pub sizes : Sizes
   pub agenda : Agenda
+
+-- the player that stands there
+abbrev pub player_at : Scheduled → Player
+player_at all = record { sizes = all.sizes; standing = all.agenda.standing }
 
 abbrev pub event_in : Option Plan → Option Event
 event_in plan = option_map (λ one. one.event) plan

@@ -1,10 +1,11 @@
 ghost use Rattle.std.specs.Prelude.{◌≡◌, None, Some};
 ghost use Rattle.std.specs.Option.{IfSome, option_map};
-ghost use Rattle.player.specs.Lines.{event_of, next_event, stands_after};
+ghost use Rattle.player.specs.Lines.{begun, event_of, next_event, stands_after};
 ghost use Rattle.agendas.specs.Agendas.{agenda_of, coming, stopped_by};
+ghost use Rattle.schedule_loop.specs.Looks.{asks_packet};
 ghost use Rattle.schedule_loop.specs.Plans.{next_seen, planned_seen, upcoming_seen};
 ghost use Rattle.schedule_loop.specs.Rules.{sight_of};
-ghost use Rattle.schedule_loop.specs.Seen.{IsBegun, event_in};
+ghost use Rattle.schedule_loop.specs.Seen.{IsBegun, event_in, player_at};
 
 use crate::machine::ScheduleMachine;
 use player::{Player, ProcessorStop, Sizes};
@@ -19,10 +20,14 @@ pub struct Schedule<'a> {
     lines: &'a [Line],
     stop: Option<ProcessorStop>,
     held_back: Option<Event>,
+    /// Whether the next event of the line may depend on which packet it concerns.
+    looks: bool,
 }
 
 impl<'a> Model for Schedule<'a> {
     ghost use Rattle.std.specs.Coded.{codes};
+    ghost use Rattle.std.specs.Prelude.{◌≡◌, false};
+    ghost use Rattle.schedule_loop.specs.Looks.{asks_packet};
     ghost use Rattle.schedule_loop.specs.Seen.{Scheduled};
 
     ghost Value = { Scheduled };
@@ -39,6 +44,8 @@ impl<'a> Model for Schedule<'a> {
             all.held_back;
       };
     } };
+
+    ghost invariant = { λ all. all.looks ≡ false → asks_packet all.player.standing ≡ false };
 }
 
 impl<'a> Schedule<'a> {
@@ -51,6 +58,7 @@ impl<'a> Schedule<'a> {
             lines,
             stop,
             held_back: None,
+            looks: false,
         }
     }
 
@@ -154,6 +162,7 @@ impl<'a> Schedule<'a> {
             Some((line, rest)) => {
                 self.player.start(*line);
                 self.lines = rest;
+                self.looks = asks_packet(*line);
                 true
             }
         }
@@ -182,9 +191,29 @@ impl<'a> Schedule<'a> {
             (sight_of M.rules (M.state machine.now)) self.now.agenda.standing }
     {
         if self.player.asks_idle() {
-            machine.counts(&self.player, machine.is_idle())
+            self.looked(machine, machine.is_idle())
         } else {
-            machine.counts(&self.player, false)
+            self.looked(machine, false)
         }
     }
+
+    /// What is counted before the next event of the line, with this told of whether the machine is idle. The packet
+    /// that the event concerns is looked at only where the event may depend on it.
+    fn looked<M: ScheduleMachine>(&self, machine: &M, idle: bool) -> Counts
+        ensures { next_event self.now.sizes self.now.agenda.standing result
+            ≡ next_event self.now.sizes self.now.agenda.standing
+            (record (M.rules.counts (M.state machine.now) (player_at self.now)) { idle = idle }) }
+    {
+        if self.looks {
+            machine.counts(&self.player, idle)
+        } else {
+            machine.tally(idle)
+        }
+    }
+}
+
+fn asks_packet(line: Line) -> bool
+    ensures { result ≡ asks_packet (begun line) }
+{
+    matches!(line, Line::Mix { .. } | Line::Mute { .. })
 }

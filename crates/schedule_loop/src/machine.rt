@@ -1,5 +1,6 @@
 ghost use Rattle.std.specs.Prelude.{◌≡◌, false, true, Bool, IfOk, OnOk};
 ghost use Rattle.machine_states.specs.States.{Settles, State};
+ghost use Rattle.player.specs.declared.player.Player.{Player as AnyPlayer};
 ghost use Rattle.schedule_loop.specs.Rules.{Rules};
 
 use gd_words::NoMemory;
@@ -31,9 +32,14 @@ pub trait ScheduleMachine: Drop {
         ensures whole { IfOk result (λ effect. is_broken self.new ≡ false) };
 
     /// What is counted before the next event of the line at which a player stands, with this told of whether the
-    /// machine is idle.
+    /// machine is idle. It has the kind and the sender of the packet that the event concerns.
     fn counts(&self, player: &Player, idle: bool) -> Counts
         ensures { result ≡ record (rules.counts (state self.now) player.now) { idle = idle } };
+
+    /// What is counted wherever a line stands, with this told of whether the machine is idle, and of no packet.
+    fn tally(&self, idle: bool) -> Counts
+        ensures { (player : AnyPlayer)
+            → result ≡ record (rules.counts (state self.now) player) { alive = false; sender = 0; idle = idle } };
 
     /// Whether nothing is left to do.
     fn is_idle(&self) -> bool
