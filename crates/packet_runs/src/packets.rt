@@ -73,6 +73,18 @@ impl ScheduleMachine for PlayedPackets {
         }
     }
 
+    fn tally(&self, idle: bool) -> Counts {
+        Counts {
+            x: self.machine.count(false) as u32,
+            y: self.machine.count(true) as u32,
+            alive: false,
+            sender: 0,
+            idle,
+            writes: self.machine.writes(),
+            replies: self.machine.replies(),
+        }
+    }
+
     fn is_idle(&self) -> bool {
         self.machine.is_idle()
     }
