@@ -3,6 +3,7 @@ ghost use Rattle.message_wires.specs.Play.{machine_at_boot};
 ghost use Rattle.message_wires.specs.Wires as wires;
 ghost use Rattle.process_copies.specs.Starting.{IsStartable};
 ghost use Rattle.schedule_runs.specs.Rules.{CanGoOn, pair_rules};
+ghost use Rattle.schedule_runs.specs.Runs.{counts_of};
 
 use gd_words::NoMemory;
 use logs::Shared;
@@ -30,6 +31,21 @@ impl PlayedPairs {
         let machine = PairMachine::boot(alloc, site)?;
         Ok(PlayedPairs { machine })
     }
+
+    /// All packets are on bus X, and none is an alive one.
+    fn counted(&self, idle: bool) -> Counts
+        ensures { result ≡ record (counts_of self.now.machine.state) { idle = idle } }
+    {
+        Counts {
+            x: self.machine.count(false),
+            y: 0,
+            alive: false,
+            sender: 0,
+            idle,
+            writes: self.machine.writes(),
+            replies: self.machine.replies(),
+        }
+    }
 }
 
 impl ScheduleMachine for PlayedPairs {
@@ -47,17 +63,12 @@ impl ScheduleMachine for PlayedPairs {
         self.machine.event(event)
     }
 
-    /// All packets are on bus X, and none is an alive one.
     fn counts(&self, player: &Player, idle: bool) -> Counts {
-        Counts {
-            x: self.machine.count(false),
-            y: 0,
-            alive: false,
-            sender: 0,
-            idle,
-            writes: self.machine.writes(),
-            replies: self.machine.replies(),
-        }
+        self.counted(idle)
+    }
+
+    fn tally(&self, idle: bool) -> Counts {
+        self.counted(idle)
     }
 
     fn is_idle(&self) -> bool {
