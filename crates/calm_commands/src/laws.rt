@@ -5,11 +5,11 @@ ghost use Rattle.command_words.specs.declared.asked.Command.TheVariants.{Run};
 ghost use Rattle.deck_reader.specs.Decks.{Decks};
 ghost use Rattle.deck_reader.specs.declared.deck.Deck.{Deck};
 ghost use Rattle.player.specs.declared.stop.ProcessorStop.{ProcessorStop};
-ghost use Rattle.runner.specs.Ends.{Ends};
-ghost use Rattle.runner.specs.Tasks.{can_stop};
-ghost use Rattle.runner.specs.declared.outcome.Outcome.{Outcome};
-ghost use Rattle.runner.specs.declared.task.Task.TheVariants as task;
-ghost use Rattle.runner.specs.declared.task.Telling.TheVariants.{Lines};
+ghost use Rattle.command_dues.specs.Ends.{Ends};
+ghost use Rattle.command_dues.specs.Tasks.{can_stop};
+ghost use Rattle.command_dues.specs.declared.outcome.Outcome.{Outcome};
+ghost use Rattle.command_dues.specs.declared.task.Task.TheVariants as task;
+ghost use Rattle.command_dues.specs.declared.task.Telling.TheVariants.{Lines};
 ghost use Rattle.verdicts.specs.Refused.{AreAccepted};
 ghost use Rattle.calm_commands.specs.CalmRuns.{IsCalmAndClear, IsStatusOfCalmRun};
 

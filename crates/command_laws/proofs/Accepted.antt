@@ -11,11 +11,11 @@ use Rattle.deck_reader.proofs.OneAnswer.{no_deck, one_deck}
 use Rattle.discipline.proofs.Verdicts.{accepted-ok}
 use Rattle.verdicts.specs.Refused.{AreAccepted, IsFirstRefused}
 use Rattle.verdicts.specs.declared.refused.RefusedProgram.{RefusedProgram}
-use Rattle.runner.specs.Decided.{IsDueOfTask, IsDueOfBytes, IsDueOfDeck, IsDueOfSource}
-use Rattle.runner.specs.Tasks.{can_stop}
-use Rattle.runner.specs.declared.due.Due.{Due}
-use Rattle.runner.specs.declared.due.Due.TheVariants as due
-use Rattle.runner.specs.declared.task.Task.{Task}
+use Rattle.command_dues.specs.Decided.{IsDueOfTask, IsDueOfBytes, IsDueOfDeck, IsDueOfSource}
+use Rattle.command_dues.specs.Tasks.{can_stop}
+use Rattle.command_dues.specs.declared.due.Due.{Due}
+use Rattle.command_dues.specs.declared.due.Due.TheVariants as due
+use Rattle.command_dues.specs.declared.task.Task.{Task}
 
 pub only-wanting : (refusal : RefusalFault)
     → (◌≡◌ {A = Result ⊤ RefusalFault} (Err refusal) (Ok tt))

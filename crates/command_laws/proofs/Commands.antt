@@ -17,17 +17,17 @@ use Rattle.player.specs.declared.stop.ProcessorStop.{ProcessorStop}
 use Rattle.schedule_loop.specs.declared.ran.Ending.{Ending}
 use Rattle.schedule_loop.specs.declared.ran.Ending.TheVariants as ending
 use Rattle.verdicts.specs.Refused.{AreAccepted}
-use Rattle.runner.specs.Decided.{IsDue, IsDueOfRun, IsDueOfSweep, IsDueOn}
-use Rattle.runner.specs.RunEnds.{status_of_run}
-use Rattle.runner.specs.Tasks.{can_stop, load_task}
-use Rattle.runner.specs.Written.{outcome_of, status_of}
-use Rattle.runner.specs.declared.due.Due.{Due}
-use Rattle.runner.specs.declared.due.Due.TheVariants as due
-use Rattle.runner.specs.declared.outcome.Outcome.{Outcome}
-use Rattle.runner.specs.declared.outcome.Status.TheVariants as status
-use Rattle.runner.specs.declared.task.Task.TheVariants as task
-use Rattle.runner.specs.declared.task.Telling.{Telling}
-use Rattle.runner.specs.declared.task.Telling.TheVariants.{Counts, Lines}
+use Rattle.command_dues.specs.Decided.{IsDue, IsDueOfRun, IsDueOfSweep, IsDueOn}
+use Rattle.command_dues.specs.RunEnds.{status_of_run}
+use Rattle.command_dues.specs.Tasks.{can_stop, load_task}
+use Rattle.command_dues.specs.Written.{outcome_of, status_of}
+use Rattle.command_dues.specs.declared.due.Due.{Due}
+use Rattle.command_dues.specs.declared.due.Due.TheVariants as due
+use Rattle.command_dues.specs.declared.outcome.Outcome.{Outcome}
+use Rattle.command_dues.specs.declared.outcome.Status.TheVariants as status
+use Rattle.command_dues.specs.declared.task.Task.TheVariants as task
+use Rattle.command_dues.specs.declared.task.Telling.{Telling}
+use Rattle.command_dues.specs.declared.task.Telling.TheVariants.{Counts, Lines}
 use Rattle.command_laws.specs.RunStatus.{IsStatusOfCheck, IsStatusOfRun}
 use Rattle.command_laws.proofs.Accepted.{IsGood, of-bytes, of-source}
 

@@ -10,15 +10,15 @@ use Rattle.gd_io.specs.declared.writing.WriteFault.{WriteFault}
 use Rattle.load_deck.specs.LoadText.{load_text}
 use Rattle.schedule_loop.specs.declared.ran.Ending.{Ending}
 use Rattle.schedule_loop.specs.declared.ran.Ending.TheVariants.{Idle, Cut, Second}
-use Rattle.runner.specs.Decided.{IsDue, IsDueOn}
-use Rattle.runner.specs.RunEnds.{status_of_run}
-use Rattle.runner.specs.Tasks.{load_task}
-use Rattle.runner.specs.Written.{IsWritten, outcome_of, text_of}
-use Rattle.runner.specs.declared.due.Due.{Due}
-use Rattle.runner.specs.declared.due.Due.TheVariants as due
-use Rattle.runner.specs.declared.outcome.Outcome.{Outcome}
-use Rattle.runner.specs.declared.outcome.Status.TheVariants as status
-use Rattle.runner.proofs.DecidedLemmas.{not_read_fault, read_fault_is_due}
+use Rattle.command_dues.specs.Decided.{IsDue, IsDueOn}
+use Rattle.command_dues.specs.RunEnds.{status_of_run}
+use Rattle.command_dues.specs.Tasks.{load_task}
+use Rattle.command_dues.specs.Written.{IsWritten, outcome_of, text_of}
+use Rattle.command_dues.specs.declared.due.Due.{Due}
+use Rattle.command_dues.specs.declared.due.Due.TheVariants as due
+use Rattle.command_dues.specs.declared.outcome.Outcome.{Outcome}
+use Rattle.command_dues.specs.declared.outcome.Status.TheVariants as status
+use Rattle.command_dues.proofs.DecidedLemmas.{not_read_fault, read_fault_is_due}
 
 -- Reading
 

@@ -29,7 +29,7 @@ use Rattle.advice.proofs.Deepest.{depth-asked, input-own, leads-own}
 use Rattle.advice_laws.proofs.OneAnswer.{answers-same}
 use Rattle.site_advice.specs.SiteAdvised.{AreAdvised, IsFirstUnadvised, IsUnadvised, pair_at, pairs_from}
 use Rattle.site_advice.specs.declared.pairs.PairAdvice.{PairAdvice}
-use Rattle.runner.specs.declared.due.RefusedSite.{RefusedSite}
+use Rattle.command_dues.specs.declared.due.RefusedSite.{RefusedSite}
 use Rattle.command_laws.specs.OneDue.{IsSameRefusal}
 
 -- A program with an answer is mended

@@ -36,22 +36,22 @@ use Rattle.report_judge.specs.declared.judge.VerifyRefusal.TheVariants as refusa
 use Rattle.report_judge.specs.declared.judge.Why.{Why}
 use Rattle.report_laws.proofs.OneVerdict.{one-verdict}
 use Rattle.report_laws.specs.OneVerdict.{IsSameVerdict}
-use Rattle.runner.specs.Verified.{IsDueOfInput, IsDueOfJudged, deck_in, report_in}
-use Rattle.runner.specs.Decided.{IsDue, IsDueOfTask, IsDueOfBytes, IsDueOfDeck, IsDueOfRun, IsDueOfSource}
-use Rattle.runner.specs.Decided.{IsDueOfAdvice, IsDueOfSweep, IsDueOfVerify, IsDueOn, IsReportOf}
-use Rattle.runner.specs.RunEnds.{shown_in}
-use Rattle.runner.specs.Stopped.{stopped_from}
-use Rattle.runner.specs.Tasks.{can_stop, judges, load_task}
-use Rattle.runner.specs.declared.due.AdvisedSite.{AdvisedSite}
-use Rattle.runner.specs.declared.due.Due.{Due}
-use Rattle.runner.specs.declared.due.Due.TheVariants as due
-use Rattle.runner.specs.declared.due.RefusedSite.{RefusedSite}
-use Rattle.runner.specs.declared.due.Report.{Report}
-use Rattle.runner.specs.declared.outcome.RunEnd.{RunEnd}
-use Rattle.runner.specs.declared.task.Task.{Task}
-use Rattle.runner.specs.declared.task.Task.TheVariants as task
-use Rattle.runner.specs.declared.task.Telling.{Telling}
-use Rattle.runner.specs.declared.task.Telling.TheVariants.{Lines}
+use Rattle.command_dues.specs.Verified.{IsDueOfInput, IsDueOfJudged, deck_in, report_in}
+use Rattle.command_dues.specs.Decided.{IsDue, IsDueOfTask, IsDueOfBytes, IsDueOfDeck, IsDueOfRun, IsDueOfSource}
+use Rattle.command_dues.specs.Decided.{IsDueOfAdvice, IsDueOfSweep, IsDueOfVerify, IsDueOn, IsReportOf}
+use Rattle.command_dues.specs.RunEnds.{shown_in}
+use Rattle.command_dues.specs.Stopped.{stopped_from}
+use Rattle.command_dues.specs.Tasks.{can_stop, judges, load_task}
+use Rattle.command_dues.specs.declared.due.AdvisedSite.{AdvisedSite}
+use Rattle.command_dues.specs.declared.due.Due.{Due}
+use Rattle.command_dues.specs.declared.due.Due.TheVariants as due
+use Rattle.command_dues.specs.declared.due.RefusedSite.{RefusedSite}
+use Rattle.command_dues.specs.declared.due.Report.{Report}
+use Rattle.command_dues.specs.declared.outcome.RunEnd.{RunEnd}
+use Rattle.command_dues.specs.declared.task.Task.{Task}
+use Rattle.command_dues.specs.declared.task.Task.TheVariants as task
+use Rattle.command_dues.specs.declared.task.Telling.{Telling}
+use Rattle.command_dues.specs.declared.task.Telling.TheVariants.{Lines}
 use Rattle.command_laws.specs.OneDue.{IsSameDue, IsSameRefusal}
 use Rattle.command_laws.proofs.Accepted.{only-wanting}
 use Rattle.command_laws.proofs.OneAdvice.{advised-or-not, one-advised, same-unadvised}

@@ -9,12 +9,12 @@ use Rattle.deck_reader.specs.declared.deck.Deck.{Deck}
 use Rattle.gd_io.specs.declared.writing.WriteFault.{WriteFault}
 use Rattle.report_reader.specs.Reading.{acts_in}
 use Rattle.report_reader.specs.declared.reading.Reading.{Reading}
-use Rattle.runner.specs.Decided.{IsDue, IsDueOn}
-use Rattle.runner.specs.Written.{outcome_of, status_of}
-use Rattle.runner.specs.declared.due.Due.{Due}
-use Rattle.runner.specs.declared.due.Due.TheVariants as due
-use Rattle.runner.specs.declared.outcome.Outcome.{Outcome}
-use Rattle.runner.specs.declared.outcome.Status.TheVariants as status
+use Rattle.command_dues.specs.Decided.{IsDue, IsDueOn}
+use Rattle.command_dues.specs.Written.{outcome_of, status_of}
+use Rattle.command_dues.specs.declared.due.Due.{Due}
+use Rattle.command_dues.specs.declared.due.Due.TheVariants as due
+use Rattle.command_dues.specs.declared.outcome.Outcome.{Outcome}
+use Rattle.command_dues.specs.declared.outcome.Status.TheVariants as status
 use Rattle.command_laws.specs.OneDue.{IsSameDue}
 use Rattle.command_laws.specs.ReportedInput.{IsReportedInput}
 use Rattle.command_laws.specs.RunStatus.{IsStatusOfCheck}

@@ -1,9 +1,9 @@
 -- When two answers to one command are the same.
 use Rattle.std.specs.Prelude.{◌≡◌, Err}
 use Rattle.discipline.specs.Verdict.{Agree}
-use Rattle.runner.specs.declared.due.Due.{Due}
-use Rattle.runner.specs.declared.due.Due.TheVariants as due
-use Rattle.runner.specs.declared.due.RefusedSite.{RefusedSite}
+use Rattle.command_dues.specs.declared.due.Due.{Due}
+use Rattle.command_dues.specs.declared.due.Due.TheVariants as due
+use Rattle.command_dues.specs.declared.due.RefusedSite.{RefusedSite}
 
 -- the first program that is refused is that of the same process, for the same cause, told by the same lines; the paths
 -- of two refusals are as long

@@ -5,7 +5,7 @@ use Rattle.deck_reader.specs.declared.deck.Deck.{Deck}
 use Rattle.report_judge.specs.Reported.{IsReported}
 use Rattle.report_reader.specs.Reading.{acts_in, read_report, stops_in}
 use Rattle.report_reader.specs.declared.reading.Reading.{Reading}
-use Rattle.runner.specs.Verified.{deck_in, report_in}
+use Rattle.command_dues.specs.Verified.{deck_in, report_in}
 use Rattle.verdicts.specs.Refused.{AreAccepted}
 
 -- the bytes begin with this deck, whose programs are accepted; what follows has lines that tell this, each in its form,

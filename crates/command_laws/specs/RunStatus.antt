@@ -1,6 +1,6 @@
 -- How a command may end that is never refused.
-use Rattle.runner.specs.declared.outcome.Status.{Status}
-use Rattle.runner.specs.declared.outcome.Status.TheVariants as status
+use Rattle.command_dues.specs.declared.outcome.Status.{Status}
+use Rattle.command_dues.specs.declared.outcome.Status.TheVariants as status
 
 -- a check or a sweep: all programs were accepted, a write failed, or memory ran out
 abbrev pub IsStatusOfCheck : Status → Type 0

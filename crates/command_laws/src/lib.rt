@@ -3,7 +3,7 @@
 //! advice is asked, each deck has it, or the cause why not. A fault with which a command ends was counted, and what is
 //! due of a command is one.
 //!
-//! Below stand `runner`, whose definitions say what is due and how a command ends, `deck_reader`, `verdicts` and
+//! Below stand `command_dues`, whose definitions say what is due and how a command ends, `deck_reader`, `verdicts` and
 //! `discipline` with the laws that decks and verdicts are one, `advice_laws` with the law that answers are,
 //! `report_laws`, by which the verdict on a report is one, `load_laws`, which says what deck the load text is, and
 //! `single_runs`, by which a schedule has one run. No code runs here.

@@ -5,7 +5,7 @@ use Rattle.std.proofs.Common.{◌++◌, length, take, drop, refl, sym, ap, ◌�
 use Rattle.std.proofs.Common.{length-append}
 use Rattle.report_reader.specs.DeckEnds.{deck_end, is_end, is_inside, length_to_end}
 use Rattle.report_reader.specs.Parts.{Parts, parts_of, parts_onto, parts_with}
-use Rattle.runner.specs.Verified.{deck_in, report_in}
+use Rattle.command_dues.specs.Verified.{deck_in, report_in}
 use Rattle.reported_runs.specs.EndedDecks.{IsEnded}
 
 -- how long the lines are up to the first that is END, where these signs stand before the parts

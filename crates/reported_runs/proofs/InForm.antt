@@ -19,11 +19,11 @@ use Rattle.tal_tree.specs.declared.site.Site.{Site}
 use Rattle.trace_print.specs.declared.closing.End.{End}
 use Rattle.trace_print.specs.declared.closing.End.TheVariants.{Idle, Cut, Second}
 use Rattle.told_reports.specs.InForm.{AreEach, AreRisingFrom, IsEndOn, IsInForm, IsProcessorOf}
-use Rattle.runner.specs.Decided.{IsReportOf}
-use Rattle.runner.specs.RunEnds.{acts_of_run, end_of}
-use Rattle.runner.specs.Written.{text_of_run}
-use Rattle.runner.specs.declared.due.Report.{Report}
-use Rattle.runner.specs.declared.task.Telling.TheVariants.{Lines}
+use Rattle.command_dues.specs.Decided.{IsReportOf}
+use Rattle.command_dues.specs.RunEnds.{acts_of_run, end_of}
+use Rattle.command_dues.specs.Written.{text_of_run}
+use Rattle.command_dues.specs.declared.due.Report.{Report}
+use Rattle.command_dues.specs.declared.task.Telling.TheVariants.{Lines}
 use Rattle.reported_runs.proofs.Reports.{run-reported}
 use Rattle.reported_runs.proofs.Verified.{run-verified}
 

@@ -16,13 +16,13 @@ use Rattle.shown_sectors.specs.Sectors.{sectors_after}
 use Rattle.tal_tree.specs.declared.act.Act.{Act}
 use Rattle.trace_print.specs.declared.closing.End.{End}
 use Rattle.told_reports.proofs.ReadBack.{report-read}
-use Rattle.runner.specs.Decided.{IsDue, IsDueOn, IsReportOf}
-use Rattle.runner.specs.RunEnds.{acts_of_run, end_of}
-use Rattle.runner.specs.Verified.{deck_in, report_in}
-use Rattle.runner.specs.Written.{text_of, text_of_run}
-use Rattle.runner.specs.declared.due.Due.TheVariants as due
-use Rattle.runner.specs.declared.due.Report.{Report}
-use Rattle.runner.specs.declared.task.Telling.TheVariants.{Lines}
+use Rattle.command_dues.specs.Decided.{IsDue, IsDueOn, IsReportOf}
+use Rattle.command_dues.specs.RunEnds.{acts_of_run, end_of}
+use Rattle.command_dues.specs.Verified.{deck_in, report_in}
+use Rattle.command_dues.specs.Written.{text_of, text_of_run}
+use Rattle.command_dues.specs.declared.due.Due.TheVariants as due
+use Rattle.command_dues.specs.declared.due.Report.{Report}
+use Rattle.command_dues.specs.declared.task.Telling.TheVariants.{Lines}
 use Rattle.verdicts.specs.Refused.{AreAccepted}
 use Rattle.reported_runs.proofs.EndedDecks.{deck-first, report-last}
 use Rattle.reported_runs.proofs.InForm.{reported-form}

@@ -17,14 +17,14 @@ use Rattle.schedule_loop.specs.declared.ran.Ending.TheVariants as ending
 use Rattle.trace_print.specs.ReportText.{report_text}
 use Rattle.trace_print.specs.declared.closing.End.TheVariants.{Idle}
 use Rattle.report_judge.specs.Reported.{AreRising, IsReported}
-use Rattle.runner.specs.Decided.{IsDue, IsDueOn, IsReportOf}
-use Rattle.runner.specs.RunEnds.{acts_of_run, end_of, shown_in}
-use Rattle.runner.specs.Stopped.{stopped_from}
-use Rattle.runner.specs.Written.{text_of, text_of_run, text_telling}
-use Rattle.runner.specs.declared.due.Due.TheVariants as due
-use Rattle.runner.specs.declared.due.Report.{Report}
-use Rattle.runner.specs.declared.task.Telling.{Telling}
-use Rattle.runner.specs.declared.task.Telling.TheVariants.{Lines}
+use Rattle.command_dues.specs.Decided.{IsDue, IsDueOn, IsReportOf}
+use Rattle.command_dues.specs.RunEnds.{acts_of_run, end_of, shown_in}
+use Rattle.command_dues.specs.Stopped.{stopped_from}
+use Rattle.command_dues.specs.Written.{text_of, text_of_run, text_telling}
+use Rattle.command_dues.specs.declared.due.Due.TheVariants as due
+use Rattle.command_dues.specs.declared.due.Report.{Report}
+use Rattle.command_dues.specs.declared.task.Telling.{Telling}
+use Rattle.command_dues.specs.declared.task.Telling.TheVariants.{Lines}
 use Rattle.reported_runs.proofs.Stops.{run-of-site}
 
 -- the processors that have stopped rise

@@ -32,7 +32,7 @@ use Rattle.schedule_loop.specs.Ends.{EndsBy, Plays}
 use Rattle.schedule_loop.specs.declared.ran.Ending.{Ending}
 use Rattle.schedule_loop.specs.declared.ran.Ending.TheVariants.{Idle, Cut, Second}
 use Rattle.report_judge.specs.Reported.{IsEndOfRun}
-use Rattle.runner.specs.RunEnds.{end_of}
+use Rattle.command_dues.specs.RunEnds.{end_of}
 
 -- As many processors
 

@@ -16,11 +16,11 @@ use Rattle.trace_print.specs.declared.closing.End.{End}
 use Rattle.told_reports.proofs.ReadBack.{report-read}
 use Rattle.told_reports.specs.InForm.{IsInForm}
 use Rattle.told_reports.specs.NamesApart.{TellsNamesApart}
-use Rattle.runner.specs.Decided.{IsReportOf}
-use Rattle.runner.specs.RunEnds.{acts_of_run, end_of}
-use Rattle.runner.specs.Written.{text_of_run}
-use Rattle.runner.specs.declared.due.Report.{Report}
-use Rattle.runner.specs.declared.task.Telling.TheVariants.{Lines}
+use Rattle.command_dues.specs.Decided.{IsReportOf}
+use Rattle.command_dues.specs.RunEnds.{acts_of_run, end_of}
+use Rattle.command_dues.specs.Written.{text_of_run}
+use Rattle.command_dues.specs.declared.due.Report.{Report}
+use Rattle.command_dues.specs.declared.task.Telling.TheVariants.{Lines}
 use Rattle.reported_runs.proofs.Reports.{run-reported}
 
 pub run-verified : (deck : Deck) (stop : Option ProcessorStop) (report : Report) (verdict : Result ℕ VerifyRefusal)

@@ -1,3 +1,1 @@
-pub mod DecidedLemmas
-pub mod Reported
-pub mod VerifiedLemmas
+mod Reported

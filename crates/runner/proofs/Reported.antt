@@ -12,12 +12,12 @@ use Rattle.tal_tree.specs.declared.site.Site.{Site}
 use Rattle.trace_print.specs.ReportText.{load_report_text, report_text}
 use Rattle.trace_print.specs.declared.closing.End.{End}
 use Rattle.trace_print.specs.declared.load.LoadCounts.{LoadCounts}
-use Rattle.runner.specs.Decided.{IsReportOf}
-use Rattle.runner.specs.RunEnds.{end_of, load_counts, shown_in}
-use Rattle.runner.specs.Stopped.{stopped_from}
-use Rattle.runner.specs.Written.{text_telling, told_acts}
-use Rattle.runner.specs.declared.due.Report.{Report}
-use Rattle.runner.specs.declared.task.Telling.TheVariants.{Lines, Counts}
+use Rattle.command_dues.specs.Decided.{IsReportOf}
+use Rattle.command_dues.specs.RunEnds.{end_of, load_counts, shown_in}
+use Rattle.command_dues.specs.Stopped.{stopped_from}
+use Rattle.command_dues.specs.Written.{text_telling, told_acts}
+use Rattle.command_dues.specs.declared.due.Report.{Report}
+use Rattle.command_dues.specs.declared.task.Telling.TheVariants.{Lines, Counts}
 
 pub reported : (deck : Deck) (stop : Option ProcessorStop) (report : Report) → report.site ≡ deck.site
     → IsRunOf deck.site deck.lines stop report.run.ran

@@ -4,22 +4,20 @@ ghost use Rattle.command_words.specs.Asked.{asked_by, IsInRange};
 ghost use Rattle.load_deck.specs.LoadText.{load_text};
 ghost use Rattle.plain_semantics.specs.SiteLimits.{KeepsSiteLimits};
 ghost use Rattle.verdicts.specs.Refused.{AreAccepted};
-ghost use Rattle.runner.specs.Tasks.{judges, load_task};
-ghost use Rattle.runner.specs.Written.{CanBeWritten};
-ghost use Rattle.runner.specs.Decided.{IsDue, IsDueOfCommand, IsDueOfSource, IsDueOfBytes, IsDueOfDeck};
-ghost use Rattle.runner.specs.Decided.{IsDueOfPrograms, IsDueOfTask, IsDueOfRun, IsDueOfSweep};
-ghost use Rattle.runner.specs.Decided.{IsDueOfAdvice};
-ghost use Rattle.runner.specs.Decided.{IsReportOf, IsSpelt, IsOfWholeDeck, due_of_fault, reads_deck};
+ghost use Rattle.command_dues.specs.Tasks.{judges, load_task};
+ghost use Rattle.command_dues.specs.Written.{CanBeWritten};
+ghost use Rattle.command_dues.specs.Decided.{IsDue, IsDueOfCommand, IsDueOfSource, IsDueOfBytes, IsDueOfDeck};
+ghost use Rattle.command_dues.specs.Decided.{IsDueOfPrograms, IsDueOfTask, IsDueOfRun, IsDueOfSweep};
+ghost use Rattle.command_dues.specs.Decided.{IsDueOfAdvice};
+ghost use Rattle.command_dues.specs.Decided.{IsReportOf, IsSpelt, IsOfWholeDeck, due_of_fault, reads_deck};
 
-use crate::due::{AdvisedSite, Due, RefusedSite, Report};
-use crate::outcome::RunEnd;
 use crate::stopped::stopped_processors;
 use crate::sweep::swept;
-use crate::task::{Task, Telling};
 use crate::verified::due_of_verify;
 use accepted_decks::{
     a_run_of_an_accepted_site_keeps_possible_acts, an_accepted_deck_meets_the_premises,
 };
+use command_dues::{AdvisedSite, Due, RefusedSite, Report, RunEnd, Task, Telling};
 use command_words::{Command, asked_by};
 use deck_reader::{Deck, read_deck};
 use gd_io::{Source, SourceFault, read_all};

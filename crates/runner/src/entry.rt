@@ -1,16 +1,14 @@
 ghost use Rattle.std.specs.Prelude.{◌≡◌, Ok, map, string_bytes};
 ghost use Rattle.gd_io.specs.Puts.{Puts};
-ghost use Rattle.runner.specs.Ends.{Ends};
-ghost use Rattle.runner.specs.Numbers.{status_number};
-ghost use Rattle.runner.specs.RunEnds.{end_of};
-ghost use Rattle.runner.specs.Written.{text_of, text_of_run, text_telling, told_acts, run_of, outcome_of, cause_of};
-ghost use Rattle.runner.specs.Written.{CanBeWritten};
-ghost use Rattle.runner.specs.declared.outcome.Outcome.{Outcome};
+ghost use Rattle.command_dues.specs.Ends.{Ends};
+ghost use Rattle.command_dues.specs.Numbers.{status_number};
+ghost use Rattle.command_dues.specs.RunEnds.{end_of};
+ghost use Rattle.command_dues.specs.Written.{text_of, text_of_run, text_telling, told_acts, run_of, outcome_of};
+ghost use Rattle.command_dues.specs.Written.{CanBeWritten, cause_of};
+ghost use Rattle.command_dues.specs.declared.outcome.Outcome.{Outcome};
 
 use crate::decide::decide;
-use crate::due::{Due, RefusedSite, Report};
-use crate::outcome::{Outcome, RunEnd, Status};
-use crate::task::Telling;
+use command_dues::{Due, Outcome, RefusedSite, Report, RunEnd, Status, Telling};
 use gd_io::{Sink, Source, WriteFault};
 use report_judge::Why;
 use schedule_loop::Ending;

@@ -1,5 +1,5 @@
 ghost use Rattle.std.specs.Prelude.{◌≡◌, IfOk};
-ghost use Rattle.runner.specs.Stopped.{stopped_from};
+ghost use Rattle.command_dues.specs.Stopped.{stopped_from};
 
 use gd_words::{List, NoMemory};
 use site_machine::Machine;

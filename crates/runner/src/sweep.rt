@@ -1,5 +1,5 @@
 ghost use Rattle.std.specs.Prelude.{IfOk};
-ghost use Rattle.runner.specs.Decided.{IsSpelt};
+ghost use Rattle.command_dues.specs.Decided.{IsSpelt};
 ghost use Rattle.schedule_sweeps.specs.Sweeps.{IsSweepOf};
 ghost use Rattle.verdicts.specs.Refused.{AreAccepted};
 

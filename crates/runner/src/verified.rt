@@ -2,13 +2,13 @@
 ghost use Rattle.std.specs.Prelude.{◌≢◌, ◌<◌, ◌≤◌, length};
 ghost use Rattle.std.specs.Io.KnownBytes.{IsAtEnd};
 ghost use Rattle.plain_machine.specs.Standing.{IsPlayable};
-ghost use Rattle.runner.specs.Decided.{IsDueOfVerify, IsOfWholeDeck, IsSpelt};
-ghost use Rattle.runner.specs.Verified.{IsDueOfInput, IsDueOfJudged, IsDueOfReport};
-ghost use Rattle.runner.specs.Written.{CanBeWritten};
+ghost use Rattle.command_dues.specs.Decided.{IsDueOfVerify, IsOfWholeDeck, IsSpelt};
+ghost use Rattle.command_dues.specs.Verified.{IsDueOfInput, IsDueOfJudged, IsDueOfReport};
+ghost use Rattle.command_dues.specs.Written.{CanBeWritten};
 
 use crate::decide::due_of_fault;
-use crate::due::{Due, RefusedSite};
 use accepted_decks::an_accepted_deck_meets_the_premises;
+use command_dues::{Due, RefusedSite};
 use deck_reader::{Deck, read_deck};
 use gd_io::{Source, SourceFault, read_all};
 use report_judge::{VerifyRefusal, verify};

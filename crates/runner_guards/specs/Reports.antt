@@ -3,7 +3,7 @@ use Rattle.std.specs.Prelude.{List}
 use Rattle.tal_tree.specs.declared.act.Act.{Act}
 use Rattle.tal_tree.specs.declared.act.Shown.{Shown}
 use Rattle.world_semantics.specs.World.{World}
-use Rattle.runner.specs.declared.outcome.RunEnd.{RunEnd}
+use Rattle.command_dues.specs.declared.outcome.RunEnd.{RunEnd}
 
 -- a run that ended in this world
 abbrev pub ended_in : World → RunEnd → RunEnd

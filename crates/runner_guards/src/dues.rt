@@ -16,21 +16,21 @@ ghost use Rattle.site_advice.specs.SiteAdvised.{AreAdvised, IsFirstUnadvised};
 ghost use Rattle.verdicts.specs.Refused.{AreAccepted, IsFirstRefused};
 ghost use Rattle.load_deck.specs.LoadText.{load_text};
 ghost use Rattle.run_table.specs.declared.table.ProcessorRow.{ProcessorRow};
-ghost use Rattle.runner.specs.Decided.{IsDueOfTask, IsDueOfBytes, IsDueOfCommand, IsDueOfDeck, IsDueOfPrograms};
-ghost use Rattle.runner.specs.Decided.{IsDueOfAdvice, IsDueOfRun, IsDueOfSource, IsDueOfVerify, IsDueOn};
-ghost use Rattle.runner.specs.Decided.{IsOfWholeDeck, IsReportOf};
-ghost use Rattle.runner.specs.Tasks.{can_stop, judges, load_task};
-ghost use Rattle.runner.specs.Verified.{IsDueOfInput, IsDueOfJudged, IsDueOfReport, deck_in, report_in};
-ghost use Rattle.runner.specs.Written.{CanBeWritten};
-ghost use Rattle.runner.specs.declared.due.AdvisedSite.{AdvisedSite};
-ghost use Rattle.runner.specs.declared.due.Due.{Due};
-ghost use Rattle.runner.specs.declared.due.Due.TheVariants as due;
-ghost use Rattle.runner.specs.declared.due.RefusedSite.{RefusedSite};
-ghost use Rattle.runner.specs.declared.due.Report.{Report};
-ghost use Rattle.runner.specs.declared.task.Task.{Task};
-ghost use Rattle.runner.specs.declared.task.Task.TheVariants.{Advise, Check, Run, Sweep};
-ghost use Rattle.runner.specs.declared.task.Telling.{Telling};
-ghost use Rattle.runner.specs.declared.task.Telling.TheVariants.{Lines};
+ghost use Rattle.command_dues.specs.Decided.{IsDueOfTask, IsDueOfBytes, IsDueOfCommand, IsDueOfDeck, IsDueOfPrograms};
+ghost use Rattle.command_dues.specs.Decided.{IsDueOfAdvice, IsDueOfRun, IsDueOfSource, IsDueOfVerify, IsDueOn};
+ghost use Rattle.command_dues.specs.Decided.{IsOfWholeDeck, IsReportOf};
+ghost use Rattle.command_dues.specs.Tasks.{can_stop, judges, load_task};
+ghost use Rattle.command_dues.specs.Verified.{IsDueOfInput, IsDueOfJudged, IsDueOfReport, deck_in, report_in};
+ghost use Rattle.command_dues.specs.Written.{CanBeWritten};
+ghost use Rattle.command_dues.specs.declared.due.AdvisedSite.{AdvisedSite};
+ghost use Rattle.command_dues.specs.declared.due.Due.{Due};
+ghost use Rattle.command_dues.specs.declared.due.Due.TheVariants as due;
+ghost use Rattle.command_dues.specs.declared.due.RefusedSite.{RefusedSite};
+ghost use Rattle.command_dues.specs.declared.due.Report.{Report};
+ghost use Rattle.command_dues.specs.declared.task.Task.{Task};
+ghost use Rattle.command_dues.specs.declared.task.Task.TheVariants.{Advise, Check, Run, Sweep};
+ghost use Rattle.command_dues.specs.declared.task.Telling.{Telling};
+ghost use Rattle.command_dues.specs.declared.task.Telling.TheVariants.{Lines};
 
 /// The usage is due where nothing is asked for, or the deck hasn't the processor that is to stop; a read fault where
 /// the count of the source's faults has risen.
@@ -128,8 +128,8 @@ pub fn a_verdict_is_of_its_report()
     ensures whole { (bytes : List ℕ) → deck_in bytes ++ report_in bytes ≡ bytes }
 {}
 
-/// A deck was read to its end where a report, a verdict, advice, the usage or a fault of a line is due, but for one that
-/// is too long.
+/// A deck was read to its end where a report, a verdict, advice, the usage or a fault of a line is due, but for one
+/// that is too long.
 pub fn a_deck_is_read_to_its_end()
     ensures usage { IsOfWholeDeck due.Usage }
     ensures report { (report : Report) → IsOfWholeDeck (due.Report report) }

@@ -2,7 +2,7 @@
 //! command is, what is written of what is due, what is told of a run, and what a report promises, each at telling
 //! points. A wrong definition is refused here.
 //!
-//! Below stands `runner`, whose definitions are guarded; nothing stands above.
+//! Below stands `command_dues`, whose definitions are guarded; nothing stands above.
 #![tactic(auto)]
 
 pub mod dues;

@@ -13,14 +13,14 @@ ghost use Rattle.trace_print.specs.VerdictLine.{rejected_line, verified_line};
 ghost use Rattle.trace_print.specs.VerdictText.{accepted_text, refusal_text};
 ghost use Rattle.report_judge.specs.declared.judge.Why.{Why};
 ghost use Rattle.report_judge.specs.declared.judge.Why.TheVariants as why;
-ghost use Rattle.runner.specs.RunEnds.{status_of_run};
-ghost use Rattle.runner.specs.Written.{cause_of, outcome_of, run_of, status_of, text_of, text_of_run};
-ghost use Rattle.runner.specs.declared.due.AdvisedSite.{AdvisedSite};
-ghost use Rattle.runner.specs.declared.due.Due.{Due};
-ghost use Rattle.runner.specs.declared.due.Due.TheVariants as due;
-ghost use Rattle.runner.specs.declared.due.RefusedSite.{RefusedSite};
-ghost use Rattle.runner.specs.declared.due.Report.{Report};
-ghost use Rattle.runner.specs.declared.outcome.Status.TheVariants as status;
+ghost use Rattle.command_dues.specs.RunEnds.{status_of_run};
+ghost use Rattle.command_dues.specs.Written.{cause_of, outcome_of, run_of, status_of, text_of, text_of_run};
+ghost use Rattle.command_dues.specs.declared.due.AdvisedSite.{AdvisedSite};
+ghost use Rattle.command_dues.specs.declared.due.Due.{Due};
+ghost use Rattle.command_dues.specs.declared.due.Due.TheVariants as due;
+ghost use Rattle.command_dues.specs.declared.due.RefusedSite.{RefusedSite};
+ghost use Rattle.command_dues.specs.declared.due.Report.{Report};
+ghost use Rattle.command_dues.specs.declared.outcome.Status.TheVariants as status;
 
 /// What is due has its text and its status; where reading failed or memory ran out nothing is written.
 pub fn what_is_due_is_written()

@@ -11,15 +11,15 @@ ghost use Rattle.player.specs.declared.stop.ProcessorStop.{ProcessorStop};
 ghost use Rattle.packet_runs.specs.Ends.{IsRunOf};
 ghost use Rattle.schedule_loop.specs.declared.ran.Ending.TheVariants.{Idle};
 ghost use Rattle.shown_sectors.specs.Sectors.{sectors_after};
-ghost use Rattle.runner.specs.Decided.{IsDue, IsOfWholeDeck, IsReportOf, reads_deck};
-ghost use Rattle.runner.specs.Ends.{Ends};
-ghost use Rattle.runner.specs.RunEnds.{acts_of_run, shown_in};
-ghost use Rattle.runner.specs.Stopped.{stopped_from};
-ghost use Rattle.runner.specs.Written.{IsWritten, outcome_of, text_of};
-ghost use Rattle.runner.specs.declared.due.Due.{Due};
-ghost use Rattle.runner.specs.declared.due.Report.{Report};
-ghost use Rattle.runner.specs.declared.outcome.Outcome.{Outcome};
-ghost use Rattle.runner.specs.declared.outcome.Status.TheVariants as status;
+ghost use Rattle.command_dues.specs.Decided.{IsDue, IsOfWholeDeck, IsReportOf, reads_deck};
+ghost use Rattle.command_dues.specs.Ends.{Ends};
+ghost use Rattle.command_dues.specs.RunEnds.{acts_of_run, shown_in};
+ghost use Rattle.command_dues.specs.Stopped.{stopped_from};
+ghost use Rattle.command_dues.specs.Written.{IsWritten, outcome_of, text_of};
+ghost use Rattle.command_dues.specs.declared.due.Due.{Due};
+ghost use Rattle.command_dues.specs.declared.due.Report.{Report};
+ghost use Rattle.command_dues.specs.declared.outcome.Outcome.{Outcome};
+ghost use Rattle.command_dues.specs.declared.outcome.Status.TheVariants as status;
 
 use gd_io::{Sink, Source};
 

@@ -4,14 +4,14 @@ ghost use Rattle.tal_tree.specs.declared.fault.DeckFault.{DeckFault};
 ghost use Rattle.tal_tree.specs.declared.site.Site.{Site};
 ghost use Rattle.path_semantics.specs.declared.reason.RefusalFault.{RefusalFault};
 ghost use Rattle.report_judge.specs.declared.judge.Why.{Why};
-ghost use Rattle.runner.specs.Numbers.{status_number};
-ghost use Rattle.runner.specs.Stopped.{stopped_from};
-ghost use Rattle.runner.specs.Tasks.{can_stop, judges, load_task};
-ghost use Rattle.runner.specs.declared.outcome.Status.TheVariants as status;
-ghost use Rattle.runner.specs.declared.task.Task.TheVariants.{Advise, Check, Run, Sweep};
-ghost use Rattle.runner.specs.declared.task.Telling.{Telling};
+ghost use Rattle.command_dues.specs.Numbers.{status_number};
+ghost use Rattle.command_dues.specs.Stopped.{stopped_from};
+ghost use Rattle.command_dues.specs.Tasks.{can_stop, judges, load_task};
+ghost use Rattle.command_dues.specs.declared.outcome.Status.TheVariants as status;
+ghost use Rattle.command_dues.specs.declared.task.Task.TheVariants.{Advise, Check, Run, Sweep};
+ghost use Rattle.command_dues.specs.declared.task.Telling.{Telling};
 ghost use Rattle.player.specs.declared.stop.ProcessorStop.{ProcessorStop};
-ghost use Rattle.runner.specs.declared.task.Telling.TheVariants.{Counts};
+ghost use Rattle.command_dues.specs.declared.task.Telling.TheVariants.{Counts};
 
 /// The program ends with the number of its status.
 pub fn a_status_has_its_number()

@@ -7,13 +7,13 @@ ghost use Rattle.trace_print.specs.ReportText.{load_report_text, report_text};
 ghost use Rattle.trace_print.specs.declared.closing.End.TheVariants as end;
 ghost use Rattle.command_words.specs.declared.asked.Command.TheVariants as command;
 ghost use Rattle.schedule_loop.specs.declared.ran.Ending.TheVariants.{Idle, Cut, Second};
-ghost use Rattle.runner.specs.Decided.{reads_deck};
-ghost use Rattle.runner.specs.RunEnds.{acts_of_run, end_of, load_counts, shown_in, status_of_run};
-ghost use Rattle.runner.specs.Written.{text_of_run, told_acts};
-ghost use Rattle.runner.specs.declared.due.Report.{Report};
-ghost use Rattle.runner.specs.declared.outcome.RunEnd.{RunEnd};
-ghost use Rattle.runner.specs.declared.outcome.Status.TheVariants as status;
-ghost use Rattle.runner.specs.declared.task.Telling.TheVariants.{Counts, Lines};
+ghost use Rattle.command_dues.specs.Decided.{reads_deck};
+ghost use Rattle.command_dues.specs.RunEnds.{acts_of_run, end_of, load_counts, shown_in, status_of_run};
+ghost use Rattle.command_dues.specs.Written.{text_of_run, told_acts};
+ghost use Rattle.command_dues.specs.declared.due.Report.{Report};
+ghost use Rattle.command_dues.specs.declared.outcome.RunEnd.{RunEnd};
+ghost use Rattle.command_dues.specs.declared.outcome.Status.TheVariants as status;
+ghost use Rattle.command_dues.specs.declared.task.Telling.TheVariants.{Counts, Lines};
 ghost use Rattle.runner_guards.specs.Reports.{keeping, showing};
 
 /// What a run kept and showed is told the oldest first, its acts only where they are asked for; of a load it is

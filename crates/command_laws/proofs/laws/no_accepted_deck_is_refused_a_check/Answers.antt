@@ -1,5 +1,5 @@
 use Rattle.std.proofs.Common.{List, ℕ, Option, subst}
-use Rattle.runner.specs.Decided.{IsDue}
+use Rattle.command_dues.specs.Decided.{IsDue}
 use Rattle.command_laws.proofs.Commands.{check-ends}
 use Rattle.command_laws.proofs.laws.no_accepted_deck_is_refused_a_check.Goals as goal
 

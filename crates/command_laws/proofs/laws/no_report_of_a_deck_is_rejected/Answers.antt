@@ -1,5 +1,5 @@
 use Rattle.std.proofs.Common.{List, ℕ, Option, subst}
-use Rattle.runner.specs.Decided.{IsDue}
+use Rattle.command_dues.specs.Decided.{IsDue}
 use Rattle.command_laws.proofs.Verifies.{verify-ends}
 use Rattle.command_laws.proofs.laws.no_report_of_a_deck_is_rejected.Goals as goal
 

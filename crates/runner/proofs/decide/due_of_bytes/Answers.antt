@@ -1,7 +1,7 @@
 use Rattle.std.proofs.Common.{Err, ap, sym, subst, ◌∙◌}
-use Rattle.runner.specs.Decided.{IsDueOfBytes}
-use Rattle.runner.specs.Written.{CanBeWritten}
-use Rattle.runner.proofs.DecidedLemmas.{deck_is_due, fault_is_due, fault_is_written}
+use Rattle.command_dues.specs.Decided.{IsDueOfBytes}
+use Rattle.command_dues.specs.Written.{CanBeWritten}
+use Rattle.command_dues.proofs.DecidedLemmas.{deck_is_due, fault_is_due, fault_is_written}
 use Rattle.runner.proofs.decide.due_of_bytes.Goals as goal
 
 pub returns-in-Ok-clause-due : goal.returns-in-Ok-clause-due

@@ -1,5 +1,5 @@
 use Rattle.std.proofs.Common.{sym, ◌∙◌}
-use Rattle.runner.proofs.DecidedLemmas.{programs_are_due}
+use Rattle.command_dues.proofs.DecidedLemmas.{programs_are_due}
 use Rattle.runner.proofs.decide.due_of_deck.Goals as goal
 
 pub returns-clause-due : goal.returns-clause-due

@@ -1,6 +1,6 @@
 use Rattle.std.proofs.Common.{subst, ◌∙◌}
 use Rattle.load_deck.specs.LoadText.{load_text}
-use Rattle.runner.specs.Decided.{IsDueOfBytes}
+use Rattle.command_dues.specs.Decided.{IsDueOfBytes}
 use Rattle.runner.proofs.decide.due_of_load.Goals as goal
 
 pub returns-in-Ok-clause-due : goal.returns-in-Ok-clause-due

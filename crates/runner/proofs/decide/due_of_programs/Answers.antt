@@ -1,7 +1,7 @@
 use Rattle.std.proofs.Common.{◌≤◌, length, subst, sym}
 use Rattle.verdicts.specs.Judgeable.{AreJudgeable}
 use Rattle.verdicts.specs.Refused.{AreAccepted}
-use Rattle.runner.proofs.DecidedLemmas.{accepted_is_due}
+use Rattle.command_dues.proofs.DecidedLemmas.{accepted_is_due}
 use Rattle.runner.proofs.decide.due_of_programs.Goals as goal
 
 pub first_refused-requires-clause-few : goal.first_refused-requires-clause-few

@@ -1,6 +1,6 @@
 use Rattle.std.proofs.Common.{subst, ◌∙◌}
-use Rattle.runner.specs.Decided.{IsDueOfBytes}
-use Rattle.runner.proofs.DecidedLemmas.{bytes_are_due, told}
+use Rattle.command_dues.specs.Decided.{IsDueOfBytes}
+use Rattle.command_dues.proofs.DecidedLemmas.{bytes_are_due, told}
 use Rattle.runner.proofs.decide.due_of_source.Goals as goal
 
 pub returns-in-Ok-clause-due : goal.returns-in-Ok-clause-due

@@ -1,5 +1,5 @@
 use Rattle.std.proofs.Common.{ap}
-use Rattle.runner.specs.Tasks.{judges}
+use Rattle.command_dues.specs.Tasks.{judges}
 use Rattle.runner.proofs.decide.due_of_task.Goals as goal
 
 pub due_of_run-requires-clause-accepted : goal.due_of_run-requires-clause-accepted

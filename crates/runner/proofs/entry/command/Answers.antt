@@ -1,4 +1,4 @@
-use Rattle.runner.proofs.DecidedLemmas.{read_fault_is_due}
+use Rattle.command_dues.proofs.DecidedLemmas.{read_fault_is_due}
 use Rattle.runner.proofs.entry.command.Goals as goal
 
 pub returns : goal.returns

@@ -1,5 +1,5 @@
 use Rattle.std.proofs.Common.{◌≡◌, ◌++◌, drop}
-use Rattle.runner.specs.Stopped.{stopped_from}
+use Rattle.command_dues.specs.Stopped.{stopped_from}
 use Rattle.runner.proofs.stopped.stopped_processors.Given as goal
 
 abbrev pub invariant-loop-processor : goal.invariant-loop-processor

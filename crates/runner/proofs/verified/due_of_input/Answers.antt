@@ -1,10 +1,10 @@
 use Rattle.std.proofs.Common.{◌≡◌, Err, ap, drop, sym, subst, take, ◌∙◌}
 use Rattle.deck_reader.specs.Decks.{Decks}
 use Rattle.deck_reader.specs.Refusals.{IsRefusalOf}
-use Rattle.runner.specs.Verified.{IsDueOfInput, IsDueOfJudged, deck_in, report_in}
-use Rattle.runner.specs.Written.{CanBeWritten}
-use Rattle.runner.proofs.DecidedLemmas.{fault_is_written}
-use Rattle.runner.proofs.VerifiedLemmas.{input_fault_is_due, judged_is_due}
+use Rattle.command_dues.specs.Verified.{IsDueOfInput, IsDueOfJudged, deck_in, report_in}
+use Rattle.command_dues.specs.Written.{CanBeWritten}
+use Rattle.command_dues.proofs.DecidedLemmas.{fault_is_written}
+use Rattle.command_dues.proofs.VerifiedLemmas.{input_fault_is_due, judged_is_due}
 use Rattle.runner.proofs.verified.due_of_input.Goals as goal
 
 pub returns-in-Ok-clause-due : goal.returns-in-Ok-clause-due

@@ -1,7 +1,7 @@
 use Rattle.std.proofs.Common.{◌≤◌, length, subst, sym}
 use Rattle.verdicts.specs.Judgeable.{AreJudgeable}
 use Rattle.verdicts.specs.Refused.{AreAccepted}
-use Rattle.runner.proofs.VerifiedLemmas.{report_is_due}
+use Rattle.command_dues.proofs.VerifiedLemmas.{report_is_due}
 use Rattle.runner.proofs.verified.due_of_judged.Goals as goal
 
 pub first_refused-requires-clause-few : goal.first_refused-requires-clause-few

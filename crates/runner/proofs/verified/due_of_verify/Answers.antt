@@ -1,7 +1,7 @@
 use Rattle.std.proofs.Common.{inl, refl, subst, ◌∙◌}
-use Rattle.runner.specs.Verified.{IsDueOfInput}
-use Rattle.runner.proofs.DecidedLemmas.{told}
-use Rattle.runner.proofs.VerifiedLemmas.{input_is_due}
+use Rattle.command_dues.specs.Verified.{IsDueOfInput}
+use Rattle.command_dues.proofs.DecidedLemmas.{told}
+use Rattle.command_dues.proofs.VerifiedLemmas.{input_is_due}
 use Rattle.runner.proofs.verified.due_of_verify.Goals as goal
 
 pub returns-in-Ok-clause-due : goal.returns-in-Ok-clause-due

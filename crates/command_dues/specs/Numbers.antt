@@ -1,8 +1,8 @@
 -- The numbers with which the program ends.
 use Rattle.std.specs.Prelude.{ℕ}
-use Rattle.runner.specs.declared.outcome.Status.{Status}
-use Rattle.runner.specs.declared.outcome.Status.TheVariants.{Done, Usage, DeckRefused, Refused, Cut, SecondStop}
-use Rattle.runner.specs.declared.outcome.Status.TheVariants.{ReadFault, WriteFault, NoMemory, Rejected}
+use Rattle.command_dues.specs.declared.outcome.Status.{Status}
+use Rattle.command_dues.specs.declared.outcome.Status.TheVariants.{Done, Usage, DeckRefused, Refused, Cut, SecondStop}
+use Rattle.command_dues.specs.declared.outcome.Status.TheVariants.{ReadFault, WriteFault, NoMemory, Rejected}
 
 abbrev pub status_number : Status → ℕ
 status_number Done = 0

@@ -1,9 +1,9 @@
 -- What is to be done with a deck. Our own rule.
 use Rattle.std.specs.Prelude.{ℕ, Bool, true, false, nat_lt, Some, None}
 use Rattle.tal_tree.specs.declared.site.Site.{Site}
-use Rattle.runner.specs.declared.task.Task.{Task}
-use Rattle.runner.specs.declared.task.Task.TheVariants.{Run, Check, Sweep, Advise}
-use Rattle.runner.specs.declared.task.Telling.TheVariants.{Counts}
+use Rattle.command_dues.specs.declared.task.Task.{Task}
+use Rattle.command_dues.specs.declared.task.Task.TheVariants.{Run, Check, Sweep, Advise}
+use Rattle.command_dues.specs.declared.task.Telling.TheVariants.{Counts}
 
 -- whether the stop, where there is one, is of a processor of the site
 abbrev pub can_stop : Task → Site → Bool

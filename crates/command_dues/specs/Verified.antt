@@ -10,8 +10,8 @@ use Rattle.tal_tree.specs.declared.fault.DeckFault.{DeckFault}
 use Rattle.tal_tree.specs.declared.fault.DeckFault.TheVariants.{TooLong}
 use Rattle.tal_tree.specs.declared.site.Site.{Site}
 use Rattle.verdicts.specs.Refused.{AreAccepted, IsFirstRefused}
-use Rattle.runner.specs.declared.due.Due.{Due}
-use Rattle.runner.specs.declared.due.Due.TheVariants as due
+use Rattle.command_dues.specs.declared.due.Due.{Due}
+use Rattle.command_dues.specs.declared.due.Due.TheVariants as due
 
 -- the deck with which bytes begin, and the report that follows it
 abbrev pub deck_in : List ℕ → List ℕ

@@ -9,9 +9,9 @@ use Rattle.trace_print.specs.declared.load.LoadCounts.{LoadCounts}
 use Rattle.world_semantics.specs.Kept.{acts_of}
 use Rattle.schedule_loop.specs.declared.ran.Ending.{Ending}
 use Rattle.schedule_loop.specs.declared.ran.Ending.TheVariants.{Idle, Cut, Second}
-use Rattle.runner.specs.declared.outcome.RunEnd.{RunEnd}
-use Rattle.runner.specs.declared.outcome.Status.{Status}
-use Rattle.runner.specs.declared.outcome.Status.TheVariants as status
+use Rattle.command_dues.specs.declared.outcome.RunEnd.{RunEnd}
+use Rattle.command_dues.specs.declared.outcome.Status.{Status}
+use Rattle.command_dues.specs.declared.outcome.Status.TheVariants as status
 
 -- the acts that the run keeps, in order
 abbrev pub acts_of_run : RunEnd → List Act

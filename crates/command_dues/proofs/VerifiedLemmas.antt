@@ -7,10 +7,10 @@ use Rattle.deck_reader.specs.declared.deck.Deck.{Deck}
 use Rattle.tal_tree.specs.declared.fault.DeckFault.{DeckFault}
 use Rattle.tal_tree.specs.declared.fault.DeckFault.TheVariants as fault
 use Rattle.verdicts.specs.Refused.{AreAccepted}
-use Rattle.runner.specs.Decided.{IsDueOfVerify, IsTold, due_of_fault}
-use Rattle.runner.specs.Verified.{IsDueOfInput, IsDueOfJudged, IsDueOfReport, deck_in, report_in}
-use Rattle.runner.specs.declared.due.Due.{Due}
-use Rattle.runner.specs.declared.due.Due.TheVariants as due
+use Rattle.command_dues.specs.Decided.{IsDueOfVerify, IsTold, due_of_fault}
+use Rattle.command_dues.specs.Verified.{IsDueOfInput, IsDueOfJudged, IsDueOfReport, deck_in, report_in}
+use Rattle.command_dues.specs.declared.due.Due.{Due}
+use Rattle.command_dues.specs.declared.due.Due.TheVariants as due
 
 -- what is due of the report of an accepted deck
 pub report_is_due : (deck : Deck) (report : List ℕ) (decided : Due) → AreAccepted deck.site.processes

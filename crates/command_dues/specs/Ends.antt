@@ -2,11 +2,11 @@
 use Rattle.std.specs.Prelude.{◌≡◌, ◌≢◌, ℕ, true, false, List, Option}
 use Rattle.std.specs.Io.KnownBytes.{IsAtEnd}
 use Rattle.command_words.specs.Asked.{asked_by}
-use Rattle.runner.specs.Decided.{IsDue, IsOfWholeDeck, reads_deck}
-use Rattle.runner.specs.Written.{IsWritten}
-use Rattle.runner.specs.declared.due.Due.{Due}
-use Rattle.runner.specs.declared.outcome.Outcome.{Outcome}
-use Rattle.runner.specs.declared.outcome.Status.TheVariants as status
+use Rattle.command_dues.specs.Decided.{IsDue, IsOfWholeDeck, reads_deck}
+use Rattle.command_dues.specs.Written.{IsWritten}
+use Rattle.command_dues.specs.declared.due.Due.{Due}
+use Rattle.command_dues.specs.declared.outcome.Outcome.{Outcome}
+use Rattle.command_dues.specs.declared.outcome.Status.TheVariants as status
 
 -- a command of these words, over a source and a sink, ends so: the words, the bytes that are read and the deck decide
 -- what is due, which is written whole, or a write fault comes after a part. Words for which no deck is read leave the

@@ -1,5 +1,5 @@
-ghost use Rattle.runner.specs.Numbers.{status_number};
-ghost use Rattle.runner.specs.RunEnds.{acts_of_run, load_counts, shown_in, status_of_run};
+ghost use Rattle.command_dues.specs.Numbers.{status_number};
+ghost use Rattle.command_dues.specs.RunEnds.{acts_of_run, load_counts, shown_in, status_of_run};
 ghost use Rattle.std.specs.Prelude.{◌≡◌};
 
 use gd_words::NoMemory;

@@ -13,16 +13,16 @@ use Rattle.trace_print.specs.VerdictLine.{rejected_line, verified_line}
 use Rattle.trace_print.specs.VerdictText.{accepted_text, refusal_text}
 use Rattle.report_judge.specs.declared.judge.Why.{Why}
 use Rattle.report_judge.specs.declared.judge.Why.TheVariants as why
-use Rattle.runner.specs.RunEnds.{acts_of_run, end_of, load_counts, shown_in, status_of_run}
-use Rattle.runner.specs.declared.due.Due.{Due}
-use Rattle.runner.specs.declared.due.Due.TheVariants as due
-use Rattle.runner.specs.declared.due.Report.{Report}
-use Rattle.runner.specs.declared.outcome.Outcome.{Outcome}
-use Rattle.runner.specs.declared.outcome.RunEnd.{RunEnd}
-use Rattle.runner.specs.declared.outcome.Status.{Status}
-use Rattle.runner.specs.declared.outcome.Status.TheVariants as status
-use Rattle.runner.specs.declared.task.Telling.{Telling}
-use Rattle.runner.specs.declared.task.Telling.TheVariants as telling
+use Rattle.command_dues.specs.RunEnds.{acts_of_run, end_of, load_counts, shown_in, status_of_run}
+use Rattle.command_dues.specs.declared.due.Due.{Due}
+use Rattle.command_dues.specs.declared.due.Due.TheVariants as due
+use Rattle.command_dues.specs.declared.due.Report.{Report}
+use Rattle.command_dues.specs.declared.outcome.Outcome.{Outcome}
+use Rattle.command_dues.specs.declared.outcome.RunEnd.{RunEnd}
+use Rattle.command_dues.specs.declared.outcome.Status.{Status}
+use Rattle.command_dues.specs.declared.outcome.Status.TheVariants as status
+use Rattle.command_dues.specs.declared.task.Telling.{Telling}
+use Rattle.command_dues.specs.declared.task.Telling.TheVariants as telling
 
 -- the acts that are told of a run: all that were kept, where they are asked for
 abbrev pub told_acts : Bool → RunEnd → List Act

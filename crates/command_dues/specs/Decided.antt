@@ -19,26 +19,26 @@ use Rattle.schedule_sweeps.specs.Sweeps.{IsSweepOf}
 use Rattle.shown_sectors.specs.Sectors.{sectors_after}
 use Rattle.site_advice.specs.SiteAdvised.{AreAdvised, IsFirstUnadvised}
 use Rattle.verdicts.specs.Refused.{AreAccepted, IsFirstRefused}
-use Rattle.runner.specs.RunEnds.{acts_of_run, shown_in}
-use Rattle.runner.specs.Stopped.{stopped_from}
-use Rattle.runner.specs.Tasks.{can_stop, judges, load_task}
-use Rattle.runner.specs.Verified.{IsDueOfInput}
-use Rattle.runner.specs.declared.due.Due.{Due}
-use Rattle.runner.specs.declared.due.Due.TheVariants as due
-use Rattle.runner.specs.declared.due.Report.{Report}
-use Rattle.runner.specs.declared.task.Task.{Task}
-use Rattle.runner.specs.declared.task.Task.TheVariants as task
-use Rattle.runner.specs.declared.task.Telling.{Telling}
-use Rattle.runner.specs.declared.task.Telling.TheVariants as telling
+use Rattle.command_dues.specs.RunEnds.{acts_of_run, shown_in}
+use Rattle.command_dues.specs.Stopped.{stopped_from}
+use Rattle.command_dues.specs.Tasks.{can_stop, judges, load_task}
+use Rattle.command_dues.specs.Verified.{IsDueOfInput}
+use Rattle.command_dues.specs.declared.due.Due.{Due}
+use Rattle.command_dues.specs.declared.due.Due.TheVariants as due
+use Rattle.command_dues.specs.declared.due.Report.{Report}
+use Rattle.command_dues.specs.declared.task.Task.{Task}
+use Rattle.command_dues.specs.declared.task.Task.TheVariants as task
+use Rattle.command_dues.specs.declared.task.Telling.{Telling}
+use Rattle.command_dues.specs.declared.task.Telling.TheVariants as telling
 
 -- some bytes spell the deck
 abbrev pub IsSpelt : Deck → Type 0
 IsSpelt deck = (bytes : List ℕ) × Decks bytes deck
 
 -- the run of a deck, after Bartlett's paper: it is a run of the schedule, with the stop of the words, on the machine
--- over packets; the acts that it keeps are possible on the machine of single unfailing processes; what it shows, in order, is
--- what they show there; where it ended idle no act is possible after them; the sectors are those that what is shown
--- leaves written; and the processors that have stopped are those of its world at the end
+-- over packets; the acts that it keeps are possible on the machine of single unfailing processes; what it shows, in
+-- order, is what they show there; where it ended idle no act is possible after them; the sectors are those that what is
+-- shown leaves written; and the processors that have stopped are those of its world at the end
 pub record IsReportOf (deck : Deck) (stop : Option ProcessorStop) (report : Report) : Type 0 where
   pub site : report.site ≡ deck.site
   pub run : IsRunOf deck.site deck.lines stop report.run.ran

@@ -1,5 +1,5 @@
 ghost use Rattle.std.specs.Prelude.{◌≡◌};
-ghost use Rattle.runner.specs.Tasks.{can_stop, judges, load_task};
+ghost use Rattle.command_dues.specs.Tasks.{can_stop, judges, load_task};
 
 use player::ProcessorStop;
 use tal_tree::Site;
@@ -36,7 +36,7 @@ pub enum Task {
 
 impl Task {
     /// To run the load deck with so many requests of each terminal.
-    pub(crate) fn load(requests: u32) -> Task
+    pub fn load(requests: u32) -> Task
         ensures { result ≡ load_task requests }
     {
         Task::Run {
@@ -46,7 +46,7 @@ impl Task {
     }
 
     /// Whether the stop, where there is one, is of a processor of the site.
-    pub(crate) fn can_stop(self, site: &Site) -> bool
+    pub fn can_stop(self, site: &Site) -> bool
         ensures { result ≡ can_stop self site.now }
     {
         match self {
@@ -65,7 +65,7 @@ impl Task {
     }
 
     /// Whether the programs have to be accepted before anything is done with the deck.
-    pub(crate) fn judges(self) -> bool
+    pub fn judges(self) -> bool
         ensures { result ≡ judges self }
     {
         match self {

@@ -16,17 +16,17 @@ use Rattle.tal_tree.specs.declared.fault.TalFault.{TalFault}
 use Rattle.tal_tree.specs.declared.fault.TalFault.TheVariants as tal
 use Rattle.trace_print.specs.FaultLine.{IsOfDeck}
 use Rattle.trace_print.specs.TalNumbers.{IsOfText}
-use Rattle.runner.specs.Decided.{IsTold, IsDueOfTask, IsDueOfBytes, IsDueOfDeck, IsDueOfPrograms, IsDueOfSource}
-use Rattle.runner.specs.Decided.{due_of_fault}
-use Rattle.runner.specs.RunEnds.{status_of_run}
-use Rattle.runner.specs.Tasks.{can_stop, judges}
-use Rattle.runner.specs.Written.{outcome_of, CanBeWritten}
-use Rattle.runner.specs.declared.due.Due.{Due}
-use Rattle.runner.specs.declared.due.Due.TheVariants as due
-use Rattle.runner.specs.declared.outcome.Outcome.{Outcome}
-use Rattle.runner.specs.declared.outcome.Status.TheVariants as status
-use Rattle.runner.specs.declared.task.Task.{Task}
-use Rattle.runner.specs.declared.task.Task.TheVariants as task
+use Rattle.command_dues.specs.Decided.{IsTold, IsDueOfTask, IsDueOfBytes, IsDueOfDeck, IsDueOfPrograms, IsDueOfSource}
+use Rattle.command_dues.specs.Decided.{due_of_fault}
+use Rattle.command_dues.specs.RunEnds.{status_of_run}
+use Rattle.command_dues.specs.Tasks.{can_stop, judges}
+use Rattle.command_dues.specs.Written.{outcome_of, CanBeWritten}
+use Rattle.command_dues.specs.declared.due.Due.{Due}
+use Rattle.command_dues.specs.declared.due.Due.TheVariants as due
+use Rattle.command_dues.specs.declared.outcome.Outcome.{Outcome}
+use Rattle.command_dues.specs.declared.outcome.Status.TheVariants as status
+use Rattle.command_dues.specs.declared.task.Task.{Task}
+use Rattle.command_dues.specs.declared.task.Task.TheVariants as task
 
 -- the bytes that were read are those that were told
 pub told : (left now : Option (List ℕ)) (bytes rest : List ℕ) → Leaves left now bytes rest → IsTold left bytes
